@@ -1,0 +1,7 @@
+//! Owners that contracts see as what they own, so that a tree made of them is plain data.
+#![tactic(auto)]
+
+mod text;
+
+pub use sqlite_items::{Boxed, Items};
+pub use text::Text;
