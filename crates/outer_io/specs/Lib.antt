@@ -1,0 +1,5 @@
+pub mod Content
+pub mod Documents
+pub mod Faults
+pub mod Front
+pub mod Memory
