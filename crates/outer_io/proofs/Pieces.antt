@@ -1,5 +1,8 @@
 -- Lemmas on pieces that move from the front of a list.
-use Rattle.std.proofs.Common.{◌≡◌, ℕ, ◌+◌, ◌<◌, ◌≤◌, min, List, [], ◌∷◌, ◌++◌, length, take, drop, refl, arith, take-append-drop, length-drop}
+use Rattle.std.proofs.Common.{◌∙◌, append_assoc, ◌≡◌, ℕ, ◌+◌, ◌<◌, ◌≤◌, min, List, [], ◌∷◌, ◌++◌, length, take, drop, refl, ap, arith, take-append-drop, length-drop}
+use Rattle.std.specs.Prelude.{Option}
+use Rattle.std.proofs.KnownBytes.{Appends-trans}
+use Rattle.std.specs.Io.KnownBytes.{Appends}
 use Rattle.std.proofs.lemmas.List.{drop-drop}
 
 -- what was copied, and what lies behind it, is what was left
@@ -17,3 +20,25 @@ pub end-moved : (bytes : List ℕ) (taken count most room : ℕ) → 1 ≤ most 
     → count ≡ 0 → drop (taken + count) bytes ≡ []
 end-moved bytes taken count most room m r is zero =
     rw (← drop-drop count taken bytes) (empty-of_length (drop count (drop taken bytes)) (omega (arith, length-drop count (drop taken bytes))))
+
+-- a front of the bytes was appended, the rest is still to come, and the count of faults did not fall
+pub record Given (old new : Option (List ℕ)) (bytes rest : List ℕ) (before now : ℕ) : Type 0 where
+  pub front : List ℕ
+  pub parts : front ++ rest ≡ bytes
+  pub appended : Appends old new front
+  pub later : before ≤ now
+
+-- one more front was given
+pub given_more : (old mid new : Option (List ℕ)) (bytes rest behind : List ℕ) (before between now count : ℕ)
+    → Given old mid bytes rest before between → Appends mid new (take count rest) → behind ≡ drop count rest → between ≤ now
+    → Given old new bytes behind before now
+given_more old mid new bytes rest behind before between now count given more is later = record {
+  front = given.front ++ take count rest;
+  parts =
+      append_assoc given.front (take count rest) behind
+      ∙ ap (λ l. given.front ++ (take count rest ++ l)) is
+      ∙ ap (λ l. given.front ++ l) (take-append-drop count rest)
+      ∙ given.parts;
+  appended = Appends-trans old mid new given.front (take count rest) given.appended more;
+  later = omega (arith, given.later);
+}

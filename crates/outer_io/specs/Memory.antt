@@ -1,5 +1,5 @@
 -- What the sources, sinks and files in memory are seen as.
-use Rattle.std.specs.Prelude.{ℕ, List, [], ◌∷◌, Option, None, Some, if◌then◌else◌}
+use Rattle.std.specs.Prelude.{ℕ, ◌+◌, ◌-◌, ◌^◌, min, Bool, List, [], ◌∷◌, Option, None, Some, if◌then◌else◌}
 use Rattle.std.specs.Str.{bytes_eq}
 
 -- A source: the bytes that are not yet taken, and how many a call takes at most.
@@ -21,3 +21,40 @@ pub record Document : Type 0 where
 abbrev pub content_of : List Document → List ℕ → Option (List ℕ)
 content_of [] name = None
 content_of (document ∷ documents) name = if bytes_eq document.name name then Some document.bytes else content_of documents name
+
+-- Calls: the numbers of those that are to fail, how many were made, and how many faults there were.
+pub record Calls : Type 0 where
+  pub fails : List ℕ
+  pub made : ℕ
+  pub faults : ℕ
+
+-- No call was made yet.
+abbrev pub uncalled : List ℕ → Calls
+uncalled fails = record { fails = fails; made = 0; faults = 0 }
+
+-- A count that rises by one, and stands still at its last value.
+abbrev pub next_count : ℕ → ℕ
+next_count count = min (count + 1) (2 ^ 64 - 1)
+
+-- The number of the next call.
+abbrev pub number_of : Calls → ℕ
+number_of calls = next_count calls.made
+
+-- The calls after one more, which failed or did not.
+abbrev pub called : Bool → Calls → Calls
+called failed calls = record { fails = calls.fails; made = number_of calls; faults = if failed then next_count calls.faults else calls.faults }
+
+-- A source, with the calls of it.
+pub record ScheduledSupply : Type 0 where
+  pub supply : Supply
+  pub calls : Calls
+
+-- A sink, with the calls of it.
+pub record ScheduledStore : Type 0 where
+  pub store : Store
+  pub calls : Calls
+
+-- Files, with the calls of them.
+pub record ScheduledDocuments : Type 0 where
+  pub documents : List Document
+  pub calls : Calls

@@ -1,10 +1,21 @@
 //! What a program reads and writes: bytes from a source, bytes into a sink, and files by their names.
 #![tactic(auto)]
 
+mod calls;
 mod files;
+mod mem_files;
+mod mem_sink;
+mod mem_source;
 mod sink;
 mod source;
+mod standard;
+#[cfg(test)]
+mod tests;
 
-pub use files::{FileErr, Files, Found, SureFiles};
-pub use sink::{Sink, SinkErr, SureSink};
-pub use source::{Failed, Source, SureSource};
+pub use files::{FileErr, Files, Found};
+pub use mem_files::{MemFiles, SureFiles};
+pub use mem_sink::{MemSink, SureSink};
+pub use mem_source::{MemSource, SureSource};
+pub use sink::{Sink, SinkErr, give_all};
+pub use source::{Failed, Source};
+pub use standard::{StdFiles, StdSink, StdSource};

@@ -1,6 +1,6 @@
 use Rattle.std.proofs.Common.{◌≡◌, length, take, drop}
 use Rattle.outer_io.proofs.Pieces.{left-moved, end-moved}
-use Rattle.outer_io.proofs.source.SureSourceSource.take.Goals as goal
+use Rattle.outer_io.proofs.mem_source.SureSourceSource.take.Goals as goal
 
 pub returns-clause-bytes : goal.returns-clause-bytes
 returns-clause-bytes c =

@@ -1,7 +1,7 @@
 use Rattle.std.proofs.Common.{◌≡◌, drop}
 use Rattle.outer_io.specs.Documents.{documents}
 use Rattle.outer_io.specs.Memory.{content_of}
-use Rattle.outer_io.proofs.files.first_of_name.Given as goal
+use Rattle.outer_io.proofs.mem_files.first_of_name.Given as goal
 
 -- the files before this one have other names
 abbrev pub invariant-loop-known : goal.invariant-loop-known
