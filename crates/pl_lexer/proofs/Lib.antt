@@ -1,0 +1,7 @@
+pub mod Leading
+pub mod Once
+pub mod Fronts
+pub mod Numbers
+pub mod Signs
+pub mod Cuts
+pub mod Spelled

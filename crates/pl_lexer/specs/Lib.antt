@@ -1,0 +1,5 @@
+pub mod Lexeme
+pub mod Spelling
+pub mod Longest
+pub mod Tokens
+pub mod Spelled
