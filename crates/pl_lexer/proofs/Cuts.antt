@@ -1,16 +1,16 @@
 -- A text that has been cut up to some place, and one part more.
-use Rattle.std.proofs.Common.{◌≡◌, ℕ, ◌+◌, ◌<◌, ◌≤◌, Bool, false, List, [], ◌∷◌, ◌++◌, length, take, drop, Option, Some, None, sym, refl, ap, ◌∙◌, subst, arith, add_assoc, add-zero, zero-add}
-use Rattle.std.proofs.lemmas.List.{nil_from_length, length-take-le, take-append-drop, length-append, append_assoc, append-nil}
+use Rattle.std.proofs.Common.{◌≡◌, ℕ, ◌+◌, ◌<◌, ◌≤◌, Bool, false, List, [], ◌∷◌, ◌++◌, length, take, drop, Option, Some, None, sym, refl, ap, ◌∙◌, subst, arith, add-zero, zero-add}
+use Rattle.std.proofs.lemmas.List.{nil_from_length, length-take-le, take-append-drop, length-append}
 use Rattle.pl_lexer.specs.declared.token.Token.{Token}
 use Rattle.pl_lexer.specs.declared.token.Kind.{Kind}
 use Rattle.pl_lexer.specs.declared.TheConstants.{MOST_BYTES}
-use Rattle.pl_lexer.specs.Lexeme.{Lexeme, blank, token, foreign}
+use Rattle.pl_lexer.specs.Lexeme.{Lexeme}
 use Rattle.pl_lexer.specs.Longest.{Leads, LeadsBy}
-use Rattle.pl_lexer.specs.Spelling.{spelling, is_dot}
-use Rattle.std.specs.Prelude.{◌==◌, ◌≢◌, not, true}
+use Rattle.pl_lexer.specs.Spelling.{spelling}
+use Rattle.std.specs.Prelude.{◌==◌, ◌≢◌, true}
 use Rattle.std.proofs.lemmas.Bool.{false≢true, eqb-true}
 use Rattle.pl_lexer.proofs.Leading.{Leads-some}
-use Rattle.pl_lexer.specs.Tokens.{Part, lexeme_of, dot_after, Cuts, dot_after_all, size_of, told, tokens_of, Tokenizes, Wrong, Breaks, LexFault, breaks}
+use Rattle.pl_lexer.specs.Tokens.{Part, lexeme_of, dot_after, Cuts, dot_after_all, size_of, told, tokens_of, Tokenizes, Wrong, LexFault, breaks}
 
 -- one part more
 pub Cuts-push : (names : List ℕ → Option ℕ) (parts : List Part) (part : Part) (dot : Bool) (text rest behind : List ℕ) → Cuts names dot parts text rest → Leads (spelling names (dot_after_all dot parts)) rest part.bytes behind (lexeme_of part.kind) → Cuts names dot (parts ++ part ∷ []) text behind

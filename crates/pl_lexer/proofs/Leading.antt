@@ -1,9 +1,9 @@
 -- At most one lexeme leads a text.
-use Rattle.std.proofs.Common.{◌≡◌, ℕ, ◌+◌, ◌<◌, ◌≤◌, Bool, List, [], ◌∷◌, ◌++◌, length, take, drop, Option, Some, None, sym, refl, ap, ◌∙◌, subst, arith, length-append}
+use Rattle.std.proofs.Common.{◌≡◌, ℕ, ◌<◌, Bool, List, [], ◌∷◌, ◌++◌, length, take, drop, Option, Some, None, sym, refl, ap, ◌∙◌, subst, arith, length-append}
 use Rattle.std.specs.Prelude.{IsSome}
-use Rattle.std.proofs.lemmas.List.{take_at, drop_at, nil_from_length, take-append-drop, length-take-le}
-use Rattle.pl_lexer.specs.Lexeme.{Lexeme, blank, token, foreign}
-use Rattle.pl_lexer.specs.Longest.{Leads, LeadsBy, NothingLeads}
+use Rattle.std.proofs.lemmas.List.{take_at, drop_at}
+use Rattle.pl_lexer.specs.Lexeme.{Lexeme}
+use Rattle.pl_lexer.specs.Longest.{Leads, NothingLeads}
 use Rattle.pl_lexer.specs.Spelling.{spelling}
 
 -- two ways to cut a list at one place

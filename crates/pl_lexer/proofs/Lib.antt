@@ -1,5 +1,6 @@
 pub mod Leading
 pub mod Once
+pub mod Some
 pub mod Fronts
 pub mod Numbers
 pub mod Signs

@@ -1,14 +1,13 @@
 -- A text is cut in one way at most.
-use Rattle.std.proofs.Common.{◌≡◌, ◌≢◌, ℕ, ◌+◌, ◌<◌, ◌≤◌, Bool, false, List, [], ◌∷◌, ◌++◌, length, Option, Some, None, Result, Ok, Err, sym, refl, ap, ◌∙◌, subst, arith, rules, length-append, add_assoc}
+use Rattle.std.proofs.Common.{◌≡◌, ℕ, Bool, false, List, [], ◌∷◌, Option, Some, None, Result, Ok, Err, sym, refl, ap, ◌∙◌, subst, arith}
 use Rattle.pl_types.specs.declared.refusal.Refusal.{Refusal}
 use Rattle.pl_lexer.specs.declared.token.Token.{Token}
 use Rattle.pl_lexer.specs.declared.token.Kind.{Kind}
-use Rattle.pl_lexer.specs.declared.TheConstants.{MOST_BYTES}
-use Rattle.pl_lexer.specs.Lexeme.{Lexeme, blank, token, foreign}
-use Rattle.pl_lexer.specs.Longest.{Leads, NothingLeads}
+use Rattle.pl_lexer.specs.Lexeme.{Lexeme, foreign}
+use Rattle.pl_lexer.specs.Longest.{Leads}
 use Rattle.pl_lexer.specs.Spelling.{spelling}
-use Rattle.pl_lexer.specs.Tokens.{Part, lexeme_of, dot_after, Cuts, dot_after_all, size_of, told, tokens_of, Tokenizes, Wrong, no_spelling, foreign_spelling, Breaks, LexFault, too_large, breaks, Lexes}
-use Rattle.pl_lexer.proofs.Leading.{SameLead, Leads-same, nothing_and_leads, nil_not_led}
+use Rattle.pl_lexer.specs.Tokens.{Part, lexeme_of, dot_after, Cuts, dot_after_all, size_of, tokens_of, Tokenizes, Wrong, no_spelling, foreign_spelling, Breaks, LexFault, too_large, breaks, Lexes}
+use Rattle.pl_lexer.proofs.Leading.{Leads-same, nothing_and_leads, nil_not_led}
 
 -- no part leads what is left
 abbrev pub Stops : (List ℕ → Option ℕ) → Bool → List ℕ → Type 0

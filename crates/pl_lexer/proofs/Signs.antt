@@ -1,11 +1,9 @@
 -- What holds of each row of the table of signs.
-use Rattle.std.proofs.Common.{◌≡◌, ◌≢◌, ℕ, ◌+◌, ◌<◌, ◌≤◌, Bool, true, false, cond, ◌&&◌, List, [], ◌∷◌, ◌++◌, length, take, drop, Option, Some, None, sym, refl, ap, ◌∙◌, subst, arith, get_or, nat_le, nat_lt}
+use Rattle.std.proofs.Common.{◌≡◌, ◌≢◌, ℕ, ◌≤◌, Bool, true, false, List, [], ◌∷◌, length, Option, Some, None, sym, refl, subst, arith, get_or, nat_le, nat_lt}
 use Rattle.std.specs.Prelude.{IsSome, ◌==◌}
 use Rattle.std.specs.List.{list_all}
 use Rattle.std.proofs.lemmas.Bool.{false≢true, eqb-true}
 use Rattle.std.proofs.lemmas.Bool.Decides.{nat_tests}
-use Rattle.std.proofs.lemmas.List.{drop_all}
-use Rattle.pl_lexer.specs.declared.token.Kind.{Kind}
 use Rattle.pl_lexer.specs.declared.token.Kind.TheVariants.{Sign}
 use Rattle.pl_lexer.specs.Lexeme.{Lexeme, token, foreign}
 use Rattle.pl_lexer.specs.Longest.{LeadsBy}
@@ -29,13 +27,13 @@ look_up-passes test ((text, lexeme) ∷ rows) bytes l all found =
     let parts = both (test text lexeme) (list_all (λ row. test row.0 row.1) rows) all in
     at_row (same_bytes bytes text) refl parts.0 (look_up-passes test rows bytes l parts.1)
   where
-  at_row : (v : Bool) → same_bytes bytes text ≡ v → test text lexeme ≡ true → (look_up bytes rows ≡ Some l → test bytes l ≡ true) → test bytes l ≡ true
-  at_row true e here later =
-      let same = same_bytes-true bytes text e in
-      let first : Some lexeme ≡ Some l = rw e at found in
-      let lexemes : lexeme ≡ l = cc in
-      subst (λ k. test bytes k ≡ true) lexemes (subst (λ t. test t lexeme ≡ true) (sym same) here)
-  at_row false e here later = later (rw e at found)
+    at_row : (v : Bool) → same_bytes bytes text ≡ v → test text lexeme ≡ true → (look_up bytes rows ≡ Some l → test bytes l ≡ true) → test bytes l ≡ true
+    at_row true e here later =
+        let same = same_bytes-true bytes text e in
+        let first : Some lexeme ≡ Some l = rw e at found in
+        let lexemes : lexeme ≡ l = cc in
+        subst (λ k. test bytes k ≡ true) lexemes (subst (λ t. test t lexeme ≡ true) (sym same) here)
+    at_row false e here later = later (rw e at found)
 
 abbrev pub is_ascii : ℕ → Bool
 is_ascii b = nat_lt b 128

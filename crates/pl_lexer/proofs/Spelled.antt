@@ -1,19 +1,17 @@
 -- The tokens of a text are spellings of their kinds, and stand between its characters.
-use Rattle.std.proofs.Common.{◌≡◌, ◌≢◌, ℕ, ◌+◌, ◌-◌, ◌<◌, ◌≤◌, Bool, true, false, cond, ◌&&◌, not, List, [], ◌∷◌, ◌++◌, length, take, drop, Option, Some, None, sym, refl, ap, ◌∙◌, subst, arith, get_or, rules, IsUtf8, zero, suc, add-zero, nat_lt}
-use Rattle.std.specs.Prelude.{IsSome, ◌==◌}
+use Rattle.std.proofs.Common.{◌≡◌, ℕ, ◌+◌, ◌-◌, ◌<◌, ◌≤◌, Bool, true, false, List, [], ◌∷◌, ◌++◌, length, drop, Option, Some, None, sym, refl, ap, ◌∙◌, subst, arith, get_or, IsUtf8, zero, suc, add-zero}
 use Rattle.std.specs.Char.{is_ascii_digit}
 use Rattle.std.specs.Str.{IsCharBoundary}
 use Rattle.std.specs.List.{list_all}
-use Rattle.std.proofs.lemmas.Bool.{false≢true, eqb-true}
+use Rattle.std.proofs.lemmas.Bool.{false≢true}
 use Rattle.std.proofs.lemmas.Bool.Decides.{nat_tests}
 use Rattle.std.proofs.lemmas.Str.{IsCharBoundary-before_ascii, IsCharBoundary-after_ascii}
 use Rattle.std.proofs.lemmas.List.{length-append, append_assoc, take_at, drop_at, get_or-append-add, get_or_append_left}
 use Rattle.pl_lexer.specs.declared.token.Token.{Token}
 use Rattle.pl_lexer.specs.declared.token.Kind.{Kind}
 use Rattle.pl_lexer.specs.declared.token.Kind.TheVariants.{Integer, Sign}
-use Rattle.pl_lexer.specs.Lexeme.{Lexeme, blank, token, foreign}
-use Rattle.pl_lexer.specs.Longest.{Leads}
-use Rattle.pl_lexer.specs.Spelling.{spelling, Spells, begins, is_blank, blank_of, is_decimal, number_of, sign_of, look_up, same_bytes, signs}
+use Rattle.pl_lexer.specs.Lexeme.{token}
+use Rattle.pl_lexer.specs.Spelling.{spelling, Spells, begins, is_blank, blank_of, is_decimal, number_of, sign_of, signs}
 use Rattle.pl_lexer.specs.Spelled.{Stands, AreSpelled, bytes_of}
 use Rattle.pl_lexer.specs.Tokens.{Part, lexeme_of, dot_after, Cuts, told, tokens_of, Tokenizes}
 use Rattle.pl_lexer.proofs.Leading.{Leads-some, some_is}
@@ -57,12 +55,12 @@ number_kind kind bytes behind e =
     let decimal = number_decimal bytes behind (some_is _ _ e) in
     at_behind (begins is_ascii_digit behind) refl decimal
   where
-  at_behind : (v : Bool) → begins is_ascii_digit behind ≡ v → is_decimal bytes ≡ true → Spells kind bytes
-  at_behind true f decimal = let none : number_of bytes behind ≡ None = rw (decimal, f) refl in absurd cc
-  at_behind false f decimal =
-      let some : number_of bytes behind ≡ Some (token Integer) = rw (decimal, f) refl in
-      let kinds : Integer ≡ kind = cc in
-      subst (λ k. Spells k bytes) kinds decimal
+    at_behind : (v : Bool) → begins is_ascii_digit behind ≡ v → is_decimal bytes ≡ true → Spells kind bytes
+    at_behind true f decimal = let none : number_of bytes behind ≡ None = rw (decimal, f) refl in absurd cc
+    at_behind false f decimal =
+        let some : number_of bytes behind ≡ Some (token Integer) = rw (decimal, f) refl in
+        let kinds : Integer ≡ kind = cc in
+        subst (λ k. Spells k bytes) kinds decimal
 
 -- what a spelling of a token spells is a spelling of its kind
 spelled_kind : (names : List ℕ → Option ℕ) (dot : Bool) (bytes behind : List ℕ) (kind : Kind) → spelling names dot bytes behind ≡ Some (token kind) → Spells kind bytes
@@ -71,6 +69,7 @@ spelled_kind names dot bytes behind kind e = at_digit (begins is_ascii_digit byt
   at_blank : (v : Bool) → begins is_ascii_digit bytes ≡ false → begins is_blank bytes ≡ v → Spells kind bytes
   at_blank true d f = blank_kind kind bytes (rw (d, f) at e)
   at_blank false d f = let sign : sign_of bytes ≡ Some (token kind) = rw (d, f) at e in sign_kind kind bytes sign (sign_is_sign bytes (token kind) sign)
+
   at_digit : (v : Bool) → begins is_ascii_digit bytes ≡ v → Spells kind bytes
   at_digit true d = number_kind kind bytes behind (rw d at e)
   at_digit false d = at_blank (begins is_blank bytes) d refl
@@ -118,9 +117,9 @@ cut_spelled names (part ∷ parts) dot text front rest end from utf8 whole after
     let told_more : (low : ℕ) → low ≤ length front + length part.bytes → AreSpelled text low (tokens_of (length front + length part.bytes) parts) = λ low bound. subst (λ n. AreSpelled text low (tokens_of n parts)) place (more low (omega arith)) in
     with_kind part.kind led.spells told_more joined some
   where
-  with_kind : (kind : Option Kind) → spelling names dot part.bytes cuts.0 ≡ Some (lexeme_of kind) → ((low : ℕ) → low ≤ length front + length part.bytes → AreSpelled text low (tokens_of (length front + length part.bytes) parts)) → front ++ (part.bytes ++ cuts.0) ≡ text → 0 < length part.bytes → AreSpelled text from (told kind (length front) (length front + length part.bytes) (tokens_of (length front + length part.bytes) parts))
-  with_kind None spelled more joined some = more from (omega arith)
-  with_kind (Some kind) spelled more joined some = (stands text front part.bytes cuts.0 kind from utf8 joined after some (spelled_kind names dot part.bytes cuts.0 kind spelled), more (length front + length part.bytes) (omega arith))
+    with_kind : (kind : Option Kind) → spelling names dot part.bytes cuts.0 ≡ Some (lexeme_of kind) → ((low : ℕ) → low ≤ length front + length part.bytes → AreSpelled text low (tokens_of (length front + length part.bytes) parts)) → front ++ (part.bytes ++ cuts.0) ≡ text → 0 < length part.bytes → AreSpelled text from (told kind (length front) (length front + length part.bytes) (tokens_of (length front + length part.bytes) parts))
+    with_kind None spelled more joined some = more from (omega arith)
+    with_kind (Some kind) spelled more joined some = (stands text front part.bytes cuts.0 kind from utf8 joined after some (spelled_kind names dot part.bytes cuts.0 kind spelled), more (length front + length part.bytes) (omega arith))
 
 -- all tokens of a text are spelled in it
 pub all_spelled : (text : List ℕ) (names : List ℕ → Option ℕ) (tokens : List Token) → IsUtf8 text → Tokenizes text names tokens → AreSpelled text 0 tokens

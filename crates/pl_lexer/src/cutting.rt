@@ -6,12 +6,11 @@ ghost use Rattle.pl_lexer.specs.Spelling.{is_dot};
 ghost use Rattle.pl_lexer.specs.Spelled.{AreSpelled};
 ghost use Rattle.pl_lexer.specs.Tokens.{Lexes};
 
-use std::alloc::Global;
-
 use crate::found::Found;
 use crate::reading::found_at;
 use crate::{BAD_TOKEN, Kind, MOST_BYTES, OUT_OF_PROFILE, Sign, TOO_LARGE, Token};
 use pl_types::{Fail, Refusal, TypeNames};
+use std::alloc::Global;
 
 // The token is `.` or `?.`.
 fn is_dot(kind: Kind) -> bool
@@ -22,6 +21,13 @@ fn is_dot(kind: Kind) -> bool
         Kind::Sign(Sign::NullDot) => true,
         _ => false,
     }
+}
+
+// The refusal by this rule at this byte.
+fn refused(number: u8, offset: u32) -> Fail
+    ensures { result ≡ Fail.Refused (record { number = number; offset = offset }) }
+{
+    Fail::Refused(Refusal { number, offset })
 }
 
 /// The tokens of a script. The names say which dotted names are classes.
@@ -36,7 +42,7 @@ pub fn lex<N: TypeNames>(alloc: Global, text: &str, names: &N) -> Result<Vec<Tok
     ensures spelled { IfOk result (λ v. AreSpelled text.now 0 v.items) }
 {
     if text.len() > MOST_BYTES as usize {
-        return Err(Fail::Refused(Refusal { number: TOO_LARGE, offset: MOST_BYTES }));
+        return Err(refused(TOO_LARGE, MOST_BYTES));
     }
     let mut tokens = Vec::new(alloc);
     let mut rest = text.as_bytes();
@@ -45,18 +51,18 @@ pub fn lex<N: TypeNames>(alloc: Global, text: &str, names: &N) -> Result<Vec<Tok
     while !rest.is_empty() {
         match found_at(rest, names, dot) {
             Found::Nothing => {
-                return Err(Fail::Refused(Refusal { number: BAD_TOKEN, offset: at }));
+                return Err(refused(BAD_TOKEN, at));
             }
             Found::Foreign => {
-                return Err(Fail::Refused(Refusal { number: OUT_OF_PROFILE, offset: at }));
+                return Err(refused(OUT_OF_PROFILE, at));
             }
             Found::Blank(length) => {
                 rest = rest.split_at(length).1;
                 at += length as u32;
             }
             Found::Leading(kind, length) => {
-                let end = at + length as u32;
-                tokens.push(Token { kind, start: at, end })?;
+                let (start, end) = (at, at + length as u32);
+                tokens.push(Token { kind, start, end })?;
                 rest = rest.split_at(length).1;
                 at = end;
                 dot = is_dot(kind);

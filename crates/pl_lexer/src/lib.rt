@@ -3,10 +3,12 @@
 
 mod cutting;
 mod found;
+mod laws;
 mod reading;
 mod token;
 
 pub use cutting::lex;
+pub use laws::each_text_has_one_reading;
 pub use token::{Kind, Sign, Token, Word};
 
 /// The most bytes that a script has.
@@ -17,3 +19,6 @@ pub const BAD_TOKEN: u8 = 1;
 pub const OUT_OF_PROFILE: u8 = 19;
 /// The number of the refusal of a script that is too large.
 pub const TOO_LARGE: u8 = 20;
+
+#[cfg(test)]
+mod tests;

@@ -1,32 +1,26 @@
-use Rattle.std.proofs.Common.{◌≡◌, ◌≢◌, ℕ, ◌<◌, ◌+◌, List, [], ◌∷◌, ◌++◌, length, drop, is_ok, sym, refl, ap, ◌∙◌, subst, arith, rules, Some, None, Ok, Err}
+use Rattle.std.proofs.Common.{is_ok, sym, refl, ap, Some, None, Ok}
 use Rattle.std.proofs.ResultArms.{chosen}
-use Rattle.std.proofs.lemmas.List.{append-nil, nil_from_length, length-drop}
-use Rattle.pl_lexer.specs.declared.found.Found.TheVariants.{Nothing, Foreign, Blank, Leading}
-use Rattle.pl_lexer.specs.Lexeme.{token}
-use Rattle.pl_lexer.specs.Longest.{Finds, LeadsBy}
-use Rattle.pl_lexer.specs.Spelling.{spelling}
-use Rattle.pl_lexer.specs.Tokens.{Wrong, no_spelling, foreign_spelling, LexFault}
+use Rattle.std.proofs.lemmas.List.{append-nil}
+use Rattle.pl_lexer.specs.Tokens.{no_spelling, foreign_spelling}
 use Rattle.pl_lexer.proofs.Once.{Lexes-once}
-use Rattle.pl_lexer.proofs.Leading.{Leads-some}
-use Rattle.pl_lexer.proofs.Cuts.{CutsSoFar, part_cut, part_cut_is, all_cut, breaks_here, some_left, none_left, left_falls}
+use Rattle.pl_lexer.proofs.Cuts.{part_cut_is, all_cut, breaks_here, some_left, none_left, left_falls}
 use Rattle.pl_lexer.proofs.Spelled.{all_spelled}
-use Rattle.pl_lexer.proofs.cutting.lex.Given as given
 use Rattle.pl_lexer.proofs.cutting.lex.Goals as goal
 
 pub returns-in-Nothing-clause-only : goal.returns-in-Nothing-clause-only
 returns-in-Nothing-clause-only g c = λ reading reads.
     let wrong = no_spelling (some_left _ _ c.is_empty.ensures c.loop-rest-test.true) c.in-Nothing.ensures refl in
-    Lexes-once _ _ _ _ (breaks_here _ _ _ _ _ _ 1 c.loop-rest.invariant wrong) reads
+    rw c.refused-in-Nothing.ensures (Lexes-once _ _ _ _ (breaks_here _ _ _ _ _ _ 1 c.loop-rest.invariant wrong) reads)
 
 pub returns-in-Foreign-clause-exact : goal.returns-in-Foreign-clause-exact
 returns-in-Foreign-clause-exact g c =
     let led = c.in-Foreign.ensures in
-    breaks_here _ _ _ _ _ _ 19 c.loop-rest.invariant (foreign_spelling led.0 led.1.0 led.1.1 refl)
+    rw c.refused-in-Foreign.ensures (breaks_here _ _ _ _ _ _ 19 c.loop-rest.invariant (foreign_spelling led.0 led.1.0 led.1.1 refl))
 
 pub returns-in-Foreign-clause-only : goal.returns-in-Foreign-clause-only
 returns-in-Foreign-clause-only g c = λ reading reads.
     let led = c.in-Foreign.ensures in
-    Lexes-once _ _ _ _ (breaks_here _ _ _ _ _ _ 19 c.loop-rest.invariant (foreign_spelling led.0 led.1.0 led.1.1 refl)) reads
+    rw c.refused-in-Foreign.ensures (Lexes-once _ _ _ _ (breaks_here _ _ _ _ _ _ 19 c.loop-rest.invariant (foreign_spelling led.0 led.1.0 led.1.1 refl)) reads)
 
 pub loop-rest-smaller-in-Blank : goal.loop-rest-smaller-in-Blank
 loop-rest-smaller-in-Blank g c = left_falls _ _ _ _ _ _ c.in-Blank.ensures c.split_at.ensures.back

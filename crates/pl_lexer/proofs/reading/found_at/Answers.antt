@@ -1,6 +1,6 @@
-use Rattle.std.proofs.Common.{sym, ◌∙◌, refl}
+use Rattle.std.proofs.Common.{sym, ◌∙◌}
 use Rattle.std.specs.Char.{is_ascii_digit}
-use Rattle.pl_lexer.specs.Spelling.{spelling, is_blank, number_of, sign_of}
+use Rattle.pl_lexer.specs.Spelling.{is_blank, number_of, sign_of}
 use Rattle.pl_lexer.proofs.Fronts.{Finds-agree, begins_at, digits_agree, signs_agree, blank_leads}
 use Rattle.pl_lexer.proofs.reading.found_at.Goals as goal
 
