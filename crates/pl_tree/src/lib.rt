@@ -1,0 +1,6 @@
+//! Trees of scripts.
+#![tactic(auto)]
+
+mod typed;
+
+pub use typed::{Operator, Typed};

@@ -1,0 +1,6 @@
+//! What a script means.
+#![tactic(auto)]
+
+mod evaluation;
+
+pub use evaluation::evaluate;
