@@ -1,0 +1,5 @@
+pub mod Follows
+pub mod Nodes
+pub mod Places
+pub mod Shaped
+pub mod Whole
