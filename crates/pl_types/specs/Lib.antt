@@ -1,1 +1,5 @@
 pub mod Answers
+pub mod Casts
+pub mod Classes
+pub mod Promotions
+pub mod Types

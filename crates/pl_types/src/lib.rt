@@ -1,10 +1,24 @@
 //! The types of scripts, their promotions and casts, and what a refusal of a script is.
 #![tactic(auto)]
 
+mod casting;
+pub mod classes;
+mod conversion;
+mod lineage;
 mod names;
 mod primitive;
+mod promotion;
 mod refusal;
+mod ty;
 
+pub use casting::{box_class, cast, cast_laws, unboxed, widens_to};
+pub use classes::{
+    class_below, class_full, class_laws, class_lineage, class_parents, class_short,
+};
+pub use conversion::Cast;
+pub use lineage::Lineage;
 pub use names::TypeNames;
 pub use primitive::Primitive;
+pub use promotion::{literal_fits, promote};
 pub use refusal::{Fail, Refusal};
+pub use ty::Ty;

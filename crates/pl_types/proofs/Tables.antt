@@ -1,0 +1,23 @@
+-- A table in the code against what it has to say at each place.
+use Rattle.std.proofs.Common.{◌≡◌, ℕ, ◌<◌, List, get_or, map, sym, ap, ◌∙◌, arith}
+use Rattle.std.specs.List.{range_with_len}
+use Rattle.std.proofs.Math.ListN.{get_or-map}
+use Rattle.std.proofs.lemmas.List.FromFn.{get_or-map-range_with_len}
+use Rattle.pl_types.specs.declared.classes.ClassRow.{ClassRow}
+use Rattle.pl_types.specs.Classes.{full_name, short_name, parents_of, lineage_of}
+
+agree_at : {R X : Type 0} (f : R → X) (g : ℕ → X) (rows : List R) (n i : ℕ) (d : R) → map f rows ≡ map g (range_with_len 0 n) → i < n → f (get_or rows i d) ≡ g i
+agree_at f g rows n i d same h =
+    sym (get_or-map f rows i d) ∙ ap (λ xs. get_or xs i (f d)) same ∙ get_or-map-range_with_len g 0 n i i (f d) h (omega arith)
+
+pub full_at : (rows : List ClassRow) (i : ℕ) (d : ClassRow) → map (λ (r : ClassRow). r.full.now) rows ≡ map full_name (range_with_len 0 57) → i < 57 → (get_or rows i d).full.now ≡ full_name i
+full_at rows i d same h = agree_at (λ (r : ClassRow). r.full.now) full_name rows 57 i d same h
+
+pub short_at : (rows : List ClassRow) (i : ℕ) (d : ClassRow) → map (λ (r : ClassRow). r.short.now) rows ≡ map short_name (range_with_len 0 57) → i < 57 → (get_or rows i d).short.now ≡ short_name i
+short_at rows i d same h = agree_at (λ (r : ClassRow). r.short.now) short_name rows 57 i d same h
+
+pub parents_at : (rows : List ClassRow) (i : ℕ) (d : ClassRow) → map (λ (r : ClassRow). r.parents.now) rows ≡ map parents_of (range_with_len 0 57) → i < 57 → (get_or rows i d).parents.now ≡ parents_of i
+parents_at rows i d same h = agree_at (λ (r : ClassRow). r.parents.now) parents_of rows 57 i d same h
+
+pub lineage_at : (rows : List ClassRow) (i : ℕ) (d : ClassRow) → map (λ (r : ClassRow). r.lineage.now) rows ≡ map lineage_of (range_with_len 0 57) → i < 57 → (get_or rows i d).lineage.now ≡ lineage_of i
+lineage_at rows i d same h = agree_at (λ (r : ClassRow). r.lineage.now) lineage_of rows 57 i d same h
