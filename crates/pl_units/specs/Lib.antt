@@ -1,0 +1,4 @@
+pub mod Order
+pub mod Places
+pub mod Utf16
+pub mod WholeNumber

@@ -1,0 +1,12 @@
+//! Texts as scripts see them: lists of UTF-16 code units, as Java's strings are.
+#![tactic(auto)]
+
+mod convert;
+mod laws;
+mod number;
+mod search;
+mod text;
+
+pub use laws::{order_is_total, utf8_is_kept};
+pub use number::{decimal, parse_int, parse_long};
+pub use text::UText;
