@@ -1,5 +1,5 @@
 -- The order of texts by their units.
-use Rattle.std.specs.Prelude.{◌≡◌, ℕ, ◌<◌, ◌≤◌, List, [], ◌∷◌, ◌++◌}
+use Rattle.std.specs.Prelude.{ℕ, ◌<◌, List, ◌∷◌, ◌++◌}
 
 -- The first text comes before the second: it is the second's beginning and shorter, or at the first place where they
 -- differ it has the smaller unit.

@@ -1,5 +1,5 @@
 -- Whole numbers in decimal: the grammar and the value. A `+` is unit 43, a `-` unit 45 and the digits are units 48 to 57.
-use Rattle.std.specs.Prelude.{◌≡◌, ℕ, ◌+◌, ◌-◌, ◌*◌, ◌^◌, ◌<◌, ◌==◌, Bool, false, ◌||◌, List, [], ◌∷◌, length, All, ℤ, pos, neg_ℤ, if◌then◌else◌}
+use Rattle.std.specs.Prelude.{ℕ, ◌+◌, ◌-◌, ◌*◌, ◌^◌, ◌<◌, ◌==◌, Bool, false, ◌||◌, List, [], ◌∷◌, length, All, ℤ, pos, neg_ℤ, if◌then◌else◌}
 use Rattle.std.specs.Char.{IsAsciiDigit}
 
 -- one ASCII digit or more, and nothing else

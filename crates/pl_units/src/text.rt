@@ -54,7 +54,8 @@ impl UText {
         ensures value { result ≡ length self.now }
         ensures units { All (λ unit. unit < 2 ^ 16) self.now }
     {
-        self.content.len()
+        let content = self.as_slice();
+        content.len()
     }
 
     /// Whether the text has no unit.

@@ -1,0 +1,12 @@
+-- The value of the digits so far, which are digits.
+use Rattle.std.proofs.Common.{◌≡◌, ◌<◌, ◌^◌, take, All}
+use Rattle.std.specs.Char.{IsAsciiDigit}
+use Rattle.pl_units.specs.WholeNumber.{digits_value}
+use Rattle.pl_units.proofs.number.numeral.Given as goal
+
+abbrev pub invariant-loop-digit : goal.invariant-loop-digit
+invariant-loop-digit l = record {
+  digits : All IsAsciiDigit (take l.digit-index l.digits);
+  value : l.value ≡ digits_value (take l.digit-index l.digits);
+  fits : l.value < 2 ^ 64
+}
