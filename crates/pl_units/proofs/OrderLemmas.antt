@@ -31,9 +31,9 @@ same_when_equal (x ∷ xs) (y ∷ ys) e = elim (cases_order x y) [
       let rest = same_when_equal xs ys (sym (at_first x y xs ys Equal (units_equal x y same)) ∙ e) in
       cc
   | inr unlike ↦ elim unlike [
-      | inl l ↦ let first = sym (at_first x y xs ys Less (units_less x y l)) ∙ e in cc
-      | inr g ↦ let first = sym (at_first x y xs ys Greater (units_greater x y g)) ∙ e in cc
-    ]
+    | inl l ↦ let first = sym (at_first x y xs ys Less (units_less x y l)) ∙ e in cc
+    | inr g ↦ let first = sym (at_first x y xs ys Greater (units_greater x y g)) ∙ e in cc
+  ]
 ]
 
 pub equal_when_same : (a b : List ℕ) → a ≡ b → slice_cmp nat_cmp a b ≡ Equal
@@ -57,9 +57,9 @@ before_when_less (x ∷ xs) [] e = cc
 before_when_less (x ∷ xs) (y ∷ ys) e = elim (cases_order x y) [
   | inl same ↦ after_unit x y xs ys same (before_when_less xs ys (sym (at_first x y xs ys Equal (units_equal x y same)) ∙ e))
   | inr unlike ↦ elim unlike [
-      | inl l ↦ smaller [] x y xs ys l
-      | inr g ↦ let first = sym (at_first x y xs ys Greater (units_greater x y g)) ∙ e in cc
-    ]
+    | inl l ↦ smaller [] x y xs ys l
+    | inr g ↦ let first = sym (at_first x y xs ys Greater (units_greater x y g)) ∙ e in cc
+  ]
 ]
 
 pub less_when_before : (a b : List ℕ) → ComesBefore a b → slice_cmp nat_cmp a b ≡ Less

@@ -67,9 +67,9 @@ scalar_first : (c : ℕ) (rest : List ℕ) → scalar c ≡ true → scalars_of 
 scalar_first c rest s = elim (cases_lt c 0x1_0000) [
   | inl l ↦ basic_first c rest l (scalar_cases c s)
   | inr g ↦ elim (scalar_cases c s) [
-      | inl l ↦ absurd (omega arith)
-      | inr h ↦ supplementary_first c rest g h.1
-    ]
+    | inl l ↦ absurd (omega arith)
+    | inr h ↦ supplementary_first c rest g h.1
+  ]
 ]
 
 pub scalars_of_units : (cs : List ℕ) → scalars cs ≡ true → scalars_of (flat_map units_of_scalar cs) ≡ cs

@@ -7,11 +7,9 @@ ghost use Rattle.pl_units.specs.Utf16.{units, bytes};
 /// A law that callers may cite: a text read from UTF-8 is written as the same bytes.
 pub fn utf8_is_kept(text: &str)
     ensures { bytes (units text.now) ≡ text.now }
-{
-}
+{}
 
 /// A law that callers may cite: the order of texts by their units is total.
 pub fn order_is_total()
     ensures { IsTotalOrder (slice_cmp {A = ℕ} nat_cmp) }
-{
-}
+{}

@@ -1,38 +1,52 @@
-ghost use Rattle.std.specs.Prelude.{◌≡◌, ◌*◌, ◌+◌, ◌-◌, ◌^◌, ◌<◌, IfOk, FitsSigned};
+ghost use Rattle.std.specs.Prelude.{◌≡◌, ◌*◌, ◌+◌, ◌-◌, ◌^◌, ◌<◌, FitsSigned, IfOk, IsTrue, Some};
 ghost use Rattle.std.specs.Char.{IsAsciiDigit};
 ghost use Rattle.std.specs.Fmt.{signed_decimal};
 ghost use Rattle.std.specs.Int.{w32, w64};
 ghost use Rattle.std.specs.Option.{SomeIff};
-ghost use Rattle.pl_units.specs.WholeNumber.{IsNumeral, IsWholeNumber, digits_value, whole_number};
+ghost use Rattle.pl_units.specs.WholeNumber.{is_numeral, is_whole_number, digits_value, whole_number, int_of, long_of};
 
 use crate::UText;
 use itoa::Buffer;
 use std::alloc::{AllocError, Global};
 
 const PLUS: u16 = 43;
+
 const MINUS: u16 = 45;
 
 /// The decimal text of a number: its digits with no leading zero, after a `-` where it is below 0.
 pub fn decimal(alloc: Global, n: i64) -> Result<UText, AllocError>
-    ensures { IfOk result (λ t. t ≡ signed_decimal n) }
+    ensures text { IfOk result (λ t. t ≡ signed_decimal n) }
+    ensures read_back { IfOk result (λ t. long_of t ≡ Some n) }
 {
     let mut buffer = Buffer::new();
     UText::from_utf8(alloc, buffer.format(n))
 }
 
 /// The number that a text writes in decimal, with an optional `+` or `-` and at least one ASCII digit, leading zeros
-/// allowed. It is `None` exactly where the text is anything else, or the number is no signed 32-bit one.
+/// allowed. It is `None` exactly where the text is anything else, or the number is no signed one of 32 bits.
 pub fn parse_int(t: &UText) -> Option<i32>
-    ensures { SomeIff result (IsWholeNumber t.now × FitsSigned w32 (whole_number t.now)) (whole_number t.now) }
+    ensures { result ≡ int_of t.now }
 {
-    i32::try_from(parse_long(t)?).ok()
+    int_in(t.as_slice())
 }
 
-/// The same for a signed 64-bit number.
+/// The same for a signed number of 64 bits.
 pub fn parse_long(t: &UText) -> Option<i64>
-    ensures { SomeIff result (IsWholeNumber t.now × FitsSigned w64 (whole_number t.now)) (whole_number t.now) }
+    ensures { result ≡ long_of t.now }
 {
-    match t.as_slice() {
+    long_in(t.as_slice())
+}
+
+fn int_in(text: &[u16]) -> Option<i32>
+    ensures { SomeIff result (IsTrue (is_whole_number text.now) × FitsSigned w32 (whole_number text.now)) (whole_number text.now) }
+{
+    i32::try_from(long_in(text)?).ok()
+}
+
+fn long_in(text: &[u16]) -> Option<i64>
+    ensures { SomeIff result (IsTrue (is_whole_number text.now) × FitsSigned w64 (whole_number text.now)) (whole_number text.now) }
+{
+    match text {
         [MINUS, digits @ ..] => 0i64.checked_sub_unsigned(numeral(digits)?),
         [PLUS, digits @ ..] => 0i64.checked_add_unsigned(numeral(digits)?),
         digits => 0i64.checked_add_unsigned(numeral(digits)?),
@@ -41,7 +55,7 @@ pub fn parse_long(t: &UText) -> Option<i64>
 
 // The value of one digit or more, if it is below 2 ^ 64.
 fn numeral(digits: &[u16]) -> Option<u64>
-    ensures { SomeIff result (IsNumeral digits.now × (digits_value digits.now < 2 ^ 64)) (digits_value digits.now) }
+    ensures { SomeIff result (IsTrue (is_numeral digits.now) × (digits_value digits.now < 2 ^ 64)) (digits_value digits.now) }
 {
     if digits.is_empty() {
         return None;

@@ -1,8 +1,8 @@
 ghost use Rattle.std.specs.Prelude.{◌≡◌, ◌+◌, ◌<◌, ◌≤◌, ◌↔◌, ℕ, IsTrue, IfNone, IfSome, length};
-ghost use Rattle.pl_units.specs.Places.{StandsAt, IsFirstPlace, IsLastPlace};
+ghost use Rattle.pl_units.specs.Places.{StandsAt, IsFirstPlace, IsLastPlace, first_place, last_place};
 
 // The least place at or after `from` at which the part stands.
-pub fn first_place(text: &[u16], part: &[u16], from: usize) -> Option<usize>
+pub fn find_in(text: &[u16], part: &[u16], from: usize) -> Option<usize>
     ensures found { IfSome result (IsFirstPlace text.now part.now from) }
     ensures none { IfNone result ((place : ℕ) → from ≤ place → ¬ StandsAt text.now part.now place) }
 {
@@ -15,7 +15,7 @@ pub fn first_place(text: &[u16], part: &[u16], from: usize) -> Option<usize>
 }
 
 // The greatest place at which the part stands.
-pub fn last_place(text: &[u16], part: &[u16]) -> Option<usize>
+pub fn rfind_in(text: &[u16], part: &[u16]) -> Option<usize>
     ensures found { IfSome result (IsLastPlace text.now part.now) }
     ensures none { IfNone result ((place : ℕ) → ¬ StandsAt text.now part.now place) }
 {

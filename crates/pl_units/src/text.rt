@@ -3,11 +3,11 @@ ghost use Rattle.std.specs.Cmp.Lexicographic.{slice_cmp};
 ghost use Rattle.std.specs.Ordering.{nat_cmp};
 ghost use Rattle.std.specs.String.{string_bytes};
 ghost use Rattle.pl_units.specs.Order.{ComesBefore};
-ghost use Rattle.pl_units.specs.Places.{StandsAt, IsFirstPlace, IsLastPlace};
+ghost use Rattle.pl_units.specs.Places.{StandsAt, IsFirstPlace, IsLastPlace, first_place, last_place};
 ghost use Rattle.pl_units.specs.Utf16.{units, bytes};
 
 use crate::convert::push_scalar;
-use crate::search::{first_place, last_place};
+use crate::search::{find_in, rfind_in};
 use std::alloc::{AllocError, Global};
 use std::cmp::Ordering;
 use std::marker::Model;
@@ -32,11 +32,11 @@ impl Model for UText {
 
 impl UText {
     /// The text that UTF-8 bytes spell: one unit for a scalar value up to U+FFFF, a surrogate pair for one beyond it.
-    pub fn from_utf8(alloc: Global, text: &str) -> Result<UText, AllocError>
-        ensures { IfOk result (λ t. t ≡ units text.now) }
+    pub fn from_utf8(alloc: Global, s: &str) -> Result<UText, AllocError>
+        ensures { IfOk result (λ t. t ≡ units s.now) }
     {
         let mut content = Vec::new(alloc);
-        for scalar in text.chars() {
+        for scalar in s.chars() {
             push_scalar(&mut content, scalar)?;
         }
         Ok(UText { content })
@@ -52,7 +52,7 @@ impl UText {
     /// How many units the text has.
     pub fn len(&self) -> usize
         ensures value { result ≡ length self.now }
-        ensures units { All (λ unit. unit < 2 ^ 16) self.now }
+        ensures in_range { All (λ unit. unit < 2 ^ 16) self.now }
     {
         let content = self.as_slice();
         content.len()
@@ -104,19 +104,21 @@ impl UText {
     /// At or after a `from` beyond the length no place is left, and the answer is `None`: where Java takes such a start for
     /// the end itself, the caller passes the length.
     pub fn find(&self, part: &UText, from: usize) -> Option<usize>
+        ensures value { result ≡ first_place self.now part.now from }
         ensures found { IfSome result (IsFirstPlace self.now part.now from) }
         ensures none { IfNone result ((place : ℕ) → from ≤ place → ¬ StandsAt self.now part.now place) }
     {
-        first_place(self.as_slice(), part.as_slice(), from)
+        find_in(self.as_slice(), part.as_slice(), from)
     }
 
     /// The greatest place at which the part stands, or `None` if there is none. For the empty part it is the text's length,
     /// as of Java's `lastIndexOf`.
     pub fn rfind(&self, part: &UText) -> Option<usize>
+        ensures value { result ≡ last_place self.now part.now }
         ensures found { IfSome result (IsLastPlace self.now part.now) }
         ensures none { IfNone result ((place : ℕ) → ¬ StandsAt self.now part.now place) }
     {
-        last_place(self.as_slice(), part.as_slice())
+        rfind_in(self.as_slice(), part.as_slice())
     }
 
     /// The order of the texts by their units, as of Java's `compareTo`: at the first place where they differ the smaller
@@ -141,7 +143,7 @@ impl UText {
         *self.content.allocator()
     }
 
-    fn from_units(alloc: Global, text: &[u16]) -> Result<UText, AllocError>
+    pub(crate) fn from_units(alloc: Global, text: &[u16]) -> Result<UText, AllocError>
         ensures { IfOk result (λ t. t ≡ text.now) }
     {
         let content = Vec::from_slice(alloc, text)?;

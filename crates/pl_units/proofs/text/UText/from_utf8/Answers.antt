@@ -10,5 +10,5 @@ use Rattle.pl_units.proofs.text.UText.from_utf8.Goals as goal
 pub returns : goal.returns
 unfolding units
 returns c =
-    let all = YieldsList-end (YieldsList-from_chars c.args.text.now c.utf8.text cc) c.loop-scalar.yielded _ c.loop-scalar.yielded_by _ _ c.in-None.is c.next.ensures.steps in
+    let all = YieldsList-end (YieldsList-from_chars c.args.s.now c.utf8.s cc) c.loop-scalar.yielded _ c.loop-scalar.yielded_by _ _ c.in-None.is c.next.ensures.steps in
     c.loop-scalar.invariant ∙ ap (flat_map units_of_scalar) (sym (map-id c.loop-scalar.yielded) ∙ all.0)

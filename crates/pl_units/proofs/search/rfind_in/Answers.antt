@@ -1,7 +1,7 @@
 use Rattle.std.proofs.Common.{◌≡◌, ◌<◌, ◌-◌, inl, inr, subst, arith, rules}
 use Rattle.std.proofs.lemmas.Bool.{cases_lt}
 use Rattle.pl_units.specs.Places.{StandsAt}
-use Rattle.pl_units.proofs.search.last_place.Goals as goal
+use Rattle.pl_units.proofs.search.rfind_in.Goals as goal
 
 pub loop-place-init : goal.loop-place-init
 loop-place-init c =

@@ -1,5 +1,5 @@
 use Rattle.std.proofs.Common.{◌<◌, arith}
-use Rattle.pl_units.proofs.search.first_place.Goals as goal
+use Rattle.pl_units.proofs.search.find_in.Goals as goal
 
 pub stands_at-requires : goal.stands_at-requires
 stands_at-requires c = (c.place_count-place-end.ensures c.loop-place.place).0 c.loop-place-test.true
