@@ -1,0 +1,15 @@
+pub mod Lexemes
+pub mod Certificates
+pub mod Scan
+pub mod Settled
+pub mod Steps
+pub mod Choices
+pub mod Sound
+pub mod Complete
+pub mod Stops
+pub mod Heads
+pub mod Forward
+pub mod Reach
+pub mod Levels
+pub mod Prefix
+pub mod Whole

@@ -6,8 +6,8 @@ ghost use Rattle.pl_parser.specs.Reading.{Reads, read_token};
 
 use crate::stop::Stop;
 use crate::terminal::{Spelled, Terminal, same_terminal, terminal_of};
-use plain_data::Text;
 use pl_lexer::Token;
+use plain_data::Text;
 use std::alloc::Global;
 use std::marker::Model;
 
@@ -39,6 +39,7 @@ impl<'a> Cursor<'a> {
     }
 
     /// How many tokens are left.
+    #[tactic(auto, using(crate::proofs::Lexemes::length_lexemes))]
     pub fn count(&self) -> usize
         ensures { result ≡ length self.now }
     {
@@ -56,6 +57,7 @@ impl<'a> Cursor<'a> {
     }
 
     /// Why reading stops here.
+    #[tactic(auto, using(crate::proofs::Lexemes::length_lexemes))]
     pub fn refuse(&self) -> Stop
         ensures { result ≡ Stop.Unexpected (length self.now) }
     {

@@ -16,7 +16,11 @@ use std::alloc::{AllocError, Global};
 fn join(alloc: Global, left: Expr, operation: Operation) -> Result<Expr, AllocError>
     ensures { IfOk result (λ e. e ≡ Expr.Binary operation.operator operation.at left operation.right) }
 {
-    let Operation { operator, at, right } = operation;
+    let Operation {
+        operator,
+        at,
+        right,
+    } = operation;
     Ok(Expr::Binary {
         operator,
         at,
@@ -85,7 +89,11 @@ fn plus(alloc: Global, tokens: &mut Cursor<'_>, levels: u64) -> Result<Operation
 {
     let at = tokens.expect(Terminal::Plus)?.start;
     let right = term(alloc, tokens, levels)?;
-    Ok(Operation { operator: Operator::Add, at, right })
+    Ok(Operation {
+        operator: Operator::Add,
+        at,
+        right,
+    })
 }
 
 #[cycle(expressions)]
@@ -94,7 +102,11 @@ fn minus(alloc: Global, tokens: &mut Cursor<'_>, levels: u64) -> Result<Operatio
 {
     let at = tokens.expect(Terminal::Minus)?.start;
     let right = term(alloc, tokens, levels)?;
-    Ok(Operation { operator: Operator::Subtract, at, right })
+    Ok(Operation {
+        operator: Operator::Subtract,
+        at,
+        right,
+    })
 }
 
 /// Products, quotients and remainders.
@@ -127,7 +139,11 @@ fn product(alloc: Global, tokens: &mut Cursor<'_>, levels: u64) -> Result<Operat
     let sign = tokens.expect(Terminal::Multiplicative)?;
     let right = unary(alloc, tokens, levels - 1)?;
     let operator = multiplicative(sign.kind);
-    Ok(Operation { operator, at: sign.start, right })
+    Ok(Operation {
+        operator,
+        at: sign.start,
+        right,
+    })
 }
 
 /// What operators stand between.
@@ -150,7 +166,10 @@ fn negative(alloc: Global, tokens: &mut Cursor<'_>, levels: u64) -> Result<Expr,
 {
     let at = tokens.expect(Terminal::Minus)?.start;
     let inner = unary(alloc, tokens, levels)?;
-    Ok(Expr::Negative { at, operand: Boxed::new(alloc, inner)? })
+    Ok(Expr::Negative {
+        at,
+        operand: Boxed::new(alloc, inner)?,
+    })
 }
 
 #[cycle(expressions)]
@@ -181,12 +200,18 @@ fn bracketed(alloc: Global, tokens: &mut Cursor<'_>, levels: u64) -> Result<Expr
     let at = tokens.expect(Terminal::LeftParen)?.start;
     let inner = expr(alloc, tokens, levels)?;
     tokens.expect(Terminal::RightParen)?;
-    Ok(Expr::Bracketed { at, inner: Boxed::new(alloc, inner)? })
+    Ok(Expr::Bracketed {
+        at,
+        inner: Boxed::new(alloc, inner)?,
+    })
 }
 
 fn integer(alloc: Global, tokens: &mut Cursor<'_>, levels: u64) -> Result<Expr, Stop>
     ensures { Reads (read_production (read_form levels) g.integer tokens.old) result tokens.new }
 {
     let number = tokens.expect_spelled(alloc, Terminal::Integer)?;
-    Ok(Expr::Integer { at: number.at, spelling: number.spelling })
+    Ok(Expr::Integer {
+        at: number.at,
+        spelling: number.spelling,
+    })
 }

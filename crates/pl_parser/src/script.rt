@@ -36,10 +36,10 @@ fn place(text: &str, tokens: &[Token], left: usize) -> u32
     requires within { left ≤ length tokens.now }
     ensures { (front rest : List Lexeme) → lexemes text.now tokens.now ≡ front ++ rest → length rest ≡ left → result ≡ place_of (length text.now) rest }
 {
-    if left == 0 {
-        return text.len() as u32;
+    match &tokens[tokens.len() - left..] {
+        [] => text.len() as u32,
+        [first, ..] => first.start,
     }
-    tokens[tokens.len() - left].start
 }
 
 /// The tree of the script that the tokens of a text are.

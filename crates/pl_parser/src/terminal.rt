@@ -3,8 +3,8 @@
 ghost use Rattle.std.specs.Prelude.{◌≡◌};
 ghost use Rattle.pl_parser.specs.Lexeme as spec;
 
-use plain_data::Text;
 use pl_lexer::{Kind, Sign};
+use plain_data::Text;
 
 /// What the grammar sees of a token.
 #[derive(Clone, Copy, Debug, PartialEq, Eq)]

@@ -16,9 +16,15 @@ pub enum Operator {
 #[derive(Debug, Drop)]
 pub enum Expr {
     /// An integer, at its first byte.
-    Integer { at: u32, spelling: Text },
+    Integer {
+        at: u32,
+        spelling: Text,
+    },
     /// `-` and what it negates, at the `-`.
-    Negative { at: u32, operand: Boxed<Expr> },
+    Negative {
+        at: u32,
+        operand: Boxed<Expr>,
+    },
     /// Two operands, at the operator between them.
     Binary {
         operator: Operator,
@@ -27,7 +33,10 @@ pub enum Expr {
         right: Boxed<Expr>,
     },
     /// An expression in brackets, at its `(`.
-    Bracketed { at: u32, inner: Boxed<Expr> },
+    Bracketed {
+        at: u32,
+        inner: Boxed<Expr>,
+    },
 }
 
 /// An operator, and what stands to its right.
