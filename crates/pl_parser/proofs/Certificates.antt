@@ -1,12 +1,12 @@
 -- Facts of the rows of the grammar, each seen by a look at every row.
-use Rattle.std.proofs.Common.{◌≡◌, ℕ, ◌<◌, Bool, true, false, not, List, [], ◌∷◌, refl, arith, rules}
+use Rattle.std.proofs.Common.{◌≡◌, ℕ, ◌<◌, Bool, true, false, not, List, ◌∷◌, refl, arith, rules}
 use denote.Enum.Bare.{same_true}
 use Rattle.pl_parser.specs.contracts.terminal.Terminal.{the_type}
 use Rattle.pl_parser.specs.declared.terminal.Terminal.{Terminal}
 use Rattle.pl_parser.specs.declared.terminal.Terminal.TheVariants as t
 use Rattle.pl_parser.specs.Lexeme.{same_terminal}
 use Rattle.pl_parser.specs.Ahead.{Seen, Plain, sees, is_final}
-use Rattle.pl_parser.specs.Grammar.{Form, expr, sum, term, product, unary, primary, Symbol, token, phrase, Production, sums, plus, minus, products, times, negative, operand, bracketed, integer, symbols, first, absent, scan, allowed, fits}
+use Rattle.pl_parser.specs.Grammar.{Form, expr, sum, term, product, unary, primary, Symbol, token, phrase, Production, sums, plus, minus, products, times, negative, operand, bracketed, integer, symbols, first, absent, allowed, fits}
 use Rattle.pl_parser.specs.Reading.{choice}
 
 pub same_is : (a b : Terminal) → same_terminal a b ≡ true → a ≡ b

@@ -1,5 +1,5 @@
 -- What begins by one production begins by the one that is chosen.
-use Rattle.std.proofs.Common.{◌≡◌, ℕ, true, List, [], ◌∷◌, ◌++◌, refl, sym, subst}
+use Rattle.std.proofs.Common.{◌≡◌, ℕ, true, List, ◌∷◌, ◌++◌, refl, sym, subst}
 use Rattle.pl_parser.specs.Lexeme.{Lexeme, class_of}
 use Rattle.pl_parser.specs.Ahead.{seen}
 use Rattle.pl_parser.specs.Grammar.{Form, Production, symbols, scan, fits}

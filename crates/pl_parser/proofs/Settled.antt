@@ -1,8 +1,8 @@
 -- What is told of a production that is there whole.
 use Rattle.std.proofs.Common.{◌≡◌, ℕ, true, List, [], ◌∷◌, ◌++◌, refl}
 use Rattle.pl_parser.specs.declared.terminal.Terminal.{Terminal}
-use Rattle.pl_parser.specs.Lexeme.{Lexeme, class_of}
-use Rattle.pl_parser.specs.Ahead.{Seen, Plain, sees, seen, is_final}
+use Rattle.pl_parser.specs.Lexeme.{Lexeme}
+use Rattle.pl_parser.specs.Ahead.{Plain, seen, is_final}
 use Rattle.pl_parser.specs.Grammar.{Form, Trees, Production, symbols, scan, allowed, fits}
 use Rattle.pl_parser.specs.Derives.{DerivesSymbols, Derives}
 use Rattle.pl_parser.proofs.Certificates.{settled}

@@ -1,5 +1,5 @@
 -- Where reading stops, the lexemes before begin a phrase.
-use Rattle.std.proofs.Common.{◌≡◌, ℕ, zero, suc, true, false, cond, List, [], ◌∷◌, ◌++◌, length, Option, Some, None, Ok, Err, refl, sym, ap, subst, ◌∙◌, append_assoc, inl, inr, ◌⊎◌}
+use Rattle.std.proofs.Common.{◌≡◌, ℕ, zero, suc, true, false, cond, List, [], ◌∷◌, ◌++◌, length, Some, None, Ok, Err, refl, sym, ap, subst, ◌∙◌, append_assoc, inl, inr, ◌⊎◌}
 use Rattle.pl_parser.specs.declared.terminal.Terminal.{Terminal}
 use Rattle.pl_parser.specs.declared.stop.Stop.{Stop}
 use Rattle.pl_parser.specs.declared.stop.Stop.TheVariants.{Unexpected}

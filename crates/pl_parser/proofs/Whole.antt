@@ -1,10 +1,10 @@
 -- Scripts: what is read, what is derived, and where reading stops.
-use Rattle.std.proofs.Common.{◌≡◌, ◌≢◌, ℕ, suc, ◌+◌, ◌*◌, ◌≤◌, List, [], ◌∷◌, ◌++◌, length, Result, Ok, Err, refl, sym, ap, subst, ◌∙◌, append_assoc, arith, inl, inr}
-use Rattle.std.proofs.lemmas.List.{append-nil, length-append}
+use Rattle.std.proofs.Common.{◌≡◌, ℕ, ◌+◌, ◌*◌, ◌≤◌, List, [], ◌∷◌, ◌++◌, length, Result, Ok, Err, refl, sym, ap, subst, ◌∙◌, append_assoc, arith, inl, inr}
+use Rattle.std.proofs.lemmas.List.{append-nil}
 use Rattle.pl_lexer.specs.declared.token.Token.{Token}
 use Rattle.pl_types.specs.declared.refusal.Refusal.{Refusal}
 use Rattle.pl_parser.specs.declared.stop.Stop.{Stop}
-use Rattle.pl_parser.specs.declared.stop.Stop.TheVariants.{NoMemory, Unexpected, TooDeep}
+use Rattle.pl_parser.specs.declared.stop.Stop.TheVariants.{Unexpected, TooDeep}
 use Rattle.pl_parser.specs.declared.tree.Expr.{Expr}
 use Rattle.pl_parser.specs.Lexeme.{Lexeme, lexemes}
 use Rattle.pl_parser.specs.Grammar.{expr}

@@ -1,5 +1,5 @@
 -- What the grammar reads: tokens with the bytes that spell them.
-use Rattle.std.specs.Prelude.{◌≡◌, ℕ, ◌≤◌, Bool, List, [], ◌∷◌, slice_range}
+use Rattle.std.specs.Prelude.{ℕ, ◌≤◌, Bool, List, [], ◌∷◌, slice_range}
 use Rattle.std.specs.Str.{IsCharBoundary}
 use denote.Enum.Bare.{sameb}
 use Rattle.pl_lexer.specs.declared.token.Token.{Token}

@@ -1,4 +1,4 @@
-use Rattle.std.proofs.Common.{◌≡◌, ◌-◌, ◌+◌, ◌∷◌, true, Ok, Err, rules, arith, refl}
+use Rattle.std.proofs.Common.{◌≡◌, ◌-◌, true, Ok, Err, rules, arith, refl}
 use Rattle.std.proofs.lemmas.Grind.{common_steps}
 use Rattle.pl_parser.specs.declared.stop.Stop.{Stop}
 use Rattle.pl_parser.specs.Lexeme.{next}

@@ -1,9 +1,8 @@
-use Rattle.std.proofs.Common.{◌≡◌, ◌+◌, ◌*◌, ◌≤◌, ℕ, List, length, Ok, Err, ap, sym, subst, ◌∙◌, arith}
+use Rattle.std.proofs.Common.{◌≡◌, ◌+◌, ◌*◌, ◌≤◌, length, Err, ap, sym, ◌∙◌, arith}
 use Rattle.std.proofs.lemmas.List.{length-append}
 use Rattle.pl_parser.specs.declared.stop.Stop.TheVariants as s
-use Rattle.pl_parser.specs.Lexeme.{Lexeme, lexemes}
-use Rattle.pl_parser.specs.Reading.{read_script}
-use Rattle.pl_parser.specs.Parses.{place_of, StopsBefore, syntax_at}
+use Rattle.pl_parser.specs.Lexeme.{lexemes}
+use Rattle.pl_parser.specs.Parses.{syntax_at}
 use Rattle.pl_parser.proofs.Lexemes.{length_lexemes}
 use Rattle.pl_parser.proofs.Whole.{script_sound, script_stops, only_tree, only_stop, answer_ok, answer_stop, answer_deep}
 use Rattle.pl_parser.proofs.script.parse.Goals as goal
