@@ -101,11 +101,11 @@ fn minus(alloc: Global, tokens: &mut Cursor<'_>, levels: u64) -> Result<Operatio
     ensures { Reads (read_production (read_form levels) g.minus tokens.old) result tokens.new }
 {
     let at = tokens.expect(Terminal::Minus)?.start;
-    let right = term(alloc, tokens, levels)?;
+    let subtrahend = term(alloc, tokens, levels)?;
     Ok(Operation {
         operator: Operator::Subtract,
         at,
-        right,
+        right: subtrahend,
     })
 }
 

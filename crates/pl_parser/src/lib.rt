@@ -10,3 +10,6 @@ mod tree;
 
 pub use script::parse;
 pub use tree::{Expr, Operator};
+
+#[cfg(test)]
+mod tests;
