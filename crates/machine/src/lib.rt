@@ -14,3 +14,6 @@ pub use outcome::{Outcome, run};
 pub use shape::{CheckError, ShapeFault, check};
 pub use stack::Stack;
 pub use step::{Configuration, Step};
+
+#[cfg(test)]
+mod tests;
