@@ -24,28 +24,28 @@ in_one : (f : ℕ → List ℕ) (xs : List ℕ) (b : ℕ) → has (flat_map f xs
 in_one f [] b h = absurd (false≢true h)
 in_one f (y ∷ xs) b h =
     elim (either (has (f y) b) (has (flat_map f xs) b) (sym (list_any-append (λ z. eqb z b) (f y) (flat_map f xs)) ∙ h)) [
-      inl k ↦ (y, or_left (eqb y y) (has xs y) (eq-eqb y y refl), k)
-    | inr k ↦ let r = in_one f xs b k in (r.0, or_right (eqb y r.0) (has xs r.0) r.1, r.2)
+      | inl k ↦ (y, or_left (eqb y y) (has xs y) (eq-eqb y y refl), k)
+      | inr k ↦ let r = in_one f xs b k in (r.0, or_right (eqb y r.0) (has xs r.0) r.1, r.2)
     ]
 
 in_all : (f : ℕ → List ℕ) (xs : List ℕ) (x b : ℕ) → has xs x ≡ true → has (f x) b ≡ true → has (flat_map f xs) b ≡ true
 in_all f [] x b h k = absurd (false≢true h)
 in_all f (y ∷ xs) x b h k =
     list_any-append (λ z. eqb z b) (f y) (flat_map f xs) ∙ (elim (either (eqb y x) (has xs x) h) [
-      inl e ↦ or_left (has (f y) b) (has (flat_map f xs) b) (ap (λ z. has (f z) b) (eqb-true y x e) ∙ k)
-    | inr e ↦ or_right (has (f y) b) (has (flat_map f xs) b) (in_all f xs x b e k)
+      | inl e ↦ or_left (has (f y) b) (has (flat_map f xs) b) (ap (λ z. has (f z) b) (eqb-true y x e) ∙ k)
+      | inr e ↦ or_right (has (f y) b) (has (flat_map f xs) b) (in_all f xs x b e k)
     ])
 
 sound : (n a b : ℕ) → has (lineage_within n a) b ≡ true → Descends a b
 sound zero a b h =
     elim (either (eqb a b) false h) [
-      inl e ↦ let P : ℕ → Type 0 = λ z. Descends a z in subst P (eqb-true a b e) itself
-    | inr e ↦ absurd (false≢true e)
+      | inl e ↦ let P : ℕ → Type 0 = λ z. Descends a z in subst P (eqb-true a b e) itself
+      | inr e ↦ absurd (false≢true e)
     ]
 sound (suc n) a b h =
     elim (either (eqb a b) (has (flat_map (lineage_within n) (parents_of a)) b) h) [
-      inl e ↦ let P : ℕ → Type 0 = λ z. Descends a z in subst P (eqb-true a b e) itself
-    | inr e ↦ let r = in_one (lineage_within n) (parents_of a) b e in by_parent r.1 (sound n r.0 b r.2)
+      | inl e ↦ let P : ℕ → Type 0 = λ z. Descends a z in subst P (eqb-true a b e) itself
+      | inr e ↦ let r = in_one (lineage_within n) (parents_of a) b e in by_parent r.1 (sound n r.0 b r.2)
     ]
 
 -- a number past the table has no parents
@@ -64,8 +64,8 @@ lineage-past a e = ap (λ ps. a ∷ flat_map (lineage_within 4) ps) e ∙ sym (a
 pub lineage_line : (a : ℕ) → lineage_of a ≡ a ∷ flat_map lineage_of (parents_of a)
 lineage_line a =
     elim (cases_lt a 57) [
-      inl h ↦ sym (get_or-map-range_with_len lineage_of 0 57 a a [] h (omega arith)) ∙ ap (λ xs. get_or xs a []) lines ∙ get_or-map-range_with_len (λ z. z ∷ flat_map lineage_of (parents_of z)) 0 57 a a [] h (omega arith)
-    | inr h ↦ lineage-past a (parents-past a h)
+      | inl h ↦ sym (get_or-map-range_with_len lineage_of 0 57 a a [] h (omega arith)) ∙ ap (λ xs. get_or xs a []) lines ∙ get_or-map-range_with_len (λ z. z ∷ flat_map lineage_of (parents_of z)) 0 57 a a [] h (omega arith)
+      | inr h ↦ lineage-past a (parents-past a h)
     ]
 
 pub complete : {a b : ℕ} → Descends a b → class_is_below a b ≡ true
@@ -96,15 +96,15 @@ earlier_all a h = sym (get_or-map-range_with_len (λ z. list_all (λ p. ltb p z)
 
 each_below : (a : ℕ) (xs : List ℕ) → list_all (λ p. ltb p a) xs ≡ true → All (λ p. p < a) xs
 each_below a xs e k d h = elim (cases_lt (get_or xs k d) a) [
-      inl l ↦ l
-    | inr g ↦ absurd (false≢true (sym (list_all_at (λ p. ltb p a) xs k d h (le-ltb (get_or xs k d) a g)) ∙ e))
-    ]
+  | inl l ↦ l
+  | inr g ↦ absurd (false≢true (sym (list_all_at (λ p. ltb p a) xs k d h (le-ltb (get_or xs k d) a g)) ∙ e))
+]
 
 pub parents_earlier : (a : ℕ) → All (λ p. p < a) (parents_of a)
 parents_earlier a = elim (cases_lt a 57) [
-      inl h ↦ each_below a (parents_of a) (earlier_all a h)
-    | inr h ↦ each_below a (parents_of a) (ap (λ ps. list_all (λ p. ltb p a) ps) (parents-past a h))
-    ]
+  | inl h ↦ each_below a (parents_of a) (earlier_all a h)
+  | inr h ↦ each_below a (parents_of a) (ap (λ ps. list_all (λ p. ltb p a) ps) (parents-past a h))
+]
 
 pub descends_iff : (answer : Bool) (a b : ℕ) → answer ≡ class_is_below a b → (answer ≡ true → Descends a b) × (Descends a b → answer ≡ true)
 descends_iff answer a b e = (λ h. descends_from a b (sym e ∙ h), λ d. e ∙ complete d)

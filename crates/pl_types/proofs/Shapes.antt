@@ -366,19 +366,24 @@ of_box c p q t h = eqb-true c (box_of p) t ∙ ap box_of (same_some p q h)
 pub unboxed_is : (c : ℕ) (q : Primitive) → unboxed c ≡ Some q → c ≡ box_of q
 unboxed_is c q h =
     elim (chosen (eqb c 9) (Some prim.Boolean) _ (Some q) h) [
-      inl e ↦ of_box c prim.Boolean q e.0 e.1
-    | inr h ↦ elim (chosen (eqb c 4) (Some prim.Byte) _ (Some q) h) [
-      inl e ↦ of_box c prim.Byte q e.0 e.1
-    | inr h ↦ elim (chosen (eqb c 5) (Some prim.Short) _ (Some q) h) [
-      inl e ↦ of_box c prim.Short q e.0 e.1
-    | inr h ↦ elim (chosen (eqb c 8) (Some prim.Char) _ (Some q) h) [
-      inl e ↦ of_box c prim.Char q e.0 e.1
-    | inr h ↦ elim (chosen (eqb c 6) (Some prim.Int) _ (Some q) h) [
-      inl e ↦ of_box c prim.Int q e.0 e.1
-    | inr h ↦ elim (chosen (eqb c 7) (Some prim.Long) None (Some q) h) [
-      inl e ↦ of_box c prim.Long q e.0 e.1
-    | inr h ↦ cc
-    ] ] ] ] ] ]
+      | inl e ↦ of_box c prim.Boolean q e.0 e.1
+      | inr h ↦ elim (chosen (eqb c 4) (Some prim.Byte) _ (Some q) h) [
+        | inl e ↦ of_box c prim.Byte q e.0 e.1
+        | inr h ↦ elim (chosen (eqb c 5) (Some prim.Short) _ (Some q) h) [
+          | inl e ↦ of_box c prim.Short q e.0 e.1
+          | inr h ↦ elim (chosen (eqb c 8) (Some prim.Char) _ (Some q) h) [
+            | inl e ↦ of_box c prim.Char q e.0 e.1
+            | inr h ↦ elim (chosen (eqb c 6) (Some prim.Int) _ (Some q) h) [
+              | inl e ↦ of_box c prim.Int q e.0 e.1
+              | inr h ↦ elim (chosen (eqb c 7) (Some prim.Long) None (Some q) h) [
+                | inl e ↦ of_box c prim.Long q e.0 e.1
+                | inr h ↦ cc
+              ]
+            ]
+          ]
+        ]
+      ]
+    ]
 
 pub boxing_box : (below : ℕ → ℕ → Bool) (p q : Primitive) (c : ℕ) (w : Bool) (r : Option Cast) → unboxed c ≡ Some q → r ≡ only_if (reaches p q w) (Wrap p q) → r ≡ cast_of below (Prim p) (Class c) w
 boxing_box below p q c w r h e = e ∙ sym (ap (λ d. cast_of below (Prim p) (Class d) w) (unboxed_is c q h) ∙ boxed_cast below p q w)

@@ -22,13 +22,13 @@ box_of prim.Long = LONG
 -- the primitive whose box a class is, if it is one
 abbrev pub unboxed : ℕ → Option Primitive
 unboxed class =
-  if class == BOOLEAN then Some prim.Boolean
-  else (if class == BYTE then Some prim.Byte
-  else (if class == SHORT then Some prim.Short
-  else (if class == CHARACTER then Some prim.Char
-  else (if class == INTEGER then Some prim.Int
-  else (if class == LONG then Some prim.Long
-  else None)))))
+    if class == BOOLEAN then Some prim.Boolean
+    else (if class == BYTE then Some prim.Byte
+    else (if class == SHORT then Some prim.Short
+    else (if class == CHARACTER then Some prim.Char
+    else (if class == INTEGER then Some prim.Int
+    else (if class == LONG then Some prim.Long
+    else None)))))
 
 abbrev pub is_number : Primitive → Bool
 is_number prim.Boolean = false
@@ -196,25 +196,25 @@ row_by when cast = record { when = when; cast = cast }
 abbrev pub cast_rows : List Row
 cast_rows =
     row Always to_itself
-  ∷ row Always null_to
-  ∷ row Always widening
-  ∷ row Written narrowing
-  ∷ row Always boxing
-  ∷ row Written boxing_narrowed
-  ∷ row_by Always boxing_to_parent
-  ∷ row Always boxing_to_def
-  ∷ row Always unboxing
-  ∷ row Written unboxing_narrowed
-  ∷ row_by Always to_parent
-  ∷ row_by Written to_child
-  ∷ row Always to_def
-  ∷ row Added (from_def Implicit)
-  ∷ row Written (from_def Explicit)
-  ∷ row Always array_to_object
-  ∷ row Written object_to_primitive
-  ∷ row Written char_to_text
-  ∷ row Written text_to_char
-  ∷ []
+    ∷ row Always null_to
+    ∷ row Always widening
+    ∷ row Written narrowing
+    ∷ row Always boxing
+    ∷ row Written boxing_narrowed
+    ∷ row_by Always boxing_to_parent
+    ∷ row Always boxing_to_def
+    ∷ row Always unboxing
+    ∷ row Written unboxing_narrowed
+    ∷ row_by Always to_parent
+    ∷ row_by Written to_child
+    ∷ row Always to_def
+    ∷ row Added (from_def Implicit)
+    ∷ row Written (from_def Explicit)
+    ∷ row Always array_to_object
+    ∷ row Written object_to_primitive
+    ∷ row Written char_to_text
+    ∷ row Written text_to_char
+    ∷ []
 
 -- whether a row holds for a cast that is written, or for one that is not
 abbrev pub holds : When → Bool → Bool

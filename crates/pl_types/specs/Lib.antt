@@ -2,4 +2,5 @@ pub mod Answers
 pub mod Casts
 pub mod Classes
 pub mod Promotions
+pub mod Refusals
 pub mod Types

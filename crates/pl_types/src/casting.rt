@@ -5,8 +5,8 @@ ghost use Rattle.pl_types.specs.declared.ty.Ty.{Ty};
 ghost use Rattle.pl_types.specs.Casts.{cast_of, box_of, unboxed, widens, narrows, reaches, only_if, RowsAgree, NoRowGives};
 ghost use Rattle.pl_types.specs.Types.{same_primitives};
 
-use crate::conversion::Cast;
 use crate::classes::{BOOLEAN, BYTE, CHARACTER, INTEGER, LONG, NUMBER, OBJECT, SHORT, STRING};
+use crate::conversion::Cast;
 use crate::lineage::Lineage;
 use crate::primitive::Primitive;
 use crate::ty::Ty;
@@ -51,12 +51,7 @@ fn def_cast(to: &Ty, explicit: bool) -> Option<Cast>
     }
 }
 
-fn primitive_cast<L: Lineage>(
-    lineage: &L,
-    from: Primitive,
-    to: &Ty,
-    explicit: bool,
-) -> Option<Cast>
+fn primitive_cast<L: Lineage>(lineage: &L, from: Primitive, to: &Ty, explicit: bool) -> Option<Cast>
     ensures { result ≡ cast_of (L.is_below lineage.now) (Ty.Prim from) to.now explicit }
 {
     match to {
@@ -104,23 +99,14 @@ fn number_cast(from: Primitive, to: Primitive, explicit: bool) -> Option<Cast>
     only(reaches_to(from, to, explicit), Cast::Number(from, to))
 }
 
-fn boxing_cast<L: Lineage>(
-    lineage: &L,
-    from: Primitive,
-    class: u32,
-    explicit: bool,
-) -> Option<Cast>
+fn boxing_cast<L: Lineage>(lineage: &L, from: Primitive, class: u32, explicit: bool) -> Option<Cast>
     ensures { result ≡ cast_of (L.is_below lineage.now) (Ty.Prim from) (Ty.Class class) explicit }
 {
     if let Some(to) = unboxed(class) {
         return only(reaches_to(from, to, explicit), Cast::Wrap(from, to));
     }
     if class == STRING {
-        return written_only(
-            explicit,
-            same(from, Primitive::Char),
-            Cast::CharToText,
-        );
+        return written_only(explicit, same(from, Primitive::Char), Cast::CharToText);
     }
     only(
         lineage.is_sub(box_class(from), class),
@@ -176,7 +162,11 @@ fn written_only(explicit: bool, test: bool, cast: Cast) -> Option<Cast>
 fn found_later(explicit: bool) -> Cast
     ensures { result ≡ (if explicit then Cast.Explicit else Cast.Implicit) }
 {
-    if explicit { Cast::Explicit } else { Cast::Implicit }
+    if explicit {
+        Cast::Explicit
+    } else {
+        Cast::Implicit
+    }
 }
 
 fn same(a: Primitive, b: Primitive) -> bool
@@ -193,8 +183,7 @@ pub fn cast_laws()
     ensures none { (below : ℕ → ℕ → Bool) (from to : Ty) (written : Bool) → (cast_of below from to written ≡ None) ↔ NoRowGives below from to written }
     // Void goes to nothing and nothing goes to it.
     ensures void { (below : ℕ → ℕ → Bool) (other : Ty) (written : Bool) → (cast_of below Ty.Void other written ≡ None) × (cast_of below other Ty.Void written ≡ None) }
-{
-}
+{}
 
 /// The class of a primitive's box.
 pub fn box_class(primitive: Primitive) -> u32
@@ -247,8 +236,5 @@ fn reaches_to(from: Primitive, to: Primitive, explicit: bool) -> bool
 fn narrows_to(from: Primitive, to: Primitive) -> bool
     ensures { result ≡ narrows from to }
 {
-    from != Primitive::Boolean
-        && to != Primitive::Boolean
-        && from != to
-        && !widens_to(from, to)
+    from != Primitive::Boolean && to != Primitive::Boolean && from != to && !widens_to(from, to)
 }

@@ -2,7 +2,8 @@
 //! two hidden classes come last.
 
 ghost use Rattle.std.specs.Prelude.{◌≡◌, ◌<◌, ◌↔◌, ℕ, List, ◌∷◌, IsTrue, All, flat_map};
-ghost use Rattle.pl_types.specs.Classes.{full_name, short_name, parents_of, lineage_of, class_is_below, Descends};
+ghost use Rattle.pl_types.specs.Classes.{full_name, short_name, parents_of, lineage_of, class_is_below, class_numbers, Descends};
+ghost use Rattle.std.specs.List.{range_with_len};
 
 /// The number of `java.lang.Object`.
 pub const OBJECT: u32 = 0;
@@ -392,37 +393,67 @@ static CLASSES: [ClassRow; 57] = [
         full: "java.util.ConcurrentModificationException",
         short: "ConcurrentModificationException",
         parents: &[RUNTIME_EXCEPTION],
-        lineage: &[CONCURRENT_MODIFICATION_EXCEPTION, RUNTIME_EXCEPTION, EXCEPTION, OBJECT],
+        lineage: &[
+            CONCURRENT_MODIFICATION_EXCEPTION,
+            RUNTIME_EXCEPTION,
+            EXCEPTION,
+            OBJECT,
+        ],
     },
     ClassRow {
         full: "java.lang.IllegalArgumentException",
         short: "IllegalArgumentException",
         parents: &[RUNTIME_EXCEPTION],
-        lineage: &[ILLEGAL_ARGUMENT_EXCEPTION, RUNTIME_EXCEPTION, EXCEPTION, OBJECT],
+        lineage: &[
+            ILLEGAL_ARGUMENT_EXCEPTION,
+            RUNTIME_EXCEPTION,
+            EXCEPTION,
+            OBJECT,
+        ],
     },
     ClassRow {
         full: "java.lang.IllegalStateException",
         short: "IllegalStateException",
         parents: &[RUNTIME_EXCEPTION],
-        lineage: &[ILLEGAL_STATE_EXCEPTION, RUNTIME_EXCEPTION, EXCEPTION, OBJECT],
+        lineage: &[
+            ILLEGAL_STATE_EXCEPTION,
+            RUNTIME_EXCEPTION,
+            EXCEPTION,
+            OBJECT,
+        ],
     },
     ClassRow {
         full: "java.lang.IndexOutOfBoundsException",
         short: "IndexOutOfBoundsException",
         parents: &[RUNTIME_EXCEPTION],
-        lineage: &[INDEX_OUT_OF_BOUNDS_EXCEPTION, RUNTIME_EXCEPTION, EXCEPTION, OBJECT],
+        lineage: &[
+            INDEX_OUT_OF_BOUNDS_EXCEPTION,
+            RUNTIME_EXCEPTION,
+            EXCEPTION,
+            OBJECT,
+        ],
     },
     ClassRow {
         full: "java.lang.NegativeArraySizeException",
         short: "NegativeArraySizeException",
         parents: &[RUNTIME_EXCEPTION],
-        lineage: &[NEGATIVE_ARRAY_SIZE_EXCEPTION, RUNTIME_EXCEPTION, EXCEPTION, OBJECT],
+        lineage: &[
+            NEGATIVE_ARRAY_SIZE_EXCEPTION,
+            RUNTIME_EXCEPTION,
+            EXCEPTION,
+            OBJECT,
+        ],
     },
     ClassRow {
         full: "java.util.NoSuchElementException",
         short: "NoSuchElementException",
         parents: &[RUNTIME_EXCEPTION],
-        lineage: &[NO_SUCH_ELEMENT_EXCEPTION, RUNTIME_EXCEPTION, EXCEPTION, OBJECT],
+        lineage: &[
+            NO_SUCH_ELEMENT_EXCEPTION,
+            RUNTIME_EXCEPTION,
+            EXCEPTION,
+            OBJECT,
+        ],
     },
     ClassRow {
         full: "java.lang.NullPointerException",
@@ -434,25 +465,48 @@ static CLASSES: [ClassRow; 57] = [
         full: "java.lang.UnsupportedOperationException",
         short: "UnsupportedOperationException",
         parents: &[RUNTIME_EXCEPTION],
-        lineage: &[UNSUPPORTED_OPERATION_EXCEPTION, RUNTIME_EXCEPTION, EXCEPTION, OBJECT],
+        lineage: &[
+            UNSUPPORTED_OPERATION_EXCEPTION,
+            RUNTIME_EXCEPTION,
+            EXCEPTION,
+            OBJECT,
+        ],
     },
     ClassRow {
         full: "java.lang.NumberFormatException",
         short: "NumberFormatException",
         parents: &[ILLEGAL_ARGUMENT_EXCEPTION],
-        lineage: &[NUMBER_FORMAT_EXCEPTION, ILLEGAL_ARGUMENT_EXCEPTION, RUNTIME_EXCEPTION, EXCEPTION, OBJECT],
+        lineage: &[
+            NUMBER_FORMAT_EXCEPTION,
+            ILLEGAL_ARGUMENT_EXCEPTION,
+            RUNTIME_EXCEPTION,
+            EXCEPTION,
+            OBJECT,
+        ],
     },
     ClassRow {
         full: "java.lang.ArrayIndexOutOfBoundsException",
         short: "ArrayIndexOutOfBoundsException",
         parents: &[INDEX_OUT_OF_BOUNDS_EXCEPTION],
-        lineage: &[ARRAY_INDEX_OUT_OF_BOUNDS_EXCEPTION, INDEX_OUT_OF_BOUNDS_EXCEPTION, RUNTIME_EXCEPTION, EXCEPTION, OBJECT],
+        lineage: &[
+            ARRAY_INDEX_OUT_OF_BOUNDS_EXCEPTION,
+            INDEX_OUT_OF_BOUNDS_EXCEPTION,
+            RUNTIME_EXCEPTION,
+            EXCEPTION,
+            OBJECT,
+        ],
     },
     ClassRow {
         full: "java.lang.StringIndexOutOfBoundsException",
         short: "StringIndexOutOfBoundsException",
         parents: &[INDEX_OUT_OF_BOUNDS_EXCEPTION],
-        lineage: &[STRING_INDEX_OUT_OF_BOUNDS_EXCEPTION, INDEX_OUT_OF_BOUNDS_EXCEPTION, RUNTIME_EXCEPTION, EXCEPTION, OBJECT],
+        lineage: &[
+            STRING_INDEX_OUT_OF_BOUNDS_EXCEPTION,
+            INDEX_OUT_OF_BOUNDS_EXCEPTION,
+            RUNTIME_EXCEPTION,
+            EXCEPTION,
+            OBJECT,
+        ],
     },
     ClassRow {
         full: "org.elasticsearch.index.fielddata.ScriptDocValues",
@@ -527,7 +581,8 @@ pub fn class_laws()
     ensures descends { (a b : ℕ) → IsTrue (class_is_below a b) ↔ Descends a b }
     ensures reflexive { (a : ℕ) → IsTrue (class_is_below a a) }
     ensures transitive { (a b c : ℕ) → IsTrue (class_is_below a b) → IsTrue (class_is_below b c) → IsTrue (class_is_below a c) }
+    // Each name of a class's number is its place in the table.
+    ensures numbers { class_numbers ≡ range_with_len 0 57 }
     // Parents stand before their classes.
     ensures earlier { (a : ℕ) → All (λ parent. parent < a) (parents_of a) }
-{
-}
+{}

@@ -9,16 +9,19 @@ mod names;
 mod primitive;
 mod promotion;
 mod refusal;
+pub mod rules;
 mod ty;
 
 pub use casting::{box_class, cast, cast_laws, unboxed, widens_to};
-pub use classes::{
-    class_below, class_full, class_laws, class_lineage, class_parents, class_short,
-};
+pub use classes::{class_below, class_full, class_laws, class_lineage, class_parents, class_short};
 pub use conversion::Cast;
 pub use lineage::Lineage;
 pub use names::TypeNames;
 pub use primitive::Primitive;
 pub use promotion::{literal_fits, promote};
 pub use refusal::{Fail, Refusal};
+pub use rules::name_of_rule;
 pub use ty::Ty;
+
+#[cfg(test)]
+mod tests;

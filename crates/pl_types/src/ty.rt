@@ -1,10 +1,9 @@
 ghost use Rattle.std.specs.Prelude.{◌≡◌, ◌↔◌, IsTrue, IfOk};
 ghost use Rattle.pl_types.specs.Types.{same_types};
 
+use crate::primitive::Primitive;
 use plain_data::Boxed;
 use std::alloc::{AllocError, Global};
-
-use crate::primitive::Primitive;
 
 /// A type of the language.
 #[derive(Debug, Drop)]
