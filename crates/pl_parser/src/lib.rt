@@ -3,11 +3,13 @@
 
 mod cursor;
 mod expression;
+mod laws;
 mod script;
 mod stop;
 mod terminal;
 mod tree;
 
+pub use laws::tokens_have_one_reading;
 pub use script::parse;
 pub use tree::{Expr, Operator};
 

@@ -1,0 +1,122 @@
+-- What a run leaves in its sink.
+use Rattle.std.proofs.Common.{◌≡◌, ℕ, ◌<◌, ◌≤◌, codes, inl, inr, List, [], ◌∷◌, ◌++◌, length, replicate, Option, None, Some, IfSome, Result, Ok, Err, IfOk, refl, sym, ap, subst, ◌∙◌, append-nil, suc, arith}
+use Rattle.std.proofs.lemmas.List.{length-replicate}
+use Rattle.std.specs.declared.alloc.AllocError.{AllocError}
+use Rattle.std.specs.Io.KnownBytes.{Appends}
+use Rattle.outer_io.specs.Front.{AppendsFront}
+use Rattle.painless_cli.specs.declared.status.Status.{Status}
+use Rattle.painless_cli.specs.declared.status.Status.TheVariants as s
+use Rattle.pl_types.specs.declared.refusal.Refusal.{Refusal}
+use Rattle.script_end.specs.declared.end.End.{End}
+use Rattle.script_end.specs.declared.end.End.TheVariants.{Value, Thrown}
+use Rattle.script_end.specs.declared.end.Exception.TheVariants.{DivisionByZero}
+use Rattle.painless_cli.specs.declared.reply.Answer.{Answer}
+use Rattle.painless_cli.specs.Told.{told_by}
+use Rattle.painless_cli.proofs.Once.{same_name}
+use Rattle.painless_cli.specs.Script.{Means}
+use Rattle.painless_cli.specs.Whole.{Told, told_of, silent, TellsScript, TellsFile, IsEval, Tells, file_limit}
+use Rattle.painless_cli.specs.Delivers.{IsWhole, Delivers}
+
+pub nothing : (old : Option (List ℕ)) → Appends old old []
+nothing None = tt
+nothing (Some xs) = sym (append-nil xs)
+
+-- nothing is a front of whatever was to be written
+pub no_front : (old : Option (List ℕ)) (bytes : List ℕ) → AppendsFront old old bytes
+no_front old bytes = record { front = []; behind = bytes; parts = refl; appended = nothing old }
+
+-- the same is delivered under what tells the same
+pub delivers_same : (tells others : Told → Type 0) → ((told : Told) → tells told → others told) → ((told : Told) → others told → tells told)
+    → (status : Status) (old new : Option (List ℕ)) → Delivers tells status old new → Delivers others status old new
+delivers_same tells others to from s.Done old new h = (h.0, to h.0 h.1, h.2, h.3)
+delivers_same tells others to from s.SomeErrors old new h = (h.0, to h.0 h.1, h.2, h.3)
+delivers_same tells others to from s.Refused old new h = (h.0, to h.0 h.1, h.2, h.3)
+delivers_same tells others to from s.Usage old new h = (h.0, to h.0 h.1, h.2, h.3)
+delivers_same tells others to from s.FileAbsent old new h = (h.0, to h.0 h.1, h.2, h.3)
+delivers_same tells others to from s.FileLong old new h = (h.0, to h.0 h.1, h.2, h.3)
+delivers_same tells others to from s.WriteFault old new h = (h.0, to h.0 h.1, h.2)
+delivers_same tells others to from s.NoMemory old new h = λ told k. h told (from told k)
+delivers_same tells others to from s.FileFault old new h = h
+delivers_same tells others to from s.ReadFault old new h = h
+delivers_same tells others to from s.InputLong old new h = h
+
+-- Files may tell no content; then there is some content that shows an answer.
+
+pub some_content : (known : Option (List ℕ → Option (List ℕ))) → (content : List ℕ → Option (List ℕ)) × IfSome known (λ k. k ≡ content)
+some_content None = (λ _. None, tt)
+some_content (Some k) = (k, refl)
+
+-- the file of a name holds what was found
+pub shown : (known : Option (List ℕ → Option (List ℕ))) (name : List ℕ) (found : Option (List ℕ)) → IfSome known (λ k. k name ≡ found)
+    → (content : List ℕ → Option (List ℕ)) × IfSome known (λ k. k ≡ content) × (content name ≡ found)
+shown None name found h = (λ _. found, tt, refl)
+shown (Some k) name found h = (k, refl, h)
+
+long_list : (n : ℕ) → (bytes : List ℕ) × (n < length bytes)
+long_list n = (replicate (suc n) 0, rw length-replicate (omega arith))
+
+-- the file of a name is too long
+pub shown_long : (known : Option (List ℕ → Option (List ℕ))) (name : List ℕ) → IfSome known (λ k. (bytes : List ℕ) × (k name ≡ Some bytes) × (file_limit < length bytes))
+    → (content : List ℕ → Option (List ℕ)) × IfSome known (λ k. k ≡ content) × ((bytes : List ℕ) × (content name ≡ Some bytes) × (file_limit < length bytes))
+shown_long None name h = let long = long_list file_limit in (λ _. Some long.0, tt, (long.0, refl, long.1))
+shown_long (Some k) name h = (k, refl, h)
+
+-- where a script has one answer, one thing is told of it
+pub one_told : (script : List ℕ) (answer : Result End Refusal) (told told' : Told) → ((reading : Result End Refusal) → Means script reading → answer ≡ reading)
+    → told_of answer ≡ told → TellsScript script told' → told' ≡ told
+one_told script answer told told' one e h = h.2 ∙ ap told_of (sym (one h.0 h.1)) ∙ e
+
+-- .. and an answer of the code that is told of it is that
+pub only_if_ok : (script : List ℕ) (answer : Result End Refusal) (result : Result Answer AllocError) → ((reading : Result End Refusal) → Means script reading → answer ≡ reading)
+    → IfOk result (λ a. told_by a ≡ told_of answer) → (told : Told) → TellsScript script told → IfOk result (λ a. told ≡ told_by a)
+only_if_ok script answer (Ok a) one e told h = one_told script answer (told_by a) told one (sym e) h
+only_if_ok script answer (Err error) one e told h = tt
+
+delivers_answer : (script : List ℕ) (answer : Result End Refusal) (old new : Option (List ℕ)) → Means script answer → Appends old new (told_of answer).bytes
+    → Delivers (TellsScript script) (told_of answer).status old new
+delivers_answer script (Ok (Value value)) old new m appended = (told_of (Ok (Value value)), (Ok (Value value), m, refl), refl, appended)
+delivers_answer script (Ok (Thrown DivisionByZero)) old new m appended = (told_of (Ok (Thrown DivisionByZero)), (Ok (Thrown DivisionByZero), m, refl), refl, appended)
+delivers_answer script (Err refusal) old new m appended = (told_of (Err refusal), (Err refusal, m, refl), refl, appended)
+
+-- what is told of a script was written whole
+pub delivers_told : (script : List ℕ) (told : Told) (old new : Option (List ℕ)) → TellsScript script told → Appends old new told.bytes → Delivers (TellsScript script) told.status old new
+delivers_told script told old new h appended =
+    subst (λ (t : Told). Delivers (TellsScript script) t.status old new) (sym h.2)
+    (delivers_answer script h.0 old new h.1 (subst (λ (t : Told). Appends old new t.bytes) h.2 appended))
+
+-- a front of all that could be told was written
+pub front_of_told : (old new : Option (List ℕ)) (told told' : Told) → told ≡ told' → AppendsFront old new told'.bytes → AppendsFront old new told.bytes
+front_of_told old new told told' e h = subst (λ (t : Told). AppendsFront old new t.bytes) (sym e) h
+
+-- The words are the command and a name, and the files hold something under it.
+
+-- what is told of the words is what is told of the file
+pub delivers_eval : (words : List (List ℕ)) (content : List ℕ → Option (List ℕ)) (name : List ℕ) (status : Status) (old new : Option (List ℕ)) → IsEval words name
+    → Delivers (TellsFile (content name)) status old new → Delivers (Tells words content) status old new
+delivers_eval words content name status old new is =
+    delivers_same (TellsFile (content name)) (Tells words content) (λ told h. inl (name, is, h)) back status old new where
+      back : (told : Told) → Tells words content told → TellsFile (content name) told
+      back told (inl (other, at, h)) = subst (λ (n : List ℕ). TellsFile (content n) told) (same_name words name other is at) h
+      back told (inr (other, h)) = absurd (other name is)
+
+-- the file is short enough, and its script is told of
+pub delivers_script : (found : Option (List ℕ)) (script : List ℕ) (status : Status) (old new : Option (List ℕ)) → found ≡ Some script → length script ≤ file_limit
+    → Delivers (TellsScript script) status old new → Delivers (TellsFile found) status old new
+delivers_script found script status old new is short h =
+    subst (λ (f : Option (List ℕ)). Delivers (TellsFile f) status old new) (sym is)
+    (delivers_same (TellsScript script) (TellsFile (Some script)) (λ told k. inr (short, k)) back status old new h) where
+      back : (told : Told) → TellsFile (Some script) told → TellsScript script told
+      back told (inl (long, k)) = absurd (omega arith)
+      back told (inr (small, k)) = k
+
+-- nothing is told of a file that is not there
+pub absent_told : (found : Option (List ℕ)) (old : Option (List ℕ)) → found ≡ None → Delivers (TellsFile found) s.FileAbsent old old
+absent_told found old is = (silent s.FileAbsent, subst (λ (f : Option (List ℕ)). TellsFile f (silent s.FileAbsent)) (sym is) refl, refl, nothing old)
+
+-- .. nor of one that is too long
+pub long_told : (found : Option (List ℕ)) (bytes : List ℕ) (old : Option (List ℕ)) → found ≡ Some bytes → file_limit < length bytes → Delivers (TellsFile found) s.FileLong old old
+long_told found bytes old is long = (silent s.FileLong, subst (λ (f : Option (List ℕ)). TellsFile f (silent s.FileLong)) (sym is) (inl (long, refl)), refl, nothing old)
+
+-- .. nor of words that are no command
+pub usage_told : (words : List (List ℕ)) (content : List ℕ → Option (List ℕ)) (old : Option (List ℕ)) → ((name : List ℕ) → IsEval words name → ⊥) → Delivers (Tells words content) s.Usage old old
+usage_told words content old none = (silent s.Usage, inr (none, refl), refl, nothing old)

@@ -1,0 +1,7 @@
+pub mod Rules
+pub mod Typing
+pub mod Script
+pub mod Reply
+pub mod Whole
+pub mod Told
+pub mod Delivers

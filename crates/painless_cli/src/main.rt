@@ -1,0 +1,55 @@
+//! `painless`: scripts of the Painless language, proved to do what the language says.
+#![tactic(auto)]
+
+mod laws;
+mod reply;
+mod report;
+mod script;
+mod status;
+mod top;
+mod typing;
+
+pub use laws::{one_thing_is_told, painless_surely};
+use outer_io::{StdFiles, StdSink, StdSource};
+pub use report::Report;
+pub use status::Status;
+use std::alloc::AllocError;
+use std::process::ExitCode;
+use std::rt::Env;
+use std::{env, io};
+pub use top::painless;
+
+/// The words after the program's name.
+fn words(rt: &(impl Env + AllocGlobal)) -> io::Result<Vec<String>> {
+    let mut words = Vec::new(rt.alloc());
+    for word in env::args(rt)?.skip(1) {
+        words.push(word).map_err(|_| AllocError)?;
+    }
+    Ok(words)
+}
+
+/// Runs the command that the program's words say, over the real files, input and output. The status is the report's.
+/// Words that cannot be had, since one is no UTF-8, are no command.
+fn main(rt: HostRuntime) -> ExitCode {
+    let words = match words(&rt) {
+        Ok(words) => words,
+        Err(error) if error.kind() == io::ErrorKind::OutOfMemory => {
+            return ExitCode::from(Status::NoMemory as u8);
+        }
+        Err(_) => return ExitCode::from(Status::Usage as u8),
+    };
+    let mut files = StdFiles::new(&rt);
+    let mut input = StdSource::new(rt.reader());
+    let mut out = StdSink::new(io::writer(&rt));
+    let report = painless(
+        rt.alloc(),
+        words.as_slice(),
+        &mut files,
+        &mut input,
+        &mut out,
+    );
+    ExitCode::from(report.status as u8)
+}
+
+#[cfg(test)]
+mod tests;

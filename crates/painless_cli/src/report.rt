@@ -1,0 +1,11 @@
+use crate::status::Status;
+
+/// What a run came to, beside what it wrote.
+#[derive(Debug, Drop)]
+pub struct Report {
+    pub status: Status,
+    /// The listings of the codes that ran. No command gives any yet.
+    pub listings: Vec<String>,
+    /// How many instructions ran in all. No command counts them yet.
+    pub steps: u64,
+}
