@@ -1,9 +1,9 @@
 -- Lemmas on pieces that move from the front of a list.
-use Rattle.std.proofs.Common.{◌∙◌, append_assoc, ◌≡◌, ℕ, ◌+◌, ◌<◌, ◌≤◌, min, List, [], ◌∷◌, ◌++◌, length, take, drop, refl, ap, arith, take-append-drop, length-drop}
+use Rattle.std.proofs.Common.{◌∙◌, append_assoc, ◌≡◌, ℕ, ◌+◌, ◌-◌, ◌<◌, ◌≤◌, min, List, [], ◌∷◌, ◌++◌, length, take, drop, refl, ap, arith, take-append-drop, length-drop}
 use Rattle.std.specs.Prelude.{Option}
 use Rattle.std.proofs.KnownBytes.{Appends-trans}
 use Rattle.std.specs.Io.KnownBytes.{Appends}
-use Rattle.std.proofs.lemmas.List.{drop-drop}
+use Rattle.std.proofs.lemmas.List.{drop-drop, drop-take}
 
 -- what was copied, and what lies behind it, is what was left
 pub left-moved : (bytes into left : List ℕ) (taken count : ℕ) → left ≡ drop taken bytes → take count into ≡ take count (drop taken bytes)
@@ -42,3 +42,9 @@ given_more old mid new bytes rest behind before between now count given more is 
   appended = Appends-trans old mid new given.front (take count rest) given.appended more;
   later = omega (arith, given.later);
 }
+
+-- what is left of a part of a list behind a front of it
+pub rest_of_part : (xs : List ℕ) (from to count : ℕ) → from + count ≤ to → take (to - (from + count)) (drop (from + count) xs) ≡ drop count (take (to - from) (drop from xs))
+rest_of_part xs from to count within =
+    let whole : to - from ≡ count + (to - (from + count)) = omega arith in
+    rw (whole, drop-take count (to - (from + count)) (drop from xs), drop-drop count from xs) refl

@@ -3,6 +3,8 @@
 
 mod calls;
 mod files;
+mod intake;
+mod lines;
 mod mem_files;
 mod mem_sink;
 mod mem_source;
@@ -13,6 +15,7 @@ mod standard;
 mod tests;
 
 pub use files::{FileErr, Files, Found};
+pub use lines::{LONGEST, Line, LineReader, ReadErr};
 pub use mem_files::{MemFiles, SureFiles};
 pub use mem_sink::{MemSink, SureSink};
 pub use mem_source::{MemSource, SureSource};
