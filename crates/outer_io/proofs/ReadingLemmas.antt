@@ -1,5 +1,5 @@
 -- How a line is read, piece by piece.
-use Rattle.std.proofs.Common.{◌≡◌, ◌≢◌, ℕ, ◌<◌, ◌≤◌, false, List, [], ◌∷◌, ◌++◌, length, Ok, Err, refl, sym, ap, ◌∙◌, subst, inl, inr, arith, append_assoc, append-nil, length-append}
+use Rattle.std.proofs.Common.{◌≡◌, ◌≢◌, ℕ, Bool, true, ◌<◌, ◌≤◌, false, List, [], ◌∷◌, ◌++◌, length, Ok, Err, refl, sym, ap, ◌∙◌, subst, inl, inr, arith, append_assoc, append-nil, length-append}
 use Rattle.std.specs.Prelude.{Option, Some, Vec}
 use Rattle.std.specs.declared.alloc.Global.{Global}
 use Rattle.std.proofs.KnownBytes.{Consumes-nil, Consumes-trans}
@@ -22,6 +22,10 @@ pub record Progress (old now : Intake) (left left' : Option (List ℕ)) (line : 
   pub parts : before ++ now.pending ≡ old.pending ++ more
   pub going : now.ended ≡ false
   pub later : faults ≤ faults'
+
+-- a test has one answer
+pub contradicts : {b : Bool} → b ≡ false → b ≡ true → ⊥
+contradicts is_false is_true = cc
 
 -- nothing was taken, and the line is empty
 pub progress_none : (old : Intake) (left : Option (List ℕ)) (line : Vec ℕ Global) (faults : ℕ) → old.ended ≡ false → line.items ≡ []
@@ -160,6 +164,7 @@ reads_source {old} {mid} {now} {left} {left'} {left''} End going p none refill g
       none = refill.none;
       ended = refill.ended;
       at_end = λ _. refill.at_end;
+      untouched = λ ended. absurd (contradicts going ended);
     }
 
 -- the source failed
@@ -185,9 +190,13 @@ reads_past {old} {mid} {now} {left} {left'} {left''} going p none past = record 
 }
 
 -- memory was wanting
-pub reads_no_memory : {old mid now : Intake} {left left' : Option (List ℕ)} {line : Option (Vec ℕ Global)} {faults faults' : ℕ} → (p : Progress old mid left left' line faults faults')
-    → IsSameTake mid now → Reads old now left left' (Err NoMemory)
-reads_no_memory {old} {mid} {now} {left} {left'} p same = (p.more, takes_same old mid now left left' p.more p.takes same)
+pub reads_no_memory : {old mid now : Intake} {left left' : Option (List ℕ)} {line : Option (Vec ℕ Global)} {faults faults' : ℕ} → old.ended ≡ false
+    → (p : Progress old mid left left' line faults faults') → IsSameTake mid now → Reads old now left left' (Err NoMemory)
+reads_no_memory {old} {mid} {now} {left} {left'} going p same = record {
+  more = p.more;
+  takes = takes_same old mid now left left' p.more p.takes same;
+  going = going;
+}
 
 -- an error of the source
 pub reads_err : {old mid : Intake} (now : Intake) {left left' : Option (List ℕ)} (left'' : Option (List ℕ)) {line : Option (Vec ℕ Global)} {faults faults' : ℕ} (error : ReadErr) → old.ended ≡ false

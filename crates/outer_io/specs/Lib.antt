@@ -6,3 +6,4 @@ pub mod Gathering
 pub mod Lines
 pub mod Memory
 pub mod Reading
+pub mod Runs

@@ -54,6 +54,7 @@ pub record ReadsEnd (old new : Intake) (left left' : Option (List ℕ)) : Type 0
   pub none : new.pending ≡ []
   pub ended : new.ended ≡ true
   pub at_end : old.ended ≡ false → IsAtEnd left'
+  pub untouched : old.ended ≡ true → left' ≡ left
 
 -- The source failed, and what was taken and not given out has no newline.
 pub record Breaks (old new : Intake) (left left' : Option (List ℕ)) : Type 0 where
@@ -71,6 +72,12 @@ pub record Passes (old new : Intake) (left left' : Option (List ℕ)) : Type 0 w
   pub going : old.ended ≡ false
   pub unbroken : IsUnbroken (old.pending ++ more)
 
+-- Memory was wanting.
+pub record Wants (old new : Intake) (left left' : Option (List ℕ)) : Type 0 where
+  pub more : List ℕ
+  pub takes : Takes old new left left' more
+  pub going : old.ended ≡ false
+
 -- What the answer of a reader says of the reader and its source, before and after.
 abbrev pub Reads : Intake → Intake → Option (List ℕ) → Option (List ℕ) → Result Line ReadErr → Type 0
 Reads old new left left' (Ok (Whole bytes)) = ReadsLine old new left left' bytes.items × (length bytes.items ≤ longest)
@@ -78,4 +85,4 @@ Reads old new left left' (Ok Long) = (line : List ℕ) × ReadsLine old new left
 Reads old new left left' (Ok End) = ReadsEnd old new left left'
 Reads old new left left' (Err Fault) = Breaks old new left left'
 Reads old new left left' (Err InputLong) = Passes old new left left'
-Reads old new left left' (Err NoMemory) = (more : List ℕ) × Takes old new left left' more
+Reads old new left left' (Err NoMemory) = Wants old new left left'

@@ -1,12 +1,14 @@
 // The lines of a source.
-ghost use Rattle.std.specs.Prelude.{◌≡◌, ℕ, ◌≤◌, List, [], false, is_err, IfOk};
+ghost use Rattle.std.specs.Prelude.{◌≡◌, ◌↔◌, ℕ, ◌≤◌, List, [], ◌++◌, map, false, is_err, IsTrue, IfOk, OnOk, IfSome};
 ghost use Rattle.outer_io.specs.Faults.{HasCause};
 ghost use Rattle.outer_io.specs.Gathering.{Holds, Gives, GivesLast};
+ghost use Rattle.outer_io.specs.Lines.{lines_of, input_line};
 ghost use Rattle.outer_io.specs.Reading.{Reads};
+ghost use Rattle.outer_io.specs.Runs.{shown, GivesLines};
 
 use crate::intake::{Gathered, Intake};
 use crate::source::Source;
-use std::alloc::{AllocError, Global};
+use std::alloc::{AllocError, AllocFailed, Global};
 use std::marker::Model;
 use thiserror::Error;
 
@@ -36,6 +38,16 @@ pub enum ReadErr {
     /// Want of memory.
     #[error("out of memory")]
     NoMemory,
+}
+
+impl<T: Drop> From<AllocFailed<T>> for ReadErr {
+    ghost use Rattle.outer_io.specs.declared.lines.ReadErr.TheVariants.{NoMemory};
+
+    ghost from_gives = { λ _ e. e ≡ NoMemory };
+
+    fn from(_error: AllocFailed<T>) -> ReadErr {
+        ReadErr::NoMemory
+    }
 }
 
 impl From<AllocError> for ReadErr {
@@ -141,4 +153,35 @@ fn last_of(line: Option<Vec<u8>>) -> Line
         }
         None => Line::Long,
     }
+}
+
+/// Reads a source to its end, and puts its lines behind some lines.
+///
+/// An error leaves those lines put there that `LineReader::next` gave before it. Fault: the source
+/// failed. InputLong: `limit` bytes were taken, and one more followed. NoMemory: want of memory.
+pub fn read_lines<S: Source>(
+    alloc: Global,
+    source: &mut S,
+    limit: u64,
+    lines: &mut Vec<Line>,
+) -> Result<(), ReadErr>
+    ensures all { OnOk result (IfSome (S.left source.old) (λ bytes. shown lines.new.items ≡ shown lines.old.items ++ map input_line (lines_of bytes))) }
+    ensures given { GivesLines limit (S.left source.old) (S.left source.new) (shown lines.old.items) (shown lines.new.items) result }
+    ensures cause { HasCause ReadErr.Fault (S.faults source.old) (S.faults source.new) result }
+{
+    let mut reader = LineReader::new(alloc, limit)?;
+    'lines: loop {
+        let line = reader.next(source)?;
+        if is_end(&line) {
+            return Ok(());
+        }
+        lines.push(line)?;
+    }
+}
+
+/// Whether no byte was left.
+fn is_end(line: &Line) -> bool
+    ensures { IsTrue result ↔ (line.now ≡ Line.End) }
+{
+    matches!(line, Line::End)
 }
