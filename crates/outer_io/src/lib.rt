@@ -15,7 +15,7 @@ mod standard;
 mod tests;
 
 pub use files::{FileErr, Files, Found};
-pub use lines::{LONGEST, Line, LineReader, ReadErr};
+pub use lines::{LONGEST, Line, LineReader, ReadErr, read_lines};
 pub use mem_files::{MemFiles, SureFiles};
 pub use mem_sink::{MemSink, SureSink};
 pub use mem_source::{MemSource, SureSource};

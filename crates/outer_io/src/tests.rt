@@ -1,6 +1,7 @@
 use crate::{
-    FileErr, Files, Found, MemFiles, MemSink, MemSource, Sink, SinkErr, Source, StdFiles, StdSink,
-    StdSource, SureFiles, SureSink, SureSource, give_all,
+    FileErr, Files, Found, LONGEST, Line, LineReader, MemFiles, MemSink, MemSource, ReadErr, Sink,
+    SinkErr, Source, StdFiles, StdSink, StdSource, SureFiles, SureSink, SureSource, give_all,
+    read_lines,
 };
 use std::alloc::{AllocError, Global};
 use std::fs::{File, OpenOptions};
@@ -155,5 +156,152 @@ fn standard_sink(rt: HostRuntime) -> Result<(), Fail> {
     assert_eq!(rt; full.give(b"hello"), Err(SinkErr::Failed));
     let mut output = StdSink::new(io::writer(&rt));
     assert_eq!(rt; output.give(b""), Ok(0));
+    Ok(())
+}
+
+/// What lines show, and how reading them ended. A line of many bytes shows how many they are.
+fn lines_shown(
+    alloc: Global,
+    lines: &Vec<Line>,
+    answer: Result<(), ReadErr>,
+) -> Result<String, AllocError> {
+    let mut text = String::new(alloc);
+    for line in lines {
+        match line {
+            Line::Whole(bytes) if bytes.len() < 100 => {
+                for byte in bytes {
+                    text.push(char::from(*byte))?;
+                }
+            }
+            Line::Whole(bytes) => text.push_str(format!(in alloc; "{}", bytes.len())?.as_str())?,
+            Line::Long => text.push_str("long")?,
+            Line::End => text.push_str("end?")?,
+        }
+        text.push('|')?;
+    }
+    text.push_str(match answer {
+        Ok(()) => "end",
+        Err(ReadErr::Fault) => "fault",
+        Err(ReadErr::InputLong) => "input long",
+        Err(ReadErr::NoMemory) => "no memory",
+    })?;
+    Ok(text)
+}
+
+/// What the lines of an input show, where at most so many bytes come in a call, and one call fails.
+fn input_shown(
+    alloc: Global,
+    input: &[u8],
+    limit: u64,
+    most: usize,
+    fails: u64,
+) -> Result<String, AllocError> {
+    let bytes = Vec::from_slice(alloc, input)?;
+    let mut source = MemSource::new(bytes, most.max(1), [fails].to_vec(alloc)?);
+    let mut lines = Vec::new(alloc);
+    let answer = read_lines(alloc, &mut source, limit, &mut lines);
+    lines_shown(alloc, &lines, answer)
+}
+
+#[test]
+fn short_lines(rt: HostRuntime) -> Result<(), Fail> {
+    let alloc = rt.alloc();
+    for (input, limit, want) in [
+        ("", 9, "end"),
+        ("\n", 9, "|end"),
+        ("\n\n", 9, "||end"),
+        ("a", 9, "a|end"),
+        ("a\n", 9, "a|end"),
+        ("a\n\nb", 9, "a||b|end"),
+        ("a\r\nb\r\n", 9, "a\r|b\r|end"),
+        ("", 0, "end"),
+        ("a", 0, "input long"),
+        ("\n", 0, "input long"),
+        // Within the first line, and right before its newline.
+        ("ab\ncd\n", 1, "input long"),
+        ("ab\ncd\n", 2, "input long"),
+        // Right behind its newline, and within the second line.
+        ("ab\ncd\n", 3, "ab|input long"),
+        ("ab\ncd\n", 4, "ab|input long"),
+        ("ab\ncd\n", 5, "ab|input long"),
+        ("ab\ncd\n", 6, "ab|cd|end"),
+        ("ab\ncd", 4, "ab|input long"),
+        ("ab\ncd", 5, "ab|cd|end"),
+    ] {
+        for most in [1, 2, 100_000] {
+            let shown = input_shown(alloc, input.as_bytes(), limit, most, 0)?;
+            assert_eq!(rt; shown.as_str(), want, "{input:?} up to {limit}");
+        }
+    }
+    Ok(())
+}
+
+#[test]
+fn long_lines(rt: HostRuntime) -> Result<(), Fail> {
+    let alloc = rt.alloc();
+    let limit = 1 << 30;
+    for (length, want) in [(LONGEST, "s|1048576|t|end"), (LONGEST + 1, "s|long|t|end")] {
+        let mut input = b"s\n".to_vec(alloc)?;
+        input.extend_from_slice(vec![in alloc; b'x'; length]?.as_slice())?;
+        let unended = if length == LONGEST {
+            "s|1048576|end"
+        } else {
+            "s|long|end"
+        };
+        for most in [1, 65_537, 10_000_000] {
+            let shown = input_shown(alloc, input.as_slice(), limit, most, 0)?;
+            assert_eq!(rt; shown.as_str(), unended);
+        }
+        input.extend_from_slice(b"\nt")?;
+        for most in [1, 65_537, 10_000_000] {
+            let shown = input_shown(alloc, input.as_slice(), limit, most, 0)?;
+            assert_eq!(rt; shown.as_str(), want);
+        }
+    }
+    Ok(())
+}
+
+#[test]
+fn lines_before_a_fault(rt: HostRuntime) -> Result<(), Fail> {
+    let alloc = rt.alloc();
+    let input = b"{\"n\":1}\n{\"n\":2}\n";
+    for most in [1, 5, 8, 16] {
+        for call in 1..19usize {
+            let shown = input_shown(alloc, input, 16, most, call as u64)?;
+            // Sixteen bytes, and a call that finds no more.
+            let calls = 16usize.div_ceil(most) + 1;
+            let taken = 16usize.min(most * (call - 1));
+            let want = if call > calls {
+                "{\"n\":1}|{\"n\":2}|end"
+            } else if taken < 8 {
+                "fault"
+            } else if taken < 16 {
+                "{\"n\":1}|fault"
+            } else {
+                "{\"n\":1}|{\"n\":2}|fault"
+            };
+            assert_eq!(rt;
+                shown.as_str(),
+                want,
+                "{most} bytes a call, call {call} fails"
+            );
+        }
+    }
+    Ok(())
+}
+
+#[test]
+fn line_by_line(rt: HostRuntime) -> Result<(), Fail> {
+    let alloc = rt.alloc();
+    let mut source = SureSource::new(b"one\ntwo".to_vec(alloc)?, 3);
+    let mut reader = LineReader::new(alloc, 7)?;
+    let first = reader.next(&mut source)?;
+    assert!(rt; matches!(&first, Line::Whole(bytes) if bytes.as_slice() == b"one".as_slice()));
+    let second = reader.next(&mut source)?;
+    assert!(rt; matches!(&second, Line::Whole(bytes) if bytes.as_slice() == b"two".as_slice()));
+    let third = reader.next(&mut source)?;
+    assert!(rt; matches!(third, Line::End));
+    let fourth = reader.next(&mut source)?;
+    assert!(rt; matches!(fourth, Line::End));
     Ok(())
 }

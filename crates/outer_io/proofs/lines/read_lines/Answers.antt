@@ -6,7 +6,7 @@ use Rattle.outer_io.specs.Runs.{shown}
 use Rattle.outer_io.specs.declared.lines.Line.TheVariants.{End}
 use Rattle.outer_io.specs.declared.lines.ReadErr.TheVariants.{NoMemory}
 use Rattle.outer_io.proofs.ReadingLemmas.{contradicts}
-use Rattle.outer_io.proofs.RunLemmas.{run_none, run_line, run_smaller, run_some, run_err, run_end, gives, line_read, shown-append, shown-given}
+use Rattle.outer_io.proofs.RunLemmas.{reads-all, run_none, run_line, run_smaller, run_some, run_err, run_end, gives, line_read, shown-append, shown-given}
 use Rattle.outer_io.proofs.lines.read_lines.Goals as goal
 
 pub lines-init : goal.lines-init
@@ -54,3 +54,6 @@ returns-in_err-push-clause-given g c =
     let exit = err_from_is_err_and c.from_residual-in_err-push.result c.from_residual-in_err-push.ensures.1 in
     let same : c.push.new.self.items ≡ c.lines.lines.items = c.in_err-push.ensures.items in
     rw (exit.1, exit.2, same) (gives (Err NoMemory) r (run_some r line.1.more line.1.going line.1.takes))
+
+pub returns-then-is_end-clause-all : goal.returns-then-is_end-clause-all
+returns-then-is_end-clause-all g c = reads-all _ _ _ _ _ (returns-then-is_end-clause-given g c)
