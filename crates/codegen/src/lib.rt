@@ -6,3 +6,6 @@ mod generation;
 
 pub use engine::run_typed;
 pub use generation::generate;
+
+#[cfg(test)]
+mod tests;

@@ -4,3 +4,6 @@
 mod evaluation;
 
 pub use evaluation::evaluate;
+
+#[cfg(test)]
+mod tests;
