@@ -43,6 +43,7 @@ impl UText {
     }
 
     /// The text in UTF-8: a surrogate pair is one scalar value, and an unpaired surrogate becomes U+FFFD.
+    #[tactic(auto, using(crate::proofs::Utf16Lemmas::bytes_is))]
     pub fn to_utf8(&self) -> Result<String, AllocError>
         ensures { IfOk result (λ s. string_bytes s ≡ bytes self.now) }
     {
@@ -99,10 +100,11 @@ impl UText {
         Ok(UText { content })
     }
 
-    /// The least place at or after `from` at which the part stands, or `None` if there is none. The empty part stands at
-    /// each place from 0 to the text's length, so there the answer is `from`, up to the length, as of Java's `indexOf`.
-    /// At or after a `from` beyond the length no place is left, and the answer is `None`: where Java takes such a start for
-    /// the end itself, the caller passes the length.
+    /// The least place at or after `from` at which the part stands, or `None` if there is none.
+    ///
+    /// The empty part stands at each place from 0 to the text's length. Java's `indexOf` gives the start itself there, and so
+    /// does this. Java first takes a start beyond the text's end for the end. Here no place is left at or after such a
+    /// `from`, and the answer is `None`, also for the empty part: a caller that wants Java's answer passes the length.
     pub fn find(&self, part: &UText, from: usize) -> Option<usize>
         ensures value { result ≡ first_place self.now part.now from }
         ensures found { IfSome result (IsFirstPlace self.now part.now from) }
