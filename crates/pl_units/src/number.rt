@@ -30,7 +30,7 @@ pub fn parse_int(t: &UText) -> Option<i32>
     int_in(t.as_slice())
 }
 
-/// The same for a signed number of 64 bits.
+/// The same as `parse_int` for a signed number of 64 bits.
 pub fn parse_long(t: &UText) -> Option<i64>
     ensures { result ≡ long_of t.now }
 {

@@ -42,6 +42,21 @@ impl UText {
         Ok(UText { content })
     }
 
+    /// The text of these units, whatever they are.
+    pub fn from_units(alloc: Global, text: &[u16]) -> Result<UText, AllocError>
+        ensures { IfOk result (λ t. t ≡ text.now) }
+    {
+        let content = Vec::from_slice(alloc, text)?;
+        Ok(UText { content })
+    }
+
+    /// The units of the text.
+    pub fn as_slice(&self) -> &[u16]
+        ensures { result.now ≡ self.now }
+    {
+        self.content.as_slice()
+    }
+
     /// The text in UTF-8: a surrogate pair is one scalar value, and an unpaired surrogate becomes U+FFFD.
     #[tactic(auto, using(crate::proofs::Utf16Lemmas::bytes_is))]
     pub fn to_utf8(&self) -> Result<String, AllocError>
@@ -135,20 +150,7 @@ impl UText {
         self.as_slice().cmp(&other.as_slice())
     }
 
-    pub(crate) fn as_slice(&self) -> &[u16]
-        ensures { result.now ≡ self.now }
-    {
-        self.content.as_slice()
-    }
-
     fn alloc(&self) -> Global {
         *self.content.allocator()
-    }
-
-    pub(crate) fn from_units(alloc: Global, text: &[u16]) -> Result<UText, AllocError>
-        ensures { IfOk result (λ t. t ≡ text.now) }
-    {
-        let content = Vec::from_slice(alloc, text)?;
-        Ok(UText { content })
     }
 }
