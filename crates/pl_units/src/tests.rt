@@ -3,8 +3,6 @@ use std::alloc::{AllocError, Global};
 use std::cmp::Ordering;
 use std::test::Fail;
 
-const FACE: [u16; 2] = [0xD83D, 0xDE00];
-
 fn text(alloc: Global, s: &str) -> Result<UText, AllocError> {
     UText::from_utf8(alloc, s)
 }
@@ -62,19 +60,31 @@ fn unpaired_surrogates(rt: HostRuntime) -> Result<(), Fail> {
 #[test]
 fn parts(rt: HostRuntime) -> Result<(), Fail> {
     let whole = text(rt.alloc(), "a\u{1F600}b")?;
-    assert_eq!(rt; whole.as_slice(), [97, 0xD83D, 0xDE00, 98].as_slice());
-    assert!(rt; whole.len() == 4);
-    assert_eq!(rt; whole.at(0), 97);
-    assert_eq!(rt; whole.at(3), 98);
-    let front = whole.sub(0, 2)?;
-    let back = whole.sub(2, 4)?;
-    assert_eq!(rt; front.as_slice(), [97, 0xD83D].as_slice());
-    assert_eq!(rt; written(&front)?.as_str(), "a\u{FFFD}");
-    assert_eq!(rt; written(&back)?.as_str(), "\u{FFFD}b");
-    assert_eq!(rt; front.joined(&back)?.as_slice(), whole.as_slice());
-    assert_eq!(rt; whole.sub(1, 3)?.as_slice(), FACE.as_slice());
-    assert_eq!(rt; whole.sub(4, 4)?.len(), 0);
-    assert_eq!(rt; whole.share()?.as_slice(), whole.as_slice());
+    for (from, to, utf8) in [
+        (0, 0, ""),
+        (0, 2, "a\u{FFFD}"),
+        (1, 3, "\u{1F600}"),
+        (2, 4, "\u{FFFD}b"),
+        (0, 4, "a\u{1F600}b"),
+        (4, 4, ""),
+    ] {
+        assert!(rt; from <= to && to <= whole.len());
+        assert_eq!(rt; written(&whole.sub(from, to)?)?.as_str(), utf8);
+    }
+    Ok(())
+}
+
+#[test]
+fn halves(rt: HostRuntime) -> Result<(), Fail> {
+    let whole = text(rt.alloc(), "a\u{1F600}b")?;
+    for (place, unit) in [97, 0xD83D, 0xDE00, 98].iter().enumerate() {
+        assert!(rt; place < whole.len());
+        assert_eq!(rt; whole.at(place), *unit);
+        let joined = whole
+            .sub(0, place)?
+            .joined(&whole.sub(place, whole.len())?)?;
+        assert_eq!(rt; joined.as_slice(), whole.share()?.as_slice());
+    }
     Ok(())
 }
 
@@ -154,6 +164,11 @@ fn numbers(rt: HostRuntime) -> Result<(), Fail> {
         assert_eq!(rt; parse_int(&t), int);
         assert_eq!(rt; parse_long(&t), long);
     }
+    Ok(())
+}
+
+#[test]
+fn decimals(rt: HostRuntime) -> Result<(), Fail> {
     for (n, digits) in [
         (0, "0"),
         (7, "7"),
