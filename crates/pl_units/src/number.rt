@@ -38,13 +38,17 @@ pub fn parse_long(t: &UText) -> Option<i64>
 }
 
 fn int_in(text: &[u16]) -> Option<i32>
-    ensures { SomeIff result (IsTrue (is_whole_number text.now) × FitsSigned w32 (whole_number text.now)) (whole_number text.now) }
+    ensures { SomeIff result
+        (IsTrue (is_whole_number text.now) × FitsSigned w32 (whole_number text.now))
+        (whole_number text.now) }
 {
     i32::try_from(long_in(text)?).ok()
 }
 
 fn long_in(text: &[u16]) -> Option<i64>
-    ensures { SomeIff result (IsTrue (is_whole_number text.now) × FitsSigned w64 (whole_number text.now)) (whole_number text.now) }
+    ensures { SomeIff result
+        (IsTrue (is_whole_number text.now) × FitsSigned w64 (whole_number text.now))
+        (whole_number text.now) }
 {
     match text {
         [MINUS, digits @ ..] => 0i64.checked_sub_unsigned(numeral(digits)?),
@@ -55,7 +59,9 @@ fn long_in(text: &[u16]) -> Option<i64>
 
 // The value of one digit or more, if it is below 2 ^ 64.
 fn numeral(digits: &[u16]) -> Option<u64>
-    ensures { SomeIff result (IsTrue (is_numeral digits.now) × (digits_value digits.now < 2 ^ 64)) (digits_value digits.now) }
+    ensures { SomeIff result
+        (IsTrue (is_numeral digits.now) × (digits_value digits.now < 2 ^ 64))
+        (digits_value digits.now) }
 {
     if digits.is_empty() {
         return None;
@@ -69,7 +75,9 @@ fn numeral(digits: &[u16]) -> Option<u64>
 
 // The value of digits with one more after them.
 fn with_digit(value: u64, digit: u16) -> Option<u64>
-    ensures { SomeIff result (IsAsciiDigit digit × (value * 10 + (digit - 48) < 2 ^ 64)) (value * 10 + (digit - 48)) }
+    ensures { SomeIff result
+        (IsAsciiDigit digit × (value * 10 + (digit - 48) < 2 ^ 64))
+        (value * 10 + (digit - 48)) }
 {
     if !(48..58).contains(&digit) {
         return None;

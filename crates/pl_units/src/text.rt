@@ -123,7 +123,8 @@ impl UText {
     pub fn find(&self, part: &UText, from: usize) -> Option<usize>
         ensures value { result ≡ first_place self.now part.now from }
         ensures found { IfSome result (IsFirstPlace self.now part.now from) }
-        ensures none { IfNone result ((place : ℕ) → from ≤ place → ¬ StandsAt self.now part.now place) }
+        ensures none { IfNone result
+            ((place : ℕ) → from ≤ place → ¬ StandsAt self.now part.now place) }
     {
         find_in(self.as_slice(), part.as_slice(), from)
     }
