@@ -77,6 +77,10 @@ shown-given (Whole bytes) line gives =
 shown-given Long line gives = let long : leb (length line) longest ≡ false = lt-leb (length line) longest gives in rw long refl
 shown-given End line gives = absurd gives
 
+-- a line that was put behind others
+pub shown-push : (old new : List Line) (given : Line) (line : List ℕ) → new ≡ old ++ given ∷ [] → Gives given line → shown new ≡ shown old ++ input_line line ∷ []
+shown-push old new given line is gives = ap shown is ∙ shown-append old (given ∷ []) ∙ ap (λ l. shown old ++ l) (shown-given given line gives)
+
 -- a line that is not the end was read
 pub line_read : (old new : Intake) (left left' : Option (List ℕ)) (given : Line) → given ≢ End → Reads old new left left' (Ok given)
     → (line : List ℕ) × ReadsLine old new left left' line × Gives given line

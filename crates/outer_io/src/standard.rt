@@ -9,7 +9,6 @@ use crate::source::{Failed, Source};
 use std::alloc::Global;
 use std::fs::File;
 use std::io::{Error, ErrorKind, Read, Write};
-use std::marker::Model;
 use std::{io, rt};
 
 /// A source that reads from a reader, as the standard input. It tells what its reader tells,

@@ -1,4 +1,4 @@
-use Rattle.std.proofs.Common.{◌≡◌, ◌≢◌, ◌++◌, [], ◌∷◌, Ok, Err, ap, ◌∙◌, subst}
+use Rattle.std.proofs.Common.{◌≡◌, ◌≢◌, ◌++◌, [], ◌∷◌, Ok, Err, ap, subst}
 use Rattle.std.proofs.lemmas.Result.{err_from_is_err_and}
 use Rattle.outer_io.specs.Reading.{Reads, Reader}
 use Rattle.outer_io.specs.Lines.{input_line}
@@ -6,7 +6,7 @@ use Rattle.outer_io.specs.Runs.{shown}
 use Rattle.outer_io.specs.declared.lines.Line.TheVariants.{End}
 use Rattle.outer_io.specs.declared.lines.ReadErr.TheVariants.{NoMemory}
 use Rattle.outer_io.proofs.ReadingLemmas.{contradicts}
-use Rattle.outer_io.proofs.RunLemmas.{reads-all, run_none, run_line, run_smaller, run_some, run_err, run_end, gives, line_read, shown-append, shown-given}
+use Rattle.outer_io.proofs.RunLemmas.{reads-all, run_none, run_line, run_smaller, run_some, run_err, run_end, gives, line_read, shown-push}
 use Rattle.outer_io.proofs.lines.read_lines.Goals as goal
 
 pub lines-init : goal.lines-init
@@ -42,8 +42,7 @@ lines-preserved g c =
     let some : c.in_ok-line.line ≢ End = λ ended. contradicts c.if-is_end.false (c.is_end.ensures.1 ended) in
     let line = line_read c.lines.reader.intake c.next.new.self.intake _ _ c.in_ok-line.line some c.in_ok-line.ensures.read in
     let grown : shown c.push.new.self.items ≡ shown c.lines.lines.items ++ input_line line.0 ∷ [] =
-    ap shown c.in_ok-push.ensures.items ∙ shown-append c.lines.lines.items (c.in_ok-line.line ∷ [])
-    ∙ ap (λ l. shown c.lines.lines.items ++ l) (shown-given c.in_ok-line.line line.0 line.2) in
+    shown-push c.lines.lines.items c.push.new.self.items c.in_ok-line.line line.0 c.in_ok-push.ensures.items line.2 in
     (c.in_ok-line.ensures.failed, run_line line.0 (shown c.push.new.self.items) (g.S.Source.faults c.next.new.source) c.lines.invariant.1 line.1 c.next.ensures.within grown c.next.ensures.cause.later)
 
 pub returns-in_err-push-clause-given : goal.returns-in_err-push-clause-given
