@@ -6,10 +6,10 @@ use Rattle.std.specs.Io.KnownBytes.{Consumes, IsAtEnd}
 use Rattle.std.proofs.KnownBytes.{Consumes-nil, Consumes-trans, Consumes-whole}
 use Rattle.std.proofs.lemmas.Bool.{le-leb, lt-leb}
 use Rattle.outer_io.proofs.ReadingLemmas.{contradicts}
-use Rattle.outer_io.specs.Lines.{newline, longest, InputLine, Within, Beyond, input_line, IsUnbroken, lines_of, ended_of}
+use Rattle.outer_io.specs.Lines.{newline, longest, InputLine, Within, input_line, IsUnbroken, lines_of, ended_of}
 use Rattle.outer_io.specs.Reading.{Intake, Takes, ReadsLine, ReadsEnd, Reads, EndsByNewline, EndsBySource}
 use Rattle.outer_io.specs.Gathering.{Gives}
-use Rattle.outer_io.specs.Runs.{shown, ReadsAll, ReadsSome, ReadsLines, GivesLines}
+use Rattle.outer_io.specs.Runs.{line_shown, shown, ReadsAll, ReadsSome, ReadsLines, GivesLines}
 use Rattle.outer_io.specs.declared.lines.Line.{Line}
 use Rattle.outer_io.specs.declared.lines.Line.TheVariants.{Whole, Long, End}
 use Rattle.outer_io.specs.declared.lines.ReadErr.{ReadErr}
@@ -60,12 +60,6 @@ run_none limit intake left old faults is = record {
 
 -- ---- a line more
 
-pub shown-append : (xs ys : List Line) → shown (xs ++ ys) ≡ shown xs ++ shown ys
-shown-append [] ys = refl
-shown-append (Whole bytes ∷ xs) ys = ap (λ l. Within bytes.items ∷ l) (shown-append xs ys)
-shown-append (Long ∷ xs) ys = ap (λ l. Beyond ∷ l) (shown-append xs ys)
-shown-append (End ∷ xs) ys = shown-append xs ys
-
 pub map-push : {X Y : Type 0} (f : X → Y) (xs : List X) (x : X) → map f (xs ++ x ∷ []) ≡ map f xs ++ f x ∷ []
 map-push f [] x = refl
 map-push f (y ∷ ys) x = ap (λ l. f y ∷ l) (map-push f ys x)
@@ -79,7 +73,7 @@ shown-given End line gives = absurd gives
 
 -- a line that was put behind others
 pub shown-push : (old new : List Line) (given : Line) (line : List ℕ) → new ≡ old ++ given ∷ [] → Gives given line → shown new ≡ shown old ++ input_line line ∷ []
-shown-push old new given line is gives = ap shown is ∙ shown-append old (given ∷ []) ∙ ap (λ l. shown old ++ l) (shown-given given line gives)
+shown-push old new given line is gives = ap shown is ∙ map-append line_shown old (given ∷ []) ∙ ap (λ l. shown old ++ l) (shown-given given line gives)
 
 -- a line that is not the end was read
 pub line_read : (old new : Intake) (left left' : Option (List ℕ)) (given : Line) → given ≢ End → Reads old new left left' (Ok given)

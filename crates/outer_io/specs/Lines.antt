@@ -33,10 +33,12 @@ ended_of (byte ∷ bytes) = if byte == newline then [] ∷ ended_of bytes else b
 abbrev pub IsUnbroken : List ℕ → Type 0
 IsUnbroken bytes = All (λ byte. byte ≢ newline) bytes
 
--- A line as it is given: its bytes, or that it has too many.
+-- What a line shows of the bytes that it comes from: them, that they are too many, or that there was none.
 pub data InputLine : Type 0 where
   Within : List ℕ → InputLine
   Beyond : InputLine
+  Nothing : InputLine
 
+-- A line as it is given.
 abbrev pub input_line : List ℕ → InputLine
 input_line line = if nat_le (length line) longest then Within line else Beyond

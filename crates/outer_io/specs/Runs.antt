@@ -1,18 +1,20 @@
 -- What reading a source to its end gives.
 use Rattle.std.specs.Prelude.{◌≡◌, ℕ, ◌≤◌, List, [], ◌∷◌, ◌++◌, length, map, Option, Result, Ok, Err}
 use Rattle.std.specs.Io.KnownBytes.{Consumes, IsAtEnd}
-use Rattle.outer_io.specs.Lines.{InputLine, Within, Beyond, lines_of, ended_of, input_line}
+use Rattle.outer_io.specs.Lines.{InputLine, Within, Beyond, Nothing, lines_of, ended_of, input_line}
 use Rattle.outer_io.specs.declared.lines.Line.{Line}
 use Rattle.outer_io.specs.declared.lines.Line.TheVariants.{Whole, Long, End}
 use Rattle.outer_io.specs.declared.lines.ReadErr.{ReadErr}
 use Rattle.outer_io.specs.declared.lines.ReadErr.TheVariants.{Fault, InputLong, NoMemory}
 
--- What lines show of the bytes that they come from. The end is none.
+-- What a line that was given shows.
+abbrev pub line_shown : Line → InputLine
+line_shown (Whole bytes) = Within bytes.items
+line_shown Long = Beyond
+line_shown End = Nothing
+
 abbrev pub shown : List Line → List InputLine
-shown [] = []
-shown (Whole bytes ∷ lines) = Within bytes.items ∷ shown lines
-shown (Long ∷ lines) = Beyond ∷ shown lines
-shown (End ∷ lines) = shown lines
+shown = map line_shown
 
 -- The source was read to its end: the lines of its bytes were given.
 pub record ReadsAll (limit : ℕ) (left left' : Option (List ℕ)) (given : List InputLine) : Type 0 where
