@@ -4,7 +4,9 @@ use Rattle.std.specs.Prelude.{IsSome}
 use Rattle.std.proofs.lemmas.List.{take_at, drop_at}
 use Rattle.pl_lexer.specs.Lexeme.{Lexeme}
 use Rattle.pl_lexer.specs.Longest.{Leads, NothingLeads}
+use Rattle.pl_lexer.proofs.Tested.{some_is}
 use Rattle.pl_lexer.specs.Spelling.{spelling}
+use Rattle.pl_lexer.specs.Tables.{sign_of}
 
 -- two ways to cut a list at one place
 pub same_parts : (a b c d : List ℕ) → a ++ b ≡ c ++ d → length a ≡ length c → (a ≡ c) × (b ≡ d)
@@ -13,8 +15,6 @@ same_parts a b c d same lengths = (
   sym (drop_at a b (length c) lengths) ∙ ap (drop (length c)) same ∙ drop_at c d (length c) refl,
 )
 
-pub some_is : {X : Type 0} (o : Option X) (x : X) → o ≡ Some x → IsSome o
-some_is o x e = subst IsSome (sym e) refl
 
 -- two lexemes that lead one text are one
 pub record SameLead (front behind front' behind' : List ℕ) (l l' : Lexeme) : Type 0 where
@@ -40,7 +40,7 @@ nothing_and_leads f text front behind l nothing a = nothing front behind a.parts
 
 -- no bytes spell nothing
 pub spelling-nil : (names : List ℕ → Option ℕ) (dot : Bool) (behind : List ℕ) → spelling names dot [] behind ≡ None
-unfolding spelling
+unfolding spelling sign_of
 spelling-nil names dot behind = refl
 
 pub Leads-some : (names : List ℕ → Option ℕ) (dot : Bool) (text front behind : List ℕ) (l : Lexeme) → Leads (spelling names dot) text front behind l → 0 < length front

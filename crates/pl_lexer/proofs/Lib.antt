@@ -1,8 +1,6 @@
+pub mod Tested
 pub mod Leading
-pub mod Once
-pub mod Some
-pub mod Fronts
-pub mod Numbers
-pub mod Signs
-pub mod Cuts
-pub mod Spelled
+pub mod Led
+pub mod Runs
+pub mod Integers
+pub mod Decimals

@@ -1,5 +1,11 @@
 pub mod Lexeme
+pub mod Bytes
+pub mod Tables
+pub mod Numbers
+pub mod Words
+pub mod Enclosed
 pub mod Spelling
+pub mod Lengths
 pub mod Longest
 pub mod Tokens
 pub mod Spelled

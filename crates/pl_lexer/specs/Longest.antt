@@ -1,5 +1,5 @@
 -- What leads a text: the longest spelling at its front.
-use Rattle.std.specs.Prelude.{◌≡◌, ℕ, ◌≤◌, List, ◌++◌, length, take, drop, Option, Some, IsSome}
+use Rattle.std.specs.Prelude.{◌≡◌, ℕ, ◌≤◌, List, ◌++◌, length, take, drop, Option, Some, None, IsSome}
 use Rattle.pl_lexer.specs.declared.found.Found.{Found}
 use Rattle.pl_lexer.specs.declared.found.Found.TheVariants.{Nothing, Foreign, Blank, Leading}
 use Rattle.pl_lexer.specs.Lexeme.{Lexeme, blank, token, foreign}
@@ -25,3 +25,10 @@ Finds spelling text Nothing = NothingLeads spelling text
 Finds spelling text Foreign = (front : List ℕ) × ((behind : List ℕ) × Leads spelling text front behind foreign)
 Finds spelling text (Blank n) = LeadsBy spelling text n blank
 Finds spelling text (Leading kind n) = LeadsBy spelling text n (token kind)
+
+-- what has been found is what n bytes spell, if anything
+abbrev pub Shows : Option Lexeme → ℕ → Found → Type 0
+Shows spelled n Nothing = spelled ≡ None
+Shows spelled n Foreign = spelled ≡ Some foreign
+Shows spelled n (Blank m) = ⊥
+Shows spelled n (Leading kind m) = (spelled ≡ Some (token kind)) × (m ≡ n)

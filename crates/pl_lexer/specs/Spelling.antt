@@ -1,71 +1,45 @@
 -- Which bytes spell what.
-use Rattle.std.specs.Prelude.{codes, ◌≡◌, ℕ, Bool, true, false, not, ◌&&◌, ◌||◌, ◌==◌, if◌then◌else◌, List, [], ◌∷◌, Option, Some, None}
+use Rattle.std.specs.Prelude.{◌≡◌, ℕ, Bool, true, false, ◌==◌, if◌then◌else◌, List, [], ◌∷◌, Option, Some, None}
 use Rattle.std.specs.Char.{is_ascii_digit}
-use Rattle.std.specs.List.{list_all}
 use Rattle.pl_lexer.specs.declared.token.Kind.{Kind}
-use Rattle.pl_lexer.specs.declared.token.Kind.TheVariants.{Integer, Sign}
+use Rattle.pl_lexer.specs.declared.token.Kind.TheVariants.{Name, DotName, DotInteger, Integer, Text, ClassName, Prim, Word, Sign}
 use Rattle.pl_lexer.specs.declared.token.Sign.TheVariants as sign
 use Rattle.pl_lexer.specs.Lexeme.{Lexeme, blank, token}
-
--- space, tab, line feed, carriage return
-abbrev pub is_blank : ℕ → Bool
-is_blank b = b == 32 || b == 9 || b == 10 || b == 13
+use Rattle.pl_lexer.specs.Bytes.{begins, is_blank, is_letter, is_quote}
+use Rattle.pl_lexer.specs.Tables.{sign_of, reserved_of}
+use Rattle.pl_lexer.specs.Numbers.{number_of, dot_number_of, is_integer, is_dot_integer}
+use Rattle.pl_lexer.specs.Words.{word_of, dot_word_of, is_word, is_dotted}
+use Rattle.pl_lexer.specs.Enclosed.{text_of, slash_of}
 
 -- a blank is one byte
 abbrev pub blank_of : List ℕ → Option Lexeme
 blank_of (b ∷ []) = Some blank
 blank_of _ = None
 
--- the text begins with a byte that passes
-abbrev pub begins : (ℕ → Bool) → List ℕ → Bool
-begins p [] = false
-begins p (b ∷ bs) = p b
+abbrev pub is_slash : ℕ → Bool
+is_slash b = b == 47
 
--- 0, or digits that do not begin with 0
-abbrev pub is_decimal : List ℕ → Bool
-is_decimal [] = false
-is_decimal (b ∷ []) = is_ascii_digit b
-is_decimal (b ∷ c ∷ bs) = not (b == 48) && list_all is_ascii_digit (b ∷ c ∷ bs)
-
--- the number that the bytes are, which no digit follows
-abbrev pub number_of : List ℕ → List ℕ → Option Lexeme
-number_of bytes behind = if is_decimal bytes && not (begins is_ascii_digit behind) then Some (token Integer) else None
-
--- two texts are the same
-abbrev pub same_bytes : List ℕ → List ℕ → Bool
-same_bytes [] [] = true
-same_bytes [] (k ∷ ks) = false
-same_bytes (b ∷ bs) [] = false
-same_bytes (b ∷ bs) (k ∷ ks) = b == k && same_bytes bs ks
-
--- what a table has for a text
-abbrev pub look_up : List ℕ → List (List ℕ × Lexeme) → Option Lexeme
-look_up bytes [] = None
-look_up bytes ((text, lexeme) ∷ rows) = if same_bytes bytes text then Some lexeme else look_up bytes rows
-
--- operators and brackets
-abbrev pub signs : List (List ℕ × Lexeme)
-signs =
-    (codes "(", token (Sign sign.LeftParen)) ∷ (codes ")", token (Sign sign.RightParen))
-    ∷ (codes "+", token (Sign sign.Plus)) ∷ (codes "-", token (Sign sign.Minus)) ∷ (codes "*", token (Sign sign.Star))
-    ∷ (codes "/", token (Sign sign.Slash)) ∷ (codes "%", token (Sign sign.Percent)) ∷ []
-
--- the sign that the bytes are
-abbrev pub sign_of : List ℕ → Option Lexeme
-sign_of bytes = look_up bytes signs
-
--- what the bytes spell where `behind` follows them, by their first byte
+-- what the bytes spell where `behind` follows them, by their first byte. `dot` says whether a dot is the last token before them
 unfoldable pub spelling : (List ℕ → Option ℕ) → Bool → List ℕ → List ℕ → Option Lexeme
 spelling names dot bytes behind =
-    if begins is_ascii_digit bytes then number_of bytes behind
+    if begins is_ascii_digit bytes then (if dot then dot_number_of bytes else number_of bytes)
+    else (if begins is_letter bytes then (if dot then dot_word_of bytes else word_of names bytes behind)
+    else (if begins is_quote bytes then text_of bytes
     else (if begins is_blank bytes then blank_of bytes
-    else sign_of bytes)
+    else (if begins is_slash bytes then slash_of bytes behind
+    else sign_of bytes))))
 
 -- the bytes are a spelling of the kind
 abbrev pub Spells : Kind → List ℕ → Type 0
-Spells Integer bytes = is_decimal bytes ≡ true
+Spells Name bytes = (is_word bytes ≡ true) × (reserved_of bytes ≡ None)
+Spells DotName bytes = is_word bytes ≡ true
+Spells DotInteger bytes = is_dot_integer bytes ≡ true
+Spells Integer bytes = is_integer bytes ≡ true
+Spells Text bytes = text_of bytes ≡ Some (token Text)
+Spells (ClassName class) bytes = is_dotted bytes ≡ true
+Spells (Prim p) bytes = reserved_of bytes ≡ Some (token (Prim p))
+Spells (Word w) bytes = reserved_of bytes ≡ Some (token (Word w))
 Spells (Sign s) bytes = sign_of bytes ≡ Some (token (Sign s))
-Spells _ bytes = ⊥
 
 -- the token is `.` or `?.`, after which every word is a name
 abbrev pub is_dot : Kind → Bool

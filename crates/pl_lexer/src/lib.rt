@@ -1,14 +1,14 @@
 //! Tokens of scripts.
 #![tactic(auto)]
 
-mod cutting;
+mod bytes;
+mod enclosed;
 mod found;
-mod laws;
-mod reading;
+mod numbers;
+mod signs;
 mod token;
+mod words;
 
-pub use cutting::lex;
-pub use laws::each_text_has_one_reading;
 pub use token::{Kind, Sign, Token, Word};
 
 /// The most bytes that a script has.
@@ -19,6 +19,3 @@ pub const BAD_TOKEN: u8 = 1;
 pub const OUT_OF_PROFILE: u8 = 19;
 /// The number of the refusal of a script that is too large.
 pub const TOO_LARGE: u8 = 20;
-
-#[cfg(test)]
-mod tests;
