@@ -4,3 +4,5 @@ pub mod Led
 pub mod Runs
 pub mod Integers
 pub mod Decimals
+pub mod Listed
+pub mod Closing
