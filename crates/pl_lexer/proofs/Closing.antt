@@ -1,16 +1,16 @@
 -- Texts and comments at the front of a text.
 use Rattle.std.proofs.Common.{◌≡◌, ◌≢◌, ℕ, zero, suc, ◌+◌, ◌<◌, ◌≤◌, Bool, true, false, ◌&&◌, ◌||◌, List, [], ◌∷◌, ◌++◌, length, take, drop, Option, Some, None, sym, refl, ap, ◌∙◌, subst, arith, get_or, ⊎_elim, ◌⊎◌, inl, inr}
-use Rattle.std.specs.Prelude.{IsSome, ◌==◌, if◌then◌else◌}
+use Rattle.std.specs.Prelude.{IsSome, IfSome, ◌==◌, if◌then◌else◌}
 use Rattle.std.specs.List.{prefix_len, list_all}
-use Rattle.std.proofs.lemmas.Bool.{false≢true, eqb-true}
+use Rattle.std.proofs.lemmas.Bool.{false≢true, eqb-true, eq-eqb}
 use Rattle.std.proofs.Math.Numerals.{one-add}
 use Rattle.pl_lexer.specs.declared.token.Kind.TheVariants.{Text}
 use Rattle.pl_lexer.specs.Lexeme.{Lexeme, blank, token}
 use Rattle.pl_lexer.specs.Longest.{LeadsBy, NothingLeads}
-use Rattle.pl_lexer.specs.Bytes.{begins, is_nil, in_line}
+use Rattle.pl_lexer.specs.Bytes.{begins, is_nil, in_line, is_quote}
 use Rattle.pl_lexer.specs.Tables.{sign_of}
 use Rattle.pl_lexer.specs.Enclosed.{Next, on, end, wrong, closes_by, closes, text_next, text_of, comment_next, slash_of}
-use Rattle.pl_lexer.specs.Lengths.{one_more, closed_by, closed_at}
+use Rattle.pl_lexer.specs.Lengths.{one_more, closed_by, closed_at, second_is}
 use Rattle.pl_lexer.proofs.Runs.{both, is_nil-true, all_within, run_passes, run_within}
 use Rattle.pl_lexer.proofs.Tested.{lead_by, some_is, none_is, test_some, Agree}
 
@@ -164,3 +164,52 @@ slash_signs text other (c ∷ d ∷ ms) left parts = at_slash (d == 47) refl whe
 abbrev pub placed : ℕ → Option ℕ → Option ℕ
 placed n (Some m) = Some (n + m)
 placed n None = None
+
+-- the same of a text that is not taken apart
+
+pub text_leads_at : (text front rest : List ℕ) (n : ℕ) → begins is_quote text ≡ true → front ≡ take 1 text → rest ≡ drop 1 text → Some n ≡ closed_at (text_next (get_or front 0 0)) false rest → LeadsBy (λ bytes _. text_of bytes) text (1 + n) (token Text)
+text_leads_at [] front rest n opens front_is rest_is e = absurd (false≢true opens)
+text_leads_at (q ∷ bs) front rest n opens front_is rest_is e =
+    let quote : get_or front 0 0 ≡ q = ap (λ f. get_or f 0 0) front_is in
+    let closed : closed_at (text_next q) false bs ≡ Some n = sym (e ∙ ap (λ x. closed_at (text_next x) false rest) quote ∙ ap (closed_at (text_next q) false) rest_is) in
+    rw one-add (text_leads q bs n closed)
+
+pub no_text_at : (text front rest : List ℕ) → begins is_quote text ≡ true → front ≡ take 1 text → rest ≡ drop 1 text → None ≡ closed_at (text_next (get_or front 0 0)) false rest → NothingLeads (λ bytes _. text_of bytes) text
+no_text_at [] front rest opens front_is rest_is e = absurd (false≢true opens)
+no_text_at (q ∷ bs) front rest opens front_is rest_is e =
+    let quote : get_or front 0 0 ≡ q = ap (λ f. get_or f 0 0) front_is in
+    let closed : closed_at (text_next q) false bs ≡ None = sym (e ∙ ap (λ x. closed_at (text_next x) false rest) quote ∙ ap (closed_at (text_next q) false) rest_is) in
+    no_text q bs closed
+
+pub line_leads_at : (text rest : List ℕ) (n : ℕ) → second_is 47 text ≡ true → rest ≡ drop 2 text → n ≡ prefix_len in_line rest → LeadsBy slash_of text (2 + n) blank
+line_leads_at [] rest n second rest_is e = absurd (false≢true second)
+line_leads_at (s ∷ []) rest n second rest_is e = absurd (false≢true second)
+line_leads_at (s ∷ b ∷ bs) rest n second rest_is e =
+    let long : 2 + n ≡ suc (suc (prefix_len in_line bs)) = omega (arith, e, ap (prefix_len in_line) rest_is) in
+    rw long (line_leads s b bs (eqb-true b 47 second))
+
+pub comment_leads_at : (text rest : List ℕ) (n : ℕ) → second_is 42 text ≡ true → rest ≡ drop 2 text → Some n ≡ closed_at comment_next false rest → LeadsBy slash_of text (2 + n) blank
+comment_leads_at [] rest n second rest_is e = absurd (false≢true second)
+comment_leads_at (s ∷ []) rest n second rest_is e = absurd (false≢true second)
+comment_leads_at (s ∷ b ∷ bs) rest n second rest_is e =
+    let long : 2 + n ≡ suc (suc n) = omega arith in
+    rw long (comment_leads s b bs n (eqb-true b 42 second) (sym (e ∙ ap (closed_at comment_next false) rest_is)))
+
+pub no_comment_at : (text rest : List ℕ) → second_is 42 text ≡ true → rest ≡ drop 2 text → None ≡ closed_at comment_next false rest → NothingLeads slash_of text
+no_comment_at [] rest second rest_is e = absurd (false≢true second)
+no_comment_at (s ∷ []) rest second rest_is e = absurd (false≢true second)
+no_comment_at (s ∷ b ∷ bs) rest second rest_is e = no_comment s b bs (eqb-true b 42 second) (sym (e ∙ ap (closed_at comment_next false) rest_is))
+
+pub signs_at : (text : List ℕ) → second_is 47 text ≡ false → second_is 42 text ≡ false → Agree (λ bytes _. sign_of bytes) slash_of text
+signs_at text line star = slash_signs text (λ s b bs is. (λ e. false≢true (sym line ∙ ap (second_is 47) is ∙ eq-eqb b 47 e), λ e. false≢true (sym star ∙ ap (second_is 42) is ∙ eq-eqb b 42 e)))
+
+pub second_long : (b : ℕ) (text : List ℕ) → second_is b text ≡ true → 2 ≤ length text
+second_long b [] e = absurd (false≢true e)
+second_long b (s ∷ []) e = absurd (false≢true e)
+second_long b (s ∷ c ∷ bs) e = omega arith
+
+pub closed_within : (next : Bool → ℕ → Next) (state : Bool) (bs : List ℕ) → IfSome (closed_at next state bs) (λ n. n ≤ length bs)
+closed_within next state bs = at_answer (closed_at next state bs) refl where
+  at_answer : (o : Option ℕ) → closed_at next state bs ≡ o → IfSome o (λ n. n ≤ length bs)
+  at_answer None e = tt
+  at_answer (Some n) e = (closed_spelled next bs state n e).0

@@ -12,7 +12,7 @@ use Rattle.pl_lexer.specs.Longest.{LeadsBy}
 use Rattle.pl_lexer.specs.Bytes.{begins, is_nil, after_run, is_octal_digit}
 use Rattle.pl_lexer.specs.Numbers.{is_long_mark, ends_integer, digits_end, ends_hexadecimal, is_integer, is_dot_integer, dot_number_of}
 use Rattle.pl_lexer.specs.Lengths.{whole_length, mark_length, digits_length, begins_hexadecimal, hexadecimal_length, integer_length}
-use Rattle.pl_lexer.proofs.Runs.{both, is_nil-true, all_within, run_passes, run_some, run_none, run_append, run_within, begins_front, run_is_all, run_parts, after_run_append}
+use Rattle.pl_lexer.proofs.Runs.{both, is_nil-true, all_within, run_passes, run_some, run_none, run_append, run_within, begins_front, begins_taken, run_is_all, run_parts, after_run_append}
 use Rattle.pl_lexer.proofs.Tested.{test_leads}
 
 pub either : (a b : Bool) → (a || b) ≡ true → (a ≡ true) ⊎ (b ≡ true)
@@ -70,10 +70,6 @@ ends_after p (m ∷ ms) e = at_head (p m) refl where
       rw (f, one-add, alone) refl
   at_head false f = rw f e
 
-begins_taken : (p : ℕ → Bool) (n : ℕ) (text : List ℕ) → 0 < n → begins p text ≡ true → begins p (take n text) ≡ true
-begins_taken p zero text some e = absurd (omega arith)
-begins_taken p (suc n) [] some e = absurd (false≢true e)
-begins_taken p (suc n) (b ∷ bs) some e = e
 
 -- digits, and the mark of a long
 ended_spelled : (p : ℕ → Bool) (text : List ℕ) → begins p text ≡ true → digits_end p (take (digits_length p text) text) ≡ true

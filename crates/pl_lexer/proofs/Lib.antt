@@ -6,3 +6,5 @@ pub mod Integers
 pub mod Decimals
 pub mod Listed
 pub mod Closing
+pub mod Named
+pub mod Paths

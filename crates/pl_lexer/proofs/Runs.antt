@@ -1,5 +1,5 @@
 -- The bytes at the front of a text that pass a test.
-use Rattle.std.proofs.Common.{◌≡◌, ℕ, ◌+◌, ◌<◌, ◌≤◌, Bool, true, false, ◌&&◌, ◌||◌, List, [], ◌∷◌, ◌++◌, length, take, drop, sym, refl, ap, ◌∙◌, subst, arith, get_or}
+use Rattle.std.proofs.Common.{◌≡◌, ℕ, zero, suc, ◌+◌, ◌<◌, ◌≤◌, Bool, true, false, ◌&&◌, ◌||◌, List, [], ◌∷◌, ◌++◌, length, take, drop, sym, refl, ap, ◌∙◌, subst, arith, get_or}
 use Rattle.std.specs.List.{prefix_len, list_all}
 use Rattle.std.proofs.lemmas.List.{length-append}
 use Rattle.std.proofs.lemmas.Bool.{false≢true}
@@ -110,3 +110,29 @@ run_seam p [] tail all ends = rw (run_none p tail ends) refl
 run_seam p (x ∷ xs) tail all ends =
     let parts = both (p x) (list_all p xs) all in
     rw (parts.0, one-add) (run_seam p xs tail parts.1 ends)
+
+-- within the run each byte passes
+pub run_reaches : (p : ℕ → Bool) (text : List ℕ) (n : ℕ) → n < prefix_len p text → begins p (drop n text) ≡ true
+run_reaches p [] n low = absurd (omega arith)
+run_reaches p (b ∷ bs) zero low = at_head (p b) refl where
+  at_head : (v : Bool) → p b ≡ v → p b ≡ true
+  at_head true f = f
+  at_head false f = absurd (omega (arith, rw f at low))
+run_reaches p (b ∷ bs) (suc n) low = at_head (p b) refl (run_reaches p bs n) where
+  at_head : (v : Bool) → p b ≡ v → (n < prefix_len p bs → begins p (drop n bs) ≡ true) → begins p (drop n bs) ≡ true
+  at_head true f rest = rest (omega (arith, rw f at low))
+  at_head false f rest = absurd (omega (arith, rw f at low))
+
+-- a front that has the run has the same run
+pub run_taken : (p : ℕ → Bool) (text : List ℕ) (n : ℕ) → prefix_len p text ≤ n → prefix_len p (take n text) ≡ prefix_len p text
+run_taken p text zero low = omega arith
+run_taken p [] (suc n) low = refl
+run_taken p (b ∷ bs) (suc n) low = at_head (p b) refl (run_taken p bs n) where
+  at_head : (v : Bool) → p b ≡ v → (prefix_len p bs ≤ n → prefix_len p (take n bs) ≡ prefix_len p bs) → prefix_len p (b ∷ take n bs) ≡ prefix_len p (b ∷ bs)
+  at_head true f rest = let same = rest (omega (arith, rw f at low)) in rw (f, same) refl
+  at_head false f rest = rw f refl
+
+pub begins_taken : (p : ℕ → Bool) (n : ℕ) (text : List ℕ) → 0 < n → begins p text ≡ true → begins p (take n text) ≡ true
+begins_taken p zero text some e = absurd (omega arith)
+begins_taken p (suc n) [] some e = absurd (false≢true e)
+begins_taken p (suc n) (b ∷ bs) some e = e

@@ -67,3 +67,8 @@ dot_word_length (b ∷ bs) = if b == 46 && begins is_letter bs then Some (1 + pr
 abbrev pub class_or : Found → Option ℕ → ℕ → Found
 class_or best (Some class) n = Leading (ClassName class) n
 class_or best None n = best
+
+-- the second byte of the text is this one
+abbrev pub second_is : ℕ → List ℕ → Bool
+second_is b [] = false
+second_is b (s ∷ bs) = begins (λ c. c == b) bs

@@ -1,7 +1,7 @@
-ghost use Rattle.std.specs.Prelude.{◌≡◌, true, false, drop};
+ghost use Rattle.std.specs.Prelude.{◌≡◌, ◌≤◌, true, false, length, IfSome};
 ghost use Rattle.pl_lexer.specs.Bytes.{begins, is_quote};
 ghost use Rattle.pl_lexer.specs.Enclosed.{text_next, comment_next, text_of, slash_of};
-ghost use Rattle.pl_lexer.specs.Lengths.{closed_at};
+ghost use Rattle.pl_lexer.specs.Lengths.{closed_at, second_is};
 ghost use Rattle.pl_lexer.specs.Spelling.{is_slash};
 ghost use Rattle.pl_lexer.specs.Longest.{Finds};
 
@@ -12,7 +12,8 @@ use crate::signs::sign_found;
 
 // How many bytes there are up to the quote that ends a text, with it.
 fn text_length(bytes: &[u8], quote: u8) -> Option<usize>
-    ensures { result ≡ closed_at (text_next quote) false bytes.now }
+    ensures length { result ≡ closed_at (text_next quote) false bytes.now }
+    ensures within { IfSome result (λ n. n ≤ length bytes.now) }
 {
     let mut escaped = false;
     for (i, b) in bytes.iter().enumerate() {
@@ -32,7 +33,8 @@ fn text_length(bytes: &[u8], quote: u8) -> Option<usize>
 
 // How many bytes there are up to the `*/` that ends a comment, with it.
 fn comment_length(bytes: &[u8]) -> Option<usize>
-    ensures { result ≡ closed_at comment_next false bytes.now }
+    ensures length { result ≡ closed_at comment_next false bytes.now }
+    ensures within { IfSome result (λ n. n ≤ length bytes.now) }
 {
     let mut star = false;
     for (i, b) in bytes.iter().enumerate() {
@@ -56,17 +58,35 @@ pub fn text_found(text: &[u8]) -> Found
     }
 }
 
+// The second byte of the text is this one.
+fn second_is(text: &[u8], b: u8) -> bool
+    ensures { result ≡ second_is b text.now }
+{
+    text.len() > 1 && text[1] == b
+}
+
+// The comment that leads a text which begins with `/*`.
+fn comment_found(text: &[u8]) -> Found
+    requires { second_is 42 text.now ≡ true }
+    ensures { Finds slash_of text.now result }
+{
+    match comment_length(text.split_at(2).1) {
+        Some(length) => Found::Blank(2 + length),
+        None => Found::Nothing,
+    }
+}
+
 /// The comment or the sign that leads a text which begins with a slash.
+#[tactic(auto, using(crate::proofs::Runs::run_within))]
 pub fn slash_found(text: &[u8]) -> Found
     requires { begins is_slash text.now ≡ true }
     ensures { Finds slash_of text.now result }
 {
-    match text {
-        [_, b'/', ..] => Found::Blank(2 + line_bytes(text.split_at(2).1)),
-        [_, b'*', ..] => match comment_length(text.split_at(2).1) {
-            Some(length) => Found::Blank(2 + length),
-            None => Found::Nothing,
-        },
-        _ => sign_found(text),
+    if second_is(text, b'/') {
+        return Found::Blank(2 + line_bytes(text.split_at(2).1));
     }
+    if second_is(text, b'*') {
+        return comment_found(text);
+    }
+    sign_found(text)
 }

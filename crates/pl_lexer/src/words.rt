@@ -1,4 +1,4 @@
-ghost use Rattle.std.specs.Prelude.{◌≡◌, ◌-◌, ◌≤◌, true, None, length, drop, take};
+ghost use Rattle.std.specs.Prelude.{◌≡◌, ◌+◌, ◌≤◌, true, None, length, drop, take};
 ghost use Rattle.std.specs.List.{prefix_len};
 ghost use Rattle.std.specs.Str.{IsCharBoundary};
 ghost use Rattle.pl_lexer.specs.Bytes.{begins, is_letter, is_name_byte};
@@ -119,6 +119,7 @@ fn reserved(word: &[u8]) -> Found
 }
 
 // The length of a dot at the front and the word after it, if they stand there.
+#[tactic(auto, using(crate::proofs::Runs::run_within))]
 fn dot_word_length(text: &[u8]) -> Option<usize>
     ensures { result ≡ dot_word_length text.now }
 {
@@ -129,14 +130,14 @@ fn dot_word_length(text: &[u8]) -> Option<usize>
 }
 
 // The class that these bytes name, or else what was found before.
-fn class_or<N: TypeNames>(best: Found, text: &str, at: usize, end: usize, names: &N) -> Found
-    requires order { at ≤ end }
+fn class_or<N: TypeNames>(best: Found, text: &str, at: usize, count: usize, names: &N) -> Found
+    requires within { at + count ≤ length text.now }
     requires starts { IsCharBoundary text.now at }
-    requires ends { IsCharBoundary text.now end }
-    ensures { result ≡ class_or best (N.class_of names.now (take (end - at) (drop at text.now))) (end - at) }
+    requires ends { IsCharBoundary text.now (at + count) }
+    ensures { result ≡ class_or best (N.class_of names.now (take count (drop at text.now))) count }
 {
-    match names.class_named(&text[at..end]) {
-        Some(class) => Found::Leading(Kind::ClassName(class), end - at),
+    match names.class_named(&text[at..at + count]) {
+        Some(class) => Found::Leading(Kind::ClassName(class), count),
         None => best,
     }
 }
@@ -150,10 +151,10 @@ fn class_found<N: TypeNames>(text: &str, at: usize, first: usize, names: &N) -> 
 {
     let rest = text.as_bytes().split_at(at).1;
     let mut length = first;
-    let mut best = class_or(Found::Nothing, text, at, at + length, names);
+    let mut best = class_or(Found::Nothing, text, at, length, names);
     while let Some(more) = dot_word_length(rest.split_at(length).1) {
         length += more;
-        best = class_or(best, text, at, at + length, names);
+        best = class_or(best, text, at, length, names);
     }
     best
 }
