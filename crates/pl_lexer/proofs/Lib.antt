@@ -8,3 +8,4 @@ pub mod Listed
 pub mod Closing
 pub mod Named
 pub mod Paths
+pub mod Fronts

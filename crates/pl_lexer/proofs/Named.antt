@@ -158,3 +158,19 @@ class_finds names text Nothing some a = absurd (some refl)
 class_finds names text Foreign some a = (a.0, (a.1.0, class_leads names text a.0 a.1.0 foreign a.1.1))
 class_finds names text (Blank n) some a = record { within = a.within; leads = class_leads names text (take n text) (drop n text) blank a.leads }
 class_finds names text (Leading kind n) some a = record { within = a.within; leads = class_leads names text (take n text) (drop n text) (token kind) a.leads }
+
+-- the same where the pieces have names
+
+front_of : (text rest front : List ℕ) (n : ℕ) → rest ≡ text → n ≡ prefix_len is_name_byte rest → front ≡ take n rest → front ≡ take (prefix_len is_name_byte text) text
+front_of text rest front n rest_is long front_is = front_is ∙ ap (λ k. take k rest) long ∙ ap (λ r. take (prefix_len is_name_byte r) r) rest_is
+
+pub reserved_finds_at : (names : List ℕ → Option ℕ) (text rest front : List ℕ) (n : ℕ) (found : Found) → begins is_letter text ≡ true → rest ≡ text → n ≡ prefix_len is_name_byte rest → front ≡ take n rest → Shows (reserved_of front) (length front) found → (found ≡ Nothing → ⊥) → Finds (word_of names) text found
+reserved_finds_at names text rest front n found letter rest_is long front_is shows some =
+    let front_is' = front_of text rest front n rest_is long front_is in
+    reserved_finds names text found letter (subst (λ f. Shows (reserved_of f) (length f) found) front_is' shows) some
+
+pub name_leads_at : (names : List ℕ → Option ℕ) (text rest front : List ℕ) (n : ℕ) → begins is_letter text ≡ true → rest ≡ text → n ≡ prefix_len is_name_byte rest → front ≡ take n rest → reserved_of front ≡ None → NothingLeads (class_of names) text → LeadsBy (word_of names) text n (token Name)
+name_leads_at names text rest front n letter rest_is long front_is fresh nothing =
+    let front_is' = front_of text rest front n rest_is long front_is in
+    let long' : n ≡ prefix_len is_name_byte text = long ∙ ap (prefix_len is_name_byte) rest_is in
+    subst (λ k. LeadsBy (word_of names) text k (token Name)) (sym long') (name_leads names text letter (ap reserved_of (sym front_is') ∙ fresh) nothing)

@@ -266,3 +266,21 @@ path_ends names text at (suc n) utf8 letter within path =
     let same : get_or (take (suc n) (drop at text)) n 0 ≡ get_or text (at + n) 0 = get_or-take (suc n) (drop at text) n 0 (omega arith) ∙ get_or-drop at text n 0 in
     let next : at + n + 1 ≡ at + suc n = omega arith in
     subst (IsCharBoundary text) next (IsCharBoundary-after_ascii text (at + n) utf8 (omega (arith, length-drop at text)) (omega arith))
+
+-- the same where the length of the first word has a name
+
+pub first_to_at : (names : List ℕ → Option ℕ) (text : List ℕ) (n : ℕ) (best : Found) → begins is_letter text ≡ true → n ≡ prefix_len is_name_byte text → reserved_of (take n text) ≡ None → best ≡ class_or Nothing (names (take n text)) n → PathTo names text n best
+first_to_at names text n best letter whole fresh is =
+    let fresh' = ap (λ k. reserved_of (take k text)) (sym whole) ∙ fresh in
+    let to = first_to names text letter fresh' in
+    subst (PathTo names text n) (sym is) (subst (λ k. PathTo names text k (class_or Nothing (names (take k text)) k)) (sym whole) to)
+
+pub next_to_at : (names : List ℕ → Option ℕ) (text rest : List ℕ) (first n m : ℕ) (best best' : Found) → begins is_letter text ≡ true → first ≡ prefix_len is_name_byte text → reserved_of (take first text) ≡ None → PathTo names text n best → rest ≡ drop n text → Some m ≡ dot_word_length rest → best' ≡ class_or best (names (take (n + m) text)) (n + m) → PathTo names text (n + m) best'
+next_to_at names text rest first n m best best' letter whole fresh a rest_is e is =
+    let fresh' = ap (λ k. reserved_of (take k text)) (sym whole) ∙ fresh in
+    subst (PathTo names text (n + m)) (sym is) (next_to names text n m best letter fresh' a (e ∙ ap dot_word_length rest_is))
+
+-- an answer that is no number is none
+pub none_only : (o : Option ℕ) → ((x : ℕ) → o ≡ Some x → ⊥) → o ≡ None
+none_only None other = refl
+none_only (Some x) other = absurd (other x refl)

@@ -5,6 +5,7 @@ mod bytes;
 mod enclosed;
 mod found;
 mod numbers;
+mod reading;
 mod signs;
 mod token;
 mod words;
