@@ -2,9 +2,10 @@
 use Rattle.std.proofs.Common.{◌≡◌, ◌≢◌, ℕ, ◌+◌, ◌<◌, ◌≤◌, Bool, true, false, List, [], ◌∷◌, ◌++◌, length, take, drop, Option, Some, None, sym, refl, ap, ◌∙◌, subst, arith, get_or}
 use Rattle.std.specs.Prelude.{IsSome, ◌==◌}
 use Rattle.std.specs.Char.{is_ascii_digit}
-use Rattle.std.proofs.lemmas.Bool.{false≢true}
+use Rattle.std.proofs.lemmas.Bool.{false≢true, eqb-true}
 use Rattle.pl_lexer.specs.Lexeme.{Lexeme, blank, token, foreign}
-use Rattle.pl_lexer.specs.Longest.{LeadsBy}
+use Rattle.pl_lexer.specs.Longest.{LeadsBy, Finds}
+use Rattle.pl_lexer.specs.declared.found.Found.{Found}
 use Rattle.pl_lexer.specs.Bytes.{begins, is_blank, is_letter, is_quote}
 use Rattle.pl_lexer.specs.Tables.{sign_of}
 use Rattle.pl_lexer.specs.Numbers.{number_of, dot_number_of}
@@ -12,7 +13,7 @@ use Rattle.pl_lexer.specs.Words.{word_of, dot_word_of}
 use Rattle.pl_lexer.specs.Enclosed.{text_of, slash_of}
 use Rattle.pl_lexer.specs.Spelling.{spelling, blank_of, is_slash}
 use Rattle.pl_lexer.proofs.Runs.{begins_more}
-use Rattle.pl_lexer.proofs.Tested.{Agree, LeadsBy-agree}
+use Rattle.pl_lexer.proofs.Tested.{Agree, LeadsBy-agree, Finds-agree}
 
 -- a text that is not empty begins with its byte 0
 pub begins_at : (p : ℕ → Bool) (text : List ℕ) → 0 < length text → begins p text ≡ p (get_or text 0 0)
@@ -75,3 +76,20 @@ blank_leads names dot (b ∷ bs) d l q w = LeadsBy-agree (λ bytes _. blank_of b
   one_byte [] left e some = omega arith
   one_byte (c ∷ []) left e some = omega arith
   one_byte (c ∷ c' ∷ cs) left e some = absurd (false≢true some)
+
+-- what a test of the first byte says of the text
+pub first_test : (p : ℕ → Bool) (rest text : List ℕ) (v tested : Bool) → rest ≡ text → 0 < length text → tested ≡ p (get_or rest 0 0) → tested ≡ v → begins p text ≡ v
+first_test p rest text v tested rest_is some test is = begins_at p text some ∙ ap (λ r. p (get_or r 0 0)) (sym rest_is) ∙ sym test ∙ is
+
+-- what is found in the rest is found in the text
+pub found_by : (f h : List ℕ → List ℕ → Option Lexeme) (rest text : List ℕ) (found : Found) → rest ≡ text → Agree f h text → Finds f rest found → Finds h text found
+found_by f h rest text found rest_is agree finds = Finds-agree f h text found agree (subst (λ r. Finds f r found) rest_is finds)
+
+pub slash_test : (rest text : List ℕ) (v : Bool) → rest ≡ text → 0 < length text → (get_or rest 0 0 == 47) ≡ v → begins is_slash text ≡ v
+slash_test rest text v rest_is some e = begins_at is_slash text some ∙ ap (λ r. get_or r 0 0 == 47) (sym rest_is) ∙ e
+
+pub not_slash : (b : ℕ) → (b ≡ 47 → ⊥) → (b == 47) ≡ false
+not_slash b apart = at_test (b == 47) refl where
+  at_test : (v : Bool) → (b == 47) ≡ v → (b == 47) ≡ false
+  at_test true f = absurd (apart (eqb-true b 47 f))
+  at_test false f = f
