@@ -283,7 +283,7 @@ integer_short (c ∷ ms) left (b ∷ bs) e digit goes test = at_zero (b == 48) r
       at_all (list_all is_ascii_digit (c ∷ ms)) f refl (both (begins is_ascii_digit (c ∷ ms)) (ends_integer (after_run is_ascii_digit (c ∷ ms))) ends).1
 
 -- what a number is
-number_is : (bytes : List ℕ) (l : Lexeme) → number_of bytes ≡ Some l → ((is_decimal bytes ≡ true) × (l ≡ foreign)) ⊎ ((is_integer bytes ≡ true) × (l ≡ token Integer))
+pub number_is : (bytes : List ℕ) (l : Lexeme) → number_of bytes ≡ Some l → ((is_decimal bytes ≡ true) × (l ≡ foreign)) ⊎ ((is_integer bytes ≡ true) × (l ≡ token Integer))
 number_is bytes l e = at_decimal (is_decimal bytes) refl where
   at_integer : (v : Bool) → is_decimal bytes ≡ false → is_integer bytes ≡ v → ((is_decimal bytes ≡ true) × (l ≡ foreign)) ⊎ ((is_integer bytes ≡ true) × (l ≡ token Integer))
   at_integer true d f = let some : Some (token Integer) ≡ Some l = rw (d, f) at e in inr (f, cc)

@@ -9,3 +9,7 @@ pub mod Closing
 pub mod Named
 pub mod Paths
 pub mod Fronts
+pub mod Once
+pub mod Some
+pub mod Cuts
+pub mod Spelled

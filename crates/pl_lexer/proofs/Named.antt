@@ -79,7 +79,7 @@ class_path names bytes behind some = at_path (is_path bytes behind) refl where
 plain_word : (bytes : List ℕ) → IsSome (plain_of bytes) → is_word bytes ≡ true
 plain_word bytes some = test_some (is_word bytes) (unwrap_or (reserved_of bytes) (token Name)) some
 
-word_either : (names : List ℕ → Option ℕ) (bytes behind : List ℕ) → IsSome (word_of names bytes behind) → IsSome (class_of names bytes behind) ⊎ (is_word bytes ≡ true)
+pub word_either : (names : List ℕ → Option ℕ) (bytes behind : List ℕ) → IsSome (word_of names bytes behind) → IsSome (class_of names bytes behind) ⊎ (is_word bytes ≡ true)
 word_either names bytes behind some = at_class (class_of names bytes behind) refl where
   at_class : (o : Option Lexeme) → class_of names bytes behind ≡ o → IsSome (class_of names bytes behind) ⊎ (is_word bytes ≡ true)
   at_class (Some l) f = inl (some_is (class_of names bytes behind) l f)

@@ -230,7 +230,7 @@ last_to names text n best a e = at_best best a.found where
 
 -- a path ends between characters
 
-path_ascii : (bytes : List ℕ) → goes_on bytes ≡ true → list_all (λ b. nat_lt b 128) bytes ≡ true
+pub path_ascii : (bytes : List ℕ) → goes_on bytes ≡ true → list_all (λ b. nat_lt b 128) bytes ≡ true
 path_ascii [] e = refl
 path_ascii (b ∷ bs) e = at_dot (b == 46) refl (path_ascii bs) where
   name_ascii : (b : ℕ) → is_name_byte b ≡ true → nat_lt b 128 ≡ true
@@ -241,7 +241,7 @@ path_ascii (b ∷ bs) e = at_dot (b == 46) refl (path_ascii bs) where
   at_dot true f rest = let parts = both (begins is_letter bs) (goes_on bs) (rw f at e) in rw (dot_ascii b f, rest parts.1) refl
   at_dot false f rest = let parts = both (is_name_byte b) (goes_on bs) (rw f at e) in rw (name_ascii b parts.0, rest parts.1) refl
 
-ascii_at : (bytes : List ℕ) (i : ℕ) → list_all (λ b. nat_lt b 128) bytes ≡ true → get_or bytes i 0 < 128
+pub ascii_at : (bytes : List ℕ) (i : ℕ) → list_all (λ b. nat_lt b 128) bytes ≡ true → get_or bytes i 0 < 128
 ascii_at [] i all = omega arith
 ascii_at (b ∷ bs) zero all = let low = (both (nat_lt b 128) (list_all (λ b. nat_lt b 128) bs) all).0 in grind (arith, nat_tests)
 ascii_at (b ∷ bs) (suc i) all = ascii_at bs i (both (nat_lt b 128) (list_all (λ b. nat_lt b 128) bs) all).1

@@ -36,7 +36,7 @@ class_or-best-requires-in-Some-clause-ends g c =
 pub loop-more-preserved : goal.loop-more-preserved
 loop-more-preserved g c =
     let to = to_next g (goal.at.loop-more-preserved g c).In-Some in
-    subst (PathTo _ _ _) (sym c.class_or-best-in-Some.ensures) to
+    rw c.class_or-best-in-Some.ensures to
 
 pub returns : goal.returns
 returns g c =

@@ -1,0 +1,64 @@
+ghost use Rattle.std.specs.Prelude.{◌≡◌, ℕ, List, Result, IfOk};
+ghost use Rattle.pl_types.specs.Answers.{Answers};
+ghost use Rattle.pl_types.specs.declared.refusal.Refusal.{Refusal};
+ghost use Rattle.pl_lexer.specs.declared.token.Token.{Token};
+ghost use Rattle.pl_lexer.specs.Spelling.{is_dot};
+ghost use Rattle.pl_lexer.specs.Spelled.{AreSpelled};
+ghost use Rattle.pl_lexer.specs.Tokens.{Lexes};
+
+use crate::found::Found;
+use crate::reading::found_at;
+use crate::{BAD_TOKEN, Kind, MOST_BYTES, OUT_OF_PROFILE, Sign, TOO_LARGE, Token};
+use pl_types::{Fail, Refusal, TypeNames};
+use std::alloc::Global;
+
+// The token is `.` or `?.`.
+fn is_dot(kind: Kind) -> bool
+    ensures { result ≡ is_dot kind }
+{
+    match kind {
+        Kind::Sign(Sign::Dot) => true,
+        Kind::Sign(Sign::NullDot) => true,
+        _ => false,
+    }
+}
+
+// The refusal by this rule at this byte.
+fn refused(number: u8, offset: u32) -> Fail
+    ensures { result ≡ Fail.Refused (record { number = number; offset = offset }) }
+{
+    Fail::Refused(Refusal { number, offset })
+}
+
+/// The tokens of a script. The names say which dotted names are classes.
+///
+/// Refused with the first of these rules that is broken, at a byte of the script:
+/// `TOO_LARGE` at 65,535 where it has more than 65,535 bytes; `BAD_TOKEN` at the first byte at which no blank, comment
+/// or token begins; `OUT_OF_PROFILE` at the first byte of what Painless has and this language leaves out.
+pub fn lex<N: TypeNames>(alloc: Global, text: &str, names: &N) -> Result<Vec<Token>, Fail>
+    ensures exact { Answers (λ v. v.items) result (Lexes text.now (N.class_of names.now)) }
+    ensures only { (reading : Result (List Token) Refusal) → Lexes text.now (N.class_of names.now) reading
+        → Answers (λ v. v.items) result (λ a. a ≡ reading) }
+    ensures spelled { IfOk result (λ v. AreSpelled text.now 0 v.items) }
+{
+    if text.len() > MOST_BYTES as usize {
+        return Err(refused(TOO_LARGE, MOST_BYTES));
+    }
+    let mut tokens = Vec::new(alloc);
+    let mut at: u32 = 0;
+    let mut dot = false;
+    while (at as usize) < text.len() {
+        match found_at(text, at as usize, names, dot) {
+            Found::Nothing => return Err(refused(BAD_TOKEN, at)),
+            Found::Foreign => return Err(refused(OUT_OF_PROFILE, at)),
+            Found::Blank(length) => at += length as u32,
+            Found::Leading(kind, length) => {
+                let (start, end) = (at, at + length as u32);
+                tokens.push(Token { kind, start, end })?;
+                at = end;
+                dot = is_dot(kind);
+            }
+        }
+    }
+    Ok(tokens)
+}
