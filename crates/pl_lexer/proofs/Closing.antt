@@ -1,18 +1,18 @@
 -- Texts and comments at the front of a text.
-use Rattle.std.proofs.Common.{◌≡◌, ◌≢◌, ℕ, zero, suc, ◌+◌, ◌<◌, ◌≤◌, Bool, true, false, ◌&&◌, ◌||◌, List, [], ◌∷◌, ◌++◌, length, take, drop, Option, Some, None, sym, refl, ap, ◌∙◌, subst, arith, get_or, ⊎_elim, ◌⊎◌, inl, inr}
+use Rattle.std.proofs.Common.{◌≡◌, ◌≢◌, ℕ, suc, ◌+◌, ◌≤◌, Bool, true, false, List, [], ◌∷◌, ◌++◌, length, take, drop, Option, Some, None, sym, refl, ap, ◌∙◌, subst, arith, get_or}
 use Rattle.std.specs.Prelude.{IsSome, IfSome, ◌==◌, if◌then◌else◌}
 use Rattle.std.specs.List.{prefix_len, list_all}
 use Rattle.std.proofs.lemmas.Bool.{false≢true, eqb-true, eq-eqb}
 use Rattle.std.proofs.Math.Numerals.{one-add}
 use Rattle.pl_lexer.specs.declared.token.Kind.TheVariants.{Text}
-use Rattle.pl_lexer.specs.Lexeme.{Lexeme, blank, token}
+use Rattle.pl_lexer.specs.Lexeme.{blank, token}
 use Rattle.pl_lexer.specs.Longest.{LeadsBy, NothingLeads}
-use Rattle.pl_lexer.specs.Bytes.{begins, is_nil, in_line, is_quote}
+use Rattle.pl_lexer.specs.Bytes.{begins, in_line, is_quote}
 use Rattle.pl_lexer.specs.Tables.{sign_of}
-use Rattle.pl_lexer.specs.Enclosed.{Next, on, end, wrong, closes_by, closes, text_next, text_of, comment_next, slash_of}
-use Rattle.pl_lexer.specs.Lengths.{one_more, closed_by, closed_at, second_is}
-use Rattle.pl_lexer.proofs.Runs.{both, is_nil-true, all_within, run_passes, run_within}
-use Rattle.pl_lexer.proofs.Tested.{lead_by, some_is, none_is, test_some, Agree}
+use Rattle.pl_lexer.specs.Enclosed.{Next, on, end, wrong, closes, text_next, text_of, comment_next, slash_of}
+use Rattle.pl_lexer.specs.Lengths.{one_more, closed_at, second_is}
+use Rattle.pl_lexer.proofs.Runs.{is_nil-true, all_within, run_passes, run_within}
+use Rattle.pl_lexer.proofs.Tested.{lead_by, test_some, Agree}
 
 -- what is closed at a byte
 pub closed_spelled : (next : Bool → ℕ → Next) (bs : List ℕ) (state : Bool) (n : ℕ) → closed_at next state bs ≡ Some n → (n ≤ length bs) × (closes next state (take n bs) ≡ true)
@@ -24,6 +24,7 @@ closed_spelled next (b ∷ bs) state n e = at_next (next state b) refl (closed_s
       let long : n ≡ suc m = let same : 1 + m ≡ n = cc in omega arith in
       let spelled = rest m g in
       rw long (omega (arith, spelled.0), rw f spelled.1)
+
   at_next : (v : Next) → next state b ≡ v → ((s : Bool) (m : ℕ) → closed_at next s bs ≡ Some m → (m ≤ length bs) × (closes next s (take m bs) ≡ true)) → (n ≤ length (b ∷ bs)) × (closes next state (take n (b ∷ bs)) ≡ true)
   at_next (on s) f rest = at_more s (closed_at next s bs) f refl (rw f at e) (rest s)
   at_next end f rest =
@@ -39,10 +40,13 @@ closes_at next (c ∷ cs) left [] state e ends = absurd cc
 closes_at next (c ∷ cs) left (b ∷ bs) state e ends = at_next (next state b) refl (λ s. closes_at next cs left bs s tails) where
   heads : c ≡ b
   heads = cc
+
   tails : cs ++ left ≡ bs
   tails = cc
+
   ends_b : closes next state (b ∷ cs) ≡ true
   ends_b = subst (λ x. closes next state (x ∷ cs) ≡ true) heads ends
+
   at_next : (v : Next) → next state b ≡ v → ((s : Bool) → closes next s cs ≡ true → closed_at next s bs ≡ Some (length cs)) → closed_at next state (b ∷ bs) ≡ Some (length (c ∷ cs))
   at_next (on s) f rest =
       let later : closes next s cs ≡ true = rw f at ends_b in
@@ -61,15 +65,15 @@ text_leads quote bs n e =
     let spelled = closed_spelled (text_next quote) bs false n e in
     lead_by (λ bytes _. text_of bytes) (quote ∷ bs) (suc n) (token Text) (omega (arith, spelled.0)) (rw spelled.1 refl) most
   where
-  most : (more left : List ℕ) → more ++ left ≡ quote ∷ bs → IsSome (text_of more) → length more ≤ suc n
-  most [] left parts some = omega arith
-  most (q ∷ ms) left parts some =
-      let heads : q ≡ quote = cc in
-      let tails : ms ++ left ≡ bs = cc in
-      let ends = text_is quote ms (subst (λ x. IsSome (text_of (x ∷ ms))) heads some) in
-      let same : Some (length ms) ≡ Some n = sym (closes_at (text_next quote) ms left bs false tails ends) ∙ e in
-      let long : length ms ≡ n = cc in
-      omega arith
+    most : (more left : List ℕ) → more ++ left ≡ quote ∷ bs → IsSome (text_of more) → length more ≤ suc n
+    most [] left parts some = omega arith
+    most (q ∷ ms) left parts some =
+        let heads : q ≡ quote = cc in
+        let tails : ms ++ left ≡ bs = cc in
+        let ends = text_is quote ms (subst (λ x. IsSome (text_of (x ∷ ms))) heads some) in
+        let same : Some (length ms) ≡ Some n = sym (closes_at (text_next quote) ms left bs false tails ends) ∙ e in
+        let long : length ms ≡ n = cc in
+        omega arith
 
 pub no_text : (quote : ℕ) (bs : List ℕ) → closed_at (text_next quote) false bs ≡ None → NothingLeads (λ bytes _. text_of bytes) (quote ∷ bs)
 no_text quote bs e [] left parts some = false≢true some
@@ -92,6 +96,7 @@ pub line_leads : (s b : ℕ) (bs : List ℕ) → b ≡ 47 → LeadsBy slash_of (
 line_leads s b bs second = lead_by slash_of (s ∷ b ∷ bs) (suc (suc (prefix_len in_line bs))) blank (omega (arith, run_within in_line bs)) spelled most where
   spelled : slash_of (s ∷ b ∷ take (prefix_len in_line bs) bs) (drop (prefix_len in_line bs) bs) ≡ Some blank
   spelled = slash_more s b (take (prefix_len in_line bs) bs) (drop (prefix_len in_line bs) bs) second ∙ rw (run_passes in_line bs) refl
+
   most : (more left : List ℕ) → more ++ left ≡ s ∷ b ∷ bs → IsSome (slash_of more left) → length more ≤ suc (suc (prefix_len in_line bs))
   most [] left parts some = omega arith
   most (c ∷ []) left parts some = omega arith
@@ -106,6 +111,7 @@ pub comment_leads : (s b : ℕ) (bs : List ℕ) (n : ℕ) → b ≡ 42 → close
 comment_leads s b bs n second e = lead_by slash_of (s ∷ b ∷ bs) (suc (suc n)) blank (omega (arith, spelled.0)) (slash_star s b (take n bs) (drop n bs) second ∙ rw spelled.1 refl) most where
   spelled : (n ≤ length bs) × (closes comment_next false (take n bs) ≡ true)
   spelled = closed_spelled comment_next bs false n e
+
   most : (more left : List ℕ) → more ++ left ≡ s ∷ b ∷ bs → IsSome (slash_of more left) → length more ≤ suc (suc n)
   most [] left parts some = omega arith
   most (c ∷ []) left parts some = omega arith
@@ -153,9 +159,11 @@ slash_signs text other (c ∷ []) left parts = at_left left parts where
 slash_signs text other (c ∷ d ∷ ms) left parts = at_slash (d == 47) refl where
   apart : (d ≢ 47) × (d ≢ 42)
   apart = other c d (ms ++ left) (sym parts)
+
   at_star : (v : Bool) → (d == 47) ≡ false → (d == 42) ≡ v → sign_of (c ∷ d ∷ ms) ≡ slash_of (c ∷ d ∷ ms) left
   at_star true f g = absurd (apart.1 (eqb-true d 42 g))
   at_star false f g = rw (f, g) refl
+
   at_slash : (v : Bool) → (d == 47) ≡ v → sign_of (c ∷ d ∷ ms) ≡ slash_of (c ∷ d ∷ ms) left
   at_slash true f = absurd (apart.0 (eqb-true d 47 f))
   at_slash false f = at_star (d == 42) f refl

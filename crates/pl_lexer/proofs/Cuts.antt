@@ -1,14 +1,13 @@
 -- A text that has been cut up to some place, and one part more.
 use Rattle.std.proofs.Common.{◌≡◌, ℕ, ◌+◌, ◌-◌, ◌<◌, ◌≤◌, Bool, false, List, [], ◌∷◌, ◌++◌, length, take, drop, Option, Some, None, sym, refl, ap, ◌∙◌, subst, arith, add-zero, zero-add}
-use Rattle.std.proofs.lemmas.List.{nil_from_length, drop_all, length-drop, length-take-le, take-append-drop, length-append}
+use Rattle.std.proofs.lemmas.List.{drop_all, length-drop, length-take-le, take-append-drop, length-append}
 use Rattle.pl_lexer.specs.declared.token.Token.{Token}
 use Rattle.pl_lexer.specs.declared.token.Kind.{Kind}
 use Rattle.pl_lexer.specs.declared.TheConstants.{MOST_BYTES}
 use Rattle.pl_lexer.specs.Lexeme.{Lexeme}
 use Rattle.pl_lexer.specs.Longest.{Leads, LeadsBy}
 use Rattle.pl_lexer.specs.Spelling.{spelling}
-use Rattle.std.specs.Prelude.{◌==◌, ◌≢◌, true}
-use Rattle.std.proofs.lemmas.Bool.{false≢true, eqb-true}
+use Rattle.std.specs.Prelude.{◌≢◌}
 use Rattle.pl_lexer.proofs.Leading.{Leads-some}
 use Rattle.pl_lexer.specs.Tokens.{Part, lexeme_of, dot_after, Cuts, dot_after_all, size_of, told, tokens_of, Tokenizes, Wrong, LexFault, breaks}
 

@@ -1,19 +1,18 @@
 -- Where a number with a fraction, an exponent or the mark of a floating-point type leads a text.
-use Rattle.std.proofs.Common.{◌≡◌, ◌≢◌, ℕ, zero, suc, ◌+◌, ◌<◌, ◌≤◌, Bool, true, false, ◌&&◌, ◌||◌, not, List, [], ◌∷◌, ◌++◌, length, take, drop, Option, Some, None, sym, refl, ap, ◌∙◌, subst, arith, ⊎_elim, ◌⊎◌, inl, inr}
-use Rattle.std.specs.Prelude.{IsSome, ◌==◌, if◌then◌else◌}
+use Rattle.std.proofs.Common.{◌≡◌, ◌≢◌, ℕ, zero, suc, ◌<◌, ◌≤◌, Bool, true, false, ◌&&◌, ◌||◌, List, [], ◌∷◌, ◌++◌, length, take, drop, Some, None, sym, refl, ap, ◌∙◌, subst, arith, ◌⊎◌, inl, inr}
+use Rattle.std.specs.Prelude.{◌==◌, if◌then◌else◌}
 use Rattle.std.specs.Char.{is_ascii_digit, is_ascii_hexdigit}
 use Rattle.std.specs.List.{prefix_len, list_all}
-use Rattle.std.proofs.lemmas.Bool.{false≢true, eqb-true}
+use Rattle.std.proofs.lemmas.Bool.{false≢true}
 use Rattle.std.proofs.lemmas.Bool.Decides.{nat_tests}
 use Rattle.std.proofs.lemmas.List.{append_assoc, take-append-drop, length-append, length-take-le}
-use Rattle.std.proofs.Math.Numerals.{one-add}
 use Rattle.pl_lexer.specs.declared.token.Kind.TheVariants.{Integer}
-use Rattle.pl_lexer.specs.Lexeme.{Lexeme, blank, token, foreign}
+use Rattle.pl_lexer.specs.Lexeme.{Lexeme, token, foreign}
 use Rattle.pl_lexer.specs.Longest.{Leads, LeadsBy, NothingLeads}
 use Rattle.pl_lexer.specs.Bytes.{begins, is_nil, after_run, is_octal_digit}
 use Rattle.pl_lexer.specs.Numbers.{is_long_mark, ends_integer, digits_end, ends_hexadecimal, is_integer, after_whole, after_fraction, is_exponent_mark, is_plus_or_minus, after_plus_or_minus, after_exponent, is_float_mark, ends_decimal, is_decimal, number_of}
 use Rattle.pl_lexer.specs.Lengths.{whole_length, integer_length, goes_decimal}
-use Rattle.pl_lexer.proofs.Runs.{both, run_some, is_nil-true, all_within, run_passes, run_within, run_is_all, run_all, run_parts, after_run_append, run_append, run_seam, begins_front}
+use Rattle.pl_lexer.proofs.Runs.{both, run_some, all_within, run_passes, run_within, run_is_all, run_all, after_run_append, run_seam}
 use Rattle.pl_lexer.proofs.Tested.{some_is, none_is, Agree, LeadsBy-agree}
 use Rattle.pl_lexer.proofs.Integers.{either, or_left, or_right, integer_leads}
 use Rattle.pl_lexer.proofs.Led.{Led, leads_or_not}
@@ -34,6 +33,7 @@ mark_no_digit : (b : ℕ) → is_decimal_mark b ≡ true → is_ascii_digit b �
 mark_no_digit b e = at_digit (is_ascii_digit b) refl where
   no_digit : (b : ℕ) → is_decimal_mark b ≡ true → is_ascii_digit b ≡ true → ⊥
   no_digit b e f = grind (arith, nat_tests)
+
   at_digit : (v : Bool) → is_ascii_digit b ≡ v → is_ascii_digit b ≡ false
   at_digit true f = absurd (no_digit b e f)
   at_digit false f = f
@@ -51,6 +51,7 @@ sign_no_digit : (b : ℕ) → is_ascii_digit b ≡ true → is_plus_or_minus b �
 sign_no_digit b e = at_sign (is_plus_or_minus b) refl where
   no_sign : (b : ℕ) → is_ascii_digit b ≡ true → is_plus_or_minus b ≡ true → ⊥
   no_sign b e f = grind (arith, nat_tests)
+
   at_sign : (v : Bool) → is_plus_or_minus b ≡ v → is_plus_or_minus b ≡ false
   at_sign true f = absurd (no_sign b e f)
   at_sign false f = f
@@ -59,6 +60,7 @@ exponent_not_dot : (b : ℕ) → is_exponent_mark b ≡ true → (b == 46) ≡ f
 exponent_not_dot b e = at_dot (b == 46) refl where
   no_dot : (b : ℕ) → is_exponent_mark b ≡ true → (b == 46) ≡ true → ⊥
   no_dot b e f = grind (arith, nat_tests)
+
   at_dot : (v : Bool) → (b == 46) ≡ v → (b == 46) ≡ false
   at_dot true f = absurd (no_dot b e f)
   at_dot false f = f
@@ -67,6 +69,7 @@ float_not_dot : (b : ℕ) → is_float_mark b ≡ true → (b == 46) ≡ false
 float_not_dot b e = at_dot (b == 46) refl where
   no_dot : (b : ℕ) → is_float_mark b ≡ true → (b == 46) ≡ true → ⊥
   no_dot b e f = grind (arith, nat_tests)
+
   at_dot : (v : Bool) → (b == 46) ≡ v → (b == 46) ≡ false
   at_dot true f = absurd (no_dot b e f)
   at_dot false f = f
@@ -81,6 +84,7 @@ ends_goes (b ∷ bs) e = at_fraction (b == 46 && begins is_ascii_digit bs) refl 
   at_exponent false f g =
       let ends : (is_float_mark b && is_nil bs) ≡ true = rw (f, g) at e in
       or_left (is_float_mark b || b == 46 && begins is_ascii_digit bs) _ (or_left (is_float_mark b) _ (both (is_float_mark b) (is_nil bs) ends).0)
+
   at_fraction : (v : Bool) → (b == 46 && begins is_ascii_digit bs) ≡ v → goes_decimal (b ∷ bs) ≡ true
   at_fraction true f = or_left (is_float_mark b || b == 46 && begins is_ascii_digit bs) _ (or_right (is_float_mark b) _ f)
   at_fraction false f = at_exponent (is_exponent_mark b && begins is_ascii_digit (after_plus_or_minus bs)) f refl
@@ -102,6 +106,7 @@ goes_append (x ∷ xs) ys e = at_case (either (is_float_mark x || x == 46 && beg
   at_low : (is_float_mark x ≡ true) ⊎ ((x == 46 && begins is_ascii_digit xs) ≡ true) → (is_float_mark x || x == 46 && begins is_ascii_digit (xs ++ ys)) ≡ true
   at_low (inl f) = or_left (is_float_mark x) _ f
   at_low (inr f) = let parts = both (x == 46) (begins is_ascii_digit xs) f in or_right (is_float_mark x) _ (rw (parts.0, begins_append is_ascii_digit xs ys parts.1) refl)
+
   at_case : ((is_float_mark x || x == 46 && begins is_ascii_digit xs) ≡ true) ⊎ ((is_exponent_mark x && begins is_ascii_digit (after_plus_or_minus xs)) ≡ true) → goes_decimal (x ∷ xs ++ ys) ≡ true
   at_case (inl low) = or_left (is_float_mark x || x == 46 && begins is_ascii_digit (xs ++ ys)) _ (at_low (either (is_float_mark x) (x == 46 && begins is_ascii_digit xs) low))
   at_case (inr high) =
@@ -115,6 +120,7 @@ whole_append (c ∷ ms) left some = at_zero (c == 48) refl where
   at_all : (v : Bool) → (c == 48) ≡ false → list_all is_ascii_digit (c ∷ ms) ≡ v → after_whole (c ∷ ms ++ left) ≡ after_whole (c ∷ ms) ++ left
   at_all true f all = let none : after_whole (c ∷ ms) ≡ [] = rw f (run_all is_ascii_digit (c ∷ ms) all) in absurd (some none)
   at_all false f all = rw f (after_run_append is_ascii_digit (c ∷ ms) left all)
+
   at_zero : (v : Bool) → (c == 48) ≡ v → after_whole (c ∷ ms ++ left) ≡ after_whole (c ∷ ms) ++ left
   at_zero true f = rw f refl
   at_zero false f = at_all (list_all is_ascii_digit (c ∷ ms)) f refl
@@ -160,6 +166,7 @@ exponent_tail b (s ∷ ss) e f = at_sign (is_plus_or_minus s) refl where
   at_more : (ds : List ℕ) → is_plus_or_minus s ≡ true → begins is_ascii_digit ds ≡ true → Tail (b ∷ s ∷ ds)
   at_more [] g d = absurd (false≢true d)
   at_more (d ∷ ds) g f' = sign_tail b s d ds e g f'
+
   at_sign : (v : Bool) → is_plus_or_minus s ≡ v → Tail (b ∷ s ∷ ss)
   at_sign true g = at_more ss g (rw g at f)
   at_sign false g = digit_tail b s ss e (rw g at f)
@@ -171,6 +178,7 @@ goes_tail (b ∷ bs) e = at_case (either (is_float_mark b || b == 46 && begins i
   at_low : (is_float_mark b ≡ true) ⊎ ((b == 46 && begins is_ascii_digit bs) ≡ true) → Tail (b ∷ bs)
   at_low (inl f) = float_tail b bs f
   at_low (inr f) = fraction_tail b bs f
+
   at_case : ((is_float_mark b || b == 46 && begins is_ascii_digit bs) ≡ true) ⊎ ((is_exponent_mark b && begins is_ascii_digit (after_plus_or_minus bs)) ≡ true) → Tail (b ∷ bs)
   at_case (inl low) = at_low (either (is_float_mark b) (b == 46 && begins is_ascii_digit bs) low)
   at_case (inr high) = let parts = both (is_exponent_mark b) (begins is_ascii_digit (after_plus_or_minus bs)) high in exponent_tail b bs parts.0 parts.1
@@ -200,9 +208,11 @@ whole_then (b ∷ bs) tail digit ends = at_zero (b == 48) refl where
   no_zero : (run : List ℕ) → (b == 48) ≡ false → begins is_ascii_digit run ≡ true → list_all is_ascii_digit run ≡ true → begins (λ x. x == 48) run ≡ false → after_whole (run ++ tail) ≡ tail
   no_zero [] f some all apart = absurd (false≢true some)
   no_zero (r ∷ rs) f some all apart = rw apart (run_seam is_ascii_digit (r ∷ rs) tail all ends)
+
   taken : (n : ℕ) → 0 < n → (b == 48) ≡ false → list_all is_ascii_digit (take n (b ∷ bs)) ≡ true → after_whole (take n (b ∷ bs) ++ tail) ≡ tail
   taken zero some f all = absurd (omega arith)
   taken (suc n) some f all = no_zero (b ∷ take n bs) f (both (is_ascii_digit b) (list_all is_ascii_digit (take n bs)) all).0 all f
+
   at_zero : (v : Bool) → (b == 48) ≡ v → after_whole (take (whole_length (b ∷ bs)) (b ∷ bs) ++ tail) ≡ tail
   at_zero true f = rw f (rw f refl)
   at_zero false f = rw f (taken (prefix_len is_ascii_digit (b ∷ bs)) (run_some is_ascii_digit (b ∷ bs) digit) f (run_passes is_ascii_digit (b ∷ bs)))
@@ -245,23 +255,30 @@ integer_short (c ∷ ms) left [] e digit goes test = absurd cc
 integer_short (c ∷ ms) left (b ∷ bs) e digit goes test = at_zero (b == 48) refl where
   heads : c ≡ b
   heads = cc
+
   tails : ms ++ left ≡ bs
   tails = cc
+
   no_mark : (m : ℕ) (ks : List ℕ) → m ∷ ks ++ left ≡ after_whole (b ∷ bs) → is_decimal_mark m ≡ true
   no_mark m ks is = goes_first m (ks ++ left) (subst (λ r. goes_decimal r ≡ true) (sym is) goes)
+
   zero_more : (ks : List ℕ) → ks ++ left ≡ bs → (b == 48) ≡ true → (ends_integer ks || digits_end is_octal_digit ks || ends_hexadecimal ks) ≡ true → length ks ≤ 0
   zero_more [] is f ends = omega arith
   zero_more (m ∷ ks) is f ends = at_case (either (ends_integer (m ∷ ks) || digits_end is_octal_digit (m ∷ ks)) (ends_hexadecimal (m ∷ ks)) ends) where
     whole_is : after_whole (b ∷ bs) ≡ bs
     whole_is = rw f refl
+
     mark : is_decimal_mark m ≡ true
     mark = no_mark m ks (is ∙ sym whole_is)
+
     at_low : (ends_integer (m ∷ ks) ≡ true) ⊎ (digits_end is_octal_digit (m ∷ ks) ≡ true) → length (m ∷ ks) ≤ 0
     at_low (inl long) = absurd (mark_not_long m mark (both (is_long_mark m) (is_nil ks) long).0)
     at_low (inr octal) = absurd (mark_not_octal m mark (both (is_octal_digit m) (ends_integer (after_run is_octal_digit (m ∷ ks))) octal).0)
+
     at_case : ((ends_integer (m ∷ ks) || digits_end is_octal_digit (m ∷ ks)) ≡ true) ⊎ (ends_hexadecimal (m ∷ ks) ≡ true) → length (m ∷ ks) ≤ 0
     at_case (inl low) = at_low (either (ends_integer (m ∷ ks)) (digits_end is_octal_digit (m ∷ ks)) low)
     at_case (inr high) = absurd (mark_not_x m mark (both (m == 120 || m == 88) (digits_end is_ascii_hexdigit ks) high).0)
+
   run_more : (rest : List ℕ) → after_run is_ascii_digit (c ∷ ms) ≡ rest → (b == 48) ≡ false → list_all is_ascii_digit (c ∷ ms) ≡ false → ends_integer rest ≡ true → length (c ∷ ms) ≤ whole_length (b ∷ bs)
   run_more [] is f all ends = absurd (false≢true (sym all ∙ run_is_all is_ascii_digit (c ∷ ms) is))
   run_more (m ∷ ks) is f all ends =
@@ -269,9 +286,11 @@ integer_short (c ∷ ms) left (b ∷ bs) e digit goes test = at_zero (b == 48) r
       let whole_is : after_whole (b ∷ bs) ≡ after_run is_ascii_digit (b ∷ bs) = rw f refl in
       let mark = no_mark m ks (sym behind ∙ sym whole_is) in
       absurd (mark_not_long m mark (both (is_long_mark m) (is_nil ks) ends).0)
+
   at_all : (v : Bool) → (b == 48) ≡ false → list_all is_ascii_digit (c ∷ ms) ≡ v → ends_integer (after_run is_ascii_digit (c ∷ ms)) ≡ true → length (c ∷ ms) ≤ whole_length (b ∷ bs)
   at_all true f all ends = rw f (all_within is_ascii_digit (c ∷ ms) left (b ∷ bs) e all)
   at_all false f all ends = run_more (after_run is_ascii_digit (c ∷ ms)) refl f all ends
+
   at_zero : (v : Bool) → (b == 48) ≡ v → length (c ∷ ms) ≤ whole_length (b ∷ bs)
   at_zero true f =
       let same : (c == 48) ≡ true = ap (λ x. x == 48) heads ∙ f in
@@ -288,6 +307,7 @@ number_is bytes l e = at_decimal (is_decimal bytes) refl where
   at_integer : (v : Bool) → is_decimal bytes ≡ false → is_integer bytes ≡ v → ((is_decimal bytes ≡ true) × (l ≡ foreign)) ⊎ ((is_integer bytes ≡ true) × (l ≡ token Integer))
   at_integer true d f = let some : Some (token Integer) ≡ Some l = rw (d, f) at e in inr (f, cc)
   at_integer false d f = let none : number_of bytes ≡ None = rw (d, f) refl in absurd (none_is (number_of bytes) none (some_is (number_of bytes) l e))
+
   at_decimal : (v : Bool) → is_decimal bytes ≡ v → ((is_decimal bytes ≡ true) × (l ≡ foreign)) ⊎ ((is_integer bytes ≡ true) × (l ≡ token Integer))
   at_decimal true d = let some : Some foreign ≡ Some l = rw d at e in inl (d, cc)
   at_decimal false d = at_integer (is_integer bytes) d refl
@@ -297,14 +317,17 @@ pub decimal_leads : (text : List ℕ) → begins is_ascii_digit text ≡ true �
 decimal_leads text digit goes = at_led (leads_or_not (λ bytes _. number_of bytes) text) where
   short : Short text
   short = short_decimal text digit goes
+
   spelled : number_of short.front ≡ Some foreign
   spelled = rw short.decimal refl
+
   at_lexeme : (led : Led (λ bytes _. number_of bytes) text) → ((is_decimal led.front ≡ true) × (led.lexeme ≡ foreign)) ⊎ ((is_integer led.front ≡ true) × (led.lexeme ≡ token Integer)) → (front : List ℕ) × ((behind : List ℕ) × Leads (λ bytes _. number_of bytes) text front behind foreign)
   at_lexeme led (inl is) = (led.front, (led.behind, subst (λ l. Leads (λ bytes _. number_of bytes) text led.front led.behind l) is.1 led.leads))
   at_lexeme led (inr is) =
       let low = integer_short led.front led.behind text led.leads.parts digit goes is.0 in
       let high = led.leads.longest short.front short.left short.parts (some_is _ _ spelled) in
       absurd (omega (arith, low, high, short.long))
+
   at_led : Led (λ bytes _. number_of bytes) text ⊎ NothingLeads (λ bytes _. number_of bytes) text → (front : List ℕ) × ((behind : List ℕ) × Leads (λ bytes _. number_of bytes) text front behind foreign)
   at_led (inl led) = at_lexeme led (number_is led.front led.lexeme led.leads.spells)
   at_led (inr nothing) = absurd (nothing short.front short.left short.parts (some_is _ _ spelled))
@@ -315,6 +338,7 @@ number_leads text digit goes = LeadsBy-agree (λ bytes _. if is_integer bytes th
   at_decimal : (more left : List ℕ) (v : Bool) → more ++ left ≡ text → is_decimal more ≡ v → (if is_integer more then Some (token Integer) else None) ≡ number_of more
   at_decimal more left true e d = absurd (false≢true (sym goes ∙ decimal_goes more left text e d))
   at_decimal more left false e d = rw d refl
+
   agree : Agree (λ bytes _. if is_integer bytes then Some (token Integer) else None) (λ bytes _. number_of bytes) text
   agree more left e = at_decimal more left (is_decimal more) e refl
 

@@ -1,9 +1,9 @@
 -- What leads a text, by its first byte.
-use Rattle.std.proofs.Common.{◌≡◌, ◌≢◌, ℕ, ◌+◌, ◌<◌, ◌≤◌, Bool, true, false, List, [], ◌∷◌, ◌++◌, length, take, drop, Option, Some, None, sym, refl, ap, ◌∙◌, subst, arith, get_or}
+use Rattle.std.proofs.Common.{◌≡◌, ℕ, ◌<◌, ◌≤◌, Bool, true, false, List, [], ◌∷◌, ◌++◌, length, Option, sym, refl, ap, ◌∙◌, subst, arith, get_or}
 use Rattle.std.specs.Prelude.{IsSome, ◌==◌}
 use Rattle.std.specs.Char.{is_ascii_digit}
 use Rattle.std.proofs.lemmas.Bool.{false≢true, eqb-true}
-use Rattle.pl_lexer.specs.Lexeme.{Lexeme, blank, token, foreign}
+use Rattle.pl_lexer.specs.Lexeme.{Lexeme, blank}
 use Rattle.pl_lexer.specs.Longest.{LeadsBy, Finds}
 use Rattle.pl_lexer.specs.declared.found.Found.{Found}
 use Rattle.pl_lexer.specs.Bytes.{begins, is_blank, is_letter, is_quote}

@@ -1,9 +1,9 @@
 -- The longest integer at the front of a text.
-use Rattle.std.proofs.Common.{◌≡◌, ◌≢◌, ℕ, zero, suc, ◌+◌, ◌<◌, ◌≤◌, Bool, true, false, ◌&&◌, ◌||◌, not, List, [], ◌∷◌, ◌++◌, length, take, drop, Option, Some, None, sym, refl, ap, ◌∙◌, subst, arith, get_or, ⊎_elim, ◌⊎◌, inl, inr}
-use Rattle.std.specs.Prelude.{IsSome, ◌==◌, if◌then◌else◌}
+use Rattle.std.proofs.Common.{◌≡◌, ℕ, zero, suc, ◌+◌, ◌<◌, ◌≤◌, Bool, true, false, ◌||◌, List, [], ◌∷◌, ◌++◌, length, take, Some, None, sym, refl, ap, ◌∙◌, arith, ◌⊎◌, inl, inr}
+use Rattle.std.specs.Prelude.{◌==◌, if◌then◌else◌}
 use Rattle.std.specs.Char.{is_ascii_digit, is_ascii_hexdigit}
 use Rattle.std.specs.List.{prefix_len, list_all}
-use Rattle.std.proofs.lemmas.Bool.{false≢true, eqb-true}
+use Rattle.std.proofs.lemmas.Bool.{false≢true}
 use Rattle.std.proofs.lemmas.Bool.Decides.{nat_tests}
 use Rattle.std.proofs.Math.Numerals.{one-add}
 use Rattle.pl_lexer.specs.declared.token.Kind.TheVariants.{Integer, DotInteger}
@@ -38,6 +38,7 @@ digits_spelled p (b ∷ bs) = at_head (p b) refl (digits_spelled p bs) where
   at_mark false f m =
       let none : digits_length p (b ∷ bs) ≡ 0 = rw (f, m) refl in
       rw none (omega arith, refl)
+
   at_head : (v : Bool) → p b ≡ v → (digits_length p bs ≤ length bs) × (ends_integer (after_run p (take (digits_length p bs) bs)) ≡ true) → (digits_length p (b ∷ bs) ≤ length (b ∷ bs)) × (ends_integer (after_run p (take (digits_length p (b ∷ bs)) (b ∷ bs))) ≡ true)
   at_head true f rest =
       let more : digits_length p (b ∷ bs) ≡ suc (digits_length p bs) = rw (f, one-add) (omega arith) in
@@ -56,6 +57,7 @@ digits_most p more left text e ends = at_all (list_all p more) refl where
       let behind : after_run p text ≡ m ∷ (ms ++ left) = ap (after_run p) (sym e) ∙ after_run_append p more left all ∙ ap (λ r. r ++ left) is in
       let mark : mark_length (after_run p text) ≡ 1 = rw (behind, parts.0) refl in
       omega (arith, ap length alone)
+
   at_all : (v : Bool) → list_all p more ≡ v → length more ≤ digits_length p text
   at_all true all = omega (arith, all_within p more left text e all)
   at_all false all = at_end (after_run p more) refl all ends
@@ -69,7 +71,6 @@ ends_after p (m ∷ ms) e = at_head (p m) refl where
       let alone : ms ≡ [] = is_nil-true ms (both (is_long_mark m) (is_nil ms) e).1 in
       rw (f, one-add, alone) refl
   at_head false f = rw f e
-
 
 -- digits, and the mark of a long
 ended_spelled : (p : ℕ → Bool) (text : List ℕ) → begins p text ≡ true → digits_end p (take (digits_length p text) text) ≡ true
@@ -109,6 +110,7 @@ zero_spelled bs = at_hex (begins_hexadecimal bs) refl where
       let mark : digits_length is_octal_digit bs ≡ mark_length bs = rw none (omega arith) in
       let spelled = mark_spelled bs in
       rw mark (spelled.0, or_left _ _ (or_left _ _ spelled.1))
+
   at_hex : (v : Bool) → begins_hexadecimal bs ≡ v → (zero_length bs ≤ length bs) × (zero_ends (take (zero_length bs) bs) ≡ true)
   at_hex true f = let spelled = hexadecimal_spelled bs f in rw f (spelled.0, or_right _ _ spelled.1)
   at_hex false f = rw f (at_octal (begins is_octal_digit bs) refl)
@@ -148,12 +150,15 @@ unfolding zero_length zero_ends
 zero_most ms left bs e ends = at_hex (begins_hexadecimal bs) refl (either (ends_integer ms || digits_end is_octal_digit ms) (ends_hexadecimal ms) ends) where
   octal : digits_end is_octal_digit ms ≡ true → (begins is_octal_digit bs ≡ true) × (length ms ≤ digits_length is_octal_digit bs)
   octal d = let parts = both (begins is_octal_digit ms) (ends_integer (after_run is_octal_digit ms)) d in (begins_front is_octal_digit ms left bs e parts.0, digits_most is_octal_digit ms left bs e parts.1)
+
   marked : begins_hexadecimal bs ≡ true → (ends_integer ms ≡ true) ⊎ (digits_end is_octal_digit ms ≡ true) → length ms ≤ hexadecimal_length bs
   marked f (inl m) = omega (arith, mark_most ms m, hexadecimal_some bs f)
   marked f (inr d) = absurd (no_octal_hexadecimal bs f (octal d).0)
+
   plain : (ends_integer ms ≡ true) ⊎ (digits_end is_octal_digit ms ≡ true) → length ms ≤ digits_length is_octal_digit bs
   plain (inl m) = digits_most is_octal_digit ms left bs e (ends_after is_octal_digit ms m)
   plain (inr d) = (octal d).1
+
   at_hex : (v : Bool) → begins_hexadecimal bs ≡ v → ((ends_integer ms || digits_end is_octal_digit ms) ≡ true) ⊎ (ends_hexadecimal ms ≡ true) → length ms ≤ zero_length bs
   at_hex true f (inl low) = rw f (marked f (either _ _ low))
   at_hex true f (inr high) = rw f (hexadecimal_most ms left bs e high)
@@ -168,6 +173,7 @@ integer_leads (b ∷ bs) digit = at_zero (b == 48) refl where
   not_zero : (n : ℕ) → (b == 48) ≡ false → 0 < n → digits_end is_ascii_digit (take n (b ∷ bs)) ≡ true → is_integer (take n (b ∷ bs)) ≡ true
   not_zero zero f some e = absurd (omega arith)
   not_zero (suc n) f some e = rw f e
+
   most : (v : Bool) → (b == 48) ≡ v → (more left : List ℕ) → more ++ left ≡ b ∷ bs → is_integer more ≡ true → length more ≤ integer_length (b ∷ bs)
   most v f [] left e test = omega arith
   most true f (c ∷ ms) left e test =
@@ -182,6 +188,7 @@ integer_leads (b ∷ bs) digit = at_zero (b == 48) refl where
       let same : (c == 48) ≡ false = ap (λ x. x == 48) heads ∙ f in
       let ends : digits_end is_ascii_digit (c ∷ ms) ≡ true = rw same at test in
       rw f (digits_most is_ascii_digit (c ∷ ms) left (b ∷ bs) e (both (begins is_ascii_digit (c ∷ ms)) (ends_integer (after_run is_ascii_digit (c ∷ ms))) ends).1)
+
   at_zero : (v : Bool) → (b == 48) ≡ v → LeadsBy (λ bytes _. if is_integer bytes then Some (token Integer) else None) (b ∷ bs) (integer_length (b ∷ bs)) (token Integer)
   at_zero true f =
       let spelled = zero_spelled bs in
@@ -201,12 +208,15 @@ dot_number_leads (b ∷ bs) digit = test_leads is_dot_integer (token DotInteger)
   within : (v : Bool) → (b == 48) ≡ v → whole_length (b ∷ bs) ≤ length (b ∷ bs)
   within true f = rw f (omega arith)
   within false f = rw f (run_within is_ascii_digit (b ∷ bs))
+
   run : (n : ℕ) → (b == 48) ≡ false → 0 < n → list_all is_ascii_digit (take n (b ∷ bs)) ≡ true → is_dot_integer (take n (b ∷ bs)) ≡ true
   run zero f some all = absurd (omega arith)
   run (suc n) f some all = rw f all
+
   passes : (v : Bool) → (b == 48) ≡ v → is_dot_integer (take (whole_length (b ∷ bs)) (b ∷ bs)) ≡ true
   passes true f = rw f (rw f refl)
   passes false f = rw f (run (prefix_len is_ascii_digit (b ∷ bs)) f (run_some is_ascii_digit (b ∷ bs) digit) (run_passes is_ascii_digit (b ∷ bs)))
+
   most : (v : Bool) → (b == 48) ≡ v → (more left : List ℕ) → more ++ left ≡ b ∷ bs → is_dot_integer more ≡ true → length more ≤ whole_length (b ∷ bs)
   most v f [] left e test = absurd (false≢true test)
   most true f (c ∷ ms) left e test =

@@ -1,6 +1,5 @@
 -- At most one lexeme leads a text.
-use Rattle.std.proofs.Common.{◌≡◌, ℕ, ◌<◌, Bool, List, [], ◌∷◌, ◌++◌, length, take, drop, Option, Some, None, sym, refl, ap, ◌∙◌, subst, arith, length-append}
-use Rattle.std.specs.Prelude.{IsSome}
+use Rattle.std.proofs.Common.{◌≡◌, ℕ, ◌<◌, Bool, List, [], ◌∷◌, ◌++◌, length, take, drop, Option, Some, None, sym, refl, ap, ◌∙◌, arith, length-append}
 use Rattle.std.proofs.lemmas.List.{take_at, drop_at}
 use Rattle.pl_lexer.specs.Lexeme.{Lexeme}
 use Rattle.pl_lexer.specs.Longest.{Leads, NothingLeads}
@@ -14,7 +13,6 @@ same_parts a b c d same lengths = (
   sym (take_at a b (length c) lengths) ∙ ap (take (length c)) same ∙ take_at c d (length c) refl,
   sym (drop_at a b (length c) lengths) ∙ ap (drop (length c)) same ∙ drop_at c d (length c) refl,
 )
-
 
 -- two lexemes that lead one text are one
 pub record SameLead (front behind front' behind' : List ℕ) (l l' : Lexeme) : Type 0 where

@@ -1,24 +1,24 @@
 -- What holds of each row of the tables, and the longest sign at the front of a text.
-use Rattle.std.proofs.Common.{◌≡◌, ◌≢◌, ℕ, zero, suc, ◌+◌, ◌-◌, ◌<◌, ◌≤◌, min, Bool, true, false, cond, ◌&&◌, ◌||◌, List, [], ◌∷◌, ◌++◌, length, take, drop, Option, Some, None, sym, refl, ap, ◌∙◌, subst, arith, get_or, nat_le, nat_lt, ⊎_elim, ◌⊎◌, inl, inr}
-use Rattle.std.specs.Prelude.{IsSome, ◌==◌}
+use Rattle.std.proofs.Common.{◌≡◌, ℕ, ◌-◌, ◌<◌, ◌≤◌, min, Bool, true, false, List, [], ◌∷◌, ◌++◌, length, take, drop, Option, Some, None, sym, refl, ap, ◌∙◌, subst, arith, nat_le, ⊎_elim, ◌⊎◌, inl, inr}
+use Rattle.std.specs.Prelude.{IsSome}
 use Rattle.std.specs.List.{list_all}
 use Rattle.std.specs.Str.{bytes_eq}
 use Rattle.std.proofs.lemmas.Slice.Eq.{bytes_eq-Decides}
 use Rattle.std.proofs.lemmas.Bool.{false≢true}
 use Rattle.std.proofs.lemmas.Bool.Decides.{nat_tests}
-use Rattle.std.proofs.lemmas.List.{length-append, length-take-le, take-append-drop, take_at}
+use Rattle.std.proofs.lemmas.List.{length-append, length-take-le, take_at}
 use Rattle.std.proofs.str.Laws.{order}
 use Rattle.pl_lexer.specs.declared.found.Found.{Found}
 use Rattle.pl_lexer.specs.declared.found.Found.TheVariants.{Nothing, Foreign, Blank, Leading}
 use Rattle.pl_lexer.specs.declared.token.Sign.{Sign}
 use Rattle.pl_lexer.specs.Lexeme.{Lexeme, token, foreign}
-use Rattle.pl_lexer.specs.Longest.{Leads, LeadsBy, NothingLeads, Finds, Shows}
+use Rattle.pl_lexer.specs.Longest.{LeadsBy, NothingLeads, Finds, Shows}
 use Rattle.pl_lexer.specs.Tables.{look_up, is_listed, signs, foreign_signs, sign_token, sign_of, statement_words, expression_words, keyword_or, primitives, foreign_words, word_token, reserved_of}
 use Rattle.pl_lexer.specs.declared.token.Word.{Word}
 use Rattle.pl_types.specs.declared.primitive.Primitive.{Primitive}
 use Rattle.pl_lexer.proofs.Runs.{both}
 use Rattle.pl_lexer.proofs.Integers.{either}
-use Rattle.pl_lexer.proofs.Tested.{lead_by, some_is, none_is}
+use Rattle.pl_lexer.proofs.Tested.{lead_by, none_is}
 
 bytes_eq-true : (bs ks : List ℕ) → bytes_eq bs ks ≡ true → bs ≡ ks
 bytes_eq-true bs ks e = (bytes_eq-Decides bs ks).0 e
@@ -30,9 +30,9 @@ look_up-passes {X} test ((text, y) ∷ rows) bytes x all found =
     let parts = both (test text) (list_all (λ (row : List ℕ × X). test row.0) rows) all in
     at_row (bytes_eq bytes text) refl parts.0 (look_up-passes test rows bytes x parts.1)
   where
-  at_row : (v : Bool) → bytes_eq bytes text ≡ v → test text ≡ true → (look_up bytes rows ≡ Some x → test bytes ≡ true) → test bytes ≡ true
-  at_row true e here later = subst (λ t. test t ≡ true) (sym (bytes_eq-true bytes text e)) here
-  at_row false e here later = later (rw e at found)
+    at_row : (v : Bool) → bytes_eq bytes text ≡ v → test text ≡ true → (look_up bytes rows ≡ Some x → test bytes ≡ true) → test bytes ≡ true
+    at_row true e here later = subst (λ t. test t ≡ true) (sym (bytes_eq-true bytes text e)) here
+    at_row false e here later = later (rw e at found)
 
 pub is_listed-passes : (test : List ℕ → Bool) (texts : List (List ℕ)) (bytes : List ℕ) → list_all test texts ≡ true → is_listed bytes texts ≡ true → test bytes ≡ true
 is_listed-passes test [] bytes all found = absurd (false≢true found)
@@ -40,9 +40,9 @@ is_listed-passes test (text ∷ texts) bytes all found =
     let parts = both (test text) (list_all test texts) all in
     at_row (either (bytes_eq bytes text) (is_listed bytes texts) found) parts.0 (is_listed-passes test texts bytes parts.1)
   where
-  at_row : (bytes_eq bytes text ≡ true) ⊎ (is_listed bytes texts ≡ true) → test text ≡ true → (is_listed bytes texts ≡ true → test bytes ≡ true) → test bytes ≡ true
-  at_row (inl e) here later = subst (λ t. test t ≡ true) (sym (bytes_eq-true bytes text e)) here
-  at_row (inr e) here later = later e
+    at_row : (bytes_eq bytes text ≡ true) ⊎ (is_listed bytes texts ≡ true) → test text ≡ true → (is_listed bytes texts ≡ true → test bytes ≡ true) → test bytes ≡ true
+    at_row (inl e) here later = subst (λ t. test t ≡ true) (sym (bytes_eq-true bytes text e)) here
+    at_row (inr e) here later = later e
 
 -- a test that each sign passes
 pub sign_passes : (test : List ℕ → Bool) (bytes : List ℕ) (l : Lexeme) → list_all test foreign_signs ≡ true → list_all (λ (row : List ℕ × Sign). test row.0) signs ≡ true → sign_of bytes ≡ Some l → test bytes ≡ true
@@ -51,6 +51,7 @@ sign_passes test bytes l foreigns all found = at_listed (is_listed bytes foreign
   at_sign : (o : Option Sign) → look_up bytes signs ≡ o → sign_token o ≡ Some l → test bytes ≡ true
   at_sign (Some s) e some = look_up-passes test signs bytes s all e
   at_sign None e some = absurd cc
+
   at_listed : (v : Bool) → is_listed bytes foreign_signs ≡ v → test bytes ≡ true
   at_listed true f = is_listed-passes test foreign_signs bytes foreigns f
   at_listed false f = at_sign (look_up bytes signs) refl (rw f at found)
@@ -105,6 +106,7 @@ word_passes test bytes l foreigns statements expressions types found = at_listed
   at_words None (Some w) q e f h some = look_up-passes test expression_words bytes w expressions f
   at_words None None (Some t) e f h some = look_up-passes test primitives bytes t types h
   at_words None None None e f h some = absurd cc
+
   at_listed : (v : Bool) → is_listed bytes foreign_words ≡ v → test bytes ≡ true
   at_listed true f = is_listed-passes test foreign_words bytes foreigns f
   at_listed false f = at_words (look_up bytes statement_words) (look_up bytes expression_words) (look_up bytes primitives) refl refl refl (rw f at found)

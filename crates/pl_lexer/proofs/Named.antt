@@ -1,26 +1,20 @@
 -- Words and names of classes at the front of a text.
-use Rattle.std.proofs.Common.{◌≡◌, ◌≢◌, ℕ, zero, suc, ◌+◌, ◌-◌, ◌<◌, ◌≤◌, Bool, true, false, ◌&&◌, ◌||◌, not, List, [], ◌∷◌, ◌++◌, length, take, drop, Option, Some, None, sym, refl, ap, ◌∙◌, subst, arith, get_or, ⊎_elim, ◌⊎◌, inl, inr, nat_lt, IsUtf8}
-use Rattle.std.specs.Prelude.{IsSome, is_some, unwrap_or, ◌==◌, if◌then◌else◌}
-use Rattle.std.specs.Char.{is_ascii_digit}
-use Rattle.std.specs.Str.{IsCharBoundary}
+use Rattle.std.proofs.Common.{◌≡◌, ℕ, ◌<◌, ◌≤◌, Bool, true, false, ◌&&◌, not, List, [], ◌∷◌, ◌++◌, length, take, drop, Option, Some, None, sym, refl, ap, ◌∙◌, subst, arith, ⊎_elim, ◌⊎◌, inl, inr}
+use Rattle.std.specs.Prelude.{IsSome, is_some, unwrap_or}
 use Rattle.std.specs.List.{prefix_len, list_all}
-use Rattle.std.proofs.lemmas.Bool.{false≢true, eqb-true}
-use Rattle.std.proofs.lemmas.Bool.Decides.{nat_tests}
-use Rattle.std.proofs.lemmas.Str.{IsCharBoundary-before_ascii, IsCharBoundary-after_ascii}
-use Rattle.std.proofs.lemmas.List.{length-append, length-take-le, length-drop, take-append-drop, take-append-le, take-take, take_all, take_at, drop_at, drop-drop, append_assoc, get_or-drop, get_or-take}
+use Rattle.std.proofs.lemmas.Bool.{false≢true}
+use Rattle.std.proofs.lemmas.List.{length-take-le, take-append-drop, take-take, take_at, drop_at}
 use Rattle.std.proofs.str.Laws.{order}
 use Rattle.pl_lexer.specs.declared.found.Found.{Found}
 use Rattle.pl_lexer.specs.declared.found.Found.TheVariants.{Nothing, Foreign, Blank, Leading}
-use Rattle.pl_lexer.specs.declared.token.Kind.TheVariants.{Name, DotName, ClassName}
+use Rattle.pl_lexer.specs.declared.token.Kind.TheVariants.{Name, DotName}
 use Rattle.pl_lexer.specs.Lexeme.{Lexeme, blank, token, foreign}
 use Rattle.pl_lexer.specs.Longest.{Leads, LeadsBy, NothingLeads, Finds, Shows}
-use Rattle.pl_lexer.specs.Bytes.{begins, is_letter, is_name_byte, after_run}
+use Rattle.pl_lexer.specs.Bytes.{begins, is_letter, is_name_byte}
 use Rattle.pl_lexer.specs.Tables.{reserved_of}
-use Rattle.pl_lexer.specs.Words.{is_word, plain_of, goes_on, is_dotted, first_word, is_path, class_named, class_of, word_of, dot_word_of}
-use Rattle.pl_lexer.specs.Lengths.{dot_word_length, class_or}
-use Rattle.pl_lexer.proofs.Runs.{both, all_within, run_passes, run_some, run_ends, run_within, run_append, run_all, run_reaches, run_taken, begins_front, begins_taken, run_parts}
+use Rattle.pl_lexer.specs.Words.{is_word, plain_of, goes_on, is_dotted, first_word, is_path, class_of, word_of, dot_word_of}
+use Rattle.pl_lexer.proofs.Runs.{both, all_within, run_passes, run_some, run_within, run_reaches, run_taken, begins_taken}
 use Rattle.pl_lexer.proofs.Integers.{or_left}
-use Rattle.pl_lexer.proofs.Leading.{same_parts}
 use Rattle.pl_lexer.proofs.Tested.{lead_by, test_leads, test_some, some_is, none_is}
 
 pub letter_name : (text : List ℕ) → begins is_letter text ≡ true → begins is_name_byte text ≡ true
@@ -106,18 +100,23 @@ reserved_leads : (names : List ℕ → Option ℕ) (text : List ℕ) (l : Lexeme
 reserved_leads names text l letter reserved = lead_by (word_of names) text (prefix_len is_name_byte text) l (run_within is_name_byte text) spelled most where
   first : List ℕ
   first = take (prefix_len is_name_byte text) text
+
   behind : List ℕ
   behind = drop (prefix_len is_name_byte text) text
+
   no_path : (more left : List ℕ) → more ++ left ≡ text → IsSome (class_of names more left) → ⊥
   no_path more left e some =
       let path = path_is more left (class_path names more left some) in
       let same = path_first more left text e path in
       none_is (reserved_of first) (ap reserved_of (sym same) ∙ path.fresh) (some_is (reserved_of first) l reserved)
+
   spelled_by : (o : Option Lexeme) → class_of names first behind ≡ o → word_of names first behind ≡ Some l
   spelled_by (Some k) f = absurd (no_path first behind (take-append-drop (prefix_len is_name_byte text) text) (some_is _ k f))
   spelled_by None f = rw (f, first_is_word text letter, reserved) refl
+
   spelled : word_of names first behind ≡ Some l
   spelled = spelled_by (class_of names first behind) refl
+
   most : (more left : List ℕ) → more ++ left ≡ text → IsSome (word_of names more left) → length more ≤ prefix_len is_name_byte text
   most more left e some = ⊎_elim (λ class. absurd (no_path more left e class)) (λ word. word_most more left text e word) (word_either names more left some)
 
@@ -134,11 +133,14 @@ pub name_leads : (names : List ℕ → Option ℕ) (text : List ℕ) → begins 
 name_leads names text letter fresh nothing = lead_by (word_of names) text (prefix_len is_name_byte text) (token Name) (run_within is_name_byte text) (spelled (class_of names first behind) refl) most where
   first : List ℕ
   first = take (prefix_len is_name_byte text) text
+
   behind : List ℕ
   behind = drop (prefix_len is_name_byte text) text
+
   spelled : (o : Option Lexeme) → class_of names first behind ≡ o → word_of names first behind ≡ Some (token Name)
   spelled (Some k) f = absurd (nothing first behind (take-append-drop (prefix_len is_name_byte text) text) (some_is _ k f))
   spelled None f = rw (f, first_is_word text letter, fresh) refl
+
   most : (more left : List ℕ) → more ++ left ≡ text → IsSome (word_of names more left) → length more ≤ prefix_len is_name_byte text
   most more left e some = ⊎_elim (λ class. absurd (nothing more left e class)) (λ word. word_most more left text e word) (word_either names more left some)
 

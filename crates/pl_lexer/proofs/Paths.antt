@@ -1,27 +1,25 @@
 -- The search for the longest path at the front of a text that names a class.
-use Rattle.std.proofs.Common.{◌≡◌, ◌≢◌, ℕ, zero, suc, ◌+◌, ◌-◌, ◌<◌, ◌≤◌, Bool, true, false, ◌&&◌, ◌||◌, not, List, [], ◌∷◌, ◌++◌, length, take, drop, Option, Some, None, sym, refl, ap, ◌∙◌, subst, arith, get_or, ⊎_elim, ◌⊎◌, inl, inr, nat_lt, IsUtf8, add-zero}
-use Rattle.std.specs.Prelude.{IsSome, is_some, ◌==◌, if◌then◌else◌}
-use Rattle.std.specs.Char.{is_ascii_digit}
+use Rattle.std.proofs.Common.{◌≡◌, ℕ, zero, suc, ◌+◌, ◌-◌, ◌<◌, ◌≤◌, Bool, true, false, ◌&&◌, List, [], ◌∷◌, ◌++◌, length, take, drop, Option, Some, None, sym, refl, ap, ◌∙◌, subst, arith, get_or, ⊎_elim, nat_lt, IsUtf8, add-zero}
+use Rattle.std.specs.Prelude.{IsSome, ◌==◌}
 use Rattle.std.specs.Str.{IsCharBoundary}
 use Rattle.std.specs.List.{prefix_len, list_all}
-use Rattle.std.proofs.lemmas.Bool.{false≢true, eqb-true}
+use Rattle.std.proofs.lemmas.Bool.{false≢true}
 use Rattle.std.proofs.lemmas.Bool.Decides.{nat_tests}
 use Rattle.std.proofs.lemmas.Str.{IsCharBoundary-before_ascii, IsCharBoundary-after_ascii}
-use Rattle.std.proofs.lemmas.List.{length-append, length-take-le, length-drop, take-append-drop, take-append-le, take-take, take_at, drop_at, drop-drop, append_assoc, get_or-drop, get_or-take}
+use Rattle.std.proofs.lemmas.List.{length-take-le, length-drop, take-append-drop, drop_at, drop-drop, append_assoc, get_or-drop, get_or-take}
 use Rattle.std.proofs.str.Laws.{order}
-use Rattle.std.proofs.Math.Numerals.{one-add}
 use Rattle.std.proofs.Math.Seq.{take-append-add}
 use Rattle.pl_lexer.specs.declared.found.Found.{Found}
 use Rattle.pl_lexer.specs.declared.found.Found.TheVariants.{Nothing, Foreign, Blank, Leading}
 use Rattle.pl_lexer.specs.declared.token.Kind.TheVariants.{ClassName}
-use Rattle.pl_lexer.specs.Lexeme.{Lexeme, blank, token, foreign}
-use Rattle.pl_lexer.specs.Longest.{Leads, LeadsBy, NothingLeads, Finds}
-use Rattle.pl_lexer.specs.Bytes.{begins, is_letter, is_name_byte, after_run}
+use Rattle.pl_lexer.specs.Lexeme.{token}
+use Rattle.pl_lexer.specs.Longest.{Finds}
+use Rattle.pl_lexer.specs.Bytes.{begins, is_letter, is_name_byte}
 use Rattle.pl_lexer.specs.Tables.{reserved_of}
-use Rattle.pl_lexer.specs.Words.{goes_on, is_dotted, first_word, is_path, class_named, class_of}
+use Rattle.pl_lexer.specs.Words.{goes_on, first_word, class_of}
 use Rattle.pl_lexer.specs.Lengths.{dot_word_length, class_or}
-use Rattle.pl_lexer.proofs.Runs.{both, run_passes, run_some, run_ends, run_within, run_reaches, begins_front, begins_taken}
-use Rattle.pl_lexer.proofs.Tested.{lead_by, some_is, none_is}
+use Rattle.pl_lexer.proofs.Runs.{both, run_passes, run_some, run_ends, run_within, run_reaches, begins_taken}
+use Rattle.pl_lexer.proofs.Tested.{lead_by, none_is}
 use Rattle.pl_lexer.proofs.Leading.{same_parts}
 use Rattle.pl_lexer.proofs.Named.{PathIs, path_is, is_path-true, class_path, letter_name, path_reaches, first_taken}
 
@@ -48,6 +46,7 @@ up_to_none names text n n' best a more_than within none between = at_best best a
       let unnamed : names more ≡ None = ap names same.0 ∙ none in
       let no : class_of names more left ≡ None = rw (path, unnamed) refl in
       none_is (class_of names more left) no some
+
   at_best : (best : Found) → UpTo names text n best → UpTo names text n' best
   at_best Nothing a = λ more left e high some. ⊎_elim (λ low. no_class more left e low high some) (λ low. a more left e low some) (order n (length more))
   at_best Foreign a = a
@@ -78,6 +77,7 @@ no_dot : (b : ℕ) → is_name_byte b ≡ true → (b == 46) ≡ false
 no_dot b e = at_dot (b == 46) refl where
   apart : (b : ℕ) → is_name_byte b ≡ true → (b == 46) ≡ true → ⊥
   apart b e f = grind (arith, nat_tests)
+
   at_dot : (v : Bool) → (b == 46) ≡ v → (b == 46) ≡ false
   at_dot true f = absurd (apart b e f)
   at_dot false f = f
@@ -156,8 +156,8 @@ take_more_of text n m within =
     let long = length-take-le n text within in
     ap (take (n + m)) (sym whole) ∙ take_split (take n text) (drop n text) n m long
   where
-  take_split : (xs ys : List ℕ) (n m : ℕ) → length xs ≡ n → take (n + m) (xs ++ ys) ≡ xs ++ take m ys
-  take_split xs ys n m long = rw (← long) (take-append-add xs ys m)
+    take_split : (xs ys : List ℕ) (n m : ℕ) → length xs ≡ n → take (n + m) (xs ++ ys) ≡ xs ++ take m ys
+    take_split xs ys n m long = rw (← long) (take-append-add xs ys m)
 
 pub next_to : (names : List ℕ → Option ℕ) (text : List ℕ) (n m : ℕ) (best : Found) → begins is_letter text ≡ true → reserved_of (take (prefix_len is_name_byte text) text) ≡ None → PathTo names text n best → Some m ≡ dot_word_length (drop n text) → PathTo names text (n + m) (class_or best (names (take (n + m) text)) (n + m))
 next_to names text n m best letter fresh a e =
@@ -185,15 +185,15 @@ next_to names text n m best letter fresh a e =
       found = up_to_more names text n (n + m) best a.found (omega arith) within path (between w.behind w.dot r w.rest_is w.long refl);
     }
   where
-  between : (bs : List ℕ) (b r : ℕ) → drop n text ≡ b ∷ bs → m ≡ suc r → r ≡ prefix_len is_name_byte bs → OneBetween text n (n + m)
-  between bs b r rest_is long run more left parts low high path = ⊎_elim (λ short. absurd (inside short)) (λ enough. omega arith) (order (length more) (n + m)) where
-    inside : length more < n + m → ⊥
-    inside short =
-        let k : ℕ = length more - suc n in
-        let place : n + suc k ≡ length more = omega arith in
-        let left_is : left ≡ drop k bs = sym (drop_at more left (length more) refl) ∙ ap (drop (length more)) parts ∙ ap (λ j. drop j text) (sym place) ∙ drop_more text n k b bs rest_is in
-        let name = run_reaches is_name_byte bs k (omega (arith, long, run)) in
-        false≢true (sym path.whole ∙ ap (begins is_name_byte) left_is ∙ name)
+    between : (bs : List ℕ) (b r : ℕ) → drop n text ≡ b ∷ bs → m ≡ suc r → r ≡ prefix_len is_name_byte bs → OneBetween text n (n + m)
+    between bs b r rest_is long run more left parts low high path = ⊎_elim (λ short. absurd (inside short)) (λ enough. omega arith) (order (length more) (n + m)) where
+      inside : length more < n + m → ⊥
+      inside short =
+          let k : ℕ = length more - suc n in
+          let place : n + suc k ≡ length more = omega arith in
+          let left_is : left ≡ drop k bs = sym (drop_at more left (length more) refl) ∙ ap (drop (length more)) parts ∙ ap (λ j. drop j text) (sym place) ∙ drop_more text n k b bs rest_is in
+          let name = run_reaches is_name_byte bs k (omega (arith, long, run)) in
+          false≢true (sym path.whole ∙ ap (begins is_name_byte) left_is ∙ name)
 
 -- no path goes on beyond the last
 pub last_to : (names : List ℕ → Option ℕ) (text : List ℕ) (n : ℕ) (best : Found) → PathTo names text n best → None ≡ dot_word_length (drop n text) → Finds (class_of names) text best
@@ -209,6 +209,7 @@ last_to names text n best a e = at_best best a.found where
     at_dot false f =
         let name = (both (is_name_byte k) (goes_on js) (rw f at on)).0 in
         false≢true (sym a.path.whole ∙ ap (begins is_name_byte) (sym parts) ∙ name)
+
   beyond : (more left : List ℕ) → more ++ left ≡ text → n < length more → IsSome (class_of names more left) → ⊥
   beyond more left parts long some =
       let path = path_is more left (class_path names more left some) in
@@ -219,9 +220,10 @@ last_to names text n best a e = at_best best a.found where
       let on = goes_tail (take n more) (drop n more) (ap goes_on pieces ∙ path.on) in
       at_rest (drop n more) rest on (omega (arith, length-drop n more))
     where
-    at_rest : (ks : List ℕ) → ks ++ left ≡ drop n text → goes_on ks ≡ true → 0 < length ks → ⊥
-    at_rest [] rest on some' = omega arith
-    at_rest (k ∷ js) rest on some' = goes_no k js left rest on
+      at_rest : (ks : List ℕ) → ks ++ left ≡ drop n text → goes_on ks ≡ true → 0 < length ks → ⊥
+      at_rest [] rest on some' = omega arith
+      at_rest (k ∷ js) rest on some' = goes_no k js left rest on
+
   at_best : (best : Found) → UpTo names text n best → Finds (class_of names) text best
   at_best Nothing found = λ more left parts some. ⊎_elim (λ long. beyond more left parts long some) (λ short. found more left parts short some) (order n (length more))
   at_best Foreign found = absurd found
@@ -235,8 +237,10 @@ path_ascii [] e = refl
 path_ascii (b ∷ bs) e = at_dot (b == 46) refl (path_ascii bs) where
   name_ascii : (b : ℕ) → is_name_byte b ≡ true → nat_lt b 128 ≡ true
   name_ascii b e = grind (arith, nat_tests)
+
   dot_ascii : (b : ℕ) → (b == 46) ≡ true → nat_lt b 128 ≡ true
   dot_ascii b e = grind (arith, nat_tests)
+
   at_dot : (v : Bool) → (b == 46) ≡ v → (goes_on bs ≡ true → list_all (λ b. nat_lt b 128) bs ≡ true) → list_all (λ b. nat_lt b 128) (b ∷ bs) ≡ true
   at_dot true f rest = let parts = both (begins is_letter bs) (goes_on bs) (rw f at e) in rw (dot_ascii b f, rest parts.1) refl
   at_dot false f rest = let parts = both (is_name_byte b) (goes_on bs) (rw f at e) in rw (name_ascii b parts.0, rest parts.1) refl
@@ -251,11 +255,14 @@ path_starts text at letter = IsCharBoundary-before_ascii text at within low wher
   some : (rest : List ℕ) → begins is_letter rest ≡ true → 0 < length rest
   some [] e = absurd (false≢true e)
   some (b ∷ bs) e = omega arith
+
   byte : (rest : List ℕ) → begins is_letter rest ≡ true → get_or rest 0 0 < 128
   byte [] e = absurd (false≢true e)
   byte (b ∷ bs) e = grind (arith, nat_tests)
+
   within : at < length text
   within = omega (arith, some (drop at text) letter, length-drop at text)
+
   low : get_or text at 0 < 128
   low = let same : get_or (drop at text) 0 0 ≡ get_or text at 0 = get_or-drop at text 0 0 ∙ ap (λ i. get_or text i 0) (add-zero at) in omega (arith, byte (drop at text) letter)
 

@@ -1,6 +1,6 @@
 -- The tokens of a text are spellings of their kinds, and stand between its characters.
-use Rattle.std.proofs.Common.{◌≡◌, ℕ, zero, suc, ◌+◌, ◌-◌, ◌<◌, ◌≤◌, Bool, true, false, ◌&&◌, ◌||◌, List, [], ◌∷◌, ◌++◌, length, take, drop, Option, Some, None, sym, refl, ap, ◌∙◌, subst, arith, get_or, IsUtf8, add-zero, nat_lt, ◌⊎◌, inl, inr}
-use Rattle.std.specs.Prelude.{IsSome, ◌==◌, unwrap_or, if◌then◌else◌}
+use Rattle.std.proofs.Common.{◌≡◌, ℕ, zero, suc, ◌+◌, ◌-◌, ◌<◌, ◌≤◌, Bool, true, false, ◌||◌, List, [], ◌∷◌, ◌++◌, length, take, drop, Option, Some, None, sym, refl, ap, ◌∙◌, subst, arith, get_or, IsUtf8, add-zero, nat_lt, ◌⊎◌, inl, inr}
+use Rattle.std.specs.Prelude.{◌==◌, if◌then◌else◌}
 use Rattle.std.specs.Char.{is_ascii_digit, is_ascii_hexdigit}
 use Rattle.std.specs.Str.{IsCharBoundary}
 use Rattle.std.specs.List.{list_all, prefix_len}
@@ -15,22 +15,21 @@ use Rattle.pl_lexer.specs.declared.token.Kind.TheVariants as kind
 use Rattle.pl_lexer.specs.declared.token.Sign.{Sign}
 use Rattle.pl_lexer.specs.declared.token.Word.{Word}
 use Rattle.pl_lexer.specs.Lexeme.{Lexeme, blank, token, foreign}
-use Rattle.pl_lexer.specs.Longest.{Leads}
 use Rattle.pl_lexer.specs.Bytes.{begins, is_nil, is_blank, is_letter, is_name_byte, is_quote, is_octal_digit, after_run, in_line}
-use Rattle.pl_lexer.specs.Tables.{sign_of, sign_token, signs, foreign_signs, is_listed, look_up, reserved_of, word_token, keyword_of, keyword_or, statement_words, expression_words, primitives, foreign_words}
-use Rattle.pl_lexer.specs.Numbers.{is_long_mark, ends_integer, digits_end, ends_hexadecimal, is_integer, is_decimal, number_of, is_dot_integer, dot_number_of}
-use Rattle.pl_lexer.specs.Words.{is_word, plain_of, is_dotted, goes_on, class_named, class_of, is_path, word_of, dot_word_of}
+use Rattle.pl_lexer.specs.Tables.{sign_of, signs, foreign_signs, is_listed, look_up, reserved_of, keyword_of, primitives, foreign_words}
+use Rattle.pl_lexer.specs.Numbers.{is_long_mark, ends_integer, digits_end, ends_hexadecimal, is_integer, is_decimal, number_of, is_dot_integer}
+use Rattle.pl_lexer.specs.Words.{is_word, plain_of, is_dotted, goes_on, class_of, is_path, word_of, dot_word_of}
 use Rattle.pl_lexer.specs.Enclosed.{closes, text_next, text_of, comment_next, slash_of}
 use Rattle.pl_lexer.specs.Spelling.{spelling, Spells, blank_of, is_slash}
 use Rattle.pl_lexer.specs.Spelled.{Stands, AreSpelled, bytes_of}
 use Rattle.pl_lexer.specs.Tokens.{Part, lexeme_of, dot_after, Cuts, told, tokens_of, Tokenizes}
 use Rattle.pl_lexer.proofs.Leading.{Leads-some}
-use Rattle.pl_lexer.proofs.Tested.{some_is, none_is, test_some}
+use Rattle.pl_lexer.proofs.Tested.{some_is, test_some}
 use Rattle.pl_lexer.proofs.Runs.{both, is_nil-true, run_passes}
 use Rattle.pl_lexer.proofs.Integers.{either}
 use Rattle.pl_lexer.proofs.Listed.{sign_passes, word_passes}
 use Rattle.pl_lexer.proofs.Decimals.{number_is}
-use Rattle.pl_lexer.proofs.Named.{path_is, class_path, word_either}
+use Rattle.pl_lexer.proofs.Named.{path_is, class_path}
 use Rattle.pl_lexer.proofs.Paths.{path_ascii, ascii_at}
 
 -- neither end of the bytes lies within a character
@@ -102,11 +101,14 @@ integer_ascii (b ∷ bs) e = at_zero (b == 48) refl where
   at_low : (ends_integer bs ≡ true) ⊎ (digits_end is_octal_digit bs ≡ true) → list_all is_ascii bs ≡ true
   at_low (inl f) = end_ascii bs f
   at_low (inr f) = digits_ascii is_octal_digit bs octal_ascii f
+
   at_end : ((ends_integer bs || digits_end is_octal_digit bs) ≡ true) ⊎ (ends_hexadecimal bs ≡ true) → list_all is_ascii bs ≡ true
   at_end (inl f) = at_low (either (ends_integer bs) (digits_end is_octal_digit bs) f)
   at_end (inr f) = hexadecimal_end_ascii bs f
+
   zero_ascii : (b : ℕ) → (b == 48) ≡ true → is_ascii b ≡ true
   zero_ascii b e = grind (arith, nat_tests)
+
   at_zero : (v : Bool) → (b == 48) ≡ v → list_all is_ascii (b ∷ bs) ≡ true
   at_zero true f = rw (zero_ascii b f, at_end (either (ends_integer bs || digits_end is_octal_digit bs) (ends_hexadecimal bs) (rw f at e))) refl
   at_zero false f = digits_ascii is_ascii_digit (b ∷ bs) digit_ascii (rw f at e)
@@ -116,6 +118,7 @@ dot_integer_ascii [] e = refl
 dot_integer_ascii (b ∷ bs) e = at_zero (b == 48) refl where
   zero_ascii : (b : ℕ) → (b == 48) ≡ true → is_ascii b ≡ true
   zero_ascii b e = grind (arith, nat_tests)
+
   at_zero : (v : Bool) → (b == 48) ≡ v → list_all is_ascii (b ∷ bs) ≡ true
   at_zero true f = rw (is_nil-true bs (rw f at e), zero_ascii b f) refl
   at_zero false f = all_imply is_ascii_digit is_ascii (b ∷ bs) digit_ascii (rw f at e)
@@ -129,12 +132,15 @@ text_last quote (b ∷ bs) state e = at_state state e (text_last quote bs) where
   later s (c ∷ cs) e rest =
       let place : length (b ∷ c ∷ cs) - 1 ≡ suc (length (c ∷ cs) - 1) = omega arith in
       rw place rest
+
   at_escaped : (v : Bool) → (b == 92 || b == quote) ≡ v → closes (text_next quote) true (b ∷ bs) ≡ true → ((s : Bool) → closes (text_next quote) s bs ≡ true → get_or bs (length bs - 1) 0 ≡ quote) → get_or (b ∷ bs) (length (b ∷ bs) - 1) 0 ≡ quote
   at_escaped true f e rest = let more : closes (text_next quote) false bs ≡ true = rw f at e in later false bs more (rest false more)
   at_escaped false f e rest = absurd (false≢true (rw f at e))
+
   at_quote : (v : Bool) → (b == quote) ≡ v → closes (text_next quote) false (b ∷ bs) ≡ true → ((s : Bool) → closes (text_next quote) s bs ≡ true → get_or bs (length bs - 1) 0 ≡ quote) → get_or (b ∷ bs) (length (b ∷ bs) - 1) 0 ≡ quote
   at_quote true f e rest = let alone : bs ≡ [] = is_nil-true bs (rw f at e) in rw alone (eqb-true b quote f)
   at_quote false f e rest = let more : closes (text_next quote) (b == 92) bs ≡ true = rw f at e in later (b == 92) bs more (rest (b == 92) more)
+
   at_state : (state : Bool) → closes (text_next quote) state (b ∷ bs) ≡ true → ((s : Bool) → closes (text_next quote) s bs ≡ true → get_or bs (length bs - 1) 0 ≡ quote) → get_or (b ∷ bs) (length (b ∷ bs) - 1) 0 ≡ quote
   at_state true e rest = at_escaped (b == 92 || b == quote) refl e rest
   at_state false e rest = at_quote (b == quote) refl e rest
@@ -173,6 +179,7 @@ sign_kind k bytes e = at_listed (is_listed bytes foreign_signs) refl where
       let some : Some (token (kind.Sign s)) ≡ Some (token k) = rw (f, h) at e in
       let kinds : kind.Sign s ≡ k = cc in
       subst (λ k'. Spells k' bytes) kinds (e ∙ sym some)
+
   at_listed : (v : Bool) → is_listed bytes foreign_signs ≡ v → Spells k bytes
   at_listed true f = let some : Some foreign ≡ Some (token k) = rw f at e in absurd cc
   at_listed false f = at_sign (look_up bytes signs) f refl
@@ -190,6 +197,7 @@ reserved_kind k bytes e = at_listed (is_listed bytes foreign_words) refl where
       let kinds : kind.Prim p ≡ k = cc in
       subst (λ k'. Spells k' bytes) kinds (e ∙ sym some)
   at_word None None f h i = let none : None ≡ Some (token k) = rw (f, h, i) at e in absurd cc
+
   at_listed : (v : Bool) → is_listed bytes foreign_words ≡ v → Spells k bytes
   at_listed true f = let some : Some foreign ≡ Some (token k) = rw f at e in absurd cc
   at_listed false f = at_word (keyword_of bytes) (look_up bytes primitives) f refl refl
@@ -211,12 +219,12 @@ class_kind names k bytes behind e =
     let is = path_is bytes behind path in
     at_name (names bytes) refl path (rw (is.letter, is.on) refl)
   where
-  at_name : (o : Option ℕ) → names bytes ≡ o → is_path bytes behind ≡ true → is_dotted bytes ≡ true → Spells k bytes
-  at_name None f path dotted = let none : None ≡ Some (token k) = rw (path, f) at e in absurd cc
-  at_name (Some class) f path dotted =
-      let some : Some (token (kind.ClassName class)) ≡ Some (token k) = rw (path, f) at e in
-      let kinds : kind.ClassName class ≡ k = cc in
-      subst (λ k'. Spells k' bytes) kinds dotted
+    at_name : (o : Option ℕ) → names bytes ≡ o → is_path bytes behind ≡ true → is_dotted bytes ≡ true → Spells k bytes
+    at_name None f path dotted = let none : None ≡ Some (token k) = rw (path, f) at e in absurd cc
+    at_name (Some class) f path dotted =
+        let some : Some (token (kind.ClassName class)) ≡ Some (token k) = rw (path, f) at e in
+        let kinds : kind.ClassName class ≡ k = cc in
+        subst (λ k'. Spells k' bytes) kinds dotted
 
 plain_kind : (k : Kind) (bytes : List ℕ) → plain_of bytes ≡ Some (token k) → Spells k bytes
 plain_kind k bytes e = at_word (is_word bytes) refl where
@@ -228,6 +236,7 @@ plain_kind k bytes e = at_word (is_word bytes) refl where
   at_reserved (Some l) w f =
       let some : Some l ≡ Some (token k) = rw (w, f) at e in
       reserved_kind k bytes (f ∙ some)
+
   at_word : (v : Bool) → is_word bytes ≡ v → Spells k bytes
   at_word true w = at_reserved (reserved_of bytes) w refl
   at_word false w = let none : None ≡ Some (token k) = rw w at e in absurd cc
@@ -270,6 +279,7 @@ slash_kind k (s ∷ b ∷ bs) behind e = at_slash (b == 47) refl where
   at_star : (v : Bool) → (b == 47) ≡ false → (b == 42) ≡ v → Spells k (s ∷ b ∷ bs)
   at_star true f g = absurd (no_blank (closes comment_next false bs) k (rw (f, g) at e))
   at_star false f g = sign_kind k (s ∷ b ∷ bs) (rw (f, g) at e)
+
   at_slash : (v : Bool) → (b == 47) ≡ v → Spells k (s ∷ b ∷ bs)
   at_slash true f = absurd (no_blank (list_all in_line bs) k (rw f at e))
   at_slash false f = at_star (b == 42) f refl
@@ -288,21 +298,27 @@ spelled_kind names dot bytes behind k e = at_digit (begins is_ascii_digit bytes)
   at_slash : (v : Bool) → begins is_ascii_digit bytes ≡ false → begins is_letter bytes ≡ false → begins is_quote bytes ≡ false → begins is_blank bytes ≡ false → begins is_slash bytes ≡ v → Spells k bytes
   at_slash true d l q w s = slash_kind k bytes behind (rw (d, l, q, w, s) at e)
   at_slash false d l q w s = sign_kind k bytes (rw (d, l, q, w, s) at e)
+
   at_blank : (v : Bool) → begins is_ascii_digit bytes ≡ false → begins is_letter bytes ≡ false → begins is_quote bytes ≡ false → begins is_blank bytes ≡ v → Spells k bytes
   at_blank true d l q w = blank_kind k bytes (rw (d, l, q, w) at e)
   at_blank false d l q w = at_slash (begins is_slash bytes) d l q w refl
+
   at_quote : (v : Bool) → begins is_ascii_digit bytes ≡ false → begins is_letter bytes ≡ false → begins is_quote bytes ≡ v → Spells k bytes
   at_quote true d l q = text_kind k bytes q (rw (d, l, q) at e)
   at_quote false d l q = at_blank (begins is_blank bytes) d l q refl
+
   at_dot_word : (v : Bool) → begins is_ascii_digit bytes ≡ false → begins is_letter bytes ≡ true → dot ≡ v → Spells k bytes
   at_dot_word true d l f = tested_kind (is_word bytes) kind.DotName k bytes (sym (dot_word_spelling names bytes behind d l) ∙ ap (λ t. spelling names t bytes behind) (sym f) ∙ e) (λ t. t)
   at_dot_word false d l f = word_kind names k bytes behind (sym (word_spelling names bytes behind d l) ∙ ap (λ t. spelling names t bytes behind) (sym f) ∙ e)
+
   at_letter : (v : Bool) → begins is_ascii_digit bytes ≡ false → begins is_letter bytes ≡ v → Spells k bytes
   at_letter true d l = at_dot_word dot d l refl
   at_letter false d l = at_quote (begins is_quote bytes) d l refl
+
   at_dot : (v : Bool) → begins is_ascii_digit bytes ≡ true → dot ≡ v → Spells k bytes
   at_dot true d f = tested_kind (is_dot_integer bytes) kind.DotInteger k bytes (rw (d, f) at e) (λ t. t)
   at_dot false d f = number_kind k bytes (rw (d, f) at e)
+
   at_digit : (v : Bool) → begins is_ascii_digit bytes ≡ v → Spells k bytes
   at_digit true d = at_dot dot d refl
   at_digit false d = at_letter (begins is_letter bytes) d refl

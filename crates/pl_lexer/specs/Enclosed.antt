@@ -1,5 +1,5 @@
 -- Texts in quotes, and comments.
-use Rattle.std.specs.Prelude.{ℕ, Bool, true, false, ◌&&◌, ◌||◌, ◌==◌, if◌then◌else◌, List, [], ◌∷◌, Option, Some, None}
+use Rattle.std.specs.Prelude.{ℕ, Bool, false, ◌&&◌, ◌||◌, ◌==◌, if◌then◌else◌, List, [], ◌∷◌, Option, Some, None}
 use Rattle.std.specs.List.{list_all}
 use Rattle.pl_lexer.specs.declared.token.Kind.TheVariants.{Text}
 use Rattle.pl_lexer.specs.Lexeme.{Lexeme, blank, token}

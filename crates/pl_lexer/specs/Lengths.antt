@@ -1,5 +1,5 @@
 -- How many bytes at the front of a text are of one lexeme, as they are counted from the front.
-use Rattle.std.specs.Prelude.{ℕ, ◌+◌, Bool, true, false, ◌&&◌, ◌||◌, ◌==◌, if◌then◌else◌, List, [], ◌∷◌, Option, Some, None, suc, zero}
+use Rattle.std.specs.Prelude.{ℕ, ◌+◌, Bool, false, ◌&&◌, ◌||◌, ◌==◌, if◌then◌else◌, List, [], ◌∷◌, Option, Some, None}
 use Rattle.std.specs.Char.{is_ascii_digit, is_ascii_hexdigit}
 use Rattle.std.specs.List.{prefix_len}
 use Rattle.pl_lexer.specs.Bytes.{begins, after_run, is_octal_digit, is_letter, is_name_byte}

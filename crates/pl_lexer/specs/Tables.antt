@@ -1,5 +1,5 @@
 -- The spellings that are listed one by one: operators and brackets, and keywords.
-use Rattle.std.specs.Prelude.{codes, ℕ, Bool, true, false, ◌||◌, if◌then◌else◌, is_some, List, [], ◌∷◌, Option, Some, None}
+use Rattle.std.specs.Prelude.{codes, ℕ, Bool, false, ◌||◌, if◌then◌else◌, List, [], ◌∷◌, Option, Some, None}
 use Rattle.std.specs.Str.{bytes_eq}
 use Rattle.pl_types.specs.declared.primitive.Primitive.{Primitive}
 use Rattle.pl_types.specs.declared.primitive.Primitive.TheVariants as primitive

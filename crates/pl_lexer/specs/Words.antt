@@ -1,5 +1,5 @@
 -- Names, keywords and names of classes.
-use Rattle.std.specs.Prelude.{ℕ, Bool, true, false, not, ◌&&◌, ◌==◌, if◌then◌else◌, List, [], ◌∷◌, take, Option, Some, None, is_some, unwrap_or}
+use Rattle.std.specs.Prelude.{ℕ, Bool, true, not, ◌&&◌, ◌==◌, if◌then◌else◌, List, [], ◌∷◌, take, Option, Some, None, is_some, unwrap_or}
 use Rattle.std.specs.List.{list_all, prefix_len}
 use Rattle.pl_lexer.specs.declared.token.Kind.TheVariants.{Name, DotName, ClassName}
 use Rattle.pl_lexer.specs.Lexeme.{Lexeme, token}

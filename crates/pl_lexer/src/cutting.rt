@@ -30,11 +30,17 @@ fn refused(number: u8, offset: u32) -> Fail
     Fail::Refused(Refusal { number, offset })
 }
 
-/// The tokens of a script. The names say which dotted names are classes.
+/// The tokens of a script, each the longest that its bytes spell.
 ///
-/// Refused with the first of these rules that is broken, at a byte of the script:
+/// The names say which dotted names are classes. They are asked once for each name that ends in a dotted name which
+/// follows no dot, with the script's bytes from the first name to that end. So names that answer for a text longer than
+/// their longest by its length alone make the time one of the script's length.
+///
+/// Refused with the first of these rules that is broken, at a byte of the script counted from 0:
 /// `TOO_LARGE` at 65,535 where it has more than 65,535 bytes; `BAD_TOKEN` at the first byte at which no blank, comment
-/// or token begins; `OUT_OF_PROFILE` at the first byte of what Painless has and this language leaves out.
+/// or token begins, an unclosed text or comment among them; `OUT_OF_PROFILE` at the first byte of what Painless has and
+/// this language leaves out: a number with a fraction, an exponent or a suffix `f`, `F`, `d` or `D`, the words `float`,
+/// `double` and `finally`, and the operators `=~` and `==~`. `NoMemory` comes where the list of tokens finds no room.
 pub fn lex<N: TypeNames>(alloc: Global, text: &str, names: &N) -> Result<Vec<Token>, Fail>
     ensures exact { Answers (λ v. v.items) result (Lexes text.now (N.class_of names.now)) }
     ensures only { (reading : Result (List Token) Refusal) → Lexes text.now (N.class_of names.now) reading

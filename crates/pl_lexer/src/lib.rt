@@ -24,3 +24,6 @@ pub const BAD_TOKEN: u8 = 1;
 pub const OUT_OF_PROFILE: u8 = 19;
 /// The number of the refusal of a script that is too large.
 pub const TOO_LARGE: u8 = 20;
+
+#[cfg(test)]
+mod tests;

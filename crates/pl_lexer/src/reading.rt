@@ -18,10 +18,18 @@ pub fn found_at<N: TypeNames>(text: &str, at: usize, names: &N, dot: bool) -> Fo
     let rest = text.as_bytes().split_at(at).1;
     let first = rest[0];
     if first.is_ascii_digit() {
-        return if dot { dot_number_found(rest) } else { number_found(rest) };
+        return if dot {
+            dot_number_found(rest)
+        } else {
+            number_found(rest)
+        };
     }
     if is_letter(first) {
-        return if dot { dot_word_found(rest) } else { word_found(text, at, names) };
+        return if dot {
+            dot_word_found(rest)
+        } else {
+            word_found(text, at, names)
+        };
     }
     if is_quote(first) {
         return text_found(rest);

@@ -106,7 +106,7 @@ fn reserved(word: &[u8]) -> Found
     if word == b"float".as_slice()
         || word == b"double".as_slice()
         || word == b"finally".as_slice()
-     {
+    {
         return Found::Foreign;
     }
     if let Some(keyword) = keyword(word) {
@@ -159,9 +159,7 @@ fn class_found<N: TypeNames>(text: &str, at: usize, first: usize, names: &N) -> 
     best
 }
 
-/// The word that leads a text from a byte on, where it begins with a letter and follows no dot.
-///
-/// The names are asked once for each name that ends before the next blank or sign, with all that stands before its end.
+/// The word or the class that leads a text from a byte on, where it begins with a letter and follows no dot.
 pub fn word_found<N: TypeNames>(text: &str, at: usize, names: &N) -> Found
     requires { begins is_letter (drop at text.now) ≡ true }
     ensures { Finds (word_of (N.class_of names.now)) (drop at text.now) result }

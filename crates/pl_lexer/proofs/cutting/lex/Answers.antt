@@ -1,10 +1,10 @@
-use Rattle.std.proofs.Common.{◌≡◌, ◌≢◌, ℕ, ◌<◌, ◌≤◌, ◌+◌, List, [], ◌∷◌, ◌++◌, length, drop, is_ok, sym, refl, ap, ◌∙◌, subst, arith, Some, None, Ok, Err}
+use Rattle.std.proofs.Common.{is_ok, sym, refl, ap, arith, Some, None, Ok}
 use Rattle.std.proofs.ResultArms.{chosen}
 use Rattle.std.proofs.lemmas.List.{append-nil, drop-drop}
 use Rattle.pl_lexer.specs.Lexeme.{blank, token}
 use Rattle.pl_lexer.specs.Tokens.{no_spelling, foreign_spelling}
 use Rattle.pl_lexer.proofs.Once.{Lexes-once}
-use Rattle.pl_lexer.proofs.Cuts.{CutsSoFar, part_cut_is, all_cut, breaks_here, some_behind, none_behind, part_small}
+use Rattle.pl_lexer.proofs.Cuts.{part_cut_is, all_cut, breaks_here, some_behind, none_behind, part_small}
 use Rattle.pl_lexer.proofs.Spelled.{all_spelled}
 use Rattle.pl_lexer.proofs.cutting.lex.Goals as goal
 

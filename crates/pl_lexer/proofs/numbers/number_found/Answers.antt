@@ -1,9 +1,8 @@
-use Rattle.std.proofs.Common.{◌≡◌, true, false, sym, ◌∙◌, ap, subst}
+use Rattle.std.proofs.Common.{sym, ◌∙◌, subst}
 use Rattle.pl_lexer.specs.declared.token.Kind.TheVariants.{Integer}
 use Rattle.pl_lexer.specs.Lexeme.{token}
 use Rattle.pl_lexer.specs.Longest.{LeadsBy}
-use Rattle.pl_lexer.specs.Numbers.{number_of, after_whole}
-use Rattle.pl_lexer.specs.Lengths.{goes_decimal}
+use Rattle.pl_lexer.specs.Numbers.{number_of}
 use Rattle.pl_lexer.proofs.Decimals.{decimal_leads, number_leads, goes_behind}
 use Rattle.pl_lexer.proofs.numbers.number_found.Goals as goal
 

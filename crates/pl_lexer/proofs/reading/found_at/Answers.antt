@@ -1,8 +1,8 @@
-use Rattle.std.proofs.Common.{◌≡◌, ◌<◌, List, ℕ, Bool, true, false, length, drop, sym, ◌∙◌, ap, subst, arith, length-drop, refl}
+use Rattle.std.proofs.Common.{◌≡◌, ◌<◌, true, false, length, drop, sym, ◌∙◌, ap, subst, arith, length-drop, refl}
 use Rattle.std.specs.Char.{is_ascii_digit}
 use Rattle.std.proofs.lemmas.Bool.{eq-eqb}
 use Rattle.pl_lexer.specs.Longest.{Finds}
-use Rattle.pl_lexer.specs.Bytes.{begins, is_blank, is_letter, is_quote}
+use Rattle.pl_lexer.specs.Bytes.{is_blank, is_letter, is_quote}
 use Rattle.pl_lexer.specs.Numbers.{number_of, dot_number_of}
 use Rattle.pl_lexer.specs.Words.{word_of, dot_word_of}
 use Rattle.pl_lexer.specs.Enclosed.{text_of, slash_of}

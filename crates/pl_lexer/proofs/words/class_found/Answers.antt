@@ -1,5 +1,4 @@
-use Rattle.std.proofs.Common.{◌≡◌, ◌≤◌, ◌+◌, List, ℕ, Option, length, drop, take, sym, refl, ap, ◌∙◌, subst, arith, length-drop}
-use Rattle.pl_lexer.specs.declared.found.Found.TheVariants.{Nothing}
+use Rattle.std.proofs.Common.{◌≡◌, ◌+◌, drop, take, sym, refl, ap, ◌∙◌, arith, length-drop}
 use Rattle.pl_lexer.specs.Lengths.{class_or, dot_word_length}
 use Rattle.pl_lexer.proofs.Paths.{none_only, PathTo, first_to_at, next_to_at, last_to, path_ends}
 use Rattle.pl_lexer.proofs.words.class_found.Given as given

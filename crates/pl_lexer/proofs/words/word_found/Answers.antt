@@ -1,4 +1,4 @@
-use Rattle.std.proofs.Common.{◌≡◌, drop, sym, ◌∙◌, ap, subst, ◌≤◌, length}
+use Rattle.std.proofs.Common.{drop, sym, ◌∙◌, ap, subst, ◌≤◌, length}
 use Rattle.pl_lexer.specs.Bytes.{is_name_byte}
 use Rattle.pl_lexer.proofs.Runs.{run_within}
 use Rattle.pl_lexer.proofs.Named.{reserved_finds_at, name_leads_at, class_finds}
