@@ -111,6 +111,7 @@ fn words(rt: HostRuntime) -> Result<(), TestFail> {
             "Name 0 1;Sign(Dot) 1 2;DotName 2 3;Sign(Dot) 3 4;DotName 4 5;",
         ),
         ("a?.b", "Name 0 1;Sign(NullDot) 1 3;DotName 3 4;"),
+        ("a.if", "Name 0 1;Sign(Dot) 1 2;DotName 2 4;"),
         ("a. if", "Name 0 1;Sign(Dot) 1 2;DotName 3 5;"),
         ("a.float", "Name 0 1;Sign(Dot) 1 2;DotName 2 7;"),
         ("a./* x */b", "Name 0 1;Sign(Dot) 1 2;DotName 9 10;"),
