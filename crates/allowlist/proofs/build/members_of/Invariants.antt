@@ -1,0 +1,6 @@
+use Rattle.std.proofs.Common.{◌≡◌, take, map}
+use Rattle.allowlist.specs.Rows.{seen_row}
+use Rattle.allowlist.proofs.build.members_of.Given as goal
+
+abbrev pub invariant-loop-row : goal.invariant-loop-row
+invariant-loop-row l = l.made.items ≡ map seen_row (take l.row-index l.rows)

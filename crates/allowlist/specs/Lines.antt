@@ -1,0 +1,145 @@
+-- The lines of an allowlist file.
+use Rattle.std.specs.Prelude.{◌==◌, ◌+◌, ◌&&◌, ◌||◌, ℕ, zero, suc, Bool, true, false, List, [], ◌∷◌, Option, Some, None, if◌then◌else◌, nat_le, length, take, drop, codes, option_and_then}
+use Rattle.std.specs.List.{prefix_len, before_first}
+use Rattle.std.specs.Str.{bytes_eq, is_utf8}
+
+-- space and tab
+abbrev pub is_blank : ℕ → Bool
+is_blank b = b == 32 || b == 9
+
+-- a letter, a digit, `_`, `$` or `.`
+abbrev pub is_word_byte : ℕ → Bool
+is_word_byte b = nat_le 97 b && nat_le b 122 || nat_le 65 b && nat_le b 90 || nat_le 48 b && nat_le b 57 || b == 95 || b == 36 || b == 46
+
+-- what follows the blanks at the front
+unfoldable pub past_blanks : List ℕ → List ℕ
+past_blanks s = drop (prefix_len is_blank s) s
+
+-- What is read is a value and what follows it and the blanks after it.
+
+infixl 10 ◌>>=◌
+abbrev pub ◌>>=◌ : {A B : Type 0} → Option A → (A → Option B) → Option B
+o >>= f = option_and_then f o
+
+-- a word, the longest
+unfoldable pub word_at : List ℕ → Option (List ℕ × List ℕ)
+word_at s = if prefix_len is_word_byte s == 0 then None else Some (take (prefix_len is_word_byte s) s, past_blanks (drop (prefix_len is_word_byte s) s))
+
+-- one byte
+unfoldable pub mark_at : ℕ → List ℕ → Option (List ℕ)
+mark_at mark [] = None
+mark_at mark (b ∷ bs) = if b == mark then Some (past_blanks bs) else None
+
+-- a type: a word and the number of its `[]`
+pub record TypeText : Type 0 where
+  pub word : List ℕ
+  pub depth : ℕ
+
+-- how many pairs of square brackets follow, at most so many more than depth
+unfoldable pub brackets_at : ℕ → ℕ → List ℕ → Option (ℕ × List ℕ)
+brackets_at zero depth s = Some (depth, s)
+brackets_at (suc n) depth s = elim (mark_at 91 s) [
+  | None ↦ Some (depth, s)
+  | Some r ↦ mark_at 93 r >>= λ t. brackets_at n (depth + 1) t
+]
+
+unfoldable pub type_at : List ℕ → Option (TypeText × List ℕ)
+type_at s = do
+  w ← word_at s
+  d ← brackets_at (length w.1) 0 w.1
+  Some (record { word = w.0; depth = d.0 }, d.1)
+
+-- types with commas between, at most so many, and the closing bracket
+unfoldable pub types_at : ℕ → List ℕ → Option (List TypeText × List ℕ)
+types_at zero s = None
+types_at (suc n) s = type_at s >>= λ t. elim (mark_at 41 t.1) [
+  | Some r ↦ Some (t.0 ∷ [], r)
+  | None ↦ mark_at 44 t.1 >>= λ r. types_at n r >>= λ ts. Some (t.0 ∷ ts.0, ts.1)
+]
+
+-- the types in round brackets, after the opening one
+unfoldable pub params_at : List ℕ → Option (List TypeText × List ℕ)
+params_at s = elim (mark_at 41 s) [
+  | Some r ↦ Some ([], r)
+  | None ↦ types_at (length s) s
+]
+
+-- What a line says.
+pub data Form : Type 0 where
+  -- nothing
+  Blank : Form
+  -- `class NAME {`
+  Opens : (name : List ℕ) → Form
+  -- `static_import {`
+  Imports : Form
+  -- `}`
+  Closes : Form
+  -- a constructor
+  Makes : (params : List TypeText) → Form
+  -- a member that is called, with the augmentation word or without
+  Calls : (gives : TypeText) (augmented : Bool) (name : List ℕ) (params : List TypeText) → Form
+  -- a field
+  Has : (gives : TypeText) (name : List ℕ) → Form
+
+abbrev pub at_end : List ℕ → Form → Option Form
+at_end [] form = Some form
+at_end (b ∷ bs) form = None
+
+abbrev pub augmentation : List ℕ
+augmentation = codes "org.elasticsearch.painless.api.Augmentation"
+
+-- a member's parameters, to the end of the line
+unfoldable pub called : TypeText → Bool → List ℕ → List ℕ → Option Form
+called gives augmented name s = do
+  r ← mark_at 40 s
+  ps ← params_at r
+  at_end ps.1 (Calls gives augmented name ps.0)
+
+-- what follows the augmentation word
+unfoldable pub augmented_at : TypeText → List ℕ → Option Form
+augmented_at gives s = word_at s >>= λ m. called gives true m.0 m.1
+
+-- what follows a name: the end of the line, or parameters
+unfoldable pub after_name : TypeText → List ℕ → List ℕ → Option Form
+after_name gives name [] = Some (Has gives name)
+after_name gives name (b ∷ bs) =
+    if b == 40 then called gives false name (b ∷ bs)
+    else (if bytes_eq name augmentation then augmented_at gives (b ∷ bs) else None)
+
+-- what follows a type
+unfoldable pub named_at : TypeText → List ℕ → Option Form
+named_at gives s = word_at s >>= λ n. after_name gives n.0 n.1
+
+unfoldable pub opening_at : List ℕ → Option Form
+opening_at s = do
+  n ← word_at s
+  r ← mark_at 123 n.1
+  at_end r (Opens n.0)
+
+unfoldable pub import_at : List ℕ → Option Form
+import_at s = mark_at 123 s >>= λ r. at_end r Imports
+
+unfoldable pub member_at : List ℕ → List ℕ → Option Form
+member_at word s = brackets_at (length s) 0 s >>= λ d. named_at (record { word = word; depth = d.0 }) d.1
+
+-- what follows the first word
+unfoldable pub after_word : List ℕ → List ℕ → Option Form
+after_word word s =
+    if bytes_eq word (codes "class") then opening_at s
+    else (if bytes_eq word (codes "static_import") then import_at s
+    else member_at word s)
+
+unfoldable pub constructor_at : List ℕ → Option Form
+constructor_at s = params_at s >>= λ ps. at_end ps.1 (Makes ps.0)
+
+-- a line without its comment and the blanks at its front
+unfoldable pub content_form : List ℕ → Option Form
+content_form [] = Some Blank
+content_form (b ∷ bs) =
+    if b == 125 then at_end (past_blanks bs) Closes
+    else (if b == 40 then constructor_at (past_blanks bs)
+    else (word_at (b ∷ bs) >>= λ w. after_word w.0 w.1))
+
+-- What a line says, if it has a form. `#` begins a comment.
+unfoldable pub form_of : List ℕ → Option Form
+form_of line = if is_utf8 line then content_form (past_blanks (before_first (λ b. b == 35) line)) else None

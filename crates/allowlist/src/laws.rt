@@ -1,0 +1,21 @@
+//! What holds of the catalogue and of every list.
+
+ghost use Rattle.std.specs.Prelude.{◌≡◌, ◌<◌, ◌≤◌, ℕ, List, Bool, Option, Some, slice_get, length};
+ghost use Rattle.pl_types.specs.Classes.{parents_of, full_name, short_name};
+ghost use Rattle.allowlist.specs.declared.member.MemberType.{MemberType};
+ghost use Rattle.allowlist.specs.Catalogue.{catalogue};
+ghost use Rattle.allowlist.specs.Allow.{AllowList, own_member, member_of, or_else, first_along, flag};
+
+/// The laws of the catalogue, and of what a list gives.
+pub fn catalogue_laws()
+    // Two members of one class differ in their names or in their numbers of parameters.
+    ensures apart { (i k : ℕ) (a b : MemberType) → slice_get catalogue i ≡ Some a → slice_get catalogue k ≡ Some b
+        → a.owner ≡ b.owner → a.name ≡ b.name → length a.params ≡ length b.params → i ≡ k }
+    // What is found is the class's own, else the first that a parent gives, in their order.
+    ensures depth_first { (allow : AllowList) (class : ℕ) (name : List ℕ) (arity : ℕ) → member_of allow class name arity
+        ≡ or_else (own_member allow class name arity) (first_along (λ parent. member_of allow parent name arity) (parents_of class)) }
+    // What is found is in the list, and is called so.
+    ensures allowed { (allow : AllowList) (class : ℕ) (name : List ℕ) (arity number : ℕ) → member_of allow class name arity ≡ Some number
+        → (flag allow.members number ≡ true) × ((m : MemberType) × (slice_get catalogue number ≡ Some m) × (m.name ≡ name) × (length m.params ≡ arity)) }
+{
+}

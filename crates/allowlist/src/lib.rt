@@ -1,0 +1,13 @@
+//! The catalogue of classes and members, the files that allow some of it, and which member a call means.
+#![tactic(auto)]
+
+mod allow;
+mod build;
+mod lookup;
+mod member;
+mod names;
+mod table;
+
+pub use allow::{Allow, Catalogue};
+pub use member::{MemberKind, MemberType, Origin};
+pub use table::MEMBER_COUNT;
