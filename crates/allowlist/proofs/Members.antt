@@ -9,7 +9,7 @@ use Rattle.std.proofs.lemmas.List.FromFn.{get_or-map-range_with_len}
 use Rattle.pl_types.specs.Classes.{lineage_of, lineage_within, parents_of, class_row, class_table, no_class, has}
 use Rattle.allowlist.specs.declared.member.MemberType.{MemberType}
 use Rattle.allowlist.specs.Catalogue.{catalogue, constructor}
-use Rattle.allowlist.specs.Allow.{first_member, start_of, own_member, AllowList, flag, has_name, is_called, or_else, first_along, member_of, iface_method_of, plain_member, functional_interfaces}
+use Rattle.allowlist.specs.Allow.{first_member, start_of, own_member, AllowList, flag, has_name, is_called, or_else, first_along, member_of, iface_method_of, plain_member, functional_interfaces, first_class}
 use Rattle.allowlist.proofs.Tables.{length-catalogue}
 
 -- a member that does not pass is passed over
@@ -84,8 +84,8 @@ small_owner : (i : ℕ) (d : MemberType) → i < 228 → (get_or catalogue i d).
 small_owner i d h =
     let within : i < length catalogue = omega (arith, length-catalogue) in
     elim (cases_lt (get_or catalogue i d).owner 57) [
-      inl l ↦ l
-    | inr g ↦ absurd (false≢true (sym (list_all_at (λ m. ltb m.owner 57) catalogue i d within (le-ltb (get_or catalogue i d).owner 57 g)) ∙ owners_small))
+      | inl l ↦ l
+      | inr g ↦ absurd (false≢true (sym (list_all_at (λ m. ltb m.owner 57) catalogue i d within (le-ltb (get_or catalogue i d).owner 57 g)) ∙ owners_small))
     ]
 
 abbrev pub asks : AllowList → ℕ → List ℕ → ℕ → ℕ → MemberType → Bool
@@ -112,21 +112,21 @@ module _ (allow : AllowList) (class : ℕ) (name : List ℕ) (arity : ℕ) where
   own_begins h =
       let small : start_of class ≤ 228 = start_within class (omega arith) in
       skip (asks allow class name arity) (start_of class) 0 catalogue (λ i d l.
-          let w : i < 228 = omega arith in
-          let e : 0 + i ≡ i = omega arith in
-          other (0 + i) (get_or catalogue i d) (owner_test class i d h w ∙ ap (λ t. t && ltb i (start_of (class + 1))) (lt-leb (start_of class) i l)))
+      let w : i < 228 = omega arith in
+      let e : 0 + i ≡ i = omega arith in
+      other (0 + i) (get_or catalogue i d) (owner_test class i d h w ∙ ap (λ t. t && ltb i (start_of (class + 1))) (lt-leb (start_of class) i l)))
       ∙ (let e : 0 + start_of class ≡ start_of class = omega arith in ap (λ j. first_member (asks allow class name arity) j (drop (start_of class) catalogue)) e)
 
   pub own_ends : class < 57 → first_member (asks allow class name arity) (start_of (class + 1)) (drop (start_of (class + 1)) catalogue) ≡ None
   own_ends h =
       none (asks allow class name arity) (start_of (class + 1)) (drop (start_of (class + 1)) catalogue) (λ i d l.
-          let len : length (drop (start_of (class + 1)) catalogue) ≡ 228 - start_of (class + 1) = length-drop (start_of (class + 1)) catalogue ∙ ap (λ x. x - start_of (class + 1)) length-catalogue in
-          let w : start_of (class + 1) + i < 228 = omega arith in
-          ap (λ m. asks allow class name arity (start_of (class + 1) + i) m) (get_or-drop (start_of (class + 1)) catalogue i d)
-          ∙ other (start_of (class + 1) + i) (get_or catalogue (start_of (class + 1) + i) d)
-            (owner_test class (start_of (class + 1) + i) d h w
-             ∙ ap (λ t. leb (start_of class) (start_of (class + 1) + i) && t) (le-ltb (start_of (class + 1) + i) (start_of (class + 1)) (omega arith))
-             ∙ and_false (leb (start_of class) (start_of (class + 1) + i))))
+      let len : length (drop (start_of (class + 1)) catalogue) ≡ 228 - start_of (class + 1) = length-drop (start_of (class + 1)) catalogue ∙ ap (λ x. x - start_of (class + 1)) length-catalogue in
+      let w : start_of (class + 1) + i < 228 = omega arith in
+      ap (λ m. asks allow class name arity (start_of (class + 1) + i) m) (get_or-drop (start_of (class + 1)) catalogue i d)
+      ∙ other (start_of (class + 1) + i) (get_or catalogue (start_of (class + 1) + i) d)
+      (owner_test class (start_of (class + 1) + i) d h w
+      ∙ ap (λ t. leb (start_of class) (start_of (class + 1) + i) && t) (le-ltb (start_of (class + 1) + i) (start_of (class + 1)) (omega arith))
+      ∙ and_false (leb (start_of class) (start_of (class + 1) + i))))
 
   pub own_past : 57 ≤ class → own_member allow class name arity ≡ None
   unfolding own_member
@@ -140,7 +140,7 @@ module _ (allow : AllowList) (class : ℕ) (name : List ℕ) (arity : ℕ) where
   asks_own n d h a b =
       let small : start_of (class + 1) ≤ 228 = start_within (class + 1) (omega arith) in
       ap (λ t. flag allow.members n && (t && has_name name arity (get_or catalogue n d)))
-        (owner_test class n d h (omega arith) ∙ ap (λ t. t && ltb n (start_of (class + 1))) (le-leb (start_of class) n a) ∙ lt-ltb n (start_of (class + 1)) b)
+      (owner_test class n d h (omega arith) ∙ ap (λ t. t && ltb n (start_of (class + 1))) (le-leb (start_of class) n a) ∙ lt-ltb n (start_of (class + 1)) b)
 
   here : (n : ℕ) (d : MemberType) → n < 228 → first_member (asks allow class name arity) n (drop n catalogue) ≡ first_member (asks allow class name arity) n (get_or catalogue n d ∷ drop (n + 1) catalogue)
   here n d h = at_drop_more (first_member (asks allow class name arity) n) catalogue n d (omega (arith, length-catalogue))
@@ -192,3 +192,7 @@ not_in (x ∷ xs) class h k =
 pub iface_past : (class : ℕ) → 57 ≤ class → iface_method_of class ≡ None
 unfolding iface_method_of
 iface_past class h = ap (λ t. cond t (first_along plain_member (lineage_of class)) None) (not_in functional_interfaces class refl h)
+
+-- the first class with a name
+pub first_class-no : (test : ℕ → Bool) (n k m : ℕ) → k ≡ suc m → test n ≡ false → first_class test n k ≡ first_class test (n + 1) m
+first_class-no test n k m e h = ap (first_class test n) e ∙ ap (λ b. cond b (Some n) (first_class test (n + 1) m)) h

@@ -1,11 +1,12 @@
 -- Allowlist files.
-use Rattle.std.specs.Prelude.{◌==◌, ◌+◌, ◌-◌, ◌&&◌, ◌||◌, not, ℕ, zero, suc, Bool, true, false, List, [], ◌∷◌, Option, Some, None, Result, Ok, Err, if◌then◌else◌, is_some, length, codes}
+use Rattle.std.specs.Prelude.{◌==◌, ◌+◌, ◌-◌, ◌&&◌, ◌||◌, not, ℕ, zero, suc, Bool, true, false, List, [], ◌∷◌, Option, Some, None, Result, Ok, Err, if◌then◌else◌, is_some, nat_lt, length, codes}
 use Rattle.std.specs.Str.{bytes_eq}
 use Rattle.pl_types.specs.declared.primitive.Primitive.{Primitive}
 use Rattle.pl_types.specs.declared.primitive.Primitive.TheVariants as prim
 use Rattle.pl_types.specs.declared.ty.Ty.{Ty}
 use Rattle.pl_types.specs.declared.ty.Ty.TheOpen.{Ty-F}
 use Rattle.pl_types.specs.declared.ty.Ty.TheFolds.{fold-Ty}
+use Rattle.pl_types.specs.declared.classes.TheConstants.{CLASS_COUNT}
 use Rattle.pl_types.specs.Classes.{full_name, short_name}
 use Rattle.allowlist.specs.declared.member.MemberType.{MemberType}
 use Rattle.allowlist.specs.declared.member.MemberKind.{MemberKind}
@@ -36,7 +37,7 @@ primitive_word prim.Long = codes "long"
 
 -- a class in a signature stands by its full or its short name, with `$` or `.` before the name of a nested class
 abbrev pub is_word_of : ℕ → List ℕ → Bool
-is_word_of class word = bytes_eq word (full_name class) || bytes_eq word (short_name class) || bytes_eq word (dotted (full_name class)) || bytes_eq word (dotted (short_name class))
+is_word_of class word = nat_lt class CLASS_COUNT && (bytes_eq word (full_name class) || bytes_eq word (short_name class) || bytes_eq (dotted (full_name class)) word || bytes_eq (dotted (short_name class)) word)
 
 -- whether a word with so many `[]` is a type
 abbrev pub spells_layer : Ty-F (ℕ → List ℕ → Bool) → ℕ → List ℕ → Bool
@@ -149,15 +150,22 @@ abbrev pub reading_after : Reading → Option Form → Option Reading
 reading_after r None = None
 reading_after r (Some form) = next_reading r form
 
+-- what one line of the number n makes of it
+abbrev pub known_or : ℕ → Option Reading → Result Reading Fault
+known_or n None = Err (Unknown n)
+known_or n (Some r) = Ok r
+
+unfoldable pub line_result : ℕ → Reading → Bool → List ℕ → Result Reading Fault
+line_result n r last line = if line_fault (is_some r.inside) last (form_of line) then Err (Syntax n) else known_or n (reading_after r (form_of line))
+
+abbrev pub after_line : Result Reading Fault → (Reading → Result AllowList Fault) → Result AllowList Fault
+after_line (Ok r) next = next r
+after_line (Err fault) next = Err fault
+
 -- the lines from one on, which has the number n
 unfoldable pub read_lines : ℕ → Reading → List (List ℕ) → Result AllowList Fault
 read_lines n r [] = Ok r.allow
-read_lines n r (line ∷ lines) =
-    if line_fault (is_some r.inside) (is_last lines) (form_of line) then Err (Syntax n)
-    else elim (reading_after r (form_of line)) [
-      | None ↦ Err (Unknown n)
-      | Some s ↦ read_lines (n + 1) s lines
-    ]
+read_lines n r (line ∷ lines) = after_line (line_result n r (is_last lines) line) (λ s. read_lines (n + 1) s lines)
 
 -- The list that a file denotes, or the first fault.
 unfoldable pub allowlist_of : List ℕ → Result AllowList Fault

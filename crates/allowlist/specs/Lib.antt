@@ -1,5 +1,7 @@
 pub mod Allow
+pub mod Answers
 pub mod Catalogue
 pub mod Files
 pub mod Lines
 pub mod Rows
+pub mod Seen

@@ -1,7 +1,7 @@
 //! What holds of the catalogue and of every list.
 
-ghost use Rattle.std.specs.Prelude.{◌≡◌, ◌<◌, ◌≤◌, ℕ, List, Bool, Option, Some, slice_get, length};
-ghost use Rattle.pl_types.specs.Classes.{parents_of, full_name, short_name};
+ghost use Rattle.std.specs.Prelude.{◌≡◌, ℕ, List, Some, true, slice_get, length};
+ghost use Rattle.pl_types.specs.Classes.{parents_of};
 ghost use Rattle.allowlist.specs.declared.member.MemberType.{MemberType};
 ghost use Rattle.allowlist.specs.Catalogue.{catalogue};
 ghost use Rattle.allowlist.specs.Allow.{AllowList, own_member, member_of, or_else, first_along, flag};
@@ -17,5 +17,4 @@ pub fn catalogue_laws()
     // What is found is in the list, and is called so.
     ensures allowed { (allow : AllowList) (class : ℕ) (name : List ℕ) (arity number : ℕ) → member_of allow class name arity ≡ Some number
         → (flag allow.members number ≡ true) × ((m : MemberType) × (slice_get catalogue number ≡ Some m) × (m.name ≡ name) × (length m.params ≡ arity)) }
-{
-}
+{}

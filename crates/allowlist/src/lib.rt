@@ -3,11 +3,18 @@
 
 mod allow;
 mod build;
+mod declares;
+mod error;
+mod form;
+mod laws;
 mod lookup;
 mod member;
 mod names;
+mod scan;
 mod table;
 
 pub use allow::{Allow, Catalogue};
+pub use error::AllowErr;
+pub use laws::catalogue_laws;
 pub use member::{MemberKind, MemberType, Origin};
 pub use table::MEMBER_COUNT;

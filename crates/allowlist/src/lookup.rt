@@ -5,11 +5,10 @@ ghost use Rattle.std.specs.Str.{bytes_eq};
 ghost use Rattle.pl_types.specs.Classes.{class_is_below, full_name, short_name};
 ghost use Rattle.allowlist.specs.Allow.{class_named_of, dotted, is_named};
 
-use pl_types::classes::CLASS_COUNT;
-use pl_types::{Lineage, TypeNames, class_below, class_full, class_short};
-
 use crate::allow::Allow;
 use crate::names::is_dotted;
+use pl_types::classes::CLASS_COUNT;
+use pl_types::{Lineage, TypeNames, class_below, class_full, class_short};
 
 impl Lineage for Allow {
     ghost is_below = { λ _ a b. class_is_below a b };
@@ -38,7 +37,7 @@ fn means(allow: &Allow, name: &str, class: u32) -> bool
     ensures { result ≡ is_named allow.now name.now class }
 {
     let listed = allow.has_class(class);
-    let full = is_dotted(class_full(class), name);
-    let short = is_dotted(class_short(class), name);
+    let full = is_dotted(class_full(class).as_bytes(), name.as_bytes());
+    let short = is_dotted(class_short(class).as_bytes(), name.as_bytes());
     listed && (full || short)
 }

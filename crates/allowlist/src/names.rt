@@ -14,15 +14,14 @@ pub(crate) fn is_called(member: &MemberType, name: &str, arity: u32) -> bool
 }
 
 /// Whether a class's name, with `.` for its `$`, is a name.
-pub(crate) fn is_dotted(class: &str, name: &str) -> bool
+pub(crate) fn is_dotted(class: &[u8], name: &[u8]) -> bool
     ensures { result ≡ bytes_eq (dotted class.now) name.now }
 {
-    let (whole, other) = (class.as_bytes(), name.as_bytes());
-    if whole.len() != other.len() {
+    if class.len() != name.len() {
         return false;
     }
-    for at in 0..whole.len() {
-        if spelled(whole[at]) != other[at] {
+    for at in 0..class.len() {
+        if spelled(class[at]) != name[at] {
             return false;
         }
     }

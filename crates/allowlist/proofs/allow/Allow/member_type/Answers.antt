@@ -13,5 +13,5 @@ index-requires c = omega (arith, c.self.inside.types.ok.0, ap length c.self.inva
 pub returns : goal.returns
 returns c =
     let read : c.index.result.now ≡ get_or catalogue c.args.member c.index.result.now =
-        c.index.ensures ∙ ap (λ (xs : List MemberType). get_or xs c.args.member c.index.result.now) c.self.invariant.2 in
+    c.index.ensures ∙ ap (λ (xs : List MemberType). get_or xs c.args.member c.index.result.now) c.self.invariant.2 in
     slice_get_read catalogue 228 c.args.member c.index.result.now (sym length-catalogue) c.requires read

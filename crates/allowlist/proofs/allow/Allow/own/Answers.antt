@@ -36,5 +36,5 @@ returns c =
     let high : c.loop-number.number ≤ start_of (c.args.class + 1) = omega (arith, c.start_of_class-end.ensures, c.start_of_class-first.ensures, c.loop-number.auto.number-end) in
     let end : c.loop-number.number ≡ start_of (c.args.class + 1) = omega arith in
     sym (c.loop-number.invariant
-      ∙ ap (λ n. first_member (asks c.args.self.now c.args.class c.args.name.now c.args.arity) n (drop n catalogue)) end
-      ∙ own_ends c.args.self.now c.args.class c.args.name.now c.args.arity c.if-class-ge-CLASS_COUNT.false)
+    ∙ ap (λ n. first_member (asks c.args.self.now c.args.class c.args.name.now c.args.arity) n (drop n catalogue)) end
+    ∙ own_ends c.args.self.now c.args.class c.args.name.now c.args.arity c.if-class-ge-CLASS_COUNT.false)
