@@ -1,3 +1,6 @@
 pub mod Tables
 pub mod Members
 pub mod Scans
+pub mod Spelling
+pub mod Splitting
+pub mod Unique

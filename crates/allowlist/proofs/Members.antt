@@ -10,6 +10,10 @@ use Rattle.pl_types.specs.Classes.{lineage_of, lineage_within, parents_of, class
 use Rattle.allowlist.specs.declared.member.MemberType.{MemberType}
 use Rattle.allowlist.specs.Catalogue.{catalogue, constructor}
 use Rattle.allowlist.specs.Allow.{first_member, start_of, own_member, AllowList, flag, has_name, is_called, or_else, first_along, member_of, iface_method_of, plain_member, functional_interfaces, first_class}
+use Rattle.allowlist.specs.Lines.{Form}
+use Rattle.allowlist.specs.Files.{declares, declared_member}
+use Rattle.std.specs.List.{slice_get}
+use Rattle.std.proofs.lemmas.Option.{slice_get_within, get_or_from_slice_get}
 use Rattle.allowlist.proofs.Tables.{length-catalogue}
 
 -- a member that does not pass is passed over
@@ -196,3 +200,26 @@ iface_past class h = ap (λ t. cond t (first_along plain_member (lineage_of clas
 -- the first class with a name
 pub first_class-no : (test : ℕ → Bool) (n k m : ℕ) → k ≡ suc m → test n ≡ false → first_class test n k ≡ first_class test (n + 1) m
 first_class-no test n k m e h = ap (first_class test n) e ∙ ap (λ b. cond b (Some n) (first_class test (n + 1) m)) h
+
+-- The member that a line declares.
+
+abbrev pub declared_test : ℕ → Form → ℕ → MemberType → Bool
+declared_test class form n m = eqb m.owner class && declares form m
+
+pub declared_begins : (class : ℕ) (form : Form) → declared_member class form ≡ first_member (declared_test class form) 0 (drop 0 catalogue)
+unfolding declared_member
+declared_begins class form = refl
+
+at_number : (class : ℕ) (form : Form) (n : ℕ) (m : MemberType) → slice_get catalogue n ≡ Some m → first_member (declared_test class form) n (drop n catalogue) ≡ first_member (declared_test class form) n (m ∷ drop (n + 1) catalogue)
+at_number class form n m e =
+    at_drop_more (first_member (declared_test class form) n) catalogue n m (slice_get_within catalogue n m e)
+    ∙ ap (λ x. first_member (declared_test class form) n (x ∷ drop (n + 1) catalogue)) (get_or_from_slice_get catalogue n m m e)
+
+pub declared_no : (class : ℕ) (form : Form) (n : ℕ) (m : MemberType) → slice_get catalogue n ≡ Some m → (eqb m.owner class && declares form m) ≡ false → first_member (declared_test class form) n (drop n catalogue) ≡ first_member (declared_test class form) (n + 1) (drop (n + 1) catalogue)
+declared_no class form n m e h = at_number class form n m e ∙ first_member-no (declared_test class form) n m (drop (n + 1) catalogue) h
+
+pub declared_yes : (class : ℕ) (form : Form) (n : ℕ) (m : MemberType) → slice_get catalogue n ≡ Some m → (eqb m.owner class && declares form m) ≡ true → first_member (declared_test class form) n (drop n catalogue) ≡ Some n
+declared_yes class form n m e h = at_number class form n m e ∙ first_member-yes (declared_test class form) n m (drop (n + 1) catalogue) h
+
+pub declared_ends : (class : ℕ) (form : Form) (n : ℕ) → 228 ≤ n → first_member (declared_test class form) n (drop n catalogue) ≡ None
+declared_ends class form n h = at_drop_all (first_member (declared_test class form) n) catalogue n (omega (arith, length-catalogue))

@@ -1,6 +1,7 @@
 -- Allowlist files.
 use Rattle.std.specs.Prelude.{◌==◌, ◌+◌, ◌-◌, ◌&&◌, ◌||◌, not, ℕ, zero, suc, Bool, true, false, List, [], ◌∷◌, Option, Some, None, Result, Ok, Err, if◌then◌else◌, is_some, nat_lt, length, codes}
 use Rattle.std.specs.Str.{bytes_eq}
+use Rattle.std.specs.List.{position_or_len}
 use Rattle.pl_types.specs.declared.primitive.Primitive.{Primitive}
 use Rattle.pl_types.specs.declared.primitive.Primitive.TheVariants as prim
 use Rattle.pl_types.specs.declared.ty.Ty.{Ty}
@@ -25,6 +26,10 @@ begins_line b (line ∷ lines) = (b ∷ line) ∷ lines
 abbrev pub lines_of : List ℕ → List (List ℕ)
 lines_of [] = []
 lines_of (b ∷ bs) = if b == 10 then [] ∷ lines_of bs else begins_line b (lines_of bs)
+
+-- how many bytes stand before the first newline
+abbrev pub line_len : List ℕ → ℕ
+line_len bytes = position_or_len (λ b. b == 10) bytes
 
 -- the word of a primitive
 abbrev pub primitive_word : Primitive → List ℕ

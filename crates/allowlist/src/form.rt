@@ -243,7 +243,7 @@ fn content_form<'a>(alloc: Global, text: &'a [u8]) -> Result<Option<Form<'a>>, A
 }
 
 /// How many bytes stand before the first of one kind.
-fn bytes_before(text: &[u8], byte: u8) -> usize
+pub(crate) fn bytes_before(text: &[u8], byte: u8) -> usize
     ensures value { result ≡ position_or_len (λ b. b == byte) text.now }
     ensures within { result ≤ length text.now }
 {

@@ -6,6 +6,8 @@ ghost use Rattle.allowlist.specs.declared.member.MemberType.{MemberType};
 ghost use Rattle.allowlist.specs.Catalogue.{catalogue};
 ghost use Rattle.allowlist.specs.Allow.{AllowList, own_member, member_of, or_else, first_along, flag};
 
+use pl_types::class_laws;
+
 /// The laws of the catalogue, and of what a list gives.
 pub fn catalogue_laws()
     // Two members of one class differ in their names or in their numbers of parameters.
@@ -17,4 +19,6 @@ pub fn catalogue_laws()
     // What is found is in the list, and is called so.
     ensures allowed { (allow : AllowList) (class : ℕ) (name : List ℕ) (arity number : ℕ) → member_of allow class name arity ≡ Some number
         → (flag allow.members number ≡ true) × ((m : MemberType) × (slice_get catalogue number ≡ Some m) × (m.name ≡ name) × (length m.params ≡ arity)) }
-{}
+{
+    class_laws();
+}

@@ -10,6 +10,7 @@ mod laws;
 mod lookup;
 mod member;
 mod names;
+mod reading;
 mod scan;
 mod table;
 
