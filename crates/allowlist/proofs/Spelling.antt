@@ -1,5 +1,5 @@
 -- Lists of types against lists of words.
-use Rattle.std.proofs.Common.{◌≡◌, ℕ, suc, Bool, true, false, ◌&&◌, List, [], ◌∷◌, length, map, refl, sym, ap, ◌∙◌, arith}
+use Rattle.std.proofs.Common.{◌≡◌, suc, Bool, true, false, ◌&&◌, List, [], ◌∷◌, length, refl, ap, ◌∙◌}
 use Rattle.pl_types.specs.declared.ty.Ty.{Ty}
 use Rattle.allowlist.specs.Lines.{TypeText}
 use Rattle.allowlist.specs.Files.{spells, spells_all}

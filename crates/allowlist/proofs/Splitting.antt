@@ -1,8 +1,6 @@
 -- The lines of a file, one after another.
-use Rattle.std.proofs.Common.{◌≡◌, ◌==◌, ℕ, zero, suc, ◌+◌, Bool, true, false, cond, not, eqb, List, [], ◌∷◌, length, take, drop, Result, Ok, Err, Option, Some, None, refl, sym, ap, ◌∙◌, ◌<◌, arith}
-use Rattle.std.proofs.lemmas.Bool.{ne_eqb, eqb-true, false≢true}
-use Rattle.std.specs.Prelude.{is_some}
-use Rattle.std.specs.List.{prefix_len}
+use Rattle.std.proofs.Common.{◌≡◌, ℕ, suc, ◌+◌, Bool, true, false, cond, not, eqb, List, [], ◌∷◌, length, take, drop, Result, Ok, Err, Option, refl, sym, ap, ◌∙◌, ◌<◌, arith}
+use Rattle.std.proofs.lemmas.Bool.{ne_eqb, false≢true}
 use Rattle.allowlist.specs.Allow.{AllowList}
 use Rattle.allowlist.specs.Files.{lines_of, begins_line, line_len, is_last, read_lines, after_line, line_result, Reading, Fault, Syntax, Unknown}
 use Rattle.allowlist.specs.declared.error.AllowErr.{AllowErr}

@@ -1,13 +1,11 @@
 -- What a list allows, and what is found in it.
-use Rattle.std.specs.Prelude.{◌≡◌, ◌==◌, ◌+◌, ◌&&◌, ◌||◌, not, ℕ, zero, suc, Bool, true, false, List, [], ◌∷◌, Option, Some, None, if◌then◌else◌, nat_lt, length, map, replicate, ◌++◌, slice_get, slice_index_or, slice_set, count_by}
+use Rattle.std.specs.Prelude.{◌==◌, ◌+◌, ◌&&◌, ◌||◌, not, ℕ, zero, suc, Bool, true, false, List, [], ◌∷◌, Option, Some, None, if◌then◌else◌, nat_lt, length, map, replicate, ◌++◌, slice_index_or, slice_set, count_by}
 use Rattle.std.specs.Str.{bytes_eq}
-use Rattle.pl_types.specs.declared.classes.TheConstants.{CLASS_COUNT, COMPARATOR, FUNCTION, BI_FUNCTION, UNARY_OPERATOR, BINARY_OPERATOR, PREDICATE, BI_PREDICATE, CONSUMER, BI_CONSUMER, OBJ_INT_CONSUMER, SUPPLIER, TO_INT_FUNCTION, TO_LONG_FUNCTION}
+use Rattle.pl_types.specs.declared.classes.TheConstants.{COMPARATOR, FUNCTION, BI_FUNCTION, UNARY_OPERATOR, BINARY_OPERATOR, PREDICATE, BI_PREDICATE, CONSUMER, BI_CONSUMER, OBJ_INT_CONSUMER, SUPPLIER, TO_INT_FUNCTION, TO_LONG_FUNCTION}
 use Rattle.pl_types.specs.Classes.{full_name, short_name, lineage_of, has}
 use Rattle.allowlist.specs.declared.member.MemberType.{MemberType}
-use Rattle.allowlist.specs.declared.member.MemberKind.{MemberKind}
-use Rattle.allowlist.specs.declared.member.MemberKind.TheVariants.{Constructor, Static, Instance, Field}
 use Rattle.allowlist.specs.declared.member.Origin.{Origin}
-use Rattle.allowlist.specs.declared.member.Origin.TheVariants.{Java, Augmented, Prelude, AugmentedPrelude}
+use Rattle.allowlist.specs.declared.member.Origin.TheVariants.{Prelude, AugmentedPrelude}
 use Rattle.allowlist.specs.Catalogue.{catalogue}
 
 -- A list: a flag for each class and a flag for each member, at their numbers.

@@ -1,5 +1,5 @@
 -- Allowlist files.
-use Rattle.std.specs.Prelude.{◌==◌, ◌+◌, ◌-◌, ◌&&◌, ◌||◌, not, ℕ, zero, suc, Bool, true, false, List, [], ◌∷◌, Option, Some, None, Result, Ok, Err, if◌then◌else◌, is_some, nat_lt, length, codes}
+use Rattle.std.specs.Prelude.{◌==◌, ◌+◌, ◌-◌, ◌&&◌, ◌||◌, not, ℕ, Bool, true, false, List, [], ◌∷◌, Option, Some, None, Result, Ok, Err, if◌then◌else◌, is_some, nat_lt, codes}
 use Rattle.std.specs.Str.{bytes_eq}
 use Rattle.std.specs.List.{position_or_len}
 use Rattle.pl_types.specs.declared.primitive.Primitive.{Primitive}
@@ -13,7 +13,7 @@ use Rattle.allowlist.specs.declared.member.MemberType.{MemberType}
 use Rattle.allowlist.specs.declared.member.MemberKind.{MemberKind}
 use Rattle.allowlist.specs.declared.member.MemberKind.TheVariants.{Constructor, Static, Instance, Field}
 use Rattle.allowlist.specs.declared.member.Origin.{Origin}
-use Rattle.allowlist.specs.declared.member.Origin.TheVariants.{Java, Augmented, Prelude, AugmentedPrelude}
+use Rattle.allowlist.specs.declared.member.Origin.TheVariants.{Augmented, AugmentedPrelude}
 use Rattle.allowlist.specs.Catalogue.{catalogue}
 use Rattle.allowlist.specs.Allow.{AllowList, empty_list, first_member, first_class, flag, with_flag, dotted}
 use Rattle.allowlist.specs.Lines.{Form, Blank, Opens, Imports, Closes, Makes, Calls, Has, TypeText, form_of}

@@ -35,13 +35,15 @@ pub record TypeText : Type 0 where
   pub word : List ℕ
   pub depth : ℕ
 
+-- what follows an opening square bracket, if one stands there
+abbrev pub closed_pair : (List ℕ → Option (ℕ × List ℕ)) → ℕ → List ℕ → Option (List ℕ) → Option (ℕ × List ℕ)
+closed_pair more depth s None = Some (depth, s)
+closed_pair more depth s (Some r) = mark_at 93 r >>= more
+
 -- how many pairs of square brackets follow, at most so many more than depth
 unfoldable pub brackets_at : ℕ → ℕ → List ℕ → Option (ℕ × List ℕ)
 brackets_at zero depth s = Some (depth, s)
-brackets_at (suc n) depth s = elim (mark_at 91 s) [
-  | None ↦ Some (depth, s)
-  | Some r ↦ mark_at 93 r >>= λ t. brackets_at n (depth + 1) t
-]
+brackets_at (suc n) depth s = closed_pair (brackets_at n (depth + 1)) depth s (mark_at 91 s)
 
 unfoldable pub type_at : List ℕ → Option (TypeText × List ℕ)
 type_at s = do
@@ -49,20 +51,23 @@ type_at s = do
   d ← brackets_at (length w.1) 0 w.1
   Some (record { word = w.0; depth = d.0 }, d.1)
 
+-- what follows a type: the closing bracket, or a comma and more types
+abbrev pub after_type : (List ℕ → Option (List TypeText × List ℕ)) → TypeText → List ℕ → Option (List ℕ) → Option (List TypeText × List ℕ)
+after_type more t s (Some r) = Some (t ∷ [], r)
+after_type more t s None = mark_at 44 s >>= more >>= λ ts. Some (t ∷ ts.0, ts.1)
+
 -- types with commas between, at most so many, and the closing bracket
 unfoldable pub types_at : ℕ → List ℕ → Option (List TypeText × List ℕ)
 types_at zero s = None
-types_at (suc n) s = type_at s >>= λ t. elim (mark_at 41 t.1) [
-  | Some r ↦ Some (t.0 ∷ [], r)
-  | None ↦ mark_at 44 t.1 >>= λ r. types_at n r >>= λ ts. Some (t.0 ∷ ts.0, ts.1)
-]
+types_at (suc n) s = type_at s >>= λ t. after_type (types_at n) t.0 t.1 (mark_at 41 t.1)
+
+abbrev pub some_types : List ℕ → Option (List ℕ) → Option (List TypeText × List ℕ)
+some_types s (Some r) = Some ([], r)
+some_types s None = types_at (length s) s
 
 -- the types in round brackets, after the opening one
 unfoldable pub params_at : List ℕ → Option (List TypeText × List ℕ)
-params_at s = elim (mark_at 41 s) [
-  | Some r ↦ Some ([], r)
-  | None ↦ types_at (length s) s
-]
+params_at s = some_types s (mark_at 41 s)
 
 -- What a line says.
 pub data Form : Type 0 where

@@ -1,5 +1,5 @@
 -- What the readers of a line give, without where it lies in memory.
-use Rattle.std.specs.Prelude.{ℕ, Bool, List, map}
+use Rattle.std.specs.Prelude.{ℕ, List, map}
 use Rattle.std.specs.Borrow.{Bor}
 use Rattle.allowlist.specs.declared.scan.TypeText.{TypeText}
 use Rattle.allowlist.specs.declared.form.Form.{Form}

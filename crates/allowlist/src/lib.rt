@@ -19,3 +19,6 @@ pub use error::AllowErr;
 pub use laws::catalogue_laws;
 pub use member::{MemberKind, MemberType, Origin};
 pub use table::MEMBER_COUNT;
+
+#[cfg(test)]
+mod tests;

@@ -1,6 +1,5 @@
-use Rattle.std.proofs.Common.{◌≡◌, ◌-◌, ◌+◌, ◌++◌, [], ◌∷◌, List, suc, length, map, Some, None, sym, ap, ◌∙◌, arith}
+use Rattle.std.proofs.Common.{◌≡◌, ◌-◌, ◌+◌, [], ◌∷◌, List, suc, length, map, Some, sym, ap, ◌∙◌, arith}
 use Rattle.std.proofs.lemmas.List.{map-append}
-use Rattle.allowlist.specs.declared.scan.TypeText.{TypeText}
 use Rattle.allowlist.specs.Lines as lines
 use Rattle.allowlist.specs.Seen.{seen_text}
 use Rattle.allowlist.proofs.Scans.{behind, behind_one, type_none, type_last, type_stop, type_more, no_types}

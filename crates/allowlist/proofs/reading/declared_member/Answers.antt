@@ -1,4 +1,4 @@
-use Rattle.std.proofs.Common.{◌≡◌, ◌≤◌, sym, ap, ◌∙◌, arith}
+use Rattle.std.proofs.Common.{sym, ◌∙◌}
 use Rattle.allowlist.specs.Seen.{seen_form}
 use Rattle.allowlist.proofs.Members.{declared_begins, declared_no, declared_yes, declared_ends}
 use Rattle.allowlist.proofs.reading.declared_member.Goals as goal

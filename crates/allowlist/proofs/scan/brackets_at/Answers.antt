@@ -1,6 +1,4 @@
-use Rattle.std.proofs.Common.{◌≡◌, ◌-◌, ◌+◌, suc, length, Some, None, sym, ap, ◌∙◌, arith}
-use Rattle.std.specs.Prelude.{option_map}
-use Rattle.allowlist.specs.Lines.{brackets_at}
+use Rattle.std.proofs.Common.{◌≡◌, ◌-◌, ◌+◌, suc, length, Some, sym, ap, ◌∙◌, arith}
 use Rattle.allowlist.proofs.Scans.{no_bracket, open_bracket, one_bracket, all_brackets}
 use Rattle.allowlist.proofs.scan.brackets_at.Goals as goal
 

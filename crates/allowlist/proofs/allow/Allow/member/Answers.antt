@@ -1,4 +1,4 @@
-use Rattle.std.proofs.Common.{sym, ap, ◌∙◌, arith}
+use Rattle.std.proofs.Common.{sym, ◌∙◌}
 use Rattle.allowlist.proofs.Members.{own_of, member_past, member_along, along_some, along_none, along_end}
 use Rattle.allowlist.proofs.allow.Allow.member.Goals as goal
 

@@ -1,7 +1,5 @@
-use Rattle.std.proofs.Common.{◌≡◌, ◌<◌, List, Some, length, get_or, sym, ap, ◌∙◌, arith}
-use Rattle.std.proofs.lemmas.List.{get_or_read}
+use Rattle.std.proofs.Common.{◌≡◌, List, length, get_or, sym, ap, ◌∙◌, arith}
 use Rattle.std.proofs.lemmas.Option.{slice_get_read}
-use Rattle.std.specs.List.{slice_get}
 use Rattle.allowlist.specs.declared.member.MemberType.{MemberType}
 use Rattle.allowlist.specs.Catalogue.{catalogue}
 use Rattle.allowlist.proofs.Tables.{length-catalogue}

@@ -1,7 +1,7 @@
-use Rattle.std.proofs.Common.{◌≡◌, ◌+◌, ℕ, Option, None, length, sym, ap, ◌∙◌, arith}
+use Rattle.std.proofs.Common.{ℕ, Option, None, length, sym, ap, ◌∙◌}
 use Rattle.std.proofs.lemmas.Bool.{eqb-true}
 use Rattle.allowlist.specs.Allow.{AllowList}
-use Rattle.allowlist.specs.Files.{Reading, lines_of, read_lines, allowlist_of}
+use Rattle.allowlist.specs.Files.{lines_of, read_lines, allowlist_of}
 use Rattle.allowlist.proofs.Splitting.{reads_step, reads_error, reads_end}
 use Rattle.allowlist.proofs.allow.Allow.read.Goals as goal
 

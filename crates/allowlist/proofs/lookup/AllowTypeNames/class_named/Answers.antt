@@ -1,4 +1,4 @@
-use Rattle.std.proofs.Common.{◌≡◌, ◌-◌, ◌+◌, suc, refl, sym, ap, ◌∙◌, arith}
+use Rattle.std.proofs.Common.{◌≡◌, ◌-◌, ◌+◌, suc, refl, sym, ◌∙◌, arith}
 use Rattle.allowlist.specs.Allow.{class_named_of, is_named}
 use Rattle.allowlist.proofs.Members.{first_class-no}
 use Rattle.allowlist.proofs.lookup.AllowTypeNames.class_named.Goals as goal
