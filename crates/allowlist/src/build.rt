@@ -3,10 +3,10 @@
 ghost use Rattle.std.specs.Prelude.{◌≡◌, ◌++◌, [], map, replicate, true, false, IfOk};
 ghost use Rattle.allowlist.specs.Catalogue.{catalogue};
 ghost use Rattle.allowlist.specs.Allow.{flags};
-ghost use Rattle.allowlist.specs.Rows.{seen_row, seen_type, seen_element};
+ghost use Rattle.allowlist.specs.Rows.{seen_row, seen_type, seen_element, seen_kind, seen_origin};
 
-use crate::member::MemberType;
-use crate::table::{Element, Row, TypeRow, rows};
+use crate::member::{MemberKind, MemberType, Origin};
+use crate::table::{Element, How, Row, TypeRow, rows};
 use pl_types::Ty;
 use plain_data::{Boxed, Items, Text};
 use std::alloc::{AllocError, Global};
@@ -41,36 +41,60 @@ fn members_of(alloc: Global, rows: &[Row]) -> Result<Vec<MemberType>, AllocError
 fn member_of(alloc: Global, row: &Row) -> Result<MemberType, AllocError>
     ensures { IfOk result (λ m. m ≡ seen_row row.now) }
 {
-    let name = Text::new(alloc, row.4)?;
-    let params = types_of(alloc, row.5)?;
-    let gives = type_of(alloc, row.3)?;
+    let name = Text::new(alloc, row.3)?;
+    let params = types_of(alloc, row.0, row.4)?;
+    let gives = type_of(alloc, row.0, row.2)?;
     Ok(MemberType {
         owner: row.0,
         name,
-        kind: row.1,
-        origin: row.2,
+        kind: kind_of(row.1),
+        origin: origin_of(row.1),
         params: Items::from_vec(params),
         result: gives,
     })
 }
 
-fn types_of(alloc: Global, rows: &[TypeRow]) -> Result<Vec<Ty>, AllocError>
-    ensures { IfOk result (λ v. v.items ≡ map seen_type rows.now) }
+fn kind_of(how: How) -> MemberKind
+    ensures { result ≡ seen_kind how }
+{
+    match how {
+        How::Makes => MemberKind::Constructor,
+        How::Field => MemberKind::Field,
+        How::Static | How::StaticPrelude => MemberKind::Static,
+        How::Instance | How::Added | How::Prelude | How::AddedPrelude => MemberKind::Instance,
+    }
+}
+
+fn origin_of(how: How) -> Origin
+    ensures { result ≡ seen_origin how }
+{
+    match how {
+        How::Makes | How::Field | How::Static | How::Instance => Origin::Java,
+        How::Added => Origin::Augmented,
+        How::Prelude | How::StaticPrelude => Origin::Prelude,
+        How::AddedPrelude => Origin::AugmentedPrelude,
+    }
+}
+
+fn types_of(alloc: Global, owner: u32, rows: &[TypeRow]) -> Result<Vec<Ty>, AllocError>
+    ensures { IfOk result (λ v. v.items ≡ map (seen_type owner) rows.now) }
 {
     let mut made = Vec::new(alloc);
     for row in rows {
-        made.push(type_of(alloc, *row)?)?;
+        made.push(type_of(alloc, owner, *row)?)?;
     }
     Ok(made)
 }
 
-fn type_of(alloc: Global, row: TypeRow) -> Result<Ty, AllocError>
-    ensures { IfOk result (λ t. t ≡ seen_type row) }
+/// A type in the row of a class.
+fn type_of(alloc: Global, owner: u32, row: TypeRow) -> Result<Ty, AllocError>
+    ensures { IfOk result (λ t. t ≡ seen_type owner row) }
 {
     match row {
         TypeRow::Void => Ok(Ty::Void),
         TypeRow::One(element) => Ok(element_type(element)),
         TypeRow::Array(element) => Ok(Ty::Array(Boxed::new(alloc, element_type(element))?)),
+        TypeRow::Owner => Ok(Ty::Class(owner)),
     }
 }
 
