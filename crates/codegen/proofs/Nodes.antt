@@ -7,7 +7,7 @@ use Rattle.machine.specs.declared.code.Operand.TheVariants.{Int}
 use Rattle.machine.specs.Machine.{to_line, on_division, act}
 use Rattle.pl_tree.specs.declared.typed.Operator.{Operator}
 use Rattle.pl_tree.specs.declared.typed.Operator.TheVariants.{Add, Subtract, Multiply, Divide, Remainder}
-use Rattle.pl_tree.specs.Tree.{Tree, Constant, Negated, Applied}
+use Rattle.pl_tree.specs.TypedTree.{Tree, Constant, Negated, Applied}
 use Rattle.source_meaning.specs.Meaning.{divided, applied, tree_meaning}
 use Rattle.codegen.specs.Lines.{operation}
 use Rattle.codegen.proofs.Places.{end_of, TreeAt}

@@ -3,7 +3,7 @@ use Rattle.std.proofs.Common.{◌≡◌, ℕ, suc, ◌<◌, List, [], ◌∷◌,
 use Rattle.std.specs.Prelude.{slice_get}
 use Rattle.machine.specs.declared.code.Instruction.{Instruction}
 use Rattle.machine.specs.declared.code.Instruction.TheVariants.{ConstantI, NegI, BoxInt, Ret}
-use Rattle.pl_tree.specs.Tree.{Tree, Constant, Negated, Applied}
+use Rattle.pl_tree.specs.TypedTree.{Tree, Constant, Negated, Applied}
 use Rattle.codegen.specs.Lines.{operation, tree_lines, code_lines}
 
 -- the line after a tree's last, where its first is p

@@ -8,7 +8,7 @@ use Rattle.machine.specs.declared.code.Slot.TheVariants.{I, R}
 use Rattle.machine.specs.Shape.{Leaves, effect_of, passed_on, left_by, shape_at, EffectFits, InstructionFits, LineFits, IsWellShaped}
 use Rattle.pl_tree.specs.declared.typed.Operator.{Operator}
 use Rattle.pl_tree.specs.declared.typed.Operator.TheVariants.{Add, Subtract, Multiply, Divide, Remainder}
-use Rattle.pl_tree.specs.Tree.{Tree, Constant, Negated, Applied}
+use Rattle.pl_tree.specs.TypedTree.{Tree, Constant, Negated, Applied}
 use Rattle.codegen.specs.Lines.{operation, code_lines}
 use Rattle.codegen.proofs.Places.{end_of, At, TreeAt, CodeAt, grows, whole_stands}
 

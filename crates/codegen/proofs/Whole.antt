@@ -6,7 +6,7 @@ use Rattle.machine.specs.declared.step.Configuration.{Configuration}
 use Rattle.machine.specs.Machine.{Next, Goes, Ends, Stuck, to_line, start, step_of, after, Goes_on}
 use Rattle.script_end.specs.declared.end.End.{End}
 use Rattle.script_end.specs.declared.end.End.TheVariants.{Value, Thrown}
-use Rattle.pl_tree.specs.Tree.{Tree}
+use Rattle.pl_tree.specs.TypedTree.{Tree}
 use Rattle.source_meaning.specs.Meaning.{tree_meaning}
 use Rattle.codegen.specs.Correct.{EndsIn}
 use Rattle.codegen.specs.Lines.{code_lines}

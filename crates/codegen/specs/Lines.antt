@@ -4,7 +4,7 @@ use Rattle.machine.specs.declared.code.Instruction.{Instruction}
 use Rattle.machine.specs.declared.code.Instruction.TheVariants.{ConstantI, AddI, SubI, MulI, DivI, RemI, NegI, BoxInt, Ret}
 use Rattle.pl_tree.specs.declared.typed.Operator.{Operator}
 use Rattle.pl_tree.specs.declared.typed.Operator.TheVariants.{Add, Subtract, Multiply, Divide, Remainder}
-use Rattle.pl_tree.specs.Tree.{Tree, Constant, Negated, Applied}
+use Rattle.pl_tree.specs.TypedTree.{Tree, Constant, Negated, Applied}
 
 abbrev pub operation : Operator → Instruction
 operation Add = AddI

@@ -2,7 +2,7 @@ ghost use Rattle.std.specs.Prelude.{◌≡◌, ◌++◌, IfOk, OnOk};
 ghost use Rattle.codegen.specs.Correct.{EndsIn};
 ghost use Rattle.codegen.specs.Lines.{operation, tree_lines, code_lines};
 ghost use Rattle.machine.specs.Shape.{IsWellShaped};
-ghost use Rattle.pl_tree.specs.Tree.{tree_of};
+ghost use Rattle.pl_tree.specs.TypedTree.{tree_of};
 ghost use Rattle.source_meaning.specs.Meaning.{meaning_of};
 
 use machine::{Code, Instruction};

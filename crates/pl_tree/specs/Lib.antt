@@ -1,1 +1,1 @@
-pub mod Tree
+pub mod TypedTree

@@ -5,7 +5,7 @@ use Rattle.int_arith.specs.Arithmetic.{sum_of, difference_of, product_of, quotie
 use Rattle.pl_tree.specs.declared.typed.Operator.{Operator}
 use Rattle.pl_tree.specs.declared.typed.Operator.TheVariants.{Add, Subtract, Multiply, Divide, Remainder}
 use Rattle.pl_tree.specs.declared.typed.Typed.{Typed}
-use Rattle.pl_tree.specs.Tree.{Tree, Constant, Negated, Applied, tree_of}
+use Rattle.pl_tree.specs.TypedTree.{Tree, Constant, Negated, Applied, tree_of}
 use Rattle.script_end.specs.declared.end.End.{End}
 use Rattle.script_end.specs.declared.end.End.TheVariants.{Value, Thrown}
 use Rattle.script_end.specs.declared.end.Exception.TheVariants.{DivisionByZero}

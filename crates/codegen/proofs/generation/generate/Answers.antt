@@ -2,7 +2,7 @@ use Rattle.std.proofs.Common.{sym, subst, List}
 use Rattle.std.proofs.lemmas.Result.{IfOk-weaker}
 use Rattle.machine.specs.declared.code.Instruction.{Instruction}
 use Rattle.machine.specs.Shape.{IsWellShaped}
-use Rattle.pl_tree.specs.Tree.{tree_of}
+use Rattle.pl_tree.specs.TypedTree.{tree_of}
 use Rattle.source_meaning.specs.Meaning.{meaning_of}
 use Rattle.codegen.specs.Correct.{EndsIn}
 use Rattle.codegen.proofs.Shaped.{well_shaped}
