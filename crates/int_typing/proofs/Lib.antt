@@ -1,0 +1,4 @@
+pub mod Values
+pub mod Firsts
+pub mod Refusals
+pub mod Shapes

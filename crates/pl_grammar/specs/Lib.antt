@@ -1,0 +1,9 @@
+pub mod Lexeme
+pub mod Ahead
+pub mod Making
+pub mod Grammar
+pub mod Derives
+pub mod Reading
+pub mod Nesting
+pub mod Parses
+pub mod Laws

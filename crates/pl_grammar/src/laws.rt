@@ -1,0 +1,17 @@
+//! What holds of the grammar, whatever the tokens.
+
+ghost use Rattle.pl_grammar.specs.Laws.{Sound, Complete, Exact, Ends, Unique};
+
+/// What holds of the grammar and of the function that reads by it. It runs nothing.
+pub fn grammar_laws()
+    // What is read derives.
+    ensures sound { Sound }
+    // What derives is read.
+    ensures complete { Complete }
+    // Where reading stops, no script goes on.
+    ensures exact { Exact }
+    // Reading never runs out of levels.
+    ensures ends { Ends }
+    // The tokens of a text have at most one reading.
+    ensures unique { Unique }
+{}

@@ -1,0 +1,21 @@
+//! The grammar of the whole language, as data: its productions, what they derive and begin, how it is read, and how deep
+//! brackets may nest. The parser's functions read by it.
+#![tactic(auto)]
+
+mod ahead;
+mod laws;
+mod level;
+mod nesting;
+mod parts;
+mod stop;
+mod terminal;
+
+pub use ahead::{Seen, is_final, look, sees};
+pub use laws::grammar_laws;
+pub use level::{Level, Looser, sign_of, tighter};
+pub use nesting::nesting_fault;
+pub use parts::{
+    Contents, ElvisRest, ExprRest, ForRest, Member, More, New, Operation, Placed, Suffix, Three,
+};
+pub use stop::Stop;
+pub use terminal::{Terminal, matches, terminal_of};

@@ -1,0 +1,107 @@
+//! Parts of trees, as they are read.
+
+use pl_tree::{Access, Argument, BinaryOperator, Body, Entry, Expr, First, Spelled, TypeName};
+use plain_data::Items;
+
+/// An expression, and where its first token begins.
+#[derive(Drop)]
+pub struct Placed {
+    pub start: u32,
+    pub expr: Expr,
+}
+
+/// What follows the left operand of a binary operator.
+#[derive(Drop)]
+pub enum Operation {
+    /// The operator, its place and the right operand.
+    Binary(BinaryOperator, u32, Expr),
+    /// The place of `instanceof`, and the type.
+    Test(u32, TypeName),
+}
+
+/// What makes an expression a conditional or an assignment.
+#[derive(Drop)]
+pub enum ExprRest {
+    /// The place of `?`, and the two sides.
+    Conditional(u32, Expr, Expr),
+    /// The operator that is applied, the place of the assignment's, and the value.
+    Assign(Option<BinaryOperator>, u32, Expr),
+}
+
+/// `?:` and its right side.
+#[derive(Drop)]
+pub struct ElvisRest {
+    pub at: u32,
+    pub right: Expr,
+}
+
+/// What takes a part of the expression before it.
+#[derive(Drop)]
+pub enum Suffix {
+    /// The member's place and name.
+    Member(Access, u32, plain_data::Text),
+    /// The member's place, name and arguments.
+    Method(Access, u32, plain_data::Text, Items<Argument>),
+    /// The number's place and spelling.
+    Element(Access, u32, plain_data::Text),
+    /// The place of `[`, and the index.
+    Index(u32, Expr),
+}
+
+/// What follows a dot.
+#[derive(Drop)]
+pub enum Member {
+    /// A name, and what it is called with, if it is.
+    Named(Spelled, Option<Items<Argument>>),
+    Numbered(Spelled),
+}
+
+/// What follows `new` and a type.
+#[derive(Drop)]
+pub enum New {
+    /// Where each `[` of the type's `[]` stands, and the arguments.
+    Object(Items<u32>, Items<Argument>),
+    /// The sizes of an array.
+    Sized(Items<Expr>),
+    /// The items of an array.
+    Filled(Items<Expr>),
+}
+
+/// What stands in the brackets of a list or a map that is not the empty list.
+#[derive(Drop)]
+pub enum Contents {
+    /// A `:` alone.
+    NoEntries,
+    Filled(Expr, Option<More>),
+}
+
+/// What follows the first expression there.
+#[derive(Drop)]
+pub enum More {
+    Items(Items<Expr>),
+    /// The first value, and the further entries.
+    Entries(Expr, Items<Entry>),
+}
+
+/// What follows the first part of a `for`.
+#[derive(Drop)]
+pub struct Three {
+    pub condition: Option<Expr>,
+    pub update: Option<Expr>,
+    pub body: Option<Body>,
+}
+
+/// What follows the condition of a `for`.
+#[derive(Drop)]
+pub struct Tail {
+    pub update: Option<Expr>,
+    pub body: Option<Body>,
+}
+
+/// What follows `for (`.
+#[derive(Drop)]
+pub enum ForRest {
+    Three(Option<First>, Three),
+    Each(TypeName, Spelled, Expr, Body),
+    In(Spelled, Expr, Body),
+}
