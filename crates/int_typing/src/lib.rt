@@ -5,4 +5,4 @@
 mod literal;
 mod typing;
 
-pub use typing::{typed, typed_script};
+pub use typing::{negated_literal, plain_literal, typed, typed_script};

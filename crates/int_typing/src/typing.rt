@@ -48,7 +48,9 @@ fn out_of_range(at: u32) -> Fail
 }
 
 /// The typed literal that is spelled so.
-fn plain_literal(at: u32, spelling: &str) -> Result<Typed, Fail>
+///
+/// LiteralRange (18): it is 2,147,483,648 or more. OutOfProfile (19): it is a long.
+pub fn plain_literal(at: u32, spelling: &str) -> Result<Typed, Fail>
     ensures { Answers (λ t. t) result (λ a. a ≡ (literal at spelling.now).plain) }
 {
     if is_long(spelling.as_bytes()) {
@@ -67,7 +69,9 @@ fn plain_literal(at: u32, spelling: &str) -> Result<Typed, Fail>
 }
 
 /// The typed literal that is spelled so, with the minus before it.
-fn negated_literal(at: u32, spelling: &str) -> Result<Typed, Fail>
+///
+/// LiteralRange (18): it is more than 2,147,483,648. OutOfProfile (19): it is a long.
+pub fn negated_literal(at: u32, spelling: &str) -> Result<Typed, Fail>
     ensures { Answers (λ t. t) result (λ a. a ≡ (literal at spelling.now).negated) }
 {
     if is_long(spelling.as_bytes()) {

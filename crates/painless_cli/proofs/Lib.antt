@@ -1,4 +1,3 @@
-pub mod Decimals
 pub mod Delivered
 pub mod Once
 pub mod Placed

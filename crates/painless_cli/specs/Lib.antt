@@ -1,4 +1,3 @@
-pub mod Rules
 pub mod Typing
 pub mod Script
 pub mod Reply

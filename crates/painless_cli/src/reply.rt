@@ -1,14 +1,13 @@
 //! The lines that a run writes.
 
 ghost use Rattle.std.specs.Prelude.{◌≡◌, ℕ, ◌≤◌, List, IfOk, length, string_bytes, codes};
-ghost use Rattle.painless_cli.specs.Reply.{division_line, refusal_line, value_line};
-ghost use Rattle.painless_cli.specs.Rules.{IsRule};
+ghost use Rattle.painless_cli.specs.Reply.{division_line, name_of, refusal_line, value_line};
 ghost use Rattle.painless_cli.specs.Whole.{TellsScript, Told, told_of, file_limit};
 ghost use Rattle.painless_cli.specs.Told.{told_by};
 
 use crate::script::run_script;
 use crate::status::Status;
-use pl_types::{Fail, Refusal, name_of_rule};
+use pl_types::{Fail, Refusal, name_of_rule, rules};
 use script_end::{End, Exception};
 use std::alloc::{AllocError, Global};
 
@@ -36,12 +35,22 @@ fn division_line(alloc: Global) -> Result<String, AllocError>
     )
 }
 
+/// The name of the rule of a number, if it is a rule's.
+fn name_of(number: u8) -> &'static str
+    ensures { result.now ≡ name_of number }
+{
+    if 1 <= number && number <= rules::RULE_COUNT {
+        name_of_rule(number)
+    } else {
+        ""
+    }
+}
+
 /// The line of a refused script.
 fn refusal_line(alloc: Global, refusal: Refusal) -> Result<String, AllocError>
-    requires { IsRule refusal.number }
     ensures { IfOk result (λ line. string_bytes line ≡ refusal_line refusal) }
 {
-    let name = name_of_rule(refusal.number);
+    let name = name_of(refusal.number);
     let number = refusal.number;
     let offset = refusal.offset;
     format!(in alloc;
@@ -67,7 +76,6 @@ fn reply_to(alloc: Global, end: End) -> Result<Answer, AllocError>
 
 /// The answer to a script that is refused.
 fn answer_to_refused(alloc: Global, refusal: Refusal) -> Result<Answer, AllocError>
-    requires { IsRule refusal.number }
     ensures { IfOk result (λ answer. told_by answer ≡ told_of (Err refusal)) }
 {
     Ok(Answer {

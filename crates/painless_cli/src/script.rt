@@ -4,7 +4,6 @@ ghost use Rattle.std.specs.Prelude.{◌≡◌, ℕ, ◌≤◌, ◌^◌, List, Re
 ghost use Rattle.pl_types.specs.Answers.{Answers};
 ghost use Rattle.pl_types.specs.declared.refusal.Refusal.{Refusal};
 ghost use Rattle.script_end.specs.declared.end.End.{End};
-ghost use Rattle.painless_cli.specs.Rules.{NamesRule};
 ghost use Rattle.painless_cli.specs.Script.{Decodes, Means, MeansText, MeansTokens, MeansTree};
 ghost use Rattle.pl_parser.specs.Lexeme.{AllLieIn};
 ghost use Rattle.painless_cli.specs.Whole.{file_limit};
@@ -21,8 +20,7 @@ use std::alloc::Global;
 struct NoClasses;
 
 impl TypeNames for NoClasses {
-    ghost use Rattle.painless_cli.specs.Rules.{NamesRule};
-    ghost use Rattle.painless_cli.specs.Script.{no_classes};
+        ghost use Rattle.painless_cli.specs.Script.{no_classes};
 
     ghost class_of = { λ _. no_classes };
 
@@ -36,7 +34,6 @@ fn decode(bytes: &[u8]) -> Result<&str, Fail>
     requires { length bytes.now ≤ file_limit }
     ensures exact { Answers (λ text. text.now) result (Decodes bytes.now) }
     ensures only { (reading : Result (List ℕ) Refusal) → Decodes bytes.now reading → Answers (λ text. text.now) result (λ a. a ≡ reading) }
-    ensures rule { NamesRule result }
 {
     match str::from_utf8(bytes) {
         Ok(text) => Ok(text),
@@ -51,7 +48,6 @@ fn decode(bytes: &[u8]) -> Result<&str, Fail>
 fn run_tree(alloc: Global, tree: &Expr) -> Result<End, Fail>
     ensures exact { Answers (λ end. end) result (MeansTree tree.now) }
     ensures only { (reading : Result End Refusal) → MeansTree tree.now reading → Answers (λ end. end) result (λ a. a ≡ reading) }
-    ensures rule { NamesRule result }
 {
     let typed = typed(alloc, tree)?;
     let outcome = run_typed(alloc, &typed)?;
@@ -64,7 +60,6 @@ fn run_tokens(alloc: Global, text: &str, tokens: &[Token]) -> Result<End, Fail>
     requires placed { AllLieIn text.now tokens.now }
     ensures exact { Answers (λ end. end) result (MeansTokens text.now tokens.now) }
     ensures only { (reading : Result End Refusal) → MeansTokens text.now tokens.now reading → Answers (λ end. end) result (λ a. a ≡ reading) }
-    ensures rule { NamesRule result }
 {
     let tree = parse(alloc, text, tokens)?;
     run_tree(alloc, &tree)
@@ -75,7 +70,6 @@ fn run_text(alloc: Global, text: &str) -> Result<End, Fail>
     requires { length text.now ≤ file_limit }
     ensures exact { Answers (λ end. end) result (MeansText text.now) }
     ensures only { (reading : Result End Refusal) → MeansText text.now reading → Answers (λ end. end) result (λ a. a ≡ reading) }
-    ensures rule { NamesRule result }
 {
     let tokens = lex(alloc, text, &NoClasses)?;
     run_tokens(alloc, text, tokens.as_slice())
@@ -86,7 +80,6 @@ pub fn run_script(alloc: Global, script: &[u8]) -> Result<End, Fail>
     requires { length script.now ≤ file_limit }
     ensures exact { Answers (λ end. end) result (Means script.now) }
     ensures only { (reading : Result End Refusal) → Means script.now reading → Answers (λ end. end) result (λ a. a ≡ reading) }
-    ensures rule { NamesRule result }
 {
     let text = decode(script)?;
     run_text(alloc, text)

@@ -61,6 +61,8 @@ fn scripts(rt: HostRuntime) -> Result<(), Fail> {
         ("1--1", "{\"result\":2}\n", Status::Done),
         ("\t1\r\n+ 1 ", "{\"result\":2}\n", Status::Done),
         ("65536 * 65536", "{\"result\":0}\n", Status::Done),
+        ("0x1F + 010", "{\"result\":39}\n", Status::Done),
+        ("-0X80000000", "{\"result\":-2147483648}\n", Status::Done),
         (
             "100 / 5 / 2 * 3 % 4 - 1 + 2",
             "{\"result\":3}\n",
@@ -120,6 +122,11 @@ fn refusals(rt: HostRuntime) -> Result<(), Fail> {
         // A fault of the tokens is told before one of the grammar, and that before a literal's.
         ("1 + # + 2147483648", "BadToken", 1, 4),
         ("2147483648 +", "Syntax", 2, 12),
+        ("1 + /* 2", "BadToken", 1, 4),
+        ("0x80000000", "LiteralRange", 18, 0),
+        ("1.5", "OutOfProfile", 19, 0),
+        ("1 + 1L", "OutOfProfile", 19, 4),
+        ("-99999999999L", "OutOfProfile", 19, 1),
     ] {
         let answer = eval(alloc, script.as_bytes())?;
         let line = refused(alloc, name, number, offset)?;
