@@ -20,7 +20,7 @@ use std::alloc::Global;
 struct NoClasses;
 
 impl TypeNames for NoClasses {
-        ghost use Rattle.painless_cli.specs.Script.{no_classes};
+    ghost use Rattle.painless_cli.specs.Script.{no_classes};
 
     ghost class_of = { λ _. no_classes };
 

@@ -58,7 +58,7 @@ fn scripts(rt: HostRuntime) -> Result<(), Fail> {
         ("-7 % 2", "{\"result\":-1}\n", Status::Done),
         ("2 * (3 + 4)", "{\"result\":14}\n", Status::Done),
         ("- -1", "{\"result\":1}\n", Status::Done),
-        ("1--1", "{\"result\":2}\n", Status::Done),
+        ("1- -1", "{\"result\":2}\n", Status::Done),
         ("\t1\r\n+ 1 ", "{\"result\":2}\n", Status::Done),
         ("65536 * 65536", "{\"result\":0}\n", Status::Done),
         ("0x1F + 010", "{\"result\":39}\n", Status::Done),
@@ -114,6 +114,8 @@ fn refusals(rt: HostRuntime) -> Result<(), Fail> {
         ("1)", "Syntax", 2, 1),
         ("()", "Syntax", 2, 1),
         ("1 +* 2", "Syntax", 2, 3),
+        // `--` is one token.
+        ("1--1", "Syntax", 2, 1),
         ("2147483648", "LiteralRange", 18, 0),
         ("1 + 99999999999999999999", "LiteralRange", 18, 4),
         ("-(2147483648)", "LiteralRange", 18, 2),
