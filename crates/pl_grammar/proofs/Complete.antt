@@ -8,7 +8,8 @@ use Rattle.pl_grammar.specs.Ahead.{seen}
 use Rattle.pl_grammar.specs.Grammar.{Form, TreeOf, Symbol, token, phrase, repeated, optional, SymbolTree, Trees, Production, symbols, built, first, absent, scan, allowed}
 use Rattle.pl_grammar.specs.Reading.{Outcome, Reader, and_then, choice, read_token, read_repeated, read_optional, read_symbol, read_symbols, read_production, read_form}
 use Rattle.pl_grammar.specs.Derives.{Sequence, DerivesSymbol, DerivesSymbols, Derives}
-use Rattle.pl_grammar.proofs.Certificates.{heads, is_led, led, chosen, absent_begins}
+use Rattle.pl_grammar.proofs.Certificates.{heads, is_led, led, chosen}
+use Rattle.pl_grammar.proofs.Fitting.{absent_begins}
 use Rattle.pl_grammar.proofs.Settled.{sure, fits_of}
 use Rattle.pl_grammar.proofs.Sound.{Relation, Leads, leads, first_symbol}
 

@@ -8,7 +8,8 @@ use Rattle.pl_grammar.specs.Lexeme.{Lexeme, Take, Taken, taken, matches, class_o
 use Rattle.pl_grammar.specs.Ahead.{seen}
 use Rattle.pl_grammar.specs.Grammar.{Form, TreeOf, Symbol, token, phrase, repeated, optional, SymbolTree, symbols, built, first, absent, scan}
 use Rattle.pl_grammar.specs.Reading.{Outcome, Reader, and_then, choice, read_token, read_repeated, read_optional, read_symbol, read_symbols, read_form}
-use Rattle.pl_grammar.proofs.Certificates.{is_led, led, rank, IsLow, ranked, rank_below}
+use Rattle.pl_grammar.proofs.Certificates.{is_led, led}
+use Rattle.pl_grammar.proofs.Ranks.{rank, IsLow, ranked, rank_below}
 use Rattle.pl_grammar.proofs.Sound.{leads, form_sound, which, ok_is}
 use Rattle.pl_grammar.proofs.Reach.{Reaches, form_within, symbol_within}
 

@@ -1,5 +1,8 @@
 pub mod Lexemes
 pub mod Certificates
+pub mod Fitting
+pub mod LookAhead
+pub mod Ranks
 pub mod Scan
 pub mod Walks
 pub mod Told

@@ -8,7 +8,8 @@ use Rattle.pl_grammar.specs.Ahead.{seen}
 use Rattle.pl_grammar.specs.Grammar.{Form, TreeOf, Symbol, token, phrase, repeated, optional, SymbolTree, Trees, symbols, built, first, absent, scan, fits}
 use Rattle.pl_grammar.specs.Reading.{Outcome, Reader, and_then, choice, read_token, read_repeated, read_optional, read_symbol, read_symbols, read_form}
 use Rattle.pl_grammar.specs.Derives.{Sequence, DerivesSymbol, DerivesSymbols, Derives, BeginsSymbol, BeginsSymbols, Begins}
-use Rattle.pl_grammar.proofs.Certificates.{heads, chosen_heads}
+use Rattle.pl_grammar.proofs.Certificates.{heads}
+use Rattle.pl_grammar.proofs.Fitting.{chosen_heads}
 use Rattle.pl_grammar.proofs.Settled.{fits_of}
 use Rattle.pl_grammar.proofs.Heads.{form_first}
 use Rattle.pl_grammar.proofs.Forward.{goes_on}

@@ -9,7 +9,9 @@ use Rattle.pl_grammar.specs.Ahead.{seen}
 use Rattle.pl_grammar.specs.Grammar.{Form, TreeOf, Symbol, token, phrase, repeated, optional, SymbolTree, Trees, symbols, built, first, absent, scan, allowed}
 use Rattle.pl_grammar.specs.Reading.{Outcome, Reader, and_then, choice, read_token, read_repeated, read_optional, read_symbol, read_symbols, read_form}
 use Rattle.pl_grammar.specs.Derives.{DerivesSymbol, DerivesSymbols, Derives}
-use Rattle.pl_grammar.proofs.Certificates.{heads, is_led, led, begun, chosen_fits, fits_allowed, end_begins}
+use Rattle.pl_grammar.proofs.Certificates.{heads, is_led, led, begun}
+use Rattle.pl_grammar.proofs.Fitting.{chosen_fits, end_begins}
+use Rattle.pl_grammar.proofs.LookAhead.{fits_allowed}
 
 abbrev pub Relation : Type 1
 Relation = (f : Form) → TreeOf f → List Lexeme → List Lexeme → Type 0

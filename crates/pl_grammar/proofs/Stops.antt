@@ -9,7 +9,8 @@ use Rattle.pl_grammar.specs.Ahead.{seen, is_final}
 use Rattle.pl_grammar.specs.Grammar.{Form, TreeOf, Symbol, token, phrase, repeated, optional, SymbolTree, Trees, Production, symbols, built, first, absent, scan, allowed, fits}
 use Rattle.pl_grammar.specs.Reading.{Outcome, Reader, and_then, choice, read_token, read_repeated, read_optional, read_symbol, read_symbols, read_form}
 use Rattle.pl_grammar.specs.Derives.{Sequence, DerivesSymbol, DerivesSymbols, Derives, BeginsSymbol, BeginsSymbols, Begins}
-use Rattle.pl_grammar.proofs.Certificates.{led, chosen_fits, end_begins, end_absent}
+use Rattle.pl_grammar.proofs.Certificates.{led}
+use Rattle.pl_grammar.proofs.Fitting.{chosen_fits, end_begins, end_absent}
 use Rattle.pl_grammar.proofs.Scan.{seen_more, allowed_cut, fits_cut}
 use Rattle.pl_grammar.proofs.Settled.{firm}
 use Rattle.pl_grammar.proofs.Sound.{Relation, Leads, leads, first_symbol, which, Took, symbol_sound, form_sound}
