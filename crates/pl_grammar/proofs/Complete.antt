@@ -5,7 +5,8 @@ use Rattle.pl_grammar.specs.declared.terminal.Terminal.{Terminal}
 use Rattle.pl_grammar.specs.declared.stop.Stop.TheVariants.{Unexpected, TooDeep}
 use Rattle.pl_grammar.specs.Lexeme.{Lexeme, Take, Taken, class_of, next}
 use Rattle.pl_grammar.specs.Ahead.{seen}
-use Rattle.pl_grammar.specs.Grammar.{Form, TreeOf, Symbol, token, phrase, repeated, optional, SymbolTree, Trees, Production, symbols, built, first, absent, scan, allowed}
+use Rattle.pl_grammar.specs.Grammar.{Form, TreeOf, Symbol, token, phrase, repeated, optional, SymbolTree, Trees, Production, symbols, built}
+use Rattle.pl_grammar.specs.Firsts.{first, absent, scan, allowed}
 use Rattle.pl_grammar.specs.Reading.{Outcome, Reader, and_then, choice, read_token, read_repeated, read_optional, read_symbol, read_symbols, read_production, read_form}
 use Rattle.pl_grammar.specs.Derives.{Sequence, DerivesSymbol, DerivesSymbols, Derives}
 use Rattle.pl_grammar.proofs.Certificates.{heads, is_led, led, chosen}

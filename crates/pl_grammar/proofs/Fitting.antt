@@ -8,7 +8,8 @@ use Rattle.pl_grammar.specs.declared.level.Looser.TheVariants as lo
 use Rattle.pl_grammar.specs.declared.ahead.Seen.{Seen}
 use Rattle.pl_grammar.specs.declared.ahead.Seen.TheVariants as s
 use Rattle.pl_grammar.specs.Lexeme.{same_terminal, matches}
-use Rattle.pl_grammar.specs.Grammar.{Form, top, function, formals, formal, type, cast_type, pair, block, statement, inner, last, separator, opening, otherwise, run, for_rest, three, for_tail, for_first, handler, closing, decl, var, init, body, expr, expr_rest, elvis, elvis_rest, unary, step, chain, element, new_rest, after_bracket, array_rest, size, primary, contents, more, entry, items, item, postfix, dot, member, args, arguments, arg, ref_name, params, param, lambda_body, binary, operation, comma, each_in, reference, symbols, first, absent, fits, sign_at, is_declared, is_lambda, is_reference, is_listed, is_function, is_each, is_in, is_cast}
+use Rattle.pl_grammar.specs.Grammar.{Form, top, function, formals, formal, type, cast_type, pair, block, statement, inner, last, separator, opening, otherwise, run, for_rest, three, for_tail, for_first, handler, closing, decl, var, init, body, expr, expr_rest, elvis, elvis_rest, unary, step, chain, element, new_rest, after_bracket, array_rest, size, primary, contents, more, entry, items, item, postfix, dot, member, args, arguments, arg, ref_name, params, param, lambda_body, binary, operation, comma, each_in, reference, symbols, sign_at}
+use Rattle.pl_grammar.specs.Firsts.{first, absent, fits, is_declared, is_lambda, is_reference, is_listed, is_function, is_each, is_in, is_cast}
 use Rattle.pl_grammar.specs.Reading.{choice, top_by, rest_by, first_by, closing_by, argument_by, listed_by, param_by, cast_by}
 use Rattle.pl_grammar.proofs.Certificates.{chosen, heads, not_true}
 

@@ -6,7 +6,8 @@ use Rattle.pl_grammar.specs.declared.ahead.Seen.{Seen}
 use Rattle.pl_grammar.specs.declared.ahead.Seen.TheVariants as s
 use Rattle.pl_grammar.specs.Lexeme.{Lexeme, mark, text, same_terminal, class_of, next}
 use Rattle.pl_grammar.specs.Ahead.{sees, seen, is_final}
-use Rattle.pl_grammar.specs.Grammar.{Form, top, function, formals, formal, type, cast_type, pair, block, statement, inner, last, separator, opening, otherwise, run, for_rest, three, for_tail, for_first, handler, closing, decl, var, init, body, expr, expr_rest, elvis, elvis_rest, unary, step, chain, element, new_rest, after_bracket, array_rest, size, primary, contents, more, entry, items, item, postfix, dot, member, args, arguments, arg, ref_name, params, param, lambda_body, binary, operation, comma, Symbol, token, phrase, repeated, optional, Production, functions, statements, function_of, formal_list, formal_of, name_type, known_type, cast_type_of, square, braces, opens, closes, inner_opens, inner_closes, last_semicolon, semicolon, conditional, looped, for_loop, tried, alternative, runs, idle, three_empty, three_first, each_of, each_in, three_parts, tail_parts, declares, expresses, catches, do_loop, declared, jump, returned, thrown, value, declaration, variable, assigned, block_body, statement_body, expression, conditional_rest, assign_rest, compound_rest, elvises, elvis_of, prefix, signed, negated, cast, plain, step_token, suffixed, typed, created, name_element, known_element, new_object, new_array, empty_bracket, first_size, array_items, array_object, array_deeper, size_of, bracketed, integer, string, constant, collection, named, no_entries, filled, more_items, more_entries, entry_of, items_of, item_of, access, index, dot_of, named_member, numbered, args_of, arguments_of, argued, lambda, lambdas, reference, this_reference, ref_word, ref_new, params_of, typed_param, bare_param, block_lambda, expr_lambda, symbols, first, scan, allowed, fits, begins_type, begins_expr, is_declared, is_lambda, is_reference, is_listed, is_function, is_each, is_in, is_cast, is_open}
+use Rattle.pl_grammar.specs.Grammar.{Form, top, function, formals, formal, type, cast_type, pair, block, statement, inner, last, separator, opening, otherwise, run, for_rest, three, for_tail, for_first, handler, closing, decl, var, init, body, expr, expr_rest, elvis, elvis_rest, unary, step, chain, element, new_rest, after_bracket, array_rest, size, primary, contents, more, entry, items, item, postfix, dot, member, args, arguments, arg, ref_name, params, param, lambda_body, binary, operation, comma, Symbol, token, phrase, repeated, optional, Production, functions, statements, function_of, formal_list, formal_of, name_type, known_type, cast_type_of, square, braces, opens, closes, inner_opens, inner_closes, last_semicolon, semicolon, conditional, looped, for_loop, tried, alternative, runs, idle, three_empty, three_first, each_of, each_in, three_parts, tail_parts, declares, expresses, catches, do_loop, declared, jump, returned, thrown, value, declaration, variable, assigned, block_body, statement_body, expression, conditional_rest, assign_rest, compound_rest, elvises, elvis_of, prefix, signed, negated, cast, plain, step_token, suffixed, typed, created, name_element, known_element, new_object, new_array, empty_bracket, first_size, array_items, array_object, array_deeper, size_of, bracketed, integer, string, constant, collection, named, no_entries, filled, more_items, more_entries, entry_of, items_of, item_of, access, index, dot_of, named_member, numbered, args_of, arguments_of, argued, lambda, lambdas, reference, this_reference, ref_word, ref_new, params_of, typed_param, bare_param, block_lambda, expr_lambda, symbols}
+use Rattle.pl_grammar.specs.Firsts.{first, scan, allowed, fits, begins_type, begins_expr, is_declared, is_lambda, is_reference, is_listed, is_function, is_each, is_in, is_cast, is_open}
 use Rattle.pl_grammar.specs.Derives.{Derives, BeginsSymbols, Begins}
 use Rattle.pl_grammar.specs.Reading.{choice}
 use Rattle.pl_grammar.proofs.Certificates.{same_is, heads, led, begun, chosen}

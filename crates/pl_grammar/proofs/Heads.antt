@@ -2,7 +2,8 @@
 use Rattle.std.proofs.Common.{◌≡◌, ℕ, zero, suc, true, List, [], ◌∷◌, ◌++◌, sym, ap, subst, ◌∙◌, inl, inr}
 use Rattle.pl_grammar.specs.declared.terminal.Terminal.{Terminal}
 use Rattle.pl_grammar.specs.Lexeme.{Lexeme, matches, class_of, next}
-use Rattle.pl_grammar.specs.Grammar.{Form, TreeOf, Symbol, token, phrase, repeated, optional, symbols, first}
+use Rattle.pl_grammar.specs.Grammar.{Form, TreeOf, Symbol, token, phrase, repeated, optional, symbols}
+use Rattle.pl_grammar.specs.Firsts.{first}
 use Rattle.pl_grammar.specs.Derives.{Derives, BeginsSymbols, Begins}
 use Rattle.pl_grammar.proofs.Certificates.{heads, is_led, led, begun}
 use Rattle.pl_grammar.proofs.Sound.{Relation, Leads, leads}

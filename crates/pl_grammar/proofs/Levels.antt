@@ -6,7 +6,8 @@ use Rattle.pl_grammar.specs.declared.stop.Stop.{Stop}
 use Rattle.pl_grammar.specs.declared.stop.Stop.TheVariants.{Unexpected, TooDeep}
 use Rattle.pl_grammar.specs.Lexeme.{Lexeme, Take, Taken, taken, matches, class_of, next}
 use Rattle.pl_grammar.specs.Ahead.{seen}
-use Rattle.pl_grammar.specs.Grammar.{Form, TreeOf, Symbol, token, phrase, repeated, optional, SymbolTree, symbols, built, first, absent, scan}
+use Rattle.pl_grammar.specs.Grammar.{Form, TreeOf, Symbol, token, phrase, repeated, optional, SymbolTree, symbols, built}
+use Rattle.pl_grammar.specs.Firsts.{first, absent, scan}
 use Rattle.pl_grammar.specs.Reading.{Outcome, Reader, and_then, choice, read_token, read_repeated, read_optional, read_symbol, read_symbols, read_form}
 use Rattle.pl_grammar.proofs.Certificates.{is_led, led}
 use Rattle.pl_grammar.proofs.Ranks.{rank, IsLow, ranked, rank_below}

@@ -5,7 +5,8 @@ use Rattle.pl_grammar.specs.declared.terminal.Terminal.TheVariants as t
 use Rattle.pl_grammar.specs.declared.ahead.Seen.{Seen}
 use Rattle.pl_grammar.specs.declared.ahead.Seen.TheVariants as s
 use Rattle.pl_grammar.specs.Ahead.{sees, is_final}
-use Rattle.pl_grammar.specs.Grammar.{Form, more, token, Production, functions, statements, three_first, each_of, each_in, declares, expresses, declared, value, cast, plain, argued, lambda, lambdas, reference, typed_param, bare_param, allowed, fits, is_declared, is_lambda, is_reference, is_listed, is_function, is_each, is_in, is_cast, is_open}
+use Rattle.pl_grammar.specs.Grammar.{Form, more, token, Production, functions, statements, three_first, each_of, each_in, declares, expresses, declared, value, cast, plain, argued, lambda, lambdas, reference, typed_param, bare_param}
+use Rattle.pl_grammar.specs.Firsts.{allowed, fits, is_declared, is_lambda, is_reference, is_listed, is_function, is_each, is_in, is_cast, is_open}
 
 pub sees_final : (from : Seen) (terminal : Terminal) → is_final from ≡ true → sees from terminal ≡ from
 sees_final s.Declared terminal e = refl

@@ -3,7 +3,8 @@ use Rattle.std.proofs.Common.{◌≡◌, ℕ, zero, suc, true, List, [], ◌∷�
 use Rattle.std.proofs.lemmas.List.{length-append}
 use Rattle.pl_grammar.specs.Lexeme.{Lexeme, class_of}
 use Rattle.pl_grammar.specs.Ahead.{seen}
-use Rattle.pl_grammar.specs.Grammar.{Form, TreeOf, Symbol, token, phrase, repeated, optional, SymbolTree, Trees, symbols, scan, fits}
+use Rattle.pl_grammar.specs.Grammar.{Form, TreeOf, Symbol, token, phrase, repeated, optional, SymbolTree, Trees, symbols}
+use Rattle.pl_grammar.specs.Firsts.{scan, fits}
 use Rattle.pl_grammar.specs.Derives.{Sequence, DerivesSymbol, DerivesSymbols, Derives, BeginsSymbol, BeginsSymbols, Begins}
 use Rattle.pl_grammar.proofs.Scan.{fits_cut}
 use Rattle.pl_grammar.proofs.Settled.{fits_of}

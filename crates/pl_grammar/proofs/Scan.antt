@@ -4,7 +4,8 @@ use Rattle.pl_grammar.specs.declared.terminal.Terminal.{Terminal}
 use Rattle.pl_grammar.specs.Lexeme.{Lexeme, class_of}
 use Rattle.pl_grammar.specs.declared.ahead.Seen.{Seen}
 use Rattle.pl_grammar.specs.Ahead.{sees, seen, is_final}
-use Rattle.pl_grammar.specs.Grammar.{Form, Production, allowed, fits}
+use Rattle.pl_grammar.specs.Grammar.{Form, Production}
+use Rattle.pl_grammar.specs.Firsts.{allowed, fits}
 use Rattle.pl_grammar.proofs.LookAhead.{sees_final, allowed_back, fits_back}
 
 pub seen_append : (from : Seen) (x y : List Lexeme) → seen from (x ++ y) ≡ seen (seen from x) y

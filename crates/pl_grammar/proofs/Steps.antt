@@ -9,7 +9,8 @@ use Rattle.pl_grammar.specs.declared.parts.Operation.{Operation}
 use Rattle.pl_grammar.specs.Making.{joined}
 use Rattle.pl_grammar.specs.Lexeme.{Lexeme, next}
 use Rattle.pl_grammar.specs.Ahead.{seen}
-use Rattle.pl_grammar.specs.Grammar.{Form, phrase, repeated, Trees, unary, binary, operation, TreeOf, Production, products, tests, joins, times, test, further, tighter, first, scan}
+use Rattle.pl_grammar.specs.Grammar.{Form, phrase, repeated, Trees, unary, binary, operation, TreeOf, Production, products, tests, joins, times, test, further, tighter}
+use Rattle.pl_grammar.specs.Firsts.{first, scan}
 use Rattle.pl_grammar.specs.Reading.{Outcome, Reader, and_then, choice, read_repeated, repeated_then, read_operand, read_symbols, read_production, read_form}
 
 pub no_level : (n : ℕ) (f : Form) (ls : List Lexeme) → n ≡ 0 → read_form n f ls ≡ Err TooDeep

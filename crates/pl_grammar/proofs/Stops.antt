@@ -6,7 +6,8 @@ use Rattle.pl_grammar.specs.declared.stop.Stop.TheVariants.{Unexpected}
 use Rattle.pl_grammar.specs.Lexeme.{Lexeme, Take, taken, matches, class_of, next}
 use Rattle.pl_grammar.specs.declared.ahead.Seen.{Seen}
 use Rattle.pl_grammar.specs.Ahead.{seen, is_final}
-use Rattle.pl_grammar.specs.Grammar.{Form, TreeOf, Symbol, token, phrase, repeated, optional, SymbolTree, Trees, Production, symbols, built, first, absent, scan, allowed, fits}
+use Rattle.pl_grammar.specs.Grammar.{Form, TreeOf, Symbol, token, phrase, repeated, optional, SymbolTree, Trees, Production, symbols, built}
+use Rattle.pl_grammar.specs.Firsts.{first, absent, scan, allowed, fits}
 use Rattle.pl_grammar.specs.Reading.{Outcome, Reader, and_then, choice, read_token, read_repeated, read_optional, read_symbol, read_symbols, read_form}
 use Rattle.pl_grammar.specs.Derives.{Sequence, DerivesSymbol, DerivesSymbols, Derives, BeginsSymbol, BeginsSymbols, Begins}
 use Rattle.pl_grammar.proofs.Certificates.{led}

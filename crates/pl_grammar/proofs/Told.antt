@@ -11,7 +11,8 @@ use Rattle.pl_tree.specs.declared.tree.Declaration.{Declaration}
 use Rattle.pl_tree.specs.declared.tree.Variable.{Variable}
 use Rattle.pl_grammar.specs.Lexeme.{Lexeme, mark, text, matches, is_known, class_of, next}
 use Rattle.pl_grammar.specs.Ahead.{sees, seen, is_final}
-use Rattle.pl_grammar.specs.Grammar.{Form, function, formals, block, type, cast_type, pair, decl, var, params, param, comma, TreeOf, Symbol, token, phrase, repeated, optional, Trees, Production, symbols, function_of, name_type, known_type, cast_type_of, square, declaration, variable, params_of, typed_param, bare_param, after_comma, is_declared, is_function}
+use Rattle.pl_grammar.specs.Grammar.{Form, function, formals, block, type, cast_type, pair, decl, var, params, param, comma, TreeOf, Symbol, token, phrase, repeated, optional, Trees, Production, symbols, function_of, name_type, known_type, cast_type_of, square, declaration, variable, params_of, typed_param, bare_param, after_comma}
+use Rattle.pl_grammar.specs.Firsts.{is_declared, is_function}
 use Rattle.pl_grammar.specs.Derives.{Sequence, DerivesSymbol, DerivesSymbols, Derives}
 use Rattle.pl_grammar.proofs.LookAhead.{declared_stays, function_stays}
 use Rattle.pl_grammar.proofs.Scan.{seen_append, seen_final}

@@ -2,7 +2,8 @@
 use Rattle.std.specs.Prelude.{◌≡◌, ℕ, zero, suc, true, false, List, [], ◌∷◌, ◌++◌, Some, None, ◌⊎◌}
 use Rattle.pl_grammar.specs.Lexeme.{Lexeme, class_of, next, matches, taken}
 use Rattle.pl_grammar.specs.Ahead.{seen}
-use Rattle.pl_grammar.specs.Grammar.{Form, TreeOf, Symbol, token, phrase, repeated, optional, SymbolTree, Trees, Production, symbols, built, first, absent, scan, allowed, fits}
+use Rattle.pl_grammar.specs.Grammar.{Form, TreeOf, Symbol, token, phrase, repeated, optional, SymbolTree, Trees, Production, symbols, built}
+use Rattle.pl_grammar.specs.Firsts.{first, absent, scan, allowed, fits}
 
 -- D f v x after: the lexemes x are a phrase of the form f with the tree v, where the lexemes after come next
 module _ (D : (f : Form) → TreeOf f → List Lexeme → List Lexeme → Type 0) where
