@@ -1,4 +1,5 @@
 pub mod Tables
+pub mod Places
 pub mod Members
 pub mod Scans
 pub mod Spelling

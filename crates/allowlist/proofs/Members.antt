@@ -1,14 +1,14 @@
 -- The first member that passes a test.
-use Rattle.std.proofs.Common.{◌≡◌, ℕ, zero, suc, ◌+◌, ◌-◌, ◌<◌, ◌≤◌, Bool, true, false, cond, ◌&&◌, ◌||◌, eqb, leb, ltb, List, [], ◌∷◌, Option, Some, None, get_or, length, drop, map, sym, refl, ap, ◌∙◌, inl, inr, arith}
+use Rattle.std.proofs.Common.{◌≡◌, ℕ, zero, suc, ◌+◌, ◌-◌, ◌<◌, ◌≤◌, Bool, true, false, cond, ◌&&◌, ◌||◌, eqb, leb, ltb, List, [], ◌∷◌, Option, Some, None, get_or, length, drop, take, map, sym, refl, ap, ◌∙◌, inl, inr, arith}
 use Rattle.std.specs.List.{range_with_len, list_all, flat_map}
 use Rattle.std.proofs.Math.ListN.{get_or-eq_default}
-use Rattle.std.proofs.lemmas.Bool.{ne_eqb, lt-ltb, le-ltb, le-leb, lt-leb, cases_lt, leb-true, false≢true, and_parts, ltb-true}
-use Rattle.std.proofs.lemmas.List.{at_drop_more, at_drop_all, get_or-map, length-drop, get_or-drop}
+use Rattle.std.proofs.lemmas.Bool.{ne_eqb, le-ltb, cases_lt, leb-true, false≢true, and_parts, ltb-true}
+use Rattle.std.proofs.lemmas.List.{at_drop_more, at_drop_all, get_or-map, length-drop, take_rest}
 use Rattle.std.proofs.lemmas.List.Folds.{list_all_at}
 use Rattle.std.proofs.lemmas.List.FromFn.{get_or-map-range_with_len}
 use Rattle.pl_types.specs.Classes.{lineage_of, lineage_within, parents_of, class_row, class_table, no_class, has}
 use Rattle.allowlist.specs.declared.member.MemberType.{MemberType}
-use Rattle.allowlist.specs.Catalogue.{catalogue, constructor}
+use Rattle.allowlist.specs.Catalogue.{catalogue}
 use Rattle.allowlist.specs.Allow.{first_member, start_of, own_member, AllowList, flag, has_name, is_called, or_else, first_along, member_of, iface_method_of, plain_member, functional_interfaces, first_class}
 use Rattle.allowlist.specs.Lines.{Form}
 use Rattle.allowlist.specs.Files.{declares, declared_member}
@@ -28,7 +28,7 @@ and_false true = refl
 and_false false = refl
 
 -- members that do not pass are passed over
-skip : (test : ℕ → MemberType → Bool) (k n : ℕ) (xs : List MemberType) → ((i : ℕ) (d : MemberType) → i < k → test (n + i) (get_or xs i d) ≡ false) → first_member test n xs ≡ first_member test (n + k) (drop k xs)
+pub skip : (test : ℕ → MemberType → Bool) (k n : ℕ) (xs : List MemberType) → ((i : ℕ) (d : MemberType) → i < k → test (n + i) (get_or xs i d) ≡ false) → first_member test n xs ≡ first_member test (n + k) (drop k xs)
 skip test zero n xs h = let e : n + 0 ≡ n = omega arith in ap (λ m. first_member test m xs) (sym e)
 skip test (suc k) n [] h = refl
 skip test (suc k) n (m ∷ ms) h =
@@ -76,7 +76,7 @@ start_within class h = leb-true (start_of class) 228
     (sym (get_or-map-range_with_len (λ c. leb (start_of c) 228) 0 58 class class true h (omega arith)) ∙ ap (λ xs. get_or xs class true) starts_small ∙ get_or-map-range_with_len (λ c. true) 0 58 class class true h (omega arith))
 
 -- where no member passes there is none
-none : (test : ℕ → MemberType → Bool) (n : ℕ) (xs : List MemberType) → ((i : ℕ) (d : MemberType) → i < length xs → test (n + i) (get_or xs i d) ≡ false) → first_member test n xs ≡ None
+pub none : (test : ℕ → MemberType → Bool) (n : ℕ) (xs : List MemberType) → ((i : ℕ) (d : MemberType) → i < length xs → test (n + i) (get_or xs i d) ≡ false) → first_member test n xs ≡ None
 none test n [] h = refl
 none test n (m ∷ ms) h =
     let z : n + 0 ≡ n = omega arith in
@@ -95,42 +95,10 @@ small_owner i d h =
 abbrev pub asks : AllowList → ℕ → List ℕ → ℕ → ℕ → MemberType → Bool
 asks allow class name arity n m = flag allow.members n && is_called class name arity m
 
-starts_rise : map (λ c. leb (start_of c) (start_of (c + 1))) (range_with_len 0 57) ≡ map (λ c. true) (range_with_len 0 57)
-unfolding start_of catalogue
-starts_rise = refl
-
-pub start_mono : (class : ℕ) → class < 57 → start_of class ≤ start_of (class + 1)
-start_mono class h = leb-true (start_of class) (start_of (class + 1))
-    (sym (get_or-map-range_with_len (λ c. leb (start_of c) (start_of (c + 1))) 0 57 class class true h (omega arith)) ∙ ap (λ xs. get_or xs class true) starts_rise ∙ get_or-map-range_with_len (λ c. true) 0 57 class class true h (omega arith))
-
-no_member : MemberType
-no_member = constructor 0 []
-
 module _ (allow : AllowList) (class : ℕ) (name : List ℕ) (arity : ℕ) where
   -- another class's member does not pass
   other : (n : ℕ) (m : MemberType) → eqb m.owner class ≡ false → asks allow class name arity n m ≡ false
   other n m h = ap (λ t. flag allow.members n && (t && has_name name arity m)) h ∙ and_false (flag allow.members n)
-
-  pub own_begins : class < 57 → own_member allow class name arity ≡ first_member (asks allow class name arity) (start_of class) (drop (start_of class) catalogue)
-  unfolding own_member
-  own_begins h =
-      let small : start_of class ≤ 228 = start_within class (omega arith) in
-      skip (asks allow class name arity) (start_of class) 0 catalogue (λ i d l.
-      let w : i < 228 = omega arith in
-      let e : 0 + i ≡ i = omega arith in
-      other (0 + i) (get_or catalogue i d) (owner_test class i d h w ∙ ap (λ t. t && ltb i (start_of (class + 1))) (lt-leb (start_of class) i l)))
-      ∙ (let e : 0 + start_of class ≡ start_of class = omega arith in ap (λ j. first_member (asks allow class name arity) j (drop (start_of class) catalogue)) e)
-
-  pub own_ends : class < 57 → first_member (asks allow class name arity) (start_of (class + 1)) (drop (start_of (class + 1)) catalogue) ≡ None
-  own_ends h =
-      none (asks allow class name arity) (start_of (class + 1)) (drop (start_of (class + 1)) catalogue) (λ i d l.
-      let len : length (drop (start_of (class + 1)) catalogue) ≡ 228 - start_of (class + 1) = length-drop (start_of (class + 1)) catalogue ∙ ap (λ x. x - start_of (class + 1)) length-catalogue in
-      let w : start_of (class + 1) + i < 228 = omega arith in
-      ap (λ m. asks allow class name arity (start_of (class + 1) + i) m) (get_or-drop (start_of (class + 1)) catalogue i d)
-      ∙ other (start_of (class + 1) + i) (get_or catalogue (start_of (class + 1) + i) d)
-      (owner_test class (start_of (class + 1) + i) d h w
-      ∙ ap (λ t. leb (start_of class) (start_of (class + 1) + i) && t) (le-ltb (start_of (class + 1) + i) (start_of (class + 1)) (omega arith))
-      ∙ and_false (leb (start_of class) (start_of (class + 1) + i))))
 
   pub own_past : 57 ≤ class → own_member allow class name arity ≡ None
   unfolding own_member
@@ -138,26 +106,6 @@ module _ (allow : AllowList) (class : ℕ) (name : List ℕ) (arity : ℕ) where
       let w : i < 228 = omega (arith, length-catalogue) in
       let s : (get_or catalogue i d).owner < 57 = small_owner i d w in
       other (0 + i) (get_or catalogue i d) (ne_eqb (get_or catalogue i d).owner class (λ e. omega arith)))
-
-  -- a member of the class's own part passes where it is allowed and has the name
-  asks_own : (n : ℕ) (d : MemberType) → class < 57 → start_of class ≤ n → n < start_of (class + 1) → asks allow class name arity n (get_or catalogue n d) ≡ (flag allow.members n && has_name name arity (get_or catalogue n d))
-  asks_own n d h a b =
-      let small : start_of (class + 1) ≤ 228 = start_within (class + 1) (omega arith) in
-      ap (λ t. flag allow.members n && (t && has_name name arity (get_or catalogue n d)))
-      (owner_test class n d h (omega arith) ∙ ap (λ t. t && ltb n (start_of (class + 1))) (le-leb (start_of class) n a) ∙ lt-ltb n (start_of (class + 1)) b)
-
-  here : (n : ℕ) (d : MemberType) → n < 228 → first_member (asks allow class name arity) n (drop n catalogue) ≡ first_member (asks allow class name arity) n (get_or catalogue n d ∷ drop (n + 1) catalogue)
-  here n d h = at_drop_more (first_member (asks allow class name arity) n) catalogue n d (omega (arith, length-catalogue))
-
-  pub own_yes : (n : ℕ) (answer : Bool) → class < 57 → start_of class ≤ n → n < start_of (class + 1) → ((d : MemberType) → answer ≡ (flag allow.members n && has_name name arity (get_or catalogue n d))) → answer ≡ true → first_member (asks allow class name arity) n (drop n catalogue) ≡ Some n
-  own_yes n answer h a b e t =
-      let small : start_of (class + 1) ≤ 228 = start_within (class + 1) (omega arith) in
-      here n no_member (omega arith) ∙ first_member-yes (asks allow class name arity) n (get_or catalogue n no_member) (drop (n + 1) catalogue) (asks_own n no_member h a b ∙ sym (e no_member) ∙ t)
-
-  pub own_no : (n : ℕ) (answer : Bool) → class < 57 → start_of class ≤ n → n < start_of (class + 1) → ((d : MemberType) → answer ≡ (flag allow.members n && has_name name arity (get_or catalogue n d))) → answer ≡ false → first_member (asks allow class name arity) n (drop n catalogue) ≡ first_member (asks allow class name arity) (n + 1) (drop (n + 1) catalogue)
-  own_no n answer h a b e t =
-      let small : start_of (class + 1) ≤ 228 = start_within (class + 1) (omega arith) in
-      here n no_member (omega arith) ∙ first_member-no (asks allow class name arity) n (get_or catalogue n no_member) (drop (n + 1) catalogue) (asks_own n no_member h a b ∙ sym (e no_member) ∙ t)
 
 -- Along a lineage.
 
@@ -176,14 +124,20 @@ pub member_past : (allow : AllowList) (class : ℕ) (name : List ℕ) (arity : �
 unfolding member_of
 member_past allow class name arity h = ap (first_along (λ c. own_member allow c name arity)) (lineage-past class h) ∙ ap (λ o. or_else o None) (own_past allow class name arity h)
 
-pub along_some : (f : ℕ → Option ℕ) (xs : List ℕ) (i d number : ℕ) → i < length xs → f (get_or xs i d) ≡ Some number → first_along f (drop i xs) ≡ Some number
-along_some f xs i d number h e = at_drop_more (first_along f) xs i d h ∙ ap (λ o. or_else o (first_along f (drop (i + 1) xs))) e
+pub first_gives : (f : ℕ → Option ℕ) (xs : List ℕ) (number : ℕ) → 1 ≤ length xs → f (get_or xs 0 0) ≡ Some number → first_along f xs ≡ Some number
+first_gives f [] number h e = absurd (omega (arith, h))
+first_gives f (x ∷ xs) number h e = ap (λ o. or_else o (first_along f xs)) e
 
-pub along_none : (f : ℕ → Option ℕ) (xs : List ℕ) (i d : ℕ) → i < length xs → f (get_or xs i d) ≡ None → first_along f (drop i xs) ≡ first_along f (drop (i + 1) xs)
-along_none f xs i d h e = at_drop_more (first_along f) xs i d h ∙ ap (λ o. or_else o (first_along f (drop (i + 1) xs))) e
+pub others_give : (f : ℕ → Option ℕ) (xs : List ℕ) → 1 ≤ length xs → f (get_or xs 0 0) ≡ None → first_along f xs ≡ first_along f (take (length xs - 1) (drop 1 xs))
+others_give f [] h e = absurd (omega (arith, h))
+others_give f (x ∷ xs) h e = ap (λ o. or_else o (first_along f xs)) e ∙ ap (first_along f) (sym (take_rest (x ∷ xs) 1))
 
-pub along_end : (f : ℕ → Option ℕ) (xs : List ℕ) (i : ℕ) → length xs ≤ i → first_along f (drop i xs) ≡ None
-along_end f xs i h = at_drop_all (first_along f) xs i h
+pub none_gives : (f : ℕ → Option ℕ) (xs : List ℕ) → length xs < 1 → first_along f xs ≡ None
+none_gives f [] h = refl
+none_gives f (x ∷ xs) h = absurd (omega (arith, h))
+
+pub fewer : (xs : List ℕ) → 1 ≤ length xs → length (take (length xs - 1) (drop 1 xs)) < length xs
+fewer xs h = omega (arith, ap length (take_rest xs 1), length-drop 1 xs)
 
 -- A number past the classes is no functional interface.
 not_in : (xs : List ℕ) (class : ℕ) → list_all (λ y. ltb y 57) xs ≡ true → 57 ≤ class → has xs class ≡ false

@@ -1,15 +1,14 @@
 //! Lists of what scripts may use, and what is found in them.
 
-ghost use Rattle.std.specs.Prelude.{◌≡◌, ◌<◌, ◌&&◌, Some, slice_get, slice_index_or, IfOk};
+ghost use Rattle.std.specs.Prelude.{◌≡◌, ◌<◌, ◌&&◌, Some, slice_get, IfOk, length};
 ghost use Rattle.pl_types.specs.Classes.{full_name};
-ghost use Rattle.allowlist.specs.declared.member.MemberType.{MemberType};
 ghost use Rattle.allowlist.specs.Catalogue.{catalogue};
-ghost use Rattle.allowlist.specs.Allow.{full_list, prelude_list, empty_list, own_member, member_of, iface_method_of, with_flag, flag, has_name};
+ghost use Rattle.allowlist.specs.Allow.{full_list, prelude_list, empty_list, own_member, member_of, iface_method_of, with_flag};
 
 use crate::build::{flags, types};
+use crate::index::{index, member_called};
 use crate::member::MemberType;
-use crate::names::is_called;
-use crate::table::{MEMBER_COUNT, method_of_interface, start_of_class};
+use crate::table::{MEMBER_COUNT, method_of_interface};
 use pl_types::classes::CLASS_COUNT;
 use pl_types::{class_full, class_lineage};
 use std::alloc::{AllocError, Global};
@@ -21,18 +20,20 @@ pub struct Allow {
     classes: Vec<bool>,
     members: Vec<bool>,
     types: Vec<MemberType>,
+    index: Vec<u32>,
 }
 
 impl Model for Allow {
     ghost use Rattle.std.specs.Prelude.{◌≡◌, length};
     ghost use Rattle.allowlist.specs.Catalogue.{catalogue};
     ghost use Rattle.allowlist.specs.Allow.{AllowList};
+    ghost use Rattle.allowlist.specs.Index.{IsIndex};
 
     ghost Value = { AllowList };
 
     ghost view = { λ a. record { classes = a.classes.items; members = a.members.items } };
 
-    ghost invariant = { λ a. (length a.classes.items ≡ 57) × (length a.members.items ≡ 228) × (a.types.items ≡ catalogue) };
+    ghost invariant = { λ a. (length a.classes.items ≡ 57) × (length a.members.items ≡ 228) × (a.types.items ≡ catalogue) × IsIndex a.index.items };
 }
 
 impl Allow {
@@ -45,10 +46,12 @@ impl Allow {
         if class >= CLASS_COUNT {
             return None;
         }
-        for above in class_lineage(class) {
+        let mut lineage = class_lineage(class);
+        while let [above, others @ ..] = lineage {
             if let Some(number) = self.own(*above, name, arity) {
                 return Some(number);
             }
+            lineage = others;
         }
         None
     }
@@ -59,23 +62,8 @@ impl Allow {
         if class >= CLASS_COUNT {
             return None;
         }
-        let first = start_of_class(class);
-        let end = start_of_class(class + 1);
-        for number in first..end {
-            if self.answers(number, name, arity) {
-                return Some(number);
-            }
-        }
-        None
-    }
-
-    fn answers(&self, number: u32, name: &str, arity: u32) -> bool
-        requires { number < MEMBER_COUNT }
-        ensures { (d : MemberType) → result ≡ (flag self.now.members number && has_name name.now arity (slice_index_or catalogue number d)) }
-    {
-        let allowed = self.members[number as usize];
-        let called = is_called(&self.types[number as usize], name, arity);
-        both(allowed, called)
+        let number = member_called(&self.types, &self.index, class, name, arity)?;
+        self.allows(number).then_some(number)
     }
 
     /// A member of the catalogue, by its number, whether or not this list allows it.
@@ -125,10 +113,26 @@ impl Allow {
     pub fn share(&self, alloc: Global) -> Result<Allow, AllocError>
         ensures { IfOk result (λ copy. copy ≡ self.now) }
     {
+        let classes = Vec::from_slice(alloc, &self.classes)?;
+        let members = Vec::from_slice(alloc, &self.members)?;
+        Allow::with_flags(alloc, classes, members)
+    }
+
+    /// The list with these flags, with its members and their index.
+    fn with_flags(
+        alloc: Global,
+        classes: Vec<bool>,
+        members: Vec<bool>,
+    ) -> Result<Allow, AllocError>
+        requires classes { length classes.items ≡ 57 }
+        requires members { length members.items ≡ 228 }
+        ensures { IfOk result (λ allow. allow ≡ record { classes = classes.items; members = members.items }) }
+    {
         Ok(Allow {
-            classes: Vec::from_slice(alloc, &self.classes)?,
-            members: Vec::from_slice(alloc, &self.members)?,
+            classes,
+            members,
             types: types(alloc)?,
+            index: index(alloc)?,
         })
     }
 
@@ -136,11 +140,9 @@ impl Allow {
     pub(crate) fn empty(alloc: Global) -> Result<Allow, AllocError>
         ensures { IfOk result (λ allow. allow ≡ empty_list) }
     {
-        Ok(Allow {
-            classes: flags(alloc, 0, 57)?,
-            members: flags(alloc, 0, 228)?,
-            types: types(alloc)?,
-        })
+        let classes = flags(alloc, 0, 57)?;
+        let members = flags(alloc, 0, 228)?;
+        Allow::with_flags(alloc, classes, members)
     }
 
     pub(crate) fn add_class(&mut self, class: u32)
@@ -158,12 +160,6 @@ impl Allow {
     }
 }
 
-fn both(a: bool, b: bool) -> bool
-    ensures { result ≡ (a && b) }
-{
-    a && b
-}
-
 /// The lists of everything.
 pub struct Catalogue;
 
@@ -172,21 +168,17 @@ impl Catalogue {
     pub fn full(alloc: Global) -> Result<Allow, AllocError>
         ensures { IfOk result (λ allow. allow ≡ full_list) }
     {
-        Ok(Allow {
-            classes: flags(alloc, 55, 2)?,
-            members: flags(alloc, 226, 2)?,
-            types: types(alloc)?,
-        })
+        let classes = flags(alloc, 55, 2)?;
+        let members = flags(alloc, 226, 2)?;
+        Allow::with_flags(alloc, classes, members)
     }
 
     /// Every class and member of the catalogue and of the hidden class of the prelude's own calls.
     pub fn with_prelude(alloc: Global) -> Result<Allow, AllocError>
         ensures { IfOk result (λ allow. allow ≡ prelude_list) }
     {
-        Ok(Allow {
-            classes: flags(alloc, 56, 1)?,
-            members: flags(alloc, 228, 0)?,
-            types: types(alloc)?,
-        })
+        let classes = flags(alloc, 56, 1)?;
+        let members = flags(alloc, 228, 0)?;
+        Allow::with_flags(alloc, classes, members)
     }
 }

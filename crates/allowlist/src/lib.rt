@@ -6,6 +6,7 @@ mod build;
 mod declares;
 mod error;
 mod form;
+mod index;
 mod laws;
 mod lookup;
 mod member;

@@ -2,16 +2,7 @@
 
 ghost use Rattle.std.specs.Prelude.{◌≡◌};
 ghost use Rattle.std.specs.Str.{bytes_eq};
-ghost use Rattle.allowlist.specs.Allow.{dotted, has_name, spelled_byte};
-
-use crate::member::MemberType;
-
-/// Whether a member has a name and a number of parameters.
-pub(crate) fn is_called(member: &MemberType, name: &str, arity: u32) -> bool
-    ensures { result ≡ has_name name.now arity member.now }
-{
-    member.name.as_str() == name && member.params.len() == arity as usize
-}
+ghost use Rattle.allowlist.specs.Allow.{dotted, spelled_byte};
 
 /// Whether a class's name, with `.` for its `$`, is a name.
 pub(crate) fn is_dotted(class: &[u8], name: &[u8]) -> bool

@@ -174,10 +174,11 @@ const SMALL: &[u8] =
     b"class java.util.Collection {\n int size()\n boolean add(def)\n}\nclass java.util.List {\n def get(int)\n}\nclass java.lang.Object {\n String toString()\n}\n";
 
 /// A class, a name, a number of arguments, the member under the small list, and the one under the full catalogue.
-const CALLS: [(u32, &str, u32, Option<u32>, Option<u32>); 13] = [
+const CALLS: [(u32, &str, u32, Option<u32>, Option<u32>); 14] = [
     (ARRAY_LIST, "size", 0, Some(106), Some(106)),
     (ARRAY_LIST, "get", 1, Some(115), Some(115)),
     (ARRAY_LIST, "get", 2, None, None),
+    (ARRAY_LIST, "remove", 1, None, Some(119)),
     (ARRAY_LIST, "none", 0, None, None),
     (ARRAY_LIST, "indexOf", 1, None, Some(117)),
     (ARRAY_LIST, "toString", 0, Some(1), Some(1)),

@@ -1,7 +1,10 @@
-use Rattle.std.proofs.Common.{◌≡◌, drop}
+use Rattle.std.proofs.Common.{◌≡◌, length}
 use Rattle.allowlist.specs.Allow.{first_along, member_of}
 use Rattle.allowlist.proofs.Members.{own_of}
 use Rattle.allowlist.proofs.allow.Allow.member.Given as goal
 
-abbrev pub invariant-loop-above : goal.invariant-loop-above
-invariant-loop-above l = member_of l.self l.class l.name l.arity ≡ first_along (own_of l.self l.name l.arity) (drop l.above-index l.above-items)
+abbrev pub invariant-loop-lineage : goal.invariant-loop-lineage
+invariant-loop-lineage l = member_of l.self l.class l.name l.arity ≡ first_along (own_of l.self l.name l.arity) l.lineage
+
+abbrev pub decreases-loop-lineage : goal.decreases-loop-lineage
+decreases-loop-lineage l = length l.lineage

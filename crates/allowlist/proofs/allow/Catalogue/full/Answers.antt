@@ -1,0 +1,4 @@
+use Rattle.allowlist.proofs.allow.Catalogue.full.Goals as goal
+
+pub returns : goal.returns
+returns c = rw c.in_ok-members.ensures at (rw c.in_ok-classes.ensures at c.with_flags.ensures)
