@@ -15,7 +15,8 @@ pub use laws::grammar_laws;
 pub use level::{Level, Looser, sign_of, tighter};
 pub use nesting::nesting_fault;
 pub use parts::{
-    Contents, ElvisRest, ExprRest, ForRest, Member, More, New, Operation, Placed, Suffix, Three,
+    Contents, ElvisRest, ExprRest, ForRest, Member, More, New, Operation, Placed, Suffix, Tail,
+    Three,
 };
 pub use stop::Stop;
 pub use terminal::{Terminal, matches, terminal_of};
