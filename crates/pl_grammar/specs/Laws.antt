@@ -1,12 +1,12 @@
 -- What holds of reading by the rows of the grammar.
-use Rattle.std.specs.Prelude.{◌≡◌, ℕ, ◌+◌, ◌*◌, ◌≤◌, List, [], length, Result, Ok, Err}
+use Rattle.std.specs.Prelude.{◌≡◌, ℕ, ◌+◌, ◌*◌, ◌≤◌, List, [], ◌++◌, length, Result, Ok, Err}
 use Rattle.pl_lexer.specs.declared.token.Token.{Token}
 use Rattle.pl_types.specs.declared.refusal.Refusal.{Refusal}
 use Rattle.pl_tree.specs.declared.tree.Tree.{Tree}
 use Rattle.pl_grammar.specs.declared.stop.Stop.TheVariants.{Unexpected, TooDeep}
 use Rattle.pl_grammar.specs.Lexeme.{Lexeme}
 use Rattle.pl_grammar.specs.Reading.{read_script}
-use Rattle.pl_grammar.specs.Parses.{IsScript, StopsBefore, Parses}
+use Rattle.pl_grammar.specs.Parses.{IsScript, BeginsScript, StopsBefore, Parses}
 
 -- so many levels that no script needs more
 abbrev pub levels_for : List Lexeme → ℕ
@@ -23,6 +23,10 @@ Complete = (ls : List Lexeme) (script : Tree) → IsScript ls script → read_sc
 -- reading stops before the first lexeme with which no script goes on
 abbrev pub Exact : Type 0
 Exact = (levels : ℕ) (ls : List Lexeme) (left : ℕ) → read_script levels ls ≡ Err (Unexpected left) → (rest : List Lexeme) × StopsBefore ls rest × (length rest ≡ left)
+
+-- what goes on to a script begins one
+abbrev pub Begun : Type 0
+Begun = (ls more : List Lexeme) (script : Tree) → IsScript (ls ++ more) script → BeginsScript ls
 
 -- no script nests deeper than the levels that there are for it
 abbrev pub Ends : Type 0

@@ -1,6 +1,6 @@
 //! What holds of the grammar, whatever the tokens.
 
-ghost use Rattle.pl_grammar.specs.Laws.{Sound, Complete, Exact, Ends, Unique};
+ghost use Rattle.pl_grammar.specs.Laws.{Sound, Complete, Exact, Begun, Ends, Unique};
 
 /// What holds of the grammar and of the function that reads by it. It runs nothing.
 pub fn grammar_laws()
@@ -10,6 +10,8 @@ pub fn grammar_laws()
     ensures complete { Complete }
     // Where reading stops, no script goes on.
     ensures exact { Exact }
+    // What goes on to a script begins one.
+    ensures begun { Begun }
     // Reading never runs out of levels.
     ensures ends { Ends }
     // The tokens of a text have at most one reading.

@@ -1,14 +1,16 @@
 -- The laws, from those of the reading function.
-use Rattle.std.proofs.Common.{◌≡◌, ℕ, List, [], Option, Some, None, Result, Ok, Err, refl, ap, ◌∙◌, ◌⊎◌, inl, inr, arith}
+use Rattle.std.proofs.Common.{◌≡◌, ℕ, List, [], ◌∷◌, ◌++◌, Option, Some, None, Result, Ok, Err, refl, ap, ◌∙◌, ◌⊎◌, inl, inr, arith}
 use Rattle.pl_lexer.specs.declared.token.Token.{Token}
 use Rattle.pl_types.specs.declared.refusal.Refusal.{Refusal}
 use Rattle.pl_tree.specs.declared.tree.Tree.{Tree}
 use Rattle.pl_grammar.specs.Lexeme.{Lexeme}
 use Rattle.pl_grammar.specs.Laws.{levels_for}
 use Rattle.pl_grammar.specs.Nesting.{nesting_fault}
-use Rattle.pl_grammar.specs.Parses.{IsScript, Parses, Refused}
+use Rattle.pl_grammar.specs.Grammar.{top}
+use Rattle.pl_grammar.specs.Parses.{IsScript, BeginsScript, Parses, Refused}
 use Rattle.pl_grammar.specs.Reading.{read_script}
 use Rattle.pl_grammar.proofs.Complete.{Gets}
+use Rattle.pl_grammar.proofs.Prefix.{form_prefix}
 use Rattle.pl_grammar.proofs.Whole.{script_sound, script_full, script_shallow, script_stops, only_tree, only_stop, only_deep}
 use Rattle.pl_grammar.proofs.laws.grammar_laws.Goals as goal
 
@@ -24,6 +26,13 @@ returns-clause-complete c = λ ls script h. whole ls script (script_full (levels
 
 pub returns-clause-exact : goal.returns-clause-exact
 returns-clause-exact c = λ levels ls left e. script_stops levels ls left e
+
+begun : (ls more : List Lexeme) (script : Tree) → IsScript (ls ++ more) script → BeginsScript ls
+begun [] more script h = (0, refl)
+begun (l ∷ ls) more script h = (h.0, form_prefix h.0 top script (l ∷ ls) more [] h.1)
+
+pub returns-clause-begun : goal.returns-clause-begun
+returns-clause-begun c = λ ls more script h. begun ls more script h
 
 pub returns-clause-ends : goal.returns-clause-ends
 returns-clause-ends c = λ ls e. script_shallow (levels_for ls) ls (omega arith) e
