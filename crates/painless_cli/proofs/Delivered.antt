@@ -1,5 +1,5 @@
 -- What a run leaves in its sink.
-use Rattle.std.proofs.Common.{◌≡◌, ℕ, ◌<◌, ◌≤◌, codes, inl, inr, List, [], ◌∷◌, ◌++◌, length, replicate, Option, None, Some, IfSome, Result, Ok, Err, IfOk, refl, sym, ap, subst, ◌∙◌, append-nil, suc, arith}
+use Rattle.std.proofs.Common.{◌≡◌, ℕ, ◌<◌, ◌≤◌, inl, inr, List, [], length, replicate, Option, None, Some, IfSome, Result, Ok, Err, IfOk, refl, sym, ap, subst, ◌∙◌, append-nil, suc, arith}
 use Rattle.std.proofs.lemmas.List.{length-replicate}
 use Rattle.std.specs.declared.alloc.AllocError.{AllocError}
 use Rattle.std.specs.Io.KnownBytes.{Appends}
@@ -15,7 +15,7 @@ use Rattle.painless_cli.specs.Told.{told_by}
 use Rattle.painless_cli.proofs.Once.{same_name}
 use Rattle.painless_cli.specs.Script.{Means}
 use Rattle.painless_cli.specs.Whole.{Told, told_of, silent, TellsScript, TellsFile, IsEval, Tells, file_limit}
-use Rattle.painless_cli.specs.Delivers.{IsWhole, Delivers}
+use Rattle.painless_cli.specs.Delivers.{Delivers}
 
 pub nothing : (old : Option (List ℕ)) → Appends old old []
 nothing None = tt
@@ -62,20 +62,22 @@ shown_long None name h = let long = long_list file_limit in (λ _. Some long.0, 
 shown_long (Some k) name h = (k, refl, h)
 
 -- where a script has one answer, one thing is told of it
-pub one_told : (script : List ℕ) (answer : Result End Refusal) (told told' : Told) → ((reading : Result End Refusal) → Means script reading → answer ≡ reading)
+pub one_told : (script : List ℕ) (answer : Result (Option End) Refusal) (told told' : Told) → ((reading : Result (Option End) Refusal) → Means script reading → answer ≡ reading)
     → told_of answer ≡ told → TellsScript script told' → told' ≡ told
 one_told script answer told told' one e h = h.2 ∙ ap told_of (sym (one h.0 h.1)) ∙ e
 
 -- .. and an answer of the code that is told of it is that
-pub only_if_ok : (script : List ℕ) (answer : Result End Refusal) (result : Result Answer AllocError) → ((reading : Result End Refusal) → Means script reading → answer ≡ reading)
+pub only_if_ok : (script : List ℕ) (answer : Result (Option End) Refusal) (result : Result Answer AllocError) → ((reading : Result (Option End) Refusal) → Means script reading → answer ≡ reading)
     → IfOk result (λ a. told_by a ≡ told_of answer) → (told : Told) → TellsScript script told → IfOk result (λ a. told ≡ told_by a)
 only_if_ok script answer (Ok a) one e told h = one_told script answer (told_by a) told one (sym e) h
 only_if_ok script answer (Err error) one e told h = tt
 
-delivers_answer : (script : List ℕ) (answer : Result End Refusal) (old new : Option (List ℕ)) → Means script answer → Appends old new (told_of answer).bytes
+delivers_answer : (script : List ℕ) (answer : Result (Option End) Refusal) (old new : Option (List ℕ)) → Means script answer → Appends old new (told_of answer).bytes
     → Delivers (TellsScript script) (told_of answer).status old new
-delivers_answer script (Ok (Value value)) old new m appended = (told_of (Ok (Value value)), (Ok (Value value), m, refl), refl, appended)
-delivers_answer script (Ok (Thrown DivisionByZero)) old new m appended = (told_of (Ok (Thrown DivisionByZero)), (Ok (Thrown DivisionByZero), m, refl), refl, appended)
+delivers_answer script (Ok None) old new m appended = (told_of (Ok None), (Ok None, m, refl), refl, appended)
+delivers_answer script (Ok (Some (Value value))) old new m appended = (told_of (Ok (Some (Value value))), (Ok (Some (Value value)), m, refl), refl, appended)
+delivers_answer script (Ok (Some (Thrown DivisionByZero))) old new m appended =
+    (told_of (Ok (Some (Thrown DivisionByZero))), (Ok (Some (Thrown DivisionByZero)), m, refl), refl, appended)
 delivers_answer script (Err refusal) old new m appended = (told_of (Err refusal), (Err refusal, m, refl), refl, appended)
 
 -- what is told of a script was written whole

@@ -1,16 +1,15 @@
 -- Each stage has one answer, and so one thing is told.
-use Rattle.std.proofs.Common.{◌≡◌, ℕ, ◌<◌, ◌≤◌, List, [], ◌∷◌, length, codes, Option, None, Some, Result, Ok, Err, ◌⊎◌, inl, inr, refl, sym, subst, ◌∙◌, ap, arith}
+use Rattle.std.proofs.Common.{◌≡◌, ℕ, List, [], ◌∷◌, codes, Option, None, Some, Result, Ok, Err, inl, inr, sym, subst, ◌∙◌, ap, arith}
 use Rattle.pl_types.specs.declared.refusal.Refusal.{Refusal}
 use Rattle.pl_lexer.specs.declared.token.Token.{Token}
 use Rattle.pl_lexer.specs.Tokens.{Lexes}
-use Rattle.pl_parser.specs.declared.tree.Expr.{Expr}
-use Rattle.pl_parser.specs.Parses.{Parses}
+use Rattle.pl_grammar.specs.Parses.{Parses}
+use Rattle.pl_tree.specs.declared.tree.Tree.{Tree}
 use Rattle.pl_tree.specs.declared.typed.Typed.{Typed}
 use Rattle.script_end.specs.declared.end.End.{End}
-use Rattle.source_meaning.specs.Meaning.{meaning_of}
-use Rattle.painless_cli.specs.Typing.{typed_of}
-use Rattle.painless_cli.specs.Script.{GoesOn, Then, Decodes, no_classes, MeansTree, MeansTokens, MeansText, Means}
-use Rattle.painless_cli.specs.Whole.{Told, told_of, silent, TellsScript, TellsFile, IsEval, Tells, file_limit}
+use Rattle.int_typing.specs.Typing.{typed_of}
+use Rattle.painless_cli.specs.Script.{end_of, GoesOn, Then, Decodes, no_classes, MeansTree, MeansTokens, MeansText, Means}
+use Rattle.painless_cli.specs.Whole.{told_of, TellsScript, TellsFile, IsEval, Tells}
 use Rattle.painless_cli.proofs.Utf8.{decodes_text, decodes_refused}
 
 -- at most one answer
@@ -32,9 +31,9 @@ decodes_once : (bytes : List ℕ) → Once (Decodes bytes)
 decodes_once bytes (Ok text) b h k = decodes_text bytes text h b k
 decodes_once bytes (Err refusal) b h k = decodes_refused bytes refusal h b k
 
-tree_once : (tree : Expr) → Once (MeansTree tree)
-tree_once tree = then_once (λ (typed : Result Typed Refusal). typed ≡ typed_of tree) (λ (typed : Typed) (answer : Result End Refusal). answer ≡ Ok (meaning_of typed))
-    (equal_once (typed_of tree)) (λ typed. equal_once (Ok (meaning_of typed)))
+tree_once : (tree : Tree) → Once (MeansTree tree)
+tree_once tree = then_once (λ (typed : Result (Option Typed) Refusal). typed ≡ typed_of tree) (λ (typed : Option Typed) (answer : Result (Option End) Refusal). answer ≡ Ok (end_of typed))
+    (equal_once (typed_of tree)) (λ typed. equal_once (Ok (end_of typed)))
 
 pub same_name : (words : List (List ℕ)) (name other : List ℕ) → IsEval words name → IsEval words other → other ≡ name
 same_name words name other a b = same (sym b ∙ a) where

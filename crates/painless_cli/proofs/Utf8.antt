@@ -1,5 +1,5 @@
 -- Bytes are a text or not, and in one way.
-use Rattle.std.proofs.Common.{◌≡◌, ℕ, ◌<◌, List, length, take, Result, Ok, Err, refl, sym, ◌∙◌, ap, subst, inl, inr, ◌⊎◌}
+use Rattle.std.proofs.Common.{◌≡◌, ℕ, List, length, Result, Ok, Err, sym, ◌∙◌, ap, inl, inr}
 use Rattle.std.proofs.Math.Seq.{take-length}
 use Rattle.std.proofs.lemmas.Bool.{cases_order}
 use Rattle.std.specs.Str.{IsUtf8, IsValidUpTo}

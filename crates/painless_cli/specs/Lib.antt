@@ -1,4 +1,3 @@
-pub mod Typing
 pub mod Script
 pub mod Reply
 pub mod Whole

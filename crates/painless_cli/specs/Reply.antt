@@ -8,6 +8,10 @@ use Rattle.pl_types.specs.declared.refusal.Refusal.{Refusal}
 abbrev pub value_line : ℤ → List ℕ
 value_line value = codes "{\"result\":" ++ (signed_decimal value ++ codes "}\n")
 
+-- the reply of a script that has no statement
+abbrev pub null_line : List ℕ
+null_line = codes "{\"result\":null}\n"
+
 -- the reply of a script that throws for a zero divisor
 abbrev pub division_line : List ℕ
 division_line = codes "{\"error\":{\"class\":\"ArithmeticException\",\"kind\":\"thrown\",\"message\":\"/ by zero\"}}\n"

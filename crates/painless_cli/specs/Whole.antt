@@ -7,7 +7,7 @@ use Rattle.script_end.specs.declared.end.End.{End}
 use Rattle.script_end.specs.declared.end.End.TheVariants.{Value, Thrown}
 use Rattle.script_end.specs.declared.end.Exception.TheVariants.{DivisionByZero}
 use Rattle.painless_cli.specs.Script.{Means}
-use Rattle.painless_cli.specs.Reply.{value_line, division_line, refusal_line}
+use Rattle.painless_cli.specs.Reply.{value_line, null_line, division_line, refusal_line}
 
 -- how a run ends, and the bytes that it writes
 pub record Told : Type 0 where
@@ -19,14 +19,15 @@ abbrev pub silent : Status → Told
 silent status = record { status = status; bytes = [] }
 
 -- what is told of what a script comes to
-abbrev pub told_of : Result End Refusal → Told
-told_of (Ok (Value value)) = record { status = s.Done; bytes = value_line value }
-told_of (Ok (Thrown DivisionByZero)) = record { status = s.SomeErrors; bytes = division_line }
+abbrev pub told_of : Result (Option End) Refusal → Told
+told_of (Ok None) = record { status = s.Done; bytes = null_line }
+told_of (Ok (Some (Value value))) = record { status = s.Done; bytes = value_line value }
+told_of (Ok (Some (Thrown DivisionByZero))) = record { status = s.SomeErrors; bytes = division_line }
 told_of (Err refusal) = record { status = s.Refused; bytes = refusal_line refusal }
 
 -- what is told of a script's bytes
 abbrev pub TellsScript : List ℕ → Told → Type 0
-TellsScript script told = (answer : Result End Refusal) × Means script answer × (told ≡ told_of answer)
+TellsScript script told = (answer : Result (Option End) Refusal) × Means script answer × (told ≡ told_of answer)
 
 -- the most bytes that a file may have
 abbrev pub file_limit : ℕ

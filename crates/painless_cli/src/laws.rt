@@ -7,8 +7,8 @@ use crate::report::Report;
 use crate::status::Status;
 use crate::top::painless;
 use outer_io::{Source, SureFiles, SureSink};
+use pl_grammar::grammar_laws;
 use pl_lexer::each_text_has_one_reading;
-use pl_parser::tokens_have_one_reading;
 use std::alloc::Global;
 
 /// A law of the definition of the whole, which runs nothing: the words, over files of one content, are told one thing at
@@ -17,7 +17,7 @@ pub fn one_thing_is_told()
     ensures { (words : List (List ℕ)) (content : List ℕ → Option (List ℕ)) (a b : Told) → Tells words content a → Tells words content b → a ≡ b }
 {
     each_text_has_one_reading();
-    tokens_have_one_reading();
+    grammar_laws();
 }
 
 /// `painless` over files and a sink that never fail: neither is ever said to have failed.

@@ -7,7 +7,6 @@ mod report;
 mod script;
 mod status;
 mod top;
-mod typing;
 
 pub use laws::{one_thing_is_told, painless_surely};
 use outer_io::{StdFiles, StdSink, StdSource};

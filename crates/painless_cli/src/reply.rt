@@ -1,7 +1,7 @@
 //! The lines that a run writes.
 
-ghost use Rattle.std.specs.Prelude.{◌≡◌, ℕ, ◌≤◌, List, IfOk, length, string_bytes, codes};
-ghost use Rattle.painless_cli.specs.Reply.{division_line, name_of, refusal_line, value_line};
+ghost use Rattle.std.specs.Prelude.{◌≡◌, ◌≤◌, IfOk, length, string_bytes};
+ghost use Rattle.painless_cli.specs.Reply.{division_line, name_of, null_line, refusal_line, value_line};
 ghost use Rattle.painless_cli.specs.Whole.{TellsScript, Told, told_of, file_limit};
 ghost use Rattle.painless_cli.specs.Told.{told_by};
 
@@ -23,6 +23,13 @@ fn value_line(alloc: Global, value: i32) -> Result<String, AllocError>
     ensures { IfOk result (λ line. string_bytes line ≡ value_line value) }
 {
     format!(in alloc; "{{\"result\":{value}}}\n")
+}
+
+/// The line of a script that has no statement.
+fn null_line(alloc: Global) -> Result<String, AllocError>
+    ensures { IfOk result (λ line. string_bytes line ≡ null_line) }
+{
+    String::from_str(alloc, "{\"result\":null}\n")
 }
 
 /// The line of a division by zero.
@@ -59,15 +66,19 @@ fn refusal_line(alloc: Global, refusal: Refusal) -> Result<String, AllocError>
 }
 
 /// The reply to a script that has ended.
-fn reply_to(alloc: Global, end: End) -> Result<Answer, AllocError>
+fn reply_to(alloc: Global, end: Option<End>) -> Result<Answer, AllocError>
     ensures { IfOk result (λ answer. told_by answer ≡ told_of (Ok end)) }
 {
     match end {
-        End::Value(value) => Ok(Answer {
+        None => Ok(Answer {
+            status: Status::Done,
+            line: null_line(alloc)?,
+        }),
+        Some(End::Value(value)) => Ok(Answer {
             status: Status::Done,
             line: value_line(alloc, value)?,
         }),
-        End::Thrown(Exception::DivisionByZero) => Ok(Answer {
+        Some(End::Thrown(Exception::DivisionByZero)) => Ok(Answer {
             status: Status::SomeErrors,
             line: division_line(alloc)?,
         }),

@@ -4,6 +4,7 @@ ghost use Rattle.std.specs.Prelude.{◌≤◌};
 use crate::{Status, painless, painless_surely};
 use outer_io::{MemFiles, MemSink, MemSource, SureFiles, SureSink, SureSource};
 use std::alloc::{AllocError, Global};
+use std::process::Abort;
 use std::test::Fail;
 
 /// What is written to a sink that is given `most` bytes a call and fails at the calls in `sink_fails`, and the status,
@@ -62,6 +63,8 @@ fn scripts(rt: HostRuntime) -> Result<(), Fail> {
         ("\t1\r\n+ 1 ", "{\"result\":2}\n", Status::Done),
         ("65536 * 65536", "{\"result\":0}\n", Status::Done),
         ("0x1F + 010", "{\"result\":39}\n", Status::Done),
+        ("1 + 2;", "{\"result\":3}\n", Status::Done),
+        ("((2)) * (3);", "{\"result\":6}\n", Status::Done),
         ("-0X80000000", "{\"result\":-2147483648}\n", Status::Done),
         (
             "100 / 5 / 2 * 3 % 4 - 1 + 2",
@@ -101,40 +104,110 @@ fn refused(alloc: Global, name: &str, number: u8, offset: u32) -> Result<String,
     )
 }
 
+/// The script is refused by the rule of this name and number, at the place.
+fn is_refused(
+    rt: &impl Abort,
+    alloc: Global,
+    script: &str,
+    name: &str,
+    number: u8,
+    offset: u32,
+) -> Result<(), AllocError> {
+    let answer = eval(alloc, script.as_bytes())?;
+    let line = refused(alloc, name, number, offset)?;
+    assert_eq!(rt; answer.0.as_slice(), line.as_bytes(), "{script}");
+    assert_eq!(rt; answer.1, Status::Refused, "{script}");
+    Ok(())
+}
+
+/// Each script is refused by this rule, at its place.
+fn are_refused(
+    rt: &impl Abort,
+    alloc: Global,
+    name: &str,
+    number: u8,
+    rows: &[(&str, u32)],
+) -> Result<(), AllocError> {
+    for (script, offset) in rows {
+        is_refused(rt, alloc, script, name, number, *offset)?;
+    }
+    Ok(())
+}
+
+/// The script is replied to with this whole number.
+fn is_worth(rt: &impl Abort, alloc: Global, script: &str, value: i32) -> Result<(), AllocError> {
+    let answer = eval(alloc, script.as_bytes())?;
+    let line = format!(in alloc; "{{\"result\":{value}}}\n")?;
+    assert_eq!(rt; answer.0.as_slice(), line.as_bytes(), "{script}");
+    assert_eq!(rt; answer.1, Status::Done, "{script}");
+    Ok(())
+}
+
+/// A front, a part so many times, and what stands behind.
+fn repeated(
+    alloc: Global,
+    front: &str,
+    part: &str,
+    times: usize,
+    behind: &str,
+) -> Result<String, AllocError> {
+    let parts = part.repeat(alloc, times)?;
+    let middle = parts.as_str();
+    format!(in alloc; "{front}{middle}{behind}")
+}
+
+/// What stands inside, between so many openings and as many closings.
+fn nested(
+    alloc: Global,
+    open: &str,
+    inside: &str,
+    shut: &str,
+    times: usize,
+) -> Result<String, AllocError> {
+    let openings = open.repeat(alloc, times)?;
+    let closings = shut.repeat(alloc, times)?;
+    let front = openings.as_str();
+    let behind = closings.as_str();
+    format!(in alloc; "{front}{inside}{behind}")
+}
+
 #[test]
-fn refusals(rt: HostRuntime) -> Result<(), Fail> {
+fn nothing(rt: HostRuntime) -> Result<(), Fail> {
     let alloc = rt.alloc();
-    for (script, name, number, offset) in [
-        ("1+", "Syntax", 2, 2),
-        ("1#2", "BadToken", 1, 1),
-        ("", "Syntax", 2, 0),
-        (" \n ", "Syntax", 2, 3),
-        ("1 2", "Syntax", 2, 2),
-        ("(1", "Syntax", 2, 2),
-        ("1)", "Syntax", 2, 1),
-        ("()", "Syntax", 2, 1),
-        ("1 +* 2", "Syntax", 2, 3),
-        // `--` is one token.
-        ("1--1", "Syntax", 2, 1),
-        ("2147483648", "LiteralRange", 18, 0),
-        ("1 + 99999999999999999999", "LiteralRange", 18, 4),
-        ("-(2147483648)", "LiteralRange", 18, 2),
-        ("- -2147483649", "LiteralRange", 18, 3),
-        ("2147483648 + 2147483649", "LiteralRange", 18, 0),
-        // A fault of the tokens is told before one of the grammar, and that before a literal's.
-        ("1 + # + 2147483648", "BadToken", 1, 4),
-        ("2147483648 +", "Syntax", 2, 12),
-        ("1 + /* 2", "BadToken", 1, 4),
-        ("0x80000000", "LiteralRange", 18, 0),
-        ("1.5", "OutOfProfile", 19, 0),
-        ("1 + 1L", "OutOfProfile", 19, 4),
-        ("-99999999999L", "OutOfProfile", 19, 1),
+    for script in [
+        "",
+        " \n ",
+        "// nothing",
+        "/* nothing */",
+        "// nothing\n/* at all */\n",
     ] {
         let answer = eval(alloc, script.as_bytes())?;
-        let line = refused(alloc, name, number, offset)?;
-        assert_eq!(rt; answer.0.as_slice(), line.as_bytes(), "{script}");
-        assert_eq!(rt; answer.1, Status::Refused, "{script}");
+        assert_eq!(rt;
+            answer.0.as_slice(),
+            b"{\"result\":null}\n".as_slice(),
+            "{script}"
+        );
+        assert_eq!(rt; answer.1, Status::Done, "{script}");
     }
+    Ok(())
+}
+
+#[test]
+fn faults_of_tokens(rt: HostRuntime) -> Result<(), Fail> {
+    let alloc = rt.alloc();
+    are_refused(
+        &rt,
+        alloc,
+        "BadToken",
+        1,
+        &[
+            ("1#2", 1),
+            ("1 + /* 2", 4),
+            // A fault of the tokens is told before one of the grammar, and before a literal's.
+            ("1 + # + 2147483648", 4),
+            (") #", 2),
+        ],
+    )?;
     for (script, offset) in [
         (b"1+\xff".as_slice(), 2),
         (b"\xc3".as_slice(), 0),
@@ -146,6 +219,253 @@ fn refusals(rt: HostRuntime) -> Result<(), Fail> {
         let line = refused(alloc, "BadToken", 1, offset)?;
         assert_eq!(rt; answer.0.as_slice(), line.as_bytes());
         assert_eq!(rt; answer.1, Status::Refused);
+    }
+    Ok(())
+}
+
+#[test]
+fn places_of_syntax(rt: HostRuntime) -> Result<(), Fail> {
+    let alloc = rt.alloc();
+    are_refused(
+        &rt,
+        alloc,
+        "Syntax",
+        2,
+        &[
+            // More is wanted than there is.
+            ("int x = ", 8),
+            ("1+", 2),
+            ("2147483648 +", 12),
+            ("(1", 2),
+            ("if", 2),
+            ("if (1) ", 7),
+            ("x.", 2),
+            ("x?.", 3),
+            ("[1,", 3),
+            ("[:", 2),
+            ("new", 3),
+            ("new int", 7),
+            ("f(", 2),
+            ("f(x ->", 6),
+            ("f(List::", 8),
+            ("1 ? 2", 5),
+            ("x instanceof", 12),
+            ("try {}", 6),
+            ("x[]", 3),
+            // No script begins so.
+            (")", 0),
+            ("else", 0),
+            ("->", 0),
+            ("::", 0),
+            (";", 0),
+            ("this", 0),
+            ("{ 1 }", 0),
+            // A script goes on otherwise.
+            ("1 2", 2),
+            ("1)", 1),
+            ("1 +* 2", 3),
+            ("(1;)", 2),
+            ("()", 1),
+            ("x ->", 2),
+            ("(x) y", 4),
+            ("(int x) -> 1", 5),
+            ("x[] = 1", 4),
+            ("a b c", 4),
+            ("do 1", 3),
+            ("for (int i = 0; ) ", 16),
+            ("new int[] {1,2,}", 15),
+            // `--` is one token, and steps the literal before it.
+            ("1--1", 3),
+            // What begins with a zero and is no literal is two tokens.
+            ("08", 1),
+            ("0x", 1),
+            // A statement before another ends with its `;`, in front of `else` too; a block's last need not.
+            ("if (1) { 1 2 }", 11),
+            ("if (1) 1 else 2", 9),
+            ("if (1) { if (1) 1 }", 18),
+            // No statement is empty.
+            ("if (1) {};", 9),
+            // Functions come first.
+            ("1; int f() {}", 8),
+            // The first fault counts.
+            ("1 +* 2 )", 3),
+            (") 1 2", 0),
+            ("(1;) else", 2),
+        ],
+    )?;
+    Ok(())
+}
+
+#[test]
+fn literals_out_of_range(rt: HostRuntime) -> Result<(), Fail> {
+    let alloc = rt.alloc();
+    are_refused(
+        &rt,
+        alloc,
+        "LiteralRange",
+        18,
+        &[
+            ("2147483648", 0),
+            ("1 + 99999999999999999999", 4),
+            ("-(2147483648)", 2),
+            ("- -2147483649", 3),
+            ("2147483648 + 2147483649", 0),
+            ("0x80000000", 0),
+            // What is not built is refused once its parts are not.
+            ("+2147483648", 1),
+            ("1 << 2147483648", 5),
+            ("(int)2147483648", 5),
+            ("int x = 2147483648;", 8),
+            ("return 2147483648", 7),
+            ("f(x -> 2147483648)", 7),
+            ("[1, 2147483648]", 4),
+            ("[1:2147483648]", 3),
+            ("while (2147483648);", 7),
+            ("2147483648; x", 0),
+        ],
+    )?;
+    Ok(())
+}
+
+#[test]
+fn nodes_that_are_not_built(rt: HostRuntime) -> Result<(), Fail> {
+    let alloc = rt.alloc();
+    are_refused(
+        &rt,
+        alloc,
+        "OutOfProfile",
+        19,
+        &[
+            // Numbers that are no ints.
+            ("1.5", 0),
+            ("1 + 1L", 4),
+            ("-99999999999L", 1),
+            // Statements, at their first token, or at the first of their parts that is not built.
+            ("int x;", 0),
+            ("int x, y = 1", 0),
+            ("a b", 0),
+            ("x[] y", 0),
+            ("1; 2", 0),
+            ("return 1", 0),
+            ("throw 1", 0),
+            ("break", 0),
+            ("while (1);", 0),
+            ("for (;;);", 0),
+            ("for (;;) {}", 9),
+            ("for (def x : l) x++;", 13),
+            ("for (x in l) { }", 10),
+            ("if (1) {}", 7),
+            ("if (1) 1", 7),
+            ("if (1) 1; else 2", 7),
+            ("if (1) { 1 }", 9),
+            ("try {} catch (Exception e) {}", 4),
+            ("do {} while (1)", 3),
+            // A function, at its result type.
+            ("int f(int x) { return x } f(2147483648)", 0),
+            // Expressions, at the place of their node.
+            ("x", 0),
+            ("'x'", 0),
+            ("true", 0),
+            ("x + 2147483648", 0),
+            ("1 << 2", 2),
+            ("1 == 1", 2),
+            ("1 instanceof def", 2),
+            ("1 ? 2 : 3", 2),
+            ("1 ?: 2", 2),
+            ("1 = 2", 2),
+            ("1 += 2", 2),
+            ("+1", 0),
+            ("!1", 0),
+            ("1++", 0),
+            ("--1", 0),
+            ("(int)-1", 0),
+            ("(x)-1", 1),
+            ("[]", 0),
+            ("[:]", 0),
+            ("[1, 2]", 0),
+            ("[1:2]", 0),
+            ("f(1)", 0),
+            ("new int[2]", 0),
+            ("int.x", 0),
+            ("1.x", 2),
+            ("(1).x(2)", 4),
+            ("1[2]", 1),
+            // Arguments, at their first token.
+            ("f(x -> 1)", 2),
+            ("f((x, y) -> 1)", 2),
+            ("f(this::g)", 2),
+            ("f(List::size)", 2),
+            ("f(int[]::new)", 2),
+        ],
+    )?;
+    Ok(())
+}
+
+#[test]
+fn brackets(rt: HostRuntime) -> Result<(), Fail> {
+    let alloc = rt.alloc();
+    let deepest = nested(alloc, "(", "1", ")", 200)?;
+    is_worth(&rt, alloc, deepest.as_str(), 1)?;
+    for (open, inside, shut, times, name, number, offset) in [
+        ("(", "1", ")", 201, "NestingDeep", 3, 200),
+        // Lists are not built, and the innermost is visited first.
+        ("[", "1", "]", 200, "OutOfProfile", 19, 199),
+        ("[", "1", "]", 201, "NestingDeep", 3, 200),
+        // No script begins with a block.
+        ("{", "1", "}", 200, "Syntax", 2, 0),
+        ("{", "1", "}", 201, "NestingDeep", 3, 200),
+        // Nor are loops built.
+        ("while(1){", "1", "}", 200, "OutOfProfile", 19, 1800),
+        ("while(1){", "1", "}", 201, "NestingDeep", 3, 1805),
+        ("([", "1", "])", 100, "OutOfProfile", 19, 199),
+        ("([", "1", "])", 101, "NestingDeep", 3, 200),
+        ("[f(x->{", "((1))", "})]", 66, "OutOfProfile", 19, 462),
+        ("[f(x->{", "1", "})]", 67, "NestingDeep", 3, 468),
+        // Near both bounds at once, where productions nest deepest.
+        ("x=-(", "1", ")", 200, "OutOfProfile", 19, 0),
+        ("x?x:(", "1", ")", 199, "OutOfProfile", 19, 0),
+    ] {
+        let script = nested(alloc, open, inside, shut, times)?;
+        is_refused(&rt, alloc, script.as_str(), name, number, offset)?;
+    }
+    Ok(())
+}
+
+#[test]
+fn reach(rt: HostRuntime) -> Result<(), Fail> {
+    let alloc = rt.alloc();
+    for (front, part, times, behind, value) in [
+        // A reach of 1,000: of one level, of two, and of signs that nest.
+        ("-1", "+1", 499, "", 498),
+        ("(1", "+1", 499, ")", 500),
+        ("", "- ", 999, "1", -1),
+        // A closing bracket ends its level.
+        ("(1)", "+(1)", 300, "", 301),
+    ] {
+        let script = repeated(alloc, front, part, times, behind)?;
+        is_worth(&rt, alloc, script.as_str(), value)?;
+    }
+    for (front, part, times, behind, name, number, offset) in [
+        ("1", "+1", 500, "", "NestingDeep", 3, 1000),
+        ("1", "+1", 499, "+", "Syntax", 2, 1000),
+        ("(1", "+1", 500, ")", "NestingDeep", 3, 1000),
+        ("", "- ", 1000, "1", "NestingDeep", 3, 2000),
+        // Commas and what ends a statement begin a share anew.
+        ("int a", ",a", 2000, "", "OutOfProfile", 19, 0),
+        ("[1", ",1", 2000, "]", "OutOfProfile", 19, 0),
+        ("", "1;", 20_000, "", "OutOfProfile", 19, 0),
+        ("", "int f(){}", 6000, "", "OutOfProfile", 19, 0),
+        ("", "if(1){}", 2000, "", "OutOfProfile", 19, 5),
+        // What `else` follows does not. This is a reach of 1,000, and these are of 1,001.
+        ("", "if(1)1;else ", 166, "if(1)1", "OutOfProfile", 19, 5),
+        ("", "if(1)1;else ", 166, "if(1)1;", "NestingDeep", 3, 1998),
+        ("", "if(1){}else ", 166, "if(1){}", "NestingDeep", 3, 1998),
+        // Nesting is told before the grammar, and tokens before both.
+        (")", "(", 201, "", "NestingDeep", 3, 201),
+        (")", "(", 201, "#", "BadToken", 1, 202),
+    ] {
+        let script = repeated(alloc, front, part, times, behind)?;
+        is_refused(&rt, alloc, script.as_str(), name, number, offset)?;
     }
     Ok(())
 }
@@ -186,6 +506,12 @@ fn the_limit_of_a_file(rt: HostRuntime) -> Result<(), Fail> {
     assert_eq!(rt; most.1, Status::Refused);
     let line = refused(alloc, "TooLarge", 20, 65_535)?;
     assert_eq!(rt; most.0.as_slice(), line.as_bytes());
+    let large = eval(alloc, blanks.as_slice().split_at(65_536).0)?;
+    assert_eq!(rt; large.1, Status::Refused);
+    assert_eq!(rt; large.0.as_slice(), line.as_bytes());
+    let largest = eval(alloc, blanks.as_slice().split_at(65_535).0)?;
+    assert_eq!(rt; largest.1, Status::Done);
+    assert_eq!(rt; largest.0.as_slice(), b"{\"result\":null}\n".as_slice());
     Ok(())
 }
 

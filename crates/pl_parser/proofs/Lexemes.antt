@@ -2,8 +2,8 @@
 use Rattle.std.proofs.Common.{◌≡◌, ℕ, suc, ◌-◌, ◌<◌, List, [], ◌∷◌, ◌++◌, length, take, drop, slice_index_or, refl, ap, sym, ◌∙◌, arith}
 use Rattle.std.proofs.lemmas.List.{length-append, take_rest}
 use Rattle.pl_lexer.specs.declared.token.Token.{Token}
-use Rattle.pl_parser.specs.Lexeme.{Lexeme, lexeme, lexemes}
-use Rattle.pl_parser.specs.Parses.{place_of}
+use Rattle.pl_grammar.specs.Lexeme.{Lexeme, lexeme, lexemes}
+use Rattle.pl_grammar.specs.Parses.{place_of}
 
 pub length_lexemes : (text : List ℕ) (tokens : List Token) → length (lexemes text tokens) ≡ length tokens
 length_lexemes text [] = refl

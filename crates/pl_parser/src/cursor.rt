@@ -1,12 +1,14 @@
 //! A cursor over the tokens of a text.
 
 ghost use Rattle.std.specs.Prelude.{◌≡◌, length};
-ghost use Rattle.pl_parser.specs.Lexeme.{AllLieIn, lexemes, mark, text, next};
-ghost use Rattle.pl_parser.specs.Reading.{Reads, read_token};
+ghost use Rattle.pl_grammar.specs.Lexeme.{AllLieIn, lexemes, mark, text, next};
+ghost use Rattle.pl_grammar.specs.declared.stop.Stop.TheVariants as stop;
+ghost use Rattle.pl_grammar.specs.Ahead.{seen};
+ghost use Rattle.pl_grammar.specs.Reading.{Reads, read_token};
 
-use crate::stop::Stop;
-use crate::terminal::{Spelled, Terminal, same_terminal, terminal_of};
+use pl_grammar::{Seen, Stop, Terminal, look, matches, terminal_of};
 use pl_lexer::Token;
+use pl_tree::Spelled;
 use plain_data::Text;
 use std::alloc::Global;
 use std::marker::Model;
@@ -20,7 +22,7 @@ pub struct Cursor<'a> {
 
 impl<'a> Model for Cursor<'a> {
     ghost use Rattle.std.specs.Prelude.{List};
-    ghost use Rattle.pl_parser.specs.Lexeme.{Lexeme, AllLieIn, lexemes};
+    ghost use Rattle.pl_grammar.specs.Lexeme.{Lexeme, AllLieIn, lexemes};
 
     ghost Value = { List Lexeme };
 
@@ -56,23 +58,30 @@ impl<'a> Cursor<'a> {
         }
     }
 
+    /// What is seen of all that are left, from this on.
+    pub fn look(&self, from: Seen) -> Seen
+        ensures { result ≡ seen from self.now }
+    {
+        look(self.left, from)
+    }
+
     /// Why reading stops here.
     #[tactic(auto, using(crate::proofs::Lexemes::length_lexemes))]
     pub fn refuse(&self) -> Stop
-        ensures { result ≡ Stop.Unexpected (length self.now) }
+        ensures { result ≡ stop.Unexpected (length self.now) }
     {
         Stop::Unexpected(self.left.len())
     }
 
     /// Takes a token of this class.
-    #[tactic(auto, unfolding(crate::specs::Reading::read_token))]
+    #[tactic(auto, unfolding(pl_grammar::specs::Reading::read_token))]
     pub fn expect(&mut self, terminal: Terminal) -> Result<Token, Stop>
         ensures { Reads (read_token mark terminal self.old) result self.new }
     {
         let Some((first, rest)) = self.left.split_first() else {
             return Err(self.refuse());
         };
-        if !same_terminal(terminal_of(first.kind), terminal) {
+        if !matches(terminal, terminal_of(first.kind)) {
             return Err(self.refuse());
         }
         let token = *first;
@@ -81,14 +90,14 @@ impl<'a> Cursor<'a> {
     }
 
     /// Takes a token of this class, with its bytes.
-    #[tactic(auto, unfolding(crate::specs::Reading::read_token))]
+    #[tactic(auto, unfolding(pl_grammar::specs::Reading::read_token))]
     pub fn expect_spelled(&mut self, alloc: Global, terminal: Terminal) -> Result<Spelled, Stop>
         ensures { Reads (read_token text terminal self.old) result self.new }
     {
         let Some((first, rest)) = self.left.split_first() else {
             return Err(self.refuse());
         };
-        if !same_terminal(terminal_of(first.kind), terminal) {
+        if !matches(terminal, terminal_of(first.kind)) {
             return Err(self.refuse());
         }
         let spelling = Text::new(alloc, &self.text[first.start as usize..first.end as usize])?;

@@ -1,17 +1,11 @@
-//! The grammar of scripts: from tokens to the tree.
+//! The parser: from tokens to the tree, by the rules of the grammar.
 #![tactic(auto)]
 
 mod cursor;
-mod expression;
-mod laws;
+mod reader;
 mod script;
-mod stop;
-mod terminal;
-mod tree;
 
-pub use laws::tokens_have_one_reading;
 pub use script::parse;
-pub use tree::{Expr, Operator};
 
 #[cfg(test)]
 mod tests;

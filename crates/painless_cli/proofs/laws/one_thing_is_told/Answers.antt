@@ -3,4 +3,4 @@ use Rattle.painless_cli.proofs.Once.{tells_once}
 use Rattle.painless_cli.proofs.laws.one_thing_is_told.Goals as goal
 
 pub returns : goal.returns
-returns c = tells_once c.each_text_has_one_reading.ensures.once c.tokens_have_one_reading.ensures
+returns c = tells_once c.each_text_has_one_reading.ensures.once c.grammar_laws.ensures.unique

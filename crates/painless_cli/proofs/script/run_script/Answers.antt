@@ -2,7 +2,7 @@
 use Rattle.std.proofs.Common.{ℕ, List}
 use Rattle.std.proofs.lemmas.Result.{err_from_is_err_and}
 use Rattle.painless_cli.specs.Script.{Decodes, MeansText}
-use Rattle.painless_cli.proofs.Stages.{Stage, then_given, then_failed}
+use Rattle.painless_cli.proofs.Stages.{then_given, then_failed}
 use Rattle.painless_cli.proofs.script.run_script.Goals as goal
 
 pub returns-in_err-text-clause-exact : goal.returns-in_err-text-clause-exact

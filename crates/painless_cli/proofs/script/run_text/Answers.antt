@@ -3,7 +3,7 @@ use Rattle.std.proofs.Common.{List, subst, sym}
 use Rattle.std.proofs.lemmas.Result.{err_from_is_err_and}
 use Rattle.pl_lexer.specs.declared.token.Token.{Token}
 use Rattle.pl_lexer.specs.Tokens.{Lexes}
-use Rattle.pl_parser.specs.Lexeme.{AllLieIn}
+use Rattle.pl_grammar.specs.Lexeme.{AllLieIn}
 use Rattle.painless_cli.specs.Script.{MeansTokens, no_classes}
 use Rattle.painless_cli.proofs.Placed.{spelled_lie_in}
 use Rattle.painless_cli.proofs.Stages.{Stage, then_given, then_failed}

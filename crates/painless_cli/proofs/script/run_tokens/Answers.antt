@@ -1,8 +1,8 @@
 -- The grammar's answer, and then that of the tree.
 use Rattle.std.proofs.lemmas.Result.{err_from_is_err_and}
-use Rattle.pl_parser.specs.Parses.{Parses}
+use Rattle.pl_grammar.specs.Parses.{Parses}
 use Rattle.painless_cli.specs.Script.{MeansTree}
-use Rattle.painless_cli.proofs.Stages.{Stage, then_given, then_failed}
+use Rattle.painless_cli.proofs.Stages.{then_given, then_failed}
 use Rattle.painless_cli.proofs.script.run_tokens.Goals as goal
 
 pub returns-in_err-tree-clause-exact : goal.returns-in_err-tree-clause-exact

@@ -1,46 +1,18 @@
-use Rattle.std.proofs.Common.{◌≡◌, ◌+◌, ◌*◌, ◌≤◌, length, Err, ap, sym, ◌∙◌, arith}
-use Rattle.std.proofs.lemmas.List.{length-append}
-use Rattle.pl_parser.specs.declared.stop.Stop.TheVariants as s
-use Rattle.pl_parser.specs.Lexeme.{lexemes}
-use Rattle.pl_parser.specs.Parses.{syntax_at}
-use Rattle.pl_parser.proofs.Lexemes.{length_lexemes}
-use Rattle.pl_parser.proofs.Whole.{script_sound, script_stops, only_tree, only_stop, answer_ok, answer_stop, answer_deep}
+use Rattle.std.proofs.Common.{rules, ◌≡◌, ◌+◌, ◌*◌, length, None, arith}
+use Rattle.std.proofs.lemmas.Grind.{common_steps}
+use Rattle.pl_grammar.specs.Lexeme.{lexemes}
+use Rattle.pl_grammar.specs.Nesting.{nesting_fault}
+use Rattle.pl_parser.proofs.Answered.{enough, deep, stop_of, within, only_stop}
 use Rattle.pl_parser.proofs.script.parse.Goals as goal
 
 pub unreachable-requires : goal.unreachable-requires
-unreachable-requires c =
-    let is : c.whole.result ≡ Err s.TooDeep = cc in
-    let enough : 16 * length (lexemes c.args.text.now c.args.tokens.now) + 16 ≤ 16 * length c.args.tokens.now + 16 = omega (arith, length_lexemes c.args.text.now c.args.tokens.now) in
-    answer_deep (16 * length c.args.tokens.now + 16) (lexemes c.args.text.now c.args.tokens.now) c.whole.result c.whole.new.tokens enough (rw c.new-cursor.ensures at c.whole.ensures) is
-
-pub returns-in-Ok-clause-exact : goal.returns-in-Ok-clause-exact
-returns-in-Ok-clause-exact c =
-    script_sound (16 * length c.args.tokens.now + 16) (lexemes c.args.text.now c.args.tokens.now) c.in-Ok.tree c.whole.new.tokens
-    (answer_ok (16 * length c.args.tokens.now + 16) (lexemes c.args.text.now c.args.tokens.now) c.whole.result c.whole.new.tokens c.in-Ok.tree (rw c.new-cursor.ensures at c.whole.ensures) c.in-Ok.is)
-
-pub returns-in-Ok-clause-only : goal.returns-in-Ok-clause-only
-returns-in-Ok-clause-only c =
-    only_tree c.args.text.now c.args.tokens.now c.in-Ok.tree
-    (script_sound (16 * length c.args.tokens.now + 16) (lexemes c.args.text.now c.args.tokens.now) c.in-Ok.tree c.whole.new.tokens
-    (answer_ok (16 * length c.args.tokens.now + 16) (lexemes c.args.text.now c.args.tokens.now) c.whole.result c.whole.new.tokens c.in-Ok.tree (rw c.new-cursor.ensures at c.whole.ensures) c.in-Ok.is))
+unreachable-requires c = deep (32 * length c.args.tokens.now + 31) (lexemes c.args.text.now c.args.tokens.now) c.new-cursor.result c.in-Err-TooDeep.field-0 (enough c.args.text.now c.args.tokens.now) c.new-cursor.ensures c.in-Err-TooDeep.field-0-is c.in-Err-TooDeep.ensures c.grammar_laws.ensures.ends
 
 pub place-requires-clause-within : goal.place-requires-clause-within
-place-requires-clause-within c =
-    let is : c.whole.result ≡ Err (s.Unexpected c.in-Err-Unexpected.left) = cc in
-    let ls = lexemes c.args.text.now c.args.tokens.now in
-    let stop = script_stops (16 * length c.args.tokens.now + 16) ls c.in-Err-Unexpected.left (answer_stop (16 * length c.args.tokens.now + 16) ls c.whole.result c.whole.new.tokens c.in-Err-Unexpected.left (rw c.new-cursor.ensures at c.whole.ensures) is) in
-    omega (arith, sym (length_lexemes c.args.text.now c.args.tokens.now) ∙ ap length stop.1.whole ∙ length-append stop.1.front stop.0, stop.2)
-
-pub returns-in-Err-Unexpected-clause-exact : goal.returns-in-Err-Unexpected-clause-exact
-returns-in-Err-Unexpected-clause-exact c =
-    let is : c.whole.result ≡ Err (s.Unexpected c.in-Err-Unexpected.left) = cc in
-    let ls = lexemes c.args.text.now c.args.tokens.now in
-    let stop = script_stops (16 * length c.args.tokens.now + 16) ls c.in-Err-Unexpected.left (answer_stop (16 * length c.args.tokens.now + 16) ls c.whole.result c.whole.new.tokens c.in-Err-Unexpected.left (rw c.new-cursor.ensures at c.whole.ensures) is) in
-    (stop.0, stop.1, ap syntax_at (c.place.ensures stop.1.front stop.0 stop.1.whole stop.2))
+place-requires-clause-within c = within c.args.text.now c.args.tokens.now c.in-Err-Unexpected.left (stop_of (32 * length c.args.tokens.now + 31) (lexemes c.args.text.now c.args.tokens.now) c.new-cursor.result c.in-Err-Unexpected.field-0 c.in-Err-Unexpected.left c.new-cursor.ensures c.in-Err-Unexpected.field-0-is c.in-Err-Unexpected.ensures c.grammar_laws.ensures.exact)
 
 pub returns-in-Err-Unexpected-clause-only : goal.returns-in-Err-Unexpected-clause-only
 returns-in-Err-Unexpected-clause-only c =
-    let is : c.whole.result ≡ Err (s.Unexpected c.in-Err-Unexpected.left) = cc in
-    let ls = lexemes c.args.text.now c.args.tokens.now in
-    let stop = script_stops (16 * length c.args.tokens.now + 16) ls c.in-Err-Unexpected.left (answer_stop (16 * length c.args.tokens.now + 16) ls c.whole.result c.whole.new.tokens c.in-Err-Unexpected.left (rw c.new-cursor.ensures at c.whole.ensures) is) in
-    only_stop c.args.text.now c.args.tokens.now stop.0 (syntax_at c.place.result) stop.1 (ap syntax_at (c.place.ensures stop.1.front stop.0 stop.1.whole stop.2))
+    let none : nesting_fault c.args.tokens.now ≡ None = first_of (search rules, grind (arith, common_steps)) in
+    let stop = stop_of (32 * length c.args.tokens.now + 31) (lexemes c.args.text.now c.args.tokens.now) c.new-cursor.result c.in-Err-Unexpected.field-0 c.in-Err-Unexpected.left c.new-cursor.ensures c.in-Err-Unexpected.field-0-is c.in-Err-Unexpected.ensures c.grammar_laws.ensures.exact in
+    only_stop c.args.text.now c.args.tokens.now c.place.result stop.0 none stop.1 (c.place.ensures stop.1.front stop.0 stop.1.whole stop.2) c.grammar_laws.ensures.unique
