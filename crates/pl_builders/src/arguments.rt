@@ -1,134 +1,130 @@
 //! Arguments, lambdas and references to functions.
 
+ghost use Rattle.std.specs.Prelude.{OnOk};
 ghost use Rattle.pl_grammar.specs.Grammar as g;
-ghost use Rattle.pl_values.specs.Values.{AreOf, Makes};
+ghost use Rattle.pl_stack.specs.Stack.{AreOnTop, Reduces};
 
 use pl_making::{before, lambda_of, or_none, reference_of};
+use pl_stack::Stack;
 use pl_tree::{Argument, LambdaBody};
-use pl_values::{Value, Values};
 use plain_data::Boxed;
 use std::alloc::{AllocError, Global};
 
 /// `(arguments)`
-pub fn args_of(alloc: Global, mut values: Values) -> Result<Boxed<Value>, AllocError>
-    requires { AreOf g.args_of values }
-    ensures { Makes g.args_of values result }
+pub fn args_of(alloc: Global, stack: &mut Stack) -> Result<(), AllocError>
+    requires { AreOnTop g.args_of stack.old }
+    ensures { OnOk result (Reduces g.args_of stack.old stack.new) }
 {
-    values.skip();
-    let all = or_none(alloc, values.arguments_if_any());
-    Boxed::new(alloc, Value::Arguments(Some(all)))
+    stack.skip();
+    let all = or_none(alloc, stack.arguments_if_any());
+    stack.skip();
+    stack.push_arguments(alloc, all)
 }
 
 /// Arguments, one at least.
-pub fn arguments_of(alloc: Global, mut values: Values) -> Result<Boxed<Value>, AllocError>
-    requires { AreOf g.arguments_of values }
-    ensures { Makes g.arguments_of values result }
+pub fn arguments_of(alloc: Global, stack: &mut Stack) -> Result<(), AllocError>
+    requires { AreOnTop g.arguments_of stack.old }
+    ensures { OnOk result (Reduces g.arguments_of stack.old stack.new) }
 {
-    let one = values.argument();
-    let others = values.arguments();
-    Boxed::new(alloc, Value::Arguments(Some(before(alloc, one, others)?)))
+    let others = stack.arguments();
+    let one = stack.argument();
+    stack.push_arguments(alloc, before(alloc, one, others)?)
 }
 
 /// An expression as an argument.
-pub fn argued(alloc: Global, mut values: Values) -> Result<Boxed<Value>, AllocError>
-    requires { AreOf g.argued values }
-    ensures { Makes g.argued values result }
+pub fn argued(alloc: Global, stack: &mut Stack) -> Result<(), AllocError>
+    requires { AreOnTop g.argued stack.old }
+    ensures { OnOk result (Reduces g.argued stack.old stack.new) }
 {
-    let given = values.placed().expr;
-    Boxed::new(alloc, Value::Argument(Some(Argument::Value(given))))
+    let given = stack.placed().expr;
+    stack.push_argument(alloc, Argument::Value(given))
 }
 
 /// `one -> body`
-pub fn lambda(alloc: Global, mut values: Values) -> Result<Boxed<Value>, AllocError>
-    requires { AreOf g.lambda values }
-    ensures { Makes g.lambda values result }
+pub fn lambda(alloc: Global, stack: &mut Stack) -> Result<(), AllocError>
+    requires { AreOnTop g.lambda stack.old }
+    ensures { OnOk result (Reduces g.lambda stack.old stack.new) }
 {
-    let one = values.parameter();
-    values.skip();
-    let body = values.lambda_body();
-    Boxed::new(alloc, Value::Argument(Some(lambda_of(alloc, one, body)?)))
+    let body = stack.lambda_body();
+    stack.skip();
+    let one = stack.parameter();
+    stack.push_argument(alloc, lambda_of(alloc, one, body)?)
 }
 
 /// `(parameters) -> body`
-pub fn lambdas(alloc: Global, mut values: Values) -> Result<Boxed<Value>, AllocError>
-    requires { AreOf g.lambdas values }
-    ensures { Makes g.lambdas values result }
+pub fn lambdas(alloc: Global, stack: &mut Stack) -> Result<(), AllocError>
+    requires { AreOnTop g.lambdas stack.old }
+    ensures { OnOk result (Reduces g.lambdas stack.old stack.new) }
 {
-    let at = values.token().start;
-    let parameters = or_none(alloc, values.parameters_if_any());
-    values.skip();
-    values.skip();
-    let body = values.lambda_body();
-    Boxed::new(
+    let body = stack.lambda_body();
+    stack.skip();
+    stack.skip();
+    let parameters = or_none(alloc, stack.parameters_if_any());
+    let at = stack.token().start;
+    stack.push_argument(
         alloc,
-        Value::Argument(Some(Argument::Lambda {
+        Argument::Lambda {
             at,
             parameters,
             body,
-        })),
+        },
     )
 }
 
 /// `of::name`
-pub fn reference(alloc: Global, mut values: Values) -> Result<Boxed<Value>, AllocError>
-    requires { AreOf g.reference values }
-    ensures { Makes g.reference values result }
+pub fn reference(alloc: Global, stack: &mut Stack) -> Result<(), AllocError>
+    requires { AreOnTop g.reference stack.old }
+    ensures { OnOk result (Reduces g.reference stack.old stack.new) }
 {
-    let of = values.type_name();
-    values.skip();
-    let name = values.ref_name();
-    Boxed::new(alloc, Value::Argument(Some(reference_of(of, name))))
+    let name = stack.ref_name();
+    stack.skip();
+    let of = stack.type_name();
+    stack.push_argument(alloc, reference_of(of, name))
 }
 
 /// `this::name`
-pub fn this_reference(alloc: Global, mut values: Values) -> Result<Boxed<Value>, AllocError>
-    requires { AreOf g.this_reference values }
-    ensures { Makes g.this_reference values result }
+pub fn this_reference(alloc: Global, stack: &mut Stack) -> Result<(), AllocError>
+    requires { AreOnTop g.this_reference stack.old }
+    ensures { OnOk result (Reduces g.this_reference stack.old stack.new) }
 {
-    let at = values.token().start;
-    values.skip();
-    let spelling = values.spelled().spelling;
-    Boxed::new(
-        alloc,
-        Value::Argument(Some(Argument::ThisReference { at, spelling })),
-    )
+    let spelling = stack.spelled().spelling;
+    stack.skip();
+    let at = stack.token().start;
+    stack.push_argument(alloc, Argument::ThisReference { at, spelling })
 }
 
 /// The name behind `::`.
-pub fn ref_word(alloc: Global, mut values: Values) -> Result<Boxed<Value>, AllocError>
-    requires { AreOf g.ref_word values }
-    ensures { Makes g.ref_word values result }
+pub fn ref_word(alloc: Global, stack: &mut Stack) -> Result<(), AllocError>
+    requires { AreOnTop g.ref_word stack.old }
+    ensures { OnOk result (Reduces g.ref_word stack.old stack.new) }
 {
-    let name = values.spelled();
-    Boxed::new(alloc, Value::RefName(Some(Some(name))))
+    let name = stack.spelled();
+    stack.push_ref_name(alloc, Some(name))
 }
 
 /// The `new` behind `::`.
-pub fn ref_new(alloc: Global, values: Values) -> Result<Boxed<Value>, AllocError>
-    requires { AreOf g.ref_new values }
-    ensures { Makes g.ref_new values result }
+pub fn ref_new(alloc: Global, stack: &mut Stack) -> Result<(), AllocError>
+    requires { AreOnTop g.ref_new stack.old }
+    ensures { OnOk result (Reduces g.ref_new stack.old stack.new) }
 {
-    drop(values);
-    Boxed::new(alloc, Value::RefName(Some(None)))
+    stack.skip();
+    stack.push_ref_name(alloc, None)
 }
 
 /// A block as what a lambda runs.
-pub fn block_lambda(alloc: Global, mut values: Values) -> Result<Boxed<Value>, AllocError>
-    requires { AreOf g.block_lambda values }
-    ensures { Makes g.block_lambda values result }
+pub fn block_lambda(alloc: Global, stack: &mut Stack) -> Result<(), AllocError>
+    requires { AreOnTop g.block_lambda stack.old }
+    ensures { OnOk result (Reduces g.block_lambda stack.old stack.new) }
 {
-    let block = values.block();
-    Boxed::new(alloc, Value::LambdaBody(Some(LambdaBody::Block(block))))
+    let block = stack.block();
+    stack.push_lambda_body(alloc, LambdaBody::Block(block))
 }
 
 /// An expression as what a lambda runs.
-pub fn expr_lambda(alloc: Global, mut values: Values) -> Result<Boxed<Value>, AllocError>
-    requires { AreOf g.expr_lambda values }
-    ensures { Makes g.expr_lambda values result }
+pub fn expr_lambda(alloc: Global, stack: &mut Stack) -> Result<(), AllocError>
+    requires { AreOnTop g.expr_lambda stack.old }
+    ensures { OnOk result (Reduces g.expr_lambda stack.old stack.new) }
 {
-    let value = Boxed::new(alloc, values.placed().expr)?;
-    Boxed::new(
-        alloc,
-        Value::LambdaBody(Some(LambdaBody::Expression(value))),
-    )
+    let value = Boxed::new(alloc, stack.placed().expr)?;
+    stack.push_lambda_body(alloc, LambdaBody::Expression(value))
 }

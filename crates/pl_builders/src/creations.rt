@@ -1,90 +1,90 @@
 //! New objects and arrays.
 
+ghost use Rattle.std.specs.Prelude.{OnOk};
 ghost use Rattle.pl_grammar.specs.Grammar as g;
-ghost use Rattle.pl_values.specs.Values.{AreOf, Makes};
+ghost use Rattle.pl_stack.specs.Stack.{AreOnTop, Reduces};
 
 use pl_grammar::{New, Placed};
 use pl_making::{before, bracket_first, chained, created_as, or_none};
+use pl_stack::Stack;
 use pl_tree::Expr;
-use pl_values::{Value, Values};
-use plain_data::{Boxed, Items};
+use plain_data::Items;
 use std::alloc::{AllocError, Global};
 
 /// `new of`, what follows, and the suffixes.
-pub fn created(alloc: Global, mut values: Values) -> Result<Boxed<Value>, AllocError>
-    requires { AreOf g.created values }
-    ensures { Makes g.created values result }
+pub fn created(alloc: Global, stack: &mut Stack) -> Result<(), AllocError>
+    requires { AreOnTop g.created stack.old }
+    ensures { OnOk result (Reduces g.created stack.old stack.new) }
 {
-    let at = values.token().start;
-    let of = values.type_name();
-    let rest = values.new_rest();
-    let others = values.suffixes();
+    let others = stack.suffixes();
+    let rest = stack.new_rest();
+    let of = stack.type_name();
+    let at = stack.token().start;
     let object = created_as(at, of, rest);
-    Boxed::new(alloc, Value::Placed(Some(chained(alloc, object, others)?)))
+    stack.push_placed(alloc, chained(alloc, object, others)?)
 }
 
 /// The arguments of a new object.
-pub fn new_object(alloc: Global, mut values: Values) -> Result<Boxed<Value>, AllocError>
-    requires { AreOf g.new_object values }
-    ensures { Makes g.new_object values result }
+pub fn new_object(alloc: Global, stack: &mut Stack) -> Result<(), AllocError>
+    requires { AreOnTop g.new_object stack.old }
+    ensures { OnOk result (Reduces g.new_object stack.old stack.new) }
 {
-    let given = values.arguments();
-    Boxed::new(
-        alloc,
-        Value::New(Some(New::Object(Items::new(alloc), given))),
-    )
+    let given = stack.arguments();
+    stack.push_new_rest(alloc, New::Object(Items::new(alloc), given))
 }
 
 /// `[` and what follows.
-pub fn new_array(alloc: Global, mut values: Values) -> Result<Boxed<Value>, AllocError>
-    requires { AreOf g.new_array values }
-    ensures { Makes g.new_array values result }
+pub fn new_array(alloc: Global, stack: &mut Stack) -> Result<(), AllocError>
+    requires { AreOnTop g.new_array stack.old }
+    ensures { OnOk result (Reduces g.new_array stack.old stack.new) }
 {
-    let at = values.token().start;
-    let rest = values.new_rest();
-    Boxed::new(alloc, Value::New(Some(bracket_first(alloc, at, rest)?)))
+    let rest = stack.new_rest();
+    let at = stack.token().start;
+    stack.push_new_rest(alloc, bracket_first(alloc, at, rest)?)
 }
 
 /// The sizes of a new array.
-pub fn first_size(alloc: Global, mut values: Values) -> Result<Boxed<Value>, AllocError>
-    requires { AreOf g.first_size values }
-    ensures { Makes g.first_size values result }
+pub fn first_size(alloc: Global, stack: &mut Stack) -> Result<(), AllocError>
+    requires { AreOnTop g.first_size stack.old }
+    ensures { OnOk result (Reduces g.first_size stack.old stack.new) }
 {
-    let one = values.placed().expr;
-    values.skip();
-    let others = values.exprs();
+    let others = stack.exprs();
+    stack.skip();
+    let one = stack.placed().expr;
     let sizes = before(alloc, one, others)?;
-    Boxed::new(alloc, Value::New(Some(New::Sized(sizes))))
+    stack.push_new_rest(alloc, New::Sized(sizes))
 }
 
 /// The items of a new array.
-pub fn array_items(alloc: Global, mut values: Values) -> Result<Boxed<Value>, AllocError>
-    requires { AreOf g.array_items values }
-    ensures { Makes g.array_items values result }
+pub fn array_items(alloc: Global, stack: &mut Stack) -> Result<(), AllocError>
+    requires { AreOnTop g.array_items stack.old }
+    ensures { OnOk result (Reduces g.array_items stack.old stack.new) }
 {
-    values.skip();
-    let items = or_none(alloc, values.exprs_if_any());
-    Boxed::new(alloc, Value::New(Some(New::Filled(items))))
+    stack.skip();
+    let items = or_none(alloc, stack.exprs_if_any());
+    stack.skip();
+    stack.push_new_rest(alloc, New::Filled(items))
 }
 
 /// Further `[ ]` of a type, and the arguments of a new object.
-pub fn array_deeper(alloc: Global, mut values: Values) -> Result<Boxed<Value>, AllocError>
-    requires { AreOf g.array_deeper values }
-    ensures { Makes g.array_deeper values result }
+pub fn array_deeper(alloc: Global, stack: &mut Stack) -> Result<(), AllocError>
+    requires { AreOnTop g.array_deeper stack.old }
+    ensures { OnOk result (Reduces g.array_deeper stack.old stack.new) }
 {
-    let one = values.place();
-    let others = values.places();
-    let given = values.arguments();
+    let given = stack.arguments();
+    let others = stack.places();
+    let one = stack.place();
     let brackets = before(alloc, one, others)?;
-    Boxed::new(alloc, Value::New(Some(New::Object(brackets, given))))
+    stack.push_new_rest(alloc, New::Object(brackets, given))
 }
 
 /// `[size]`
-pub fn size_of(alloc: Global, mut values: Values) -> Result<Boxed<Value>, AllocError>
-    requires { AreOf g.size_of values }
-    ensures { Makes g.size_of values result }
+pub fn size_of(alloc: Global, stack: &mut Stack) -> Result<(), AllocError>
+    requires { AreOnTop g.size_of stack.old }
+    ensures { OnOk result (Reduces g.size_of stack.old stack.new) }
 {
-    values.skip();
-    let size = values.placed().expr;
-    Boxed::new(alloc, Value::Expr(Some(size)))
+    stack.skip();
+    let size = stack.placed().expr;
+    stack.skip();
+    stack.push_expr(alloc, size)
 }

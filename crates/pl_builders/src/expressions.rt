@@ -1,193 +1,183 @@
 //! Expressions of operators.
 
+ghost use Rattle.std.specs.Prelude.{OnOk};
 ghost use Rattle.pl_grammar.specs.Grammar as g;
-ghost use Rattle.pl_values.specs.Values.{AreOf, Makes};
+ghost use Rattle.pl_stack.specs.Stack.{AreOnTop, Reduces};
 
 use pl_grammar::{ElvisRest, ExprRest, Operation, Placed};
 use pl_making::{joined, operator_of, step_of, unary_of, with_elvis, with_rest, with_step};
+use pl_stack::Stack;
 use pl_tree::Expr;
-use pl_values::{Value, Values};
 use plain_data::Boxed;
 use std::alloc::{AllocError, Global};
 
 /// An expression.
-pub fn expression(alloc: Global, mut values: Values) -> Result<Boxed<Value>, AllocError>
-    requires { AreOf g.expression values }
-    ensures { Makes g.expression values result }
+pub fn expression(alloc: Global, stack: &mut Stack) -> Result<(), AllocError>
+    requires { AreOnTop g.expression stack.old }
+    ensures { OnOk result (Reduces g.expression stack.old stack.new) }
 {
-    let left = values.placed();
-    let rest = values.expr_rest_if_any();
-    Boxed::new(alloc, Value::Placed(Some(with_rest(alloc, left, rest)?)))
+    let rest = stack.expr_rest_if_any();
+    let left = stack.placed();
+    stack.push_placed(alloc, with_rest(alloc, left, rest)?)
 }
 
 /// `? one : other`
-pub fn conditional_rest(alloc: Global, mut values: Values) -> Result<Boxed<Value>, AllocError>
-    requires { AreOf g.conditional_rest values }
-    ensures { Makes g.conditional_rest values result }
+pub fn conditional_rest(alloc: Global, stack: &mut Stack) -> Result<(), AllocError>
+    requires { AreOnTop g.conditional_rest stack.old }
+    ensures { OnOk result (Reduces g.conditional_rest stack.old stack.new) }
 {
-    let at = values.token().start;
-    let one = values.placed().expr;
-    values.skip();
-    let other = values.placed().expr;
-    Boxed::new(
-        alloc,
-        Value::ExprRest(Some(ExprRest::Conditional(at, one, other))),
-    )
+    let other = stack.placed().expr;
+    stack.skip();
+    let one = stack.placed().expr;
+    let at = stack.token().start;
+    stack.push_expr_rest(alloc, ExprRest::Conditional(at, one, other))
 }
 
 /// `= value`
-pub fn assign_rest(alloc: Global, mut values: Values) -> Result<Boxed<Value>, AllocError>
-    requires { AreOf g.assign_rest values }
-    ensures { Makes g.assign_rest values result }
+pub fn assign_rest(alloc: Global, stack: &mut Stack) -> Result<(), AllocError>
+    requires { AreOnTop g.assign_rest stack.old }
+    ensures { OnOk result (Reduces g.assign_rest stack.old stack.new) }
 {
-    let at = values.token().start;
-    let given = values.placed().expr;
-    Boxed::new(
-        alloc,
-        Value::ExprRest(Some(ExprRest::Assign(None, at, given))),
-    )
+    let given = stack.placed().expr;
+    let at = stack.token().start;
+    stack.push_expr_rest(alloc, ExprRest::Assign(None, at, given))
 }
 
 /// `+= value`, and with the other operators.
-pub fn compound_rest(alloc: Global, mut values: Values) -> Result<Boxed<Value>, AllocError>
-    requires { AreOf g.compound_rest values }
-    ensures { Makes g.compound_rest values result }
+pub fn compound_rest(alloc: Global, stack: &mut Stack) -> Result<(), AllocError>
+    requires { AreOnTop g.compound_rest stack.old }
+    ensures { OnOk result (Reduces g.compound_rest stack.old stack.new) }
 {
-    let token = values.token();
-    let given = values.placed().expr;
+    let given = stack.placed().expr;
+    let token = stack.token();
     let operator = operator_of(token.kind);
-    Boxed::new(
-        alloc,
-        Value::ExprRest(Some(ExprRest::Assign(Some(operator), token.start, given))),
-    )
+    stack.push_expr_rest(alloc, ExprRest::Assign(Some(operator), token.start, given))
 }
 
 /// What may have a `?:`.
-pub fn elvises(alloc: Global, mut values: Values) -> Result<Boxed<Value>, AllocError>
-    requires { AreOf g.elvises values }
-    ensures { Makes g.elvises values result }
+pub fn elvises(alloc: Global, stack: &mut Stack) -> Result<(), AllocError>
+    requires { AreOnTop g.elvises stack.old }
+    ensures { OnOk result (Reduces g.elvises stack.old stack.new) }
 {
-    let left = values.placed();
-    let rest = values.elvis_rest_if_any();
-    Boxed::new(alloc, Value::Placed(Some(with_elvis(alloc, left, rest)?)))
+    let rest = stack.elvis_rest_if_any();
+    let left = stack.placed();
+    stack.push_placed(alloc, with_elvis(alloc, left, rest)?)
 }
 
 /// `?: right`
-pub fn elvis_of(alloc: Global, mut values: Values) -> Result<Boxed<Value>, AllocError>
-    requires { AreOf g.elvis_of values }
-    ensures { Makes g.elvis_of values result }
+pub fn elvis_of(alloc: Global, stack: &mut Stack) -> Result<(), AllocError>
+    requires { AreOnTop g.elvis_of stack.old }
+    ensures { OnOk result (Reduces g.elvis_of stack.old stack.new) }
 {
-    let at = values.token().start;
-    let right = values.placed().expr;
-    Boxed::new(alloc, Value::ElvisRest(Some(ElvisRest { at, right })))
+    let right = stack.placed().expr;
+    let at = stack.token().start;
+    stack.push_elvis_rest(alloc, ElvisRest { at, right })
 }
 
 /// `++target` or `--target`
-pub fn prefix(alloc: Global, mut values: Values) -> Result<Boxed<Value>, AllocError>
-    requires { AreOf g.prefix values }
-    ensures { Makes g.prefix values result }
+pub fn prefix(alloc: Global, stack: &mut Stack) -> Result<(), AllocError>
+    requires { AreOnTop g.prefix stack.old }
+    ensures { OnOk result (Reduces g.prefix stack.old stack.new) }
 {
-    let token = values.token();
-    let target = Boxed::new(alloc, values.placed().expr)?;
+    let target = Boxed::new(alloc, stack.placed().expr)?;
+    let token = stack.token();
     let expr = Expr::Prefix {
         step: step_of(token.kind),
         at: token.start,
         target,
     };
-    Boxed::new(
+    stack.push_placed(
         alloc,
-        Value::Placed(Some(Placed {
+        Placed {
             start: token.start,
             expr,
-        })),
+        },
     )
 }
 
 /// `+operand`, and with the other operators.
-pub fn signed(alloc: Global, mut values: Values) -> Result<Boxed<Value>, AllocError>
-    requires { AreOf g.signed values }
-    ensures { Makes g.signed values result }
+pub fn signed(alloc: Global, stack: &mut Stack) -> Result<(), AllocError>
+    requires { AreOnTop g.signed stack.old }
+    ensures { OnOk result (Reduces g.signed stack.old stack.new) }
 {
-    let token = values.token();
-    let operand = Boxed::new(alloc, values.placed().expr)?;
+    let operand = Boxed::new(alloc, stack.placed().expr)?;
+    let token = stack.token();
     let expr = Expr::Unary {
         operator: unary_of(token.kind),
         at: token.start,
         operand,
     };
-    Boxed::new(
+    stack.push_placed(
         alloc,
-        Value::Placed(Some(Placed {
+        Placed {
             start: token.start,
             expr,
-        })),
+        },
     )
 }
 
 /// `(of) operand`
-pub fn cast(alloc: Global, mut values: Values) -> Result<Boxed<Value>, AllocError>
-    requires { AreOf g.cast values }
-    ensures { Makes g.cast values result }
+pub fn cast(alloc: Global, stack: &mut Stack) -> Result<(), AllocError>
+    requires { AreOnTop g.cast stack.old }
+    ensures { OnOk result (Reduces g.cast stack.old stack.new) }
 {
-    let at = values.token().start;
-    let of = values.type_name();
-    values.skip();
-    let operand = Boxed::new(alloc, values.placed().expr)?;
+    let operand = Boxed::new(alloc, stack.placed().expr)?;
+    stack.skip();
+    let of = stack.type_name();
+    let at = stack.token().start;
     let expr = Expr::Cast { at, of, operand };
-    Boxed::new(alloc, Value::Placed(Some(Placed { start: at, expr })))
+    stack.push_placed(alloc, Placed { start: at, expr })
 }
 
 /// An operand that no operator precedes.
-pub fn plain(alloc: Global, mut values: Values) -> Result<Boxed<Value>, AllocError>
-    requires { AreOf g.plain values }
-    ensures { Makes g.plain values result }
+pub fn plain(alloc: Global, stack: &mut Stack) -> Result<(), AllocError>
+    requires { AreOnTop g.plain stack.old }
+    ensures { OnOk result (Reduces g.plain stack.old stack.new) }
 {
-    let one = values.placed();
-    let step = values.token_if_any();
-    Boxed::new(alloc, Value::Placed(Some(with_step(alloc, one, step)?)))
+    let step = stack.token_if_any();
+    let one = stack.placed();
+    stack.push_placed(alloc, with_step(alloc, one, step)?)
 }
 
 /// `(within)`
-pub fn bracketed(alloc: Global, mut values: Values) -> Result<Boxed<Value>, AllocError>
-    requires { AreOf g.bracketed values }
-    ensures { Makes g.bracketed values result }
+pub fn bracketed(alloc: Global, stack: &mut Stack) -> Result<(), AllocError>
+    requires { AreOnTop g.bracketed stack.old }
+    ensures { OnOk result (Reduces g.bracketed stack.old stack.new) }
 {
-    let at = values.token().start;
-    let inner = Boxed::new(alloc, values.placed().expr)?;
+    stack.skip();
+    let inner = Boxed::new(alloc, stack.placed().expr)?;
+    let at = stack.token().start;
     let expr = Expr::Bracketed { at, inner };
-    Boxed::new(alloc, Value::Placed(Some(Placed { start: at, expr })))
+    stack.push_placed(alloc, Placed { start: at, expr })
 }
 
 /// The operands and operations of a level.
-pub fn products(alloc: Global, mut values: Values) -> Result<Boxed<Value>, AllocError>
-    requires { AreOf g.products values }
-    ensures { Makes g.products values result }
+pub fn products(alloc: Global, stack: &mut Stack) -> Result<(), AllocError>
+    requires { AreOnTop g.products stack.old }
+    ensures { OnOk result (Reduces g.products stack.old stack.new) }
 {
-    let one = values.placed();
-    let others = values.operations();
-    Boxed::new(alloc, Value::Placed(Some(joined(alloc, one, others)?)))
+    let others = stack.operations();
+    let one = stack.placed();
+    stack.push_placed(alloc, joined(alloc, one, others)?)
 }
 
 /// An operator and its right side.
-pub fn times(alloc: Global, mut values: Values) -> Result<Boxed<Value>, AllocError>
-    requires { AreOf g.times values }
-    ensures { Makes g.times values result }
+pub fn times(alloc: Global, stack: &mut Stack) -> Result<(), AllocError>
+    requires { AreOnTop g.times stack.old }
+    ensures { OnOk result (Reduces g.times stack.old stack.new) }
 {
-    let token = values.token();
-    let right = values.placed().expr;
+    let right = stack.placed().expr;
+    let token = stack.token();
     let operator = operator_of(token.kind);
-    Boxed::new(
-        alloc,
-        Value::Operation(Some(Operation::Binary(operator, token.start, right))),
-    )
+    stack.push_operation(alloc, Operation::Binary(operator, token.start, right))
 }
 
 /// `instanceof of`
-pub fn test(alloc: Global, mut values: Values) -> Result<Boxed<Value>, AllocError>
-    requires { AreOf g.test values }
-    ensures { Makes g.test values result }
+pub fn test(alloc: Global, stack: &mut Stack) -> Result<(), AllocError>
+    requires { AreOnTop g.test stack.old }
+    ensures { OnOk result (Reduces g.test stack.old stack.new) }
 {
-    let at = values.token().start;
-    let of = values.type_name();
-    Boxed::new(alloc, Value::Operation(Some(Operation::Test(at, of))))
+    let of = stack.type_name();
+    let at = stack.token().start;
+    stack.push_operation(alloc, Operation::Test(at, of))
 }

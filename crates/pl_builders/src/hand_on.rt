@@ -1,25 +1,25 @@
-//! Rules that make of their symbols the tree of one of them.
+//! Rules that make of two symbols the tree of one of them.
 
-ghost use Rattle.std.specs.Prelude.{◌≡◌, ◌≢◌, [], ◌∷◌, List};
+ghost use Rattle.std.specs.Prelude.{◌≡◌, ◌∷◌, List, OnOk};
 ghost use Rattle.pl_values.specs.declared.value.Value as declared;
-ghost use Rattle.pl_builders.specs.Two.{AreTwo};
+ghost use Rattle.pl_stack.specs.Stack.{AreTwo};
 
-use pl_values::{Value, Values};
-use plain_data::Boxed;
+use pl_stack::Stack;
+use std::alloc::AllocError;
 
-/// The first value, as it is.
-pub fn first(mut values: Values) -> Boxed<Value>
-    requires { values ≢ [] }
-    ensures { (value : declared.Value) (rest : List declared.Value) → values ≡ value ∷ rest → result ≡ value }
+/// Leaves the first of two values, which is below the second.
+pub fn first(stack: &mut Stack) -> Result<(), AllocError>
+    requires { AreTwo stack.old }
+    ensures { OnOk result ((second : declared.Value) (first : declared.Value) (below : List declared.Value) → stack.old ≡ second ∷ first ∷ below → stack.new ≡ first ∷ below) }
 {
-    values.next()
+    stack.skip();
+    Ok(())
 }
 
-/// The second value, as it is.
-pub fn second(mut values: Values) -> Boxed<Value>
-    requires { AreTwo values }
-    ensures { (one : declared.Value) (value : declared.Value) → values ≡ one ∷ value ∷ [] → result ≡ value }
+/// Leaves the second of two values, which is on the top.
+pub fn second(stack: &mut Stack) -> Result<(), AllocError>
+    requires { AreTwo stack.old }
+    ensures { OnOk result ((second : declared.Value) (first : declared.Value) (below : List declared.Value) → stack.old ≡ second ∷ first ∷ below → stack.new ≡ second ∷ below) }
 {
-    values.skip();
-    values.next()
+    stack.skip_second()
 }

@@ -1,4 +1,4 @@
-//! One builder for each rule of the grammar: what the rule makes of the values of its symbols.
+//! One builder for each rule of the grammar: what the rule makes of the values of its symbols, which are on the stack.
 #![tactic(auto)]
 
 mod arguments;
@@ -7,11 +7,13 @@ mod expressions;
 mod hand_on;
 mod literals;
 mod loops;
-mod making;
 mod members;
+mod reducing;
+mod script;
 mod series;
 mod statements;
 mod types;
 
-pub use making::make;
-pub use series::{none, one_more};
+pub use reducing::reduce;
+pub use script::{take_function, take_statements};
+pub use series::{extend, push_none};

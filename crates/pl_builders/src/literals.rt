@@ -1,134 +1,133 @@
 //! Literals, lists and maps.
 
+ghost use Rattle.std.specs.Prelude.{OnOk};
 ghost use Rattle.pl_grammar.specs.Grammar as g;
-ghost use Rattle.pl_values.specs.Values.{AreOf, Makes};
+ghost use Rattle.pl_stack.specs.Stack.{AreOnTop, Reduces};
 
 use pl_grammar::{Contents, More, Placed};
 use pl_making::{before, collected, constant_of};
+use pl_stack::Stack;
 use pl_tree::{Entry, Expr, Spelled};
-use pl_values::{Value, Values};
-use plain_data::{Boxed, Items};
+use plain_data::Items;
 use std::alloc::{AllocError, Global};
 
 /// A whole number.
-pub fn integer(alloc: Global, mut values: Values) -> Result<Boxed<Value>, AllocError>
-    requires { AreOf g.integer values }
-    ensures { Makes g.integer values result }
+pub fn integer(alloc: Global, stack: &mut Stack) -> Result<(), AllocError>
+    requires { AreOnTop g.integer stack.old }
+    ensures { OnOk result (Reduces g.integer stack.old stack.new) }
 {
-    let Spelled { at, spelling } = values.spelled();
+    let Spelled { at, spelling } = stack.spelled();
     let expr = Expr::Integer { at, spelling };
-    Boxed::new(alloc, Value::Placed(Some(Placed { start: at, expr })))
+    stack.push_placed(alloc, Placed { start: at, expr })
 }
 
 /// A text.
-pub fn string(alloc: Global, mut values: Values) -> Result<Boxed<Value>, AllocError>
-    requires { AreOf g.string values }
-    ensures { Makes g.string values result }
+pub fn string(alloc: Global, stack: &mut Stack) -> Result<(), AllocError>
+    requires { AreOnTop g.string stack.old }
+    ensures { OnOk result (Reduces g.string stack.old stack.new) }
 {
-    let Spelled { at, spelling } = values.spelled();
+    let Spelled { at, spelling } = stack.spelled();
     let expr = Expr::Text { at, spelling };
-    Boxed::new(alloc, Value::Placed(Some(Placed { start: at, expr })))
+    stack.push_placed(alloc, Placed { start: at, expr })
 }
 
 /// `true`, `false` or `null`
-pub fn constant(alloc: Global, mut values: Values) -> Result<Boxed<Value>, AllocError>
-    requires { AreOf g.constant values }
-    ensures { Makes g.constant values result }
+pub fn constant(alloc: Global, stack: &mut Stack) -> Result<(), AllocError>
+    requires { AreOnTop g.constant stack.old }
+    ensures { OnOk result (Reduces g.constant stack.old stack.new) }
 {
-    let token = values.token();
+    let token = stack.token();
     let expr = Expr::Constant {
         constant: constant_of(token.kind),
         at: token.start,
     };
-    Boxed::new(
+    stack.push_placed(
         alloc,
-        Value::Placed(Some(Placed {
+        Placed {
             start: token.start,
             expr,
-        })),
+        },
     )
 }
 
 /// `[ .. ]`, a list or a map.
-pub fn collection(alloc: Global, mut values: Values) -> Result<Boxed<Value>, AllocError>
-    requires { AreOf g.collection values }
-    ensures { Makes g.collection values result }
+pub fn collection(alloc: Global, stack: &mut Stack) -> Result<(), AllocError>
+    requires { AreOnTop g.collection stack.old }
+    ensures { OnOk result (Reduces g.collection stack.old stack.new) }
 {
-    let at = values.token().start;
-    let inside = values.contents_if_any();
+    stack.skip();
+    let inside = stack.contents_if_any();
+    let at = stack.token().start;
     let expr = collected(alloc, at, inside)?;
-    Boxed::new(alloc, Value::Placed(Some(Placed { start: at, expr })))
+    stack.push_placed(alloc, Placed { start: at, expr })
 }
 
 /// The `:` of an empty map.
-pub fn no_entries(alloc: Global, values: Values) -> Result<Boxed<Value>, AllocError>
-    requires { AreOf g.no_entries values }
-    ensures { Makes g.no_entries values result }
+pub fn no_entries(alloc: Global, stack: &mut Stack) -> Result<(), AllocError>
+    requires { AreOnTop g.no_entries stack.old }
+    ensures { OnOk result (Reduces g.no_entries stack.old stack.new) }
 {
-    drop(values);
-    Boxed::new(alloc, Value::Contents(Some(Contents::NoEntries)))
+    stack.skip();
+    stack.push_contents(alloc, Contents::NoEntries)
 }
 
 /// Contents of a list or a map, one at least.
-pub fn filled(alloc: Global, mut values: Values) -> Result<Boxed<Value>, AllocError>
-    requires { AreOf g.filled values }
-    ensures { Makes g.filled values result }
+pub fn filled(alloc: Global, stack: &mut Stack) -> Result<(), AllocError>
+    requires { AreOnTop g.filled stack.old }
+    ensures { OnOk result (Reduces g.filled stack.old stack.new) }
 {
-    let one = values.placed().expr;
-    let more = values.more_if_any();
-    Boxed::new(alloc, Value::Contents(Some(Contents::Filled(one, more))))
+    let more = stack.more_if_any();
+    let one = stack.placed().expr;
+    stack.push_contents(alloc, Contents::Filled(one, more))
 }
 
 /// Further items of a list.
-pub fn more_items(alloc: Global, mut values: Values) -> Result<Boxed<Value>, AllocError>
-    requires { AreOf g.more_items values }
-    ensures { Makes g.more_items values result }
+pub fn more_items(alloc: Global, stack: &mut Stack) -> Result<(), AllocError>
+    requires { AreOnTop g.more_items stack.old }
+    ensures { OnOk result (Reduces g.more_items stack.old stack.new) }
 {
-    let one = values.expr();
-    let others = values.exprs();
-    Boxed::new(
-        alloc,
-        Value::More(Some(More::Items(before(alloc, one, others)?))),
-    )
+    let others = stack.exprs();
+    let one = stack.expr();
+    stack.push_more(alloc, More::Items(before(alloc, one, others)?))
 }
 
 /// The first value of a map, and further entries.
-pub fn more_entries(alloc: Global, mut values: Values) -> Result<Boxed<Value>, AllocError>
-    requires { AreOf g.more_entries values }
-    ensures { Makes g.more_entries values result }
+pub fn more_entries(alloc: Global, stack: &mut Stack) -> Result<(), AllocError>
+    requires { AreOnTop g.more_entries stack.old }
+    ensures { OnOk result (Reduces g.more_entries stack.old stack.new) }
 {
-    values.skip();
-    let one = values.placed().expr;
-    let others = values.entries();
-    Boxed::new(alloc, Value::More(Some(More::Entries(one, others))))
+    let others = stack.entries();
+    let one = stack.placed().expr;
+    stack.skip();
+    stack.push_more(alloc, More::Entries(one, others))
 }
 
 /// `key : value`
-pub fn entry_of(alloc: Global, mut values: Values) -> Result<Boxed<Value>, AllocError>
-    requires { AreOf g.entry_of values }
-    ensures { Makes g.entry_of values result }
+pub fn entry_of(alloc: Global, stack: &mut Stack) -> Result<(), AllocError>
+    requires { AreOnTop g.entry_of stack.old }
+    ensures { OnOk result (Reduces g.entry_of stack.old stack.new) }
 {
-    let key = values.placed().expr;
-    values.skip();
-    let value = values.placed().expr;
-    Boxed::new(alloc, Value::Entry(Some(Entry { key, value })))
+    let value = stack.placed().expr;
+    stack.skip();
+    let key = stack.placed().expr;
+    stack.push_entry(alloc, Entry { key, value })
 }
 
 /// Items, one at least.
-pub fn items_of(alloc: Global, mut values: Values) -> Result<Boxed<Value>, AllocError>
-    requires { AreOf g.items_of values }
-    ensures { Makes g.items_of values result }
+pub fn items_of(alloc: Global, stack: &mut Stack) -> Result<(), AllocError>
+    requires { AreOnTop g.items_of stack.old }
+    ensures { OnOk result (Reduces g.items_of stack.old stack.new) }
 {
-    let one = values.expr();
-    let others = values.exprs();
-    Boxed::new(alloc, Value::Exprs(Some(before(alloc, one, others)?)))
+    let others = stack.exprs();
+    let one = stack.expr();
+    stack.push_exprs(alloc, before(alloc, one, others)?)
 }
 
 /// An item.
-pub fn item_of(alloc: Global, mut values: Values) -> Result<Boxed<Value>, AllocError>
-    requires { AreOf g.item_of values }
-    ensures { Makes g.item_of values result }
+pub fn item_of(alloc: Global, stack: &mut Stack) -> Result<(), AllocError>
+    requires { AreOnTop g.item_of stack.old }
+    ensures { OnOk result (Reduces g.item_of stack.old stack.new) }
 {
-    let one = values.placed().expr;
-    Boxed::new(alloc, Value::Expr(Some(one)))
+    let one = stack.placed().expr;
+    stack.push_expr(alloc, one)
 }

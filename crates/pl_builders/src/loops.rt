@@ -1,177 +1,175 @@
 //! Loops.
 
+ghost use Rattle.std.specs.Prelude.{OnOk};
 ghost use Rattle.pl_grammar.specs.Grammar as g;
-ghost use Rattle.pl_values.specs.Values.{AreOf, Makes};
+ghost use Rattle.pl_stack.specs.Stack.{AreOnTop, Reduces};
 
 use pl_grammar::{ForRest, Tail, Three};
 use pl_making::{any_expr, for_statement};
+use pl_stack::Stack;
 use pl_tree::{First, Statement};
-use pl_values::{Value, Values};
-use plain_data::Boxed;
 use std::alloc::{AllocError, Global};
 
 /// `while (condition) body`
-pub fn looped(alloc: Global, mut values: Values) -> Result<Boxed<Value>, AllocError>
-    requires { AreOf g.looped values }
-    ensures { Makes g.looped values result }
+pub fn looped(alloc: Global, stack: &mut Stack) -> Result<(), AllocError>
+    requires { AreOnTop g.looped stack.old }
+    ensures { OnOk result (Reduces g.looped stack.old stack.new) }
 {
-    let at = values.token().start;
-    values.skip();
-    let condition = values.placed().expr;
-    values.skip();
-    let body = values.run();
-    Boxed::new(
+    let body = stack.run();
+    stack.skip();
+    let condition = stack.placed().expr;
+    stack.skip();
+    let at = stack.token().start;
+    stack.push_statement(
         alloc,
-        Value::Statement(Some(Statement::While {
+        Statement::While {
             at,
             condition,
             body,
-        })),
+        },
     )
 }
 
 /// `do block while (condition)`
-pub fn do_loop(alloc: Global, mut values: Values) -> Result<Boxed<Value>, AllocError>
-    requires { AreOf g.do_loop values }
-    ensures { Makes g.do_loop values result }
+pub fn do_loop(alloc: Global, stack: &mut Stack) -> Result<(), AllocError>
+    requires { AreOnTop g.do_loop stack.old }
+    ensures { OnOk result (Reduces g.do_loop stack.old stack.new) }
 {
-    let at = values.token().start;
-    let block = values.block();
-    values.skip();
-    values.skip();
-    let condition = values.placed().expr;
-    Boxed::new(
+    stack.skip();
+    let condition = stack.placed().expr;
+    stack.skip();
+    stack.skip();
+    let block = stack.block();
+    let at = stack.token().start;
+    stack.push_statement(
         alloc,
-        Value::Statement(Some(Statement::Do {
+        Statement::Do {
             at,
             block,
             condition,
-        })),
+        },
     )
 }
 
 /// What a loop runs.
-pub fn runs(alloc: Global, mut values: Values) -> Result<Boxed<Value>, AllocError>
-    requires { AreOf g.runs values }
-    ensures { Makes g.runs values result }
+pub fn runs(alloc: Global, stack: &mut Stack) -> Result<(), AllocError>
+    requires { AreOnTop g.runs stack.old }
+    ensures { OnOk result (Reduces g.runs stack.old stack.new) }
 {
-    let body = values.body();
-    Boxed::new(alloc, Value::Run(Some(Some(body))))
+    let body = stack.body();
+    stack.push_run(alloc, Some(body))
 }
 
 /// The `;` of a loop that runs nothing.
-pub fn idle(alloc: Global, values: Values) -> Result<Boxed<Value>, AllocError>
-    requires { AreOf g.idle values }
-    ensures { Makes g.idle values result }
+pub fn idle(alloc: Global, stack: &mut Stack) -> Result<(), AllocError>
+    requires { AreOnTop g.idle stack.old }
+    ensures { OnOk result (Reduces g.idle stack.old stack.new) }
 {
-    drop(values);
-    Boxed::new(alloc, Value::Run(Some(None)))
+    stack.skip();
+    stack.push_run(alloc, None)
 }
 
 /// `for (` and what follows.
-pub fn for_loop(alloc: Global, mut values: Values) -> Result<Boxed<Value>, AllocError>
-    requires { AreOf g.for_loop values }
-    ensures { Makes g.for_loop values result }
+pub fn for_loop(alloc: Global, stack: &mut Stack) -> Result<(), AllocError>
+    requires { AreOnTop g.for_loop stack.old }
+    ensures { OnOk result (Reduces g.for_loop stack.old stack.new) }
 {
-    let at = values.token().start;
-    values.skip();
-    let rest = values.for_rest();
-    Boxed::new(alloc, Value::Statement(Some(for_statement(at, rest))))
+    let rest = stack.for_rest();
+    stack.skip();
+    let at = stack.token().start;
+    stack.push_statement(alloc, for_statement(at, rest))
 }
 
 /// The head of a `for` that does nothing first.
-pub fn three_empty(alloc: Global, mut values: Values) -> Result<Boxed<Value>, AllocError>
-    requires { AreOf g.three_empty values }
-    ensures { Makes g.three_empty values result }
+pub fn three_empty(alloc: Global, stack: &mut Stack) -> Result<(), AllocError>
+    requires { AreOnTop g.three_empty stack.old }
+    ensures { OnOk result (Reduces g.three_empty stack.old stack.new) }
 {
-    let rest = values.three();
-    Boxed::new(alloc, Value::ForRest(Some(ForRest::Three(None, rest))))
+    let rest = stack.three();
+    stack.push_for_rest(alloc, ForRest::Three(None, rest))
 }
 
 /// The head of a `for` that does something first.
-pub fn three_first(alloc: Global, mut values: Values) -> Result<Boxed<Value>, AllocError>
-    requires { AreOf g.three_first values }
-    ensures { Makes g.three_first values result }
+pub fn three_first(alloc: Global, stack: &mut Stack) -> Result<(), AllocError>
+    requires { AreOnTop g.three_first stack.old }
+    ensures { OnOk result (Reduces g.three_first stack.old stack.new) }
 {
-    let one = values.first();
-    let rest = values.three();
-    Boxed::new(alloc, Value::ForRest(Some(ForRest::Three(Some(one), rest))))
+    let rest = stack.three();
+    let one = stack.first();
+    stack.push_for_rest(alloc, ForRest::Three(Some(one), rest))
 }
 
 /// `of name : over) body`
-pub fn each_of(alloc: Global, mut values: Values) -> Result<Boxed<Value>, AllocError>
-    requires { AreOf g.each_of values }
-    ensures { Makes g.each_of values result }
+pub fn each_of(alloc: Global, stack: &mut Stack) -> Result<(), AllocError>
+    requires { AreOnTop g.each_of stack.old }
+    ensures { OnOk result (Reduces g.each_of stack.old stack.new) }
 {
-    let of = values.type_name();
-    let name = values.spelled();
-    values.skip();
-    let over = values.placed().expr;
-    values.skip();
-    let body = values.body();
-    Boxed::new(
-        alloc,
-        Value::ForRest(Some(ForRest::Each(of, name, over, body))),
-    )
+    let body = stack.body();
+    stack.skip();
+    let over = stack.placed().expr;
+    stack.skip();
+    let name = stack.spelled();
+    let of = stack.type_name();
+    stack.push_for_rest(alloc, ForRest::Each(of, name, over, body))
 }
 
 /// `name in over) body`
-pub fn each_in(alloc: Global, mut values: Values) -> Result<Boxed<Value>, AllocError>
-    requires { AreOf g.each_in values }
-    ensures { Makes g.each_in values result }
+pub fn each_in(alloc: Global, stack: &mut Stack) -> Result<(), AllocError>
+    requires { AreOnTop g.each_in stack.old }
+    ensures { OnOk result (Reduces g.each_in stack.old stack.new) }
 {
-    let name = values.spelled();
-    values.skip();
-    let over = values.placed().expr;
-    values.skip();
-    let body = values.body();
-    Boxed::new(alloc, Value::ForRest(Some(ForRest::In(name, over, body))))
+    let body = stack.body();
+    stack.skip();
+    let over = stack.placed().expr;
+    stack.skip();
+    let name = stack.spelled();
+    stack.push_for_rest(alloc, ForRest::In(name, over, body))
 }
 
 /// `; condition` and what follows.
-pub fn three_parts(alloc: Global, mut values: Values) -> Result<Boxed<Value>, AllocError>
-    requires { AreOf g.three_parts values }
-    ensures { Makes g.three_parts values result }
+pub fn three_parts(alloc: Global, stack: &mut Stack) -> Result<(), AllocError>
+    requires { AreOnTop g.three_parts stack.old }
+    ensures { OnOk result (Reduces g.three_parts stack.old stack.new) }
 {
-    values.skip();
-    let condition = any_expr(values.placed_if_any());
-    let Tail { update, body } = values.tail();
-    Boxed::new(
+    let Tail { update, body } = stack.tail();
+    let condition = any_expr(stack.placed_if_any());
+    stack.skip();
+    stack.push_three(
         alloc,
-        Value::Three(Some(Three {
+        Three {
             condition,
             update,
             body,
-        })),
+        },
     )
 }
 
 /// `; update) body`
-pub fn tail_parts(alloc: Global, mut values: Values) -> Result<Boxed<Value>, AllocError>
-    requires { AreOf g.tail_parts values }
-    ensures { Makes g.tail_parts values result }
+pub fn tail_parts(alloc: Global, stack: &mut Stack) -> Result<(), AllocError>
+    requires { AreOnTop g.tail_parts stack.old }
+    ensures { OnOk result (Reduces g.tail_parts stack.old stack.new) }
 {
-    values.skip();
-    let update = any_expr(values.placed_if_any());
-    values.skip();
-    let body = values.run();
-    Boxed::new(alloc, Value::Tail(Some(Tail { update, body })))
+    let body = stack.run();
+    stack.skip();
+    let update = any_expr(stack.placed_if_any());
+    stack.skip();
+    stack.push_tail(alloc, Tail { update, body })
 }
 
 /// A declaration as the first part of a `for`.
-pub fn declares(alloc: Global, mut values: Values) -> Result<Boxed<Value>, AllocError>
-    requires { AreOf g.declares values }
-    ensures { Makes g.declares values result }
+pub fn declares(alloc: Global, stack: &mut Stack) -> Result<(), AllocError>
+    requires { AreOnTop g.declares stack.old }
+    ensures { OnOk result (Reduces g.declares stack.old stack.new) }
 {
-    let one = values.declaration();
-    Boxed::new(alloc, Value::First(Some(First::Declare(one))))
+    let one = stack.declaration();
+    stack.push_first(alloc, First::Declare(one))
 }
 
 /// An expression as the first part of a `for`.
-pub fn expresses(alloc: Global, mut values: Values) -> Result<Boxed<Value>, AllocError>
-    requires { AreOf g.expresses values }
-    ensures { Makes g.expresses values result }
+pub fn expresses(alloc: Global, stack: &mut Stack) -> Result<(), AllocError>
+    requires { AreOnTop g.expresses stack.old }
+    ensures { OnOk result (Reduces g.expresses stack.old stack.new) }
 {
-    let one = values.placed().expr;
-    Boxed::new(alloc, Value::First(Some(First::Expression(one))))
+    let one = stack.placed().expr;
+    stack.push_first(alloc, First::Expression(one))
 }

@@ -1,87 +1,88 @@
 //! Names and members.
 
+ghost use Rattle.std.specs.Prelude.{OnOk};
 ghost use Rattle.pl_grammar.specs.Grammar as g;
-ghost use Rattle.pl_values.specs.Values.{AreOf, Makes};
+ghost use Rattle.pl_stack.specs.Stack.{AreOnTop, Reduces};
 
 use pl_grammar::{Member, Placed, Suffix};
 use pl_making::{access_of, chained, name_or_call, suffix_of, suffixed_by};
+use pl_stack::Stack;
 use pl_tree::Expr;
-use pl_values::{Value, Values};
-use plain_data::Boxed;
 use std::alloc::{AllocError, Global};
 
 /// A name, and its arguments if any.
-pub fn named(alloc: Global, mut values: Values) -> Result<Boxed<Value>, AllocError>
-    requires { AreOf g.named values }
-    ensures { Makes g.named values result }
+pub fn named(alloc: Global, stack: &mut Stack) -> Result<(), AllocError>
+    requires { AreOnTop g.named stack.old }
+    ensures { OnOk result (Reduces g.named stack.old stack.new) }
 {
-    let name = values.spelled();
-    let given = values.arguments_if_any();
+    let given = stack.arguments_if_any();
+    let name = stack.spelled();
     let start = name.at;
     let expr = name_or_call(name, given);
-    Boxed::new(alloc, Value::Placed(Some(Placed { start, expr })))
+    stack.push_placed(alloc, Placed { start, expr })
 }
 
 /// An expression, and the suffixes after it.
-pub fn suffixed(alloc: Global, mut values: Values) -> Result<Boxed<Value>, AllocError>
-    requires { AreOf g.suffixed values }
-    ensures { Makes g.suffixed values result }
+pub fn suffixed(alloc: Global, stack: &mut Stack) -> Result<(), AllocError>
+    requires { AreOnTop g.suffixed stack.old }
+    ensures { OnOk result (Reduces g.suffixed stack.old stack.new) }
 {
-    let one = values.placed();
-    let others = values.suffixes();
-    Boxed::new(alloc, Value::Placed(Some(chained(alloc, one, others)?)))
+    let others = stack.suffixes();
+    let one = stack.placed();
+    stack.push_placed(alloc, chained(alloc, one, others)?)
 }
 
 /// A type, a member of it, and the suffixes after that.
-pub fn typed(alloc: Global, mut values: Values) -> Result<Boxed<Value>, AllocError>
-    requires { AreOf g.typed values }
-    ensures { Makes g.typed values result }
+pub fn typed(alloc: Global, stack: &mut Stack) -> Result<(), AllocError>
+    requires { AreOnTop g.typed stack.old }
+    ensures { OnOk result (Reduces g.typed stack.old stack.new) }
 {
-    let of = values.type_name();
-    let one = values.suffix();
-    let others = values.suffixes();
+    let others = stack.suffixes();
+    let one = stack.suffix();
+    let of = stack.type_name();
     let start = of.at;
     let expr = suffixed_by(alloc, Expr::Type { of }, one)?;
     let member = Placed { start, expr };
-    Boxed::new(alloc, Value::Placed(Some(chained(alloc, member, others)?)))
+    stack.push_placed(alloc, chained(alloc, member, others)?)
 }
 
 /// `[index]`
-pub fn index(alloc: Global, mut values: Values) -> Result<Boxed<Value>, AllocError>
-    requires { AreOf g.index values }
-    ensures { Makes g.index values result }
+pub fn index(alloc: Global, stack: &mut Stack) -> Result<(), AllocError>
+    requires { AreOnTop g.index stack.old }
+    ensures { OnOk result (Reduces g.index stack.old stack.new) }
 {
-    let at = values.token().start;
-    let one = values.placed().expr;
-    Boxed::new(alloc, Value::Suffix(Some(Suffix::Index(at, one))))
+    stack.skip();
+    let one = stack.placed().expr;
+    let at = stack.token().start;
+    stack.push_suffix(alloc, Suffix::Index(at, one))
 }
 
 /// A dot and a member.
-pub fn dot_of(alloc: Global, mut values: Values) -> Result<Boxed<Value>, AllocError>
-    requires { AreOf g.dot_of values }
-    ensures { Makes g.dot_of values result }
+pub fn dot_of(alloc: Global, stack: &mut Stack) -> Result<(), AllocError>
+    requires { AreOnTop g.dot_of stack.old }
+    ensures { OnOk result (Reduces g.dot_of stack.old stack.new) }
 {
-    let token = values.token();
-    let member = values.member();
+    let member = stack.member();
+    let token = stack.token();
     let access = access_of(token.kind);
-    Boxed::new(alloc, Value::Suffix(Some(suffix_of(access, member))))
+    stack.push_suffix(alloc, suffix_of(access, member))
 }
 
 /// The name of a member, and its arguments if any.
-pub fn named_member(alloc: Global, mut values: Values) -> Result<Boxed<Value>, AllocError>
-    requires { AreOf g.named_member values }
-    ensures { Makes g.named_member values result }
+pub fn named_member(alloc: Global, stack: &mut Stack) -> Result<(), AllocError>
+    requires { AreOnTop g.named_member stack.old }
+    ensures { OnOk result (Reduces g.named_member stack.old stack.new) }
 {
-    let name = values.spelled();
-    let given = values.arguments_if_any();
-    Boxed::new(alloc, Value::Member(Some(Member::Named(name, given))))
+    let given = stack.arguments_if_any();
+    let name = stack.spelled();
+    stack.push_member(alloc, Member::Named(name, given))
 }
 
 /// A member whose name is a number.
-pub fn numbered(alloc: Global, mut values: Values) -> Result<Boxed<Value>, AllocError>
-    requires { AreOf g.numbered values }
-    ensures { Makes g.numbered values result }
+pub fn numbered(alloc: Global, stack: &mut Stack) -> Result<(), AllocError>
+    requires { AreOnTop g.numbered stack.old }
+    ensures { OnOk result (Reduces g.numbered stack.old stack.new) }
 {
-    let number = values.spelled();
-    Boxed::new(alloc, Value::Member(Some(Member::Numbered(number))))
+    let number = stack.spelled();
+    stack.push_member(alloc, Member::Numbered(number))
 }

@@ -1,15 +1,16 @@
 //! Repeated phrases.
 
-ghost use Rattle.std.specs.Prelude.{◌≡◌, [], IfOk};
+ghost use Rattle.std.specs.Prelude.{◌≡◌, [], ◌∷◌, OnOk};
 ghost use Rattle.pl_rules.specs.Names.{series_form, listed_form};
 ghost use Rattle.pl_grammar.specs.Grammar.{comma};
 ghost use Rattle.pl_values.specs.declared.value.Value.TheVariants as v;
 ghost use Rattle.pl_values.specs.Values.{list_value, value_of, held};
-ghost use Rattle.pl_builders.specs.Series.{AreBoth, AreLonger, Joins, Lengthens};
+ghost use Rattle.pl_stack.specs.Stack.{IsOnSeveral, Extends};
 
 use pl_rules::{Listed, Series};
-use pl_values::{Value, Values};
-use plain_data::{Boxed, Items};
+use pl_stack::Stack;
+use pl_values::Value;
+use plain_data::Items;
 use std::alloc::{AllocError, Global};
 
 fn empty(alloc: Global, series: Series) -> Value
@@ -40,167 +41,152 @@ fn empty_listed(alloc: Global, listed: Listed) -> Value
     }
 }
 
-/// The value of no phrases.
+/// Puts the value of no phrases on the top of the stack.
 #[inline(never)]
-pub fn none(alloc: Global, series: Series) -> Result<Boxed<Value>, AllocError>
-    ensures { IfOk result (λ value. value ≡ list_value (series_form series) []) }
+pub fn push_none(alloc: Global, series: Series, stack: &mut Stack) -> Result<(), AllocError>
+    ensures { OnOk result (stack.new ≡ list_value (series_form series) [] ∷ stack.old) }
 {
-    Boxed::new(alloc, empty(alloc, series))
+    stack.push(alloc, empty(alloc, series))
 }
 
 /// Statements, and one more.
-fn statements(alloc: Global, mut values: Values) -> Result<Boxed<Value>, AllocError>
-    requires { AreBoth (held v.Statements) (held v.Statement) values }
-    ensures { AreLonger (held v.Statements) (held v.Statement) values result }
+fn statements(alloc: Global, stack: &mut Stack) -> Result<(), AllocError>
+    requires { IsOnSeveral (held v.Statements) (held v.Statement) stack.old }
+    ensures { OnOk result (Extends (held v.Statements) (held v.Statement) stack.old stack.new) }
 {
-    let mut all = values.statements();
-    let one = values.statement();
+    let one = stack.statement();
+    let mut all = stack.statements();
     all.push(one)?;
-    Boxed::new(alloc, Value::Statements(Some(all)))
+    stack.push_statements(alloc, all)
 }
 
 /// Places, and one more.
-fn places(alloc: Global, mut values: Values) -> Result<Boxed<Value>, AllocError>
-    requires { AreBoth (held v.Places) (held v.Place) values }
-    ensures { AreLonger (held v.Places) (held v.Place) values result }
+fn places(alloc: Global, stack: &mut Stack) -> Result<(), AllocError>
+    requires { IsOnSeveral (held v.Places) (held v.Place) stack.old }
+    ensures { OnOk result (Extends (held v.Places) (held v.Place) stack.old stack.new) }
 {
-    let mut all = values.places();
-    let one = values.place();
+    let one = stack.place();
+    let mut all = stack.places();
     all.push(one)?;
-    Boxed::new(alloc, Value::Places(Some(all)))
+    stack.push_places(alloc, all)
 }
 
 /// Catches, and one more.
-fn catches(alloc: Global, mut values: Values) -> Result<Boxed<Value>, AllocError>
-    requires { AreBoth (held v.Catches) (held v.Catch) values }
-    ensures { AreLonger (held v.Catches) (held v.Catch) values result }
+fn catches(alloc: Global, stack: &mut Stack) -> Result<(), AllocError>
+    requires { IsOnSeveral (held v.Catches) (held v.Catch) stack.old }
+    ensures { OnOk result (Extends (held v.Catches) (held v.Catch) stack.old stack.new) }
 {
-    let mut all = values.catches();
-    let one = values.catch_clause();
+    let one = stack.catch_clause();
+    let mut all = stack.catches();
     all.push(one)?;
-    Boxed::new(alloc, Value::Catches(Some(all)))
+    stack.push_catches(alloc, all)
 }
 
 /// Suffixes, and one more.
-fn suffixes(alloc: Global, mut values: Values) -> Result<Boxed<Value>, AllocError>
-    requires { AreBoth (held v.Suffixes) (held v.Suffix) values }
-    ensures { AreLonger (held v.Suffixes) (held v.Suffix) values result }
+fn suffixes(alloc: Global, stack: &mut Stack) -> Result<(), AllocError>
+    requires { IsOnSeveral (held v.Suffixes) (held v.Suffix) stack.old }
+    ensures { OnOk result (Extends (held v.Suffixes) (held v.Suffix) stack.old stack.new) }
 {
-    let mut all = values.suffixes();
-    let one = values.suffix();
+    let one = stack.suffix();
+    let mut all = stack.suffixes();
     all.push(one)?;
-    Boxed::new(alloc, Value::Suffixes(Some(all)))
+    stack.push_suffixes(alloc, all)
 }
 
 /// Expressions, and one more.
-fn exprs(alloc: Global, mut values: Values) -> Result<Boxed<Value>, AllocError>
-    requires { AreBoth (held v.Exprs) (held v.Expr) values }
-    ensures { AreLonger (held v.Exprs) (held v.Expr) values result }
+fn exprs(alloc: Global, stack: &mut Stack) -> Result<(), AllocError>
+    requires { IsOnSeveral (held v.Exprs) (held v.Expr) stack.old }
+    ensures { OnOk result (Extends (held v.Exprs) (held v.Expr) stack.old stack.new) }
 {
-    let mut all = values.exprs();
-    let one = values.expr();
+    let one = stack.expr();
+    let mut all = stack.exprs();
     all.push(one)?;
-    Boxed::new(alloc, Value::Exprs(Some(all)))
+    stack.push_exprs(alloc, all)
 }
 
 /// Operations, and one more.
-fn operations(alloc: Global, mut values: Values) -> Result<Boxed<Value>, AllocError>
-    requires { AreBoth (held v.Operations) (held v.Operation) values }
-    ensures { AreLonger (held v.Operations) (held v.Operation) values result }
+fn operations(alloc: Global, stack: &mut Stack) -> Result<(), AllocError>
+    requires { IsOnSeveral (held v.Operations) (held v.Operation) stack.old }
+    ensures { OnOk result (Extends (held v.Operations) (held v.Operation) stack.old stack.new) }
 {
-    let mut all = values.operations();
-    let one = values.operation();
+    let one = stack.operation();
+    let mut all = stack.operations();
     all.push(one)?;
-    Boxed::new(alloc, Value::Operations(Some(all)))
+    stack.push_operations(alloc, all)
 }
 
 /// Parameters, and one more.
-fn parameters(alloc: Global, mut values: Values) -> Result<Boxed<Value>, AllocError>
-    requires { AreBoth (held v.Parameters) (held v.Parameter) values }
-    ensures { AreLonger (held v.Parameters) (held v.Parameter) values result }
+fn parameters(alloc: Global, stack: &mut Stack) -> Result<(), AllocError>
+    requires { IsOnSeveral (held v.Parameters) (held v.Parameter) stack.old }
+    ensures { OnOk result (Extends (held v.Parameters) (held v.Parameter) stack.old stack.new) }
 {
-    let mut all = values.parameters();
-    let one = values.parameter();
+    let one = stack.parameter();
+    let mut all = stack.parameters();
     all.push(one)?;
-    Boxed::new(alloc, Value::Parameters(Some(all)))
+    stack.push_parameters(alloc, all)
 }
 
 /// Variables, and one more.
-fn variables(alloc: Global, mut values: Values) -> Result<Boxed<Value>, AllocError>
-    requires { AreBoth (held v.Variables) (held v.Variable) values }
-    ensures { AreLonger (held v.Variables) (held v.Variable) values result }
+fn variables(alloc: Global, stack: &mut Stack) -> Result<(), AllocError>
+    requires { IsOnSeveral (held v.Variables) (held v.Variable) stack.old }
+    ensures { OnOk result (Extends (held v.Variables) (held v.Variable) stack.old stack.new) }
 {
-    let mut all = values.variables();
-    let one = values.variable();
+    let one = stack.variable();
+    let mut all = stack.variables();
     all.push(one)?;
-    Boxed::new(alloc, Value::Variables(Some(all)))
+    stack.push_variables(alloc, all)
 }
 
 /// Entries, and one more.
-fn entries(alloc: Global, mut values: Values) -> Result<Boxed<Value>, AllocError>
-    requires { AreBoth (held v.Entries) (held v.Entry) values }
-    ensures { AreLonger (held v.Entries) (held v.Entry) values result }
+fn entries(alloc: Global, stack: &mut Stack) -> Result<(), AllocError>
+    requires { IsOnSeveral (held v.Entries) (held v.Entry) stack.old }
+    ensures { OnOk result (Extends (held v.Entries) (held v.Entry) stack.old stack.new) }
 {
-    let mut all = values.entries();
-    let one = values.entry();
+    let one = stack.entry();
+    let mut all = stack.entries();
     all.push(one)?;
-    Boxed::new(alloc, Value::Entries(Some(all)))
+    stack.push_entries(alloc, all)
 }
 
 /// Arguments, and one more.
-fn arguments(alloc: Global, mut values: Values) -> Result<Boxed<Value>, AllocError>
-    requires { AreBoth (held v.Arguments) (held v.Argument) values }
-    ensures { AreLonger (held v.Arguments) (held v.Argument) values result }
+fn arguments(alloc: Global, stack: &mut Stack) -> Result<(), AllocError>
+    requires { IsOnSeveral (held v.Arguments) (held v.Argument) stack.old }
+    ensures { OnOk result (Extends (held v.Arguments) (held v.Argument) stack.old stack.new) }
 {
-    let mut all = values.arguments();
-    let one = values.argument();
+    let one = stack.argument();
+    let mut all = stack.arguments();
     all.push(one)?;
-    Boxed::new(alloc, Value::Arguments(Some(all)))
+    stack.push_arguments(alloc, all)
 }
 
-fn longer(alloc: Global, series: Series, values: Values) -> Result<Boxed<Value>, AllocError>
-    requires { AreBoth (list_value (series_form series)) (value_of (series_form series)) values }
-    ensures { AreLonger (list_value (series_form series)) (value_of (series_form series)) values result }
+/// Joins the phrase on the top of the stack to those below it.
+#[inline(never)]
+pub fn extend(alloc: Global, series: Series, stack: &mut Stack) -> Result<(), AllocError>
+    requires { IsOnSeveral (list_value (series_form series)) (value_of (series_form series)) stack.old }
+    ensures { OnOk result (Extends (list_value (series_form series)) (value_of (series_form series)) stack.old stack.new) }
 {
     match series {
-        Series::Statement => statements(alloc, values),
-        Series::Inner => statements(alloc, values),
-        Series::Pair => places(alloc, values),
-        Series::Handler => catches(alloc, values),
-        Series::Postfix => suffixes(alloc, values),
-        Series::Size => exprs(alloc, values),
-        Series::Operation(_) => operations(alloc, values),
-        Series::Comma(listed) => longer_listed(alloc, listed, values),
+        Series::Statement => statements(alloc, stack),
+        Series::Inner => statements(alloc, stack),
+        Series::Pair => places(alloc, stack),
+        Series::Handler => catches(alloc, stack),
+        Series::Postfix => suffixes(alloc, stack),
+        Series::Size => exprs(alloc, stack),
+        Series::Operation(_) => operations(alloc, stack),
+        Series::Comma(listed) => extend_listed(alloc, listed, stack),
     }
 }
 
-fn longer_listed(alloc: Global, listed: Listed, values: Values) -> Result<Boxed<Value>, AllocError>
-    requires { AreBoth (list_value (comma (listed_form listed))) (value_of (listed_form listed)) values }
-    ensures { AreLonger (list_value (comma (listed_form listed))) (value_of (listed_form listed)) values result }
+fn extend_listed(alloc: Global, listed: Listed, stack: &mut Stack) -> Result<(), AllocError>
+    requires { IsOnSeveral (list_value (comma (listed_form listed))) (value_of (listed_form listed)) stack.old }
+    ensures { OnOk result (Extends (list_value (comma (listed_form listed))) (value_of (listed_form listed)) stack.old stack.new) }
 {
     match listed {
-        Listed::Formal => parameters(alloc, values),
-        Listed::Var => variables(alloc, values),
-        Listed::Item => exprs(alloc, values),
-        Listed::Entry => entries(alloc, values),
-        Listed::Arg => arguments(alloc, values),
-        Listed::Param => parameters(alloc, values),
+        Listed::Formal => parameters(alloc, stack),
+        Listed::Var => variables(alloc, stack),
+        Listed::Item => exprs(alloc, stack),
+        Listed::Entry => entries(alloc, stack),
+        Listed::Arg => arguments(alloc, stack),
+        Listed::Param => parameters(alloc, stack),
     }
-}
-
-/// The value of these phrases and one more.
-#[inline(never)]
-pub fn one_more(
-    alloc: Global,
-    series: Series,
-    all: Boxed<Value>,
-    one: Boxed<Value>,
-) -> Result<Boxed<Value>, AllocError>
-    requires { Joins (list_value (series_form series)) (value_of (series_form series)) all one }
-    ensures { Lengthens (list_value (series_form series)) (value_of (series_form series)) all one result }
-{
-    let mut values = Values::new(alloc);
-    values.put(one)?;
-    values.put(all)?;
-    longer(alloc, series, values)
 }

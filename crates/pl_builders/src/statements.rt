@@ -1,183 +1,173 @@
 //! Statements, but for loops.
 
+ghost use Rattle.std.specs.Prelude.{OnOk};
 ghost use Rattle.pl_grammar.specs.Grammar as g;
-ghost use Rattle.pl_values.specs.Values.{AreOf, Makes};
+ghost use Rattle.pl_stack.specs.Stack.{AreOnTop, Reduces};
 
 use pl_making::{before, jump_of};
+use pl_stack::Stack;
 use pl_tree::{Block, Body, Catch, Declaration, Statement, Variable};
-use pl_values::{Value, Values};
 use plain_data::Boxed;
 use std::alloc::{AllocError, Global};
 
 /// `{ statements }`
-pub fn braces(alloc: Global, mut values: Values) -> Result<Boxed<Value>, AllocError>
-    requires { AreOf g.braces values }
-    ensures { Makes g.braces values result }
+pub fn braces(alloc: Global, stack: &mut Stack) -> Result<(), AllocError>
+    requires { AreOnTop g.braces stack.old }
+    ensures { OnOk result (Reduces g.braces stack.old stack.new) }
 {
-    let at = values.token().start;
-    let statements = values.statements();
-    Boxed::new(alloc, Value::Block(Some(Block { at, statements })))
+    stack.skip();
+    let statements = stack.statements();
+    let at = stack.token().start;
+    stack.push_block(alloc, Block { at, statements })
 }
 
 /// `if (condition) then`, and its `else` if any.
-pub fn conditional(alloc: Global, mut values: Values) -> Result<Boxed<Value>, AllocError>
-    requires { AreOf g.conditional values }
-    ensures { Makes g.conditional values result }
+pub fn conditional(alloc: Global, stack: &mut Stack) -> Result<(), AllocError>
+    requires { AreOnTop g.conditional stack.old }
+    ensures { OnOk result (Reduces g.conditional stack.old stack.new) }
 {
-    let at = values.token().start;
-    values.skip();
-    let condition = values.placed().expr;
-    values.skip();
-    let then = values.body();
-    let otherwise = values.body_if_any();
-    Boxed::new(
+    let otherwise = stack.body_if_any();
+    let then = stack.body();
+    stack.skip();
+    let condition = stack.placed().expr;
+    stack.skip();
+    let at = stack.token().start;
+    stack.push_statement(
         alloc,
-        Value::Statement(Some(Statement::If {
+        Statement::If {
             at,
             condition,
             then,
             otherwise,
-        })),
+        },
     )
 }
 
 /// `try block`, and its catches.
-pub fn tried(alloc: Global, mut values: Values) -> Result<Boxed<Value>, AllocError>
-    requires { AreOf g.tried values }
-    ensures { Makes g.tried values result }
+pub fn tried(alloc: Global, stack: &mut Stack) -> Result<(), AllocError>
+    requires { AreOnTop g.tried stack.old }
+    ensures { OnOk result (Reduces g.tried stack.old stack.new) }
 {
-    let at = values.token().start;
-    let block = values.block();
-    let one = values.catch_clause();
-    let others = values.catches();
+    let others = stack.catches();
+    let one = stack.catch_clause();
+    let block = stack.block();
+    let at = stack.token().start;
     let catches = before(alloc, one, others)?;
-    Boxed::new(
-        alloc,
-        Value::Statement(Some(Statement::Try { at, block, catches })),
-    )
+    stack.push_statement(alloc, Statement::Try { at, block, catches })
 }
 
 /// `catch (of name) block`
-pub fn catches(alloc: Global, mut values: Values) -> Result<Boxed<Value>, AllocError>
-    requires { AreOf g.catches values }
-    ensures { Makes g.catches values result }
+pub fn catches(alloc: Global, stack: &mut Stack) -> Result<(), AllocError>
+    requires { AreOnTop g.catches stack.old }
+    ensures { OnOk result (Reduces g.catches stack.old stack.new) }
 {
-    let at = values.token().start;
-    values.skip();
-    let of = values.type_name();
-    let name = values.spelled();
-    values.skip();
-    let block = values.block();
-    Boxed::new(
+    let block = stack.block();
+    stack.skip();
+    let name = stack.spelled();
+    let of = stack.type_name();
+    stack.skip();
+    let at = stack.token().start;
+    stack.push_catch_clause(
         alloc,
-        Value::Catch(Some(Catch {
+        Catch {
             at,
             of,
             name,
             block,
-        })),
+        },
     )
 }
 
 /// A declaration.
-pub fn declared(alloc: Global, mut values: Values) -> Result<Boxed<Value>, AllocError>
-    requires { AreOf g.declared values }
-    ensures { Makes g.declared values result }
+pub fn declared(alloc: Global, stack: &mut Stack) -> Result<(), AllocError>
+    requires { AreOnTop g.declared stack.old }
+    ensures { OnOk result (Reduces g.declared stack.old stack.new) }
 {
-    let one = values.declaration();
-    Boxed::new(alloc, Value::Statement(Some(Statement::Declare(one))))
+    let one = stack.declaration();
+    stack.push_statement(alloc, Statement::Declare(one))
 }
 
 /// `continue` or `break`
-pub fn jump(alloc: Global, mut values: Values) -> Result<Boxed<Value>, AllocError>
-    requires { AreOf g.jump values }
-    ensures { Makes g.jump values result }
+pub fn jump(alloc: Global, stack: &mut Stack) -> Result<(), AllocError>
+    requires { AreOnTop g.jump stack.old }
+    ensures { OnOk result (Reduces g.jump stack.old stack.new) }
 {
-    let token = values.token();
-    Boxed::new(alloc, Value::Statement(Some(jump_of(token))))
+    let token = stack.token();
+    stack.push_statement(alloc, jump_of(token))
 }
 
 /// `return`, and its value if any.
-pub fn returned(alloc: Global, mut values: Values) -> Result<Boxed<Value>, AllocError>
-    requires { AreOf g.returned values }
-    ensures { Makes g.returned values result }
+pub fn returned(alloc: Global, stack: &mut Stack) -> Result<(), AllocError>
+    requires { AreOnTop g.returned stack.old }
+    ensures { OnOk result (Reduces g.returned stack.old stack.new) }
 {
-    let at = values.token().start;
-    let value = values.argument_if_any();
-    Boxed::new(
-        alloc,
-        Value::Statement(Some(Statement::Return { at, value })),
-    )
+    let value = stack.argument_if_any();
+    let at = stack.token().start;
+    stack.push_statement(alloc, Statement::Return { at, value })
 }
 
 /// `throw value`
-pub fn thrown(alloc: Global, mut values: Values) -> Result<Boxed<Value>, AllocError>
-    requires { AreOf g.thrown values }
-    ensures { Makes g.thrown values result }
+pub fn thrown(alloc: Global, stack: &mut Stack) -> Result<(), AllocError>
+    requires { AreOnTop g.thrown stack.old }
+    ensures { OnOk result (Reduces g.thrown stack.old stack.new) }
 {
-    let at = values.token().start;
-    let value = values.placed().expr;
-    Boxed::new(
-        alloc,
-        Value::Statement(Some(Statement::Throw { at, value })),
-    )
+    let value = stack.placed().expr;
+    let at = stack.token().start;
+    stack.push_statement(alloc, Statement::Throw { at, value })
 }
 
 /// An expression as a statement.
-pub fn value_statement(alloc: Global, mut values: Values) -> Result<Boxed<Value>, AllocError>
-    requires { AreOf g.value values }
-    ensures { Makes g.value values result }
+pub fn value_statement(alloc: Global, stack: &mut Stack) -> Result<(), AllocError>
+    requires { AreOnTop g.value stack.old }
+    ensures { OnOk result (Reduces g.value stack.old stack.new) }
 {
-    let given = values.placed();
-    Boxed::new(
+    let given = stack.placed();
+    stack.push_statement(
         alloc,
-        Value::Statement(Some(Statement::Expression {
+        Statement::Expression {
             at: given.start,
             value: given.expr,
-        })),
+        },
     )
 }
 
 /// `of variables`
-pub fn declaration_of(alloc: Global, mut values: Values) -> Result<Boxed<Value>, AllocError>
-    requires { AreOf g.declaration values }
-    ensures { Makes g.declaration values result }
+pub fn declaration_of(alloc: Global, stack: &mut Stack) -> Result<(), AllocError>
+    requires { AreOnTop g.declaration stack.old }
+    ensures { OnOk result (Reduces g.declaration stack.old stack.new) }
 {
-    let of = values.type_name();
-    let one = values.variable();
-    let others = values.variables();
+    let others = stack.variables();
+    let one = stack.variable();
+    let of = stack.type_name();
     let variables = before(alloc, one, others)?;
-    Boxed::new(
-        alloc,
-        Value::Declaration(Some(Declaration { of, variables })),
-    )
+    stack.push_declaration(alloc, Declaration { of, variables })
 }
 
 /// A variable, and its value if any.
-pub fn variable_of(alloc: Global, mut values: Values) -> Result<Boxed<Value>, AllocError>
-    requires { AreOf g.variable values }
-    ensures { Makes g.variable values result }
+pub fn variable_of(alloc: Global, stack: &mut Stack) -> Result<(), AllocError>
+    requires { AreOnTop g.variable stack.old }
+    ensures { OnOk result (Reduces g.variable stack.old stack.new) }
 {
-    let name = values.spelled();
-    let value = values.argument_if_any();
-    Boxed::new(alloc, Value::Variable(Some(Variable { name, value })))
+    let value = stack.argument_if_any();
+    let name = stack.spelled();
+    stack.push_variable(alloc, Variable { name, value })
 }
 
 /// A block as a body.
-pub fn block_body(alloc: Global, mut values: Values) -> Result<Boxed<Value>, AllocError>
-    requires { AreOf g.block_body values }
-    ensures { Makes g.block_body values result }
+pub fn block_body(alloc: Global, stack: &mut Stack) -> Result<(), AllocError>
+    requires { AreOnTop g.block_body stack.old }
+    ensures { OnOk result (Reduces g.block_body stack.old stack.new) }
 {
-    let block = values.block();
-    Boxed::new(alloc, Value::Body(Some(Body::Block(block))))
+    let block = stack.block();
+    stack.push_body(alloc, Body::Block(block))
 }
 
 /// A statement as a body.
-pub fn statement_body(alloc: Global, mut values: Values) -> Result<Boxed<Value>, AllocError>
-    requires { AreOf g.statement_body values }
-    ensures { Makes g.statement_body values result }
+pub fn statement_body(alloc: Global, stack: &mut Stack) -> Result<(), AllocError>
+    requires { AreOnTop g.statement_body stack.old }
+    ensures { OnOk result (Reduces g.statement_body stack.old stack.new) }
 {
-    let statement = values.statement();
+    let statement = stack.statement();
     let statement = Boxed::new(alloc, statement)?;
-    Boxed::new(alloc, Value::Body(Some(Body::Statement(statement))))
+    stack.push_body(alloc, Body::Statement(statement))
 }

@@ -1,139 +1,138 @@
 //! Types, parameters and functions.
 
+ghost use Rattle.std.specs.Prelude.{OnOk};
 ghost use Rattle.pl_grammar.specs.Grammar as g;
-ghost use Rattle.pl_values.specs.Values.{AreOf, Makes};
+ghost use Rattle.pl_stack.specs.Stack.{AreOnTop, Reduces};
 
 use pl_making::{base_of, before, or_none};
+use pl_stack::Stack;
 use pl_tree::{Function, Parameter, Spelled, TypeBase, TypeName};
-use pl_values::{Value, Values};
-use plain_data::{Boxed, Items};
+use plain_data::Items;
 use std::alloc::{AllocError, Global};
 
 /// `of name(parameters) body`
-pub fn function_of(alloc: Global, mut values: Values) -> Result<Boxed<Value>, AllocError>
-    requires { AreOf g.function_of values }
-    ensures { Makes g.function_of values result }
+pub fn function_of(alloc: Global, stack: &mut Stack) -> Result<(), AllocError>
+    requires { AreOnTop g.function_of stack.old }
+    ensures { OnOk result (Reduces g.function_of stack.old stack.new) }
 {
-    let of = values.type_name();
-    let name = values.spelled();
-    values.skip();
-    let parameters = or_none(alloc, values.parameters_if_any());
-    values.skip();
-    let body = values.block();
-    Boxed::new(
+    let body = stack.block();
+    stack.skip();
+    let parameters = or_none(alloc, stack.parameters_if_any());
+    stack.skip();
+    let name = stack.spelled();
+    let of = stack.type_name();
+    stack.push_function(
         alloc,
-        Value::Function(Some(Function {
+        Function {
             result: of,
             name,
             parameters,
             body,
-        })),
+        },
     )
 }
 
 /// The parameters of a function.
-pub fn formal_list(alloc: Global, mut values: Values) -> Result<Boxed<Value>, AllocError>
-    requires { AreOf g.formal_list values }
-    ensures { Makes g.formal_list values result }
+pub fn formal_list(alloc: Global, stack: &mut Stack) -> Result<(), AllocError>
+    requires { AreOnTop g.formal_list stack.old }
+    ensures { OnOk result (Reduces g.formal_list stack.old stack.new) }
 {
-    let one = values.parameter();
-    let others = values.parameters();
-    Boxed::new(alloc, Value::Parameters(Some(before(alloc, one, others)?)))
+    let others = stack.parameters();
+    let one = stack.parameter();
+    stack.push_parameters(alloc, before(alloc, one, others)?)
 }
 
 /// `of name`
-pub fn formal_of(alloc: Global, mut values: Values) -> Result<Boxed<Value>, AllocError>
-    requires { AreOf g.formal_of values }
-    ensures { Makes g.formal_of values result }
+pub fn formal_of(alloc: Global, stack: &mut Stack) -> Result<(), AllocError>
+    requires { AreOnTop g.formal_of stack.old }
+    ensures { OnOk result (Reduces g.formal_of stack.old stack.new) }
 {
-    let of = values.type_name();
-    let name = values.spelled();
-    Boxed::new(
-        alloc,
-        Value::Parameter(Some(Parameter { of: Some(of), name })),
-    )
+    let name = stack.spelled();
+    let of = stack.type_name();
+    stack.push_parameter(alloc, Parameter { of: Some(of), name })
 }
 
 /// A parameter with no type.
-pub fn bare_param(alloc: Global, mut values: Values) -> Result<Boxed<Value>, AllocError>
-    requires { AreOf g.bare_param values }
-    ensures { Makes g.bare_param values result }
+pub fn bare_param(alloc: Global, stack: &mut Stack) -> Result<(), AllocError>
+    requires { AreOnTop g.bare_param stack.old }
+    ensures { OnOk result (Reduces g.bare_param stack.old stack.new) }
 {
-    let name = values.spelled();
-    Boxed::new(alloc, Value::Parameter(Some(Parameter { of: None, name })))
+    let name = stack.spelled();
+    stack.push_parameter(alloc, Parameter { of: None, name })
 }
 
 /// A type that a name begins.
-pub fn name_type(alloc: Global, mut values: Values) -> Result<Boxed<Value>, AllocError>
-    requires { AreOf g.name_type values }
-    ensures { Makes g.name_type values result }
+pub fn name_type(alloc: Global, stack: &mut Stack) -> Result<(), AllocError>
+    requires { AreOnTop g.name_type stack.old }
+    ensures { OnOk result (Reduces g.name_type stack.old stack.new) }
 {
-    let Spelled { at, spelling } = values.spelled();
-    let brackets = values.places();
-    Boxed::new(
+    let brackets = stack.places();
+    let Spelled { at, spelling } = stack.spelled();
+    stack.push_type_name(
         alloc,
-        Value::TypeName(Some(TypeName {
+        TypeName {
             at,
             base: TypeBase::Name(spelling),
             brackets,
-        })),
+        },
     )
 }
 
 /// A type that begins with no name.
-pub fn cast_type_of(alloc: Global, mut values: Values) -> Result<Boxed<Value>, AllocError>
-    requires { AreOf g.cast_type_of values }
-    ensures { Makes g.cast_type_of values result }
+pub fn cast_type_of(alloc: Global, stack: &mut Stack) -> Result<(), AllocError>
+    requires { AreOnTop g.cast_type_of stack.old }
+    ensures { OnOk result (Reduces g.cast_type_of stack.old stack.new) }
 {
-    let token = values.token();
-    let brackets = values.places();
-    Boxed::new(
+    let brackets = stack.places();
+    let token = stack.token();
+    stack.push_type_name(
         alloc,
-        Value::TypeName(Some(TypeName {
+        TypeName {
             at: token.start,
             base: base_of(token.kind),
             brackets,
-        })),
+        },
     )
 }
 
 /// `[ ]`
-pub fn square(alloc: Global, mut values: Values) -> Result<Boxed<Value>, AllocError>
-    requires { AreOf g.square values }
-    ensures { Makes g.square values result }
+pub fn square(alloc: Global, stack: &mut Stack) -> Result<(), AllocError>
+    requires { AreOnTop g.square stack.old }
+    ensures { OnOk result (Reduces g.square stack.old stack.new) }
 {
-    let at = values.token().start;
-    Boxed::new(alloc, Value::Place(Some(at)))
+    stack.skip();
+    let at = stack.token().start;
+    stack.push_place(alloc, at)
 }
 
 /// A name after `new`.
-pub fn name_element(alloc: Global, mut values: Values) -> Result<Boxed<Value>, AllocError>
-    requires { AreOf g.name_element values }
-    ensures { Makes g.name_element values result }
+pub fn name_element(alloc: Global, stack: &mut Stack) -> Result<(), AllocError>
+    requires { AreOnTop g.name_element stack.old }
+    ensures { OnOk result (Reduces g.name_element stack.old stack.new) }
 {
-    let Spelled { at, spelling } = values.spelled();
-    Boxed::new(
+    let Spelled { at, spelling } = stack.spelled();
+    stack.push_type_name(
         alloc,
-        Value::TypeName(Some(TypeName {
+        TypeName {
             at,
             base: TypeBase::Name(spelling),
             brackets: Items::new(alloc),
-        })),
+        },
     )
 }
 
 /// A type that is no name, after `new`.
-pub fn known_element(alloc: Global, mut values: Values) -> Result<Boxed<Value>, AllocError>
-    requires { AreOf g.known_element values }
-    ensures { Makes g.known_element values result }
+pub fn known_element(alloc: Global, stack: &mut Stack) -> Result<(), AllocError>
+    requires { AreOnTop g.known_element stack.old }
+    ensures { OnOk result (Reduces g.known_element stack.old stack.new) }
 {
-    let token = values.token();
-    Boxed::new(
+    let token = stack.token();
+    stack.push_type_name(
         alloc,
-        Value::TypeName(Some(TypeName {
+        TypeName {
             at: token.start,
             base: base_of(token.kind),
             brackets: Items::new(alloc),
-        })),
+        },
     )
 }

@@ -11,7 +11,7 @@ use Rattle.pl_grammar.specs.Laws.{levels_for, Exact, Ends, Unique}
 use Rattle.pl_grammar.specs.Nesting.{nesting_fault}
 use Rattle.pl_grammar.specs.Parses.{StopsBefore, Refused, Parses, syntax_at, place_of}
 use Rattle.pl_grammar.specs.Reading.{read_script}
-use Rattle.pl_parser.proofs.Lexemes.{length_lexemes}
+use Rattle.pl_reader.proofs.Lexemes.{length_lexemes}
 
 pub enough : (text : List ℕ) (tokens : List Token) → 32 * length tokens + 31 ≡ levels_for (lexemes text tokens)
 enough text tokens = ap (λ (n : ℕ). 32 * n + 31) (sym (length_lexemes text tokens))

@@ -1,13 +1,10 @@
--- Lists of lexemes, and the tokens that they are made of.
-use Rattle.std.proofs.Common.{◌≡◌, ℕ, suc, ◌-◌, ◌<◌, List, [], ◌∷◌, ◌++◌, length, take, drop, slice_index_or, refl, ap, sym, ◌∙◌, arith}
+-- The last of the lexemes, and the tokens that they are made of.
+use Rattle.std.proofs.Common.{◌≡◌, ℕ, ◌-◌, ◌<◌, List, [], ◌∷◌, ◌++◌, length, take, drop, slice_index_or, refl, ap, sym, ◌∙◌, arith}
 use Rattle.std.proofs.lemmas.List.{length-append, take_rest}
 use Rattle.pl_lexer.specs.declared.token.Token.{Token}
 use Rattle.pl_grammar.specs.Lexeme.{Lexeme, lexeme, lexemes}
 use Rattle.pl_grammar.specs.Parses.{place_of}
-
-pub length_lexemes : (text : List ℕ) (tokens : List Token) → length (lexemes text tokens) ≡ length tokens
-length_lexemes text [] = refl
-length_lexemes text (t ∷ ts) = ap (λ (n : ℕ). suc n) (length_lexemes text ts)
+use Rattle.pl_reader.proofs.Lexemes.{length_lexemes}
 
 abbrev cons : Lexeme → List Lexeme → List Lexeme
 cons l ls = l ∷ ls

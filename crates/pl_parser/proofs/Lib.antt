@@ -1,9 +1,3 @@
 pub mod Lexemes
-pub mod Steps
-pub mod Forms
-pub mod Symbols
-pub mod Turns
-pub mod Tops
 pub mod Answered
-pub mod Ends
 pub mod Placed

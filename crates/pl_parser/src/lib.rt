@@ -1,8 +1,6 @@
 //! The parser: from tokens to the tree, by the rules of the grammar.
 #![tactic(auto)]
 
-mod cursor;
-mod reader;
 mod script;
 
 pub use script::parse;

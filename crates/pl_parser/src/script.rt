@@ -1,109 +1,20 @@
 //! Whole scripts.
 
-ghost use Rattle.std.specs.Prelude.{◌≡◌, ◌≤◌, ◌<◌, ◌∷◌, ◌++◌, ℕ, false, List, Result, length, IfOk};
+ghost use Rattle.std.specs.Prelude.{◌≡◌, ◌≤◌, ◌++◌, List, Result, length};
 ghost use Rattle.pl_types.specs.Answers.{Answers};
 ghost use Rattle.pl_types.specs.declared.refusal.Refusal.{Refusal};
 ghost use Rattle.pl_tree.specs.declared.tree.Tree as tree;
-ghost use Rattle.pl_grammar.specs.declared.ahead.Seen.TheVariants as s;
-ghost use Rattle.pl_grammar.specs.Ahead.{seen};
-ghost use Rattle.pl_grammar.specs.Grammar as grammar;
-ghost use Rattle.pl_grammar.specs.Lexeme.{AllLieIn, Lexeme, lexemes, next};
+ghost use Rattle.pl_grammar.specs.Lexeme.{AllLieIn, Lexeme, lexemes};
 ghost use Rattle.pl_grammar.specs.Parses.{Parses, place_of};
-ghost use Rattle.pl_parser.specs.Read.{ReadsStatements};
-ghost use Rattle.pl_grammar.specs.Reading.{Reads, function_ahead, read_form, read_script};
 
-use crate::cursor::Cursor;
-use crate::reader::read_symbols;
-use pl_grammar::{Seen, Stop, grammar_laws, nesting_fault};
+use pl_grammar::{Stop, grammar_laws, nesting_fault};
 use pl_lexer::Token;
-use pl_rules::{Form, Series, Symbol, first, is_function_ahead};
-use pl_tree::{Statement, Tree};
+use pl_reader::{Cursor, read_script};
+use pl_stack::Stack;
+use pl_tree::Tree;
 use pl_types::{Fail, Refusal, rules};
 use plain_data::Items;
-use std::alloc::{AllocError, Global};
-
-/// What a script's statements are read by.
-const STATEMENTS: [Symbol; 2] = [
-    Symbol::Phrase(Form::Statement),
-    Symbol::Repeated(Series::Statement),
-];
-
-/// What one of its functions is read by.
-const FUNCTION: [Symbol; 1] = [Symbol::Phrase(Form::Function)];
-
-/// A statement before others.
-fn before(
-    alloc: Global,
-    one: Statement,
-    others: Items<Statement>,
-) -> Result<Items<Statement>, AllocError>
-    ensures { IfOk result (λ all. all ≡ one ∷ others) }
-{
-    let mut all = Items::new(alloc);
-    all.push(one)?;
-    all.append(others)?;
-    Ok(all)
-}
-
-/// Statements up to the end of the script, one at least.
-fn read_statements(
-    alloc: Global,
-    tokens: &mut Cursor<'_>,
-    levels: u64,
-) -> Result<Items<Statement>, Stop>
-    requires some { 0 < levels }
-    requires ahead { function_ahead (next tokens.old) (seen s.Start tokens.old) ≡ false }
-    ensures { ReadsStatements (read_form levels grammar.top tokens.old) result tokens.new }
-{
-    let mut values = read_symbols(alloc, tokens, levels - 1, &STATEMENTS)?;
-    let one = values.statement();
-    let others = values.statements();
-    let all = before(alloc, one, others)?;
-    Ok(all)
-}
-
-/// Functions, as long as one is ahead, and then statements, if there are tokens that begin one.
-fn read_top(alloc: Global, tokens: &mut Cursor<'_>, levels: u64) -> Result<Tree, Stop>
-    ensures { Reads (read_form levels grammar.top tokens.old) result tokens.new }
-{
-    let mut functions = Items::new(alloc);
-    for used in 0..levels {
-        if !is_function_ahead(tokens.peek(), tokens.look(Seen::Start)) {
-            let statements = read_statements(alloc, tokens, levels - used)?;
-            return Ok(Tree {
-                functions,
-                statements,
-            });
-        }
-        let mut values = read_symbols(alloc, tokens, levels - used - 1, &FUNCTION)?;
-        let one = values.function();
-        functions.push(one)?;
-        if !first(Form::Statement, tokens.peek()) {
-            return Ok(Tree {
-                functions,
-                statements: Items::new(alloc),
-            });
-        }
-    }
-    Err(Stop::TooDeep)
-}
-
-/// A whole script, and nothing behind it.
-fn whole(alloc: Global, tokens: &mut Cursor<'_>, levels: u64) -> Result<Tree, Stop>
-    ensures { Reads (read_script levels tokens.old) result tokens.new }
-{
-    if tokens.count() == 0 {
-        return Ok(Tree {
-            functions: Items::new(alloc),
-            statements: Items::new(alloc),
-        });
-    }
-    let all = read_top(alloc, tokens, levels)?;
-    if tokens.count() != 0 {
-        return Err(tokens.refuse());
-    }
-    Ok(all)
-}
+use std::alloc::Global;
 
 /// Where the first of the last `left` tokens begins, or the length of the text.
 fn place(text: &str, tokens: &[Token], left: usize) -> u32
@@ -141,8 +52,13 @@ pub fn parse(alloc: Global, text: &str, tokens: &[Token]) -> Result<Tree, Fail>
     }
     let levels = 32 * tokens.len() as u64 + 31;
     let mut cursor = Cursor::new(text, tokens);
-    match whole(alloc, &mut cursor, levels) {
-        Ok(tree) => Ok(tree),
+    let mut stack = Stack::new(alloc);
+    let mut tree = Tree {
+        functions: Items::new(alloc),
+        statements: Items::new(alloc),
+    };
+    match read_script(alloc, &mut cursor, &mut stack, &mut tree, levels) {
+        Ok(()) => Ok(tree),
         Err(Stop::NoMemory) => Err(Fail::NoMemory),
         Err(Stop::TooDeep) => unreachable!(),
         Err(Stop::Unexpected(left)) => Err(Fail::Refused(Refusal {

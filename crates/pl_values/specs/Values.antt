@@ -1,8 +1,8 @@
 -- The values of trees, whatever their forms.
-use Rattle.std.specs.Prelude.{◌≡◌, ℕ, Bool, true, false, List, [], ◌∷◌, Option, Some, None, Result, Ok, Err, IfOk}
+use Rattle.std.specs.Prelude.{Bool, true, false, List, [], ◌∷◌, Option, Some, None}
 use Rattle.pl_grammar.specs.Lexeme.{Take, mark, text, Taken}
 use Rattle.pl_grammar.specs.Grammar as g
-use Rattle.pl_grammar.specs.Grammar.{Form, TreeOf, Symbol, SymbolTree, Trees, Production, symbols, built}
+use Rattle.pl_grammar.specs.Grammar.{Form, TreeOf, Symbol, SymbolTree, Trees}
 use Rattle.pl_values.specs.declared.value.Value.{Value}
 use Rattle.pl_values.specs.declared.value.Value.TheVariants as v
 
@@ -106,14 +106,6 @@ symbol_value (g.optional form) = option_value (value_of form)
 abbrev pub values_of : (ss : List Symbol) → Trees ss → List Value
 values_of [] trees = []
 values_of (s ∷ ss) trees = symbol_value s trees.0 ∷ values_of ss trees.1
-
--- these are the values of the symbols of a production
-abbrev pub AreOf : {form : Form} → Production form → List Value → Type 0
-AreOf p values = (trees : Trees (symbols p)) × (values ≡ values_of (symbols p) trees)
-
--- what is made of them is the value of its tree
-abbrev pub Makes : {form : Form} → Production form → List Value → {E : Type 0} → Result Value E → Type 0
-Makes {form} p values result = (trees : Trees (symbols p)) → values ≡ values_of (symbols p) trees → IfOk result (λ value. value ≡ value_of form (built p trees))
 
 -- the first value is such a one
 abbrev pub starts_with : (Value → Bool) → List Value → Bool

@@ -1,8 +1,6 @@
-//! What the parser holds of a rule that it reads: the trees of its symbols, whatever their forms.
+//! What the parser holds of a symbol that it read: the symbol's tree, whatever its form.
 #![tactic(auto)]
 
 mod value;
-mod values;
 
 pub use value::Value;
-pub use values::Values;

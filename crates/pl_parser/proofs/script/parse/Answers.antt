@@ -11,8 +11,8 @@ unreachable-requires c = deep (32 * length c.args.tokens.now + 31) (lexemes c.ar
 pub place-requires-clause-within : goal.place-requires-clause-within
 place-requires-clause-within c = within c.args.text.now c.args.tokens.now c.in-Err-Unexpected.left (stop_of (32 * length c.args.tokens.now + 31) (lexemes c.args.text.now c.args.tokens.now) c.new-cursor.result c.in-Err-Unexpected.field-0 c.in-Err-Unexpected.left c.new-cursor.ensures c.in-Err-Unexpected.field-0-is c.in-Err-Unexpected.ensures c.grammar_laws.ensures.exact)
 
-pub returns-in-Err-Unexpected-clause-only : goal.returns-in-Err-Unexpected-clause-only
-returns-in-Err-Unexpected-clause-only c =
+pub returns-clause-only : goal.returns-clause-only
+returns-clause-only c =
     let none : nesting_fault c.args.tokens.now ≡ None = first_of (search rules, grind (arith, common_steps)) in
     let stop = stop_of (32 * length c.args.tokens.now + 31) (lexemes c.args.text.now c.args.tokens.now) c.new-cursor.result c.in-Err-Unexpected.field-0 c.in-Err-Unexpected.left c.new-cursor.ensures c.in-Err-Unexpected.field-0-is c.in-Err-Unexpected.ensures c.grammar_laws.ensures.exact in
     only_stop c.args.text.now c.args.tokens.now c.place.result stop.0 none stop.1 (c.place.ensures stop.1.front stop.0 stop.1.whole stop.2) c.grammar_laws.ensures.unique

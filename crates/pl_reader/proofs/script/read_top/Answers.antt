@@ -1,0 +1,43 @@
+use Rattle.std.proofs.Common.{rules, ◌≡◌, ◌-◌, true, false, Err, refl, arith}
+use Rattle.std.proofs.lemmas.Grind.{common_steps}
+use Rattle.pl_grammar.specs.declared.stop.Stop.{Stop}
+use Rattle.pl_grammar.specs.declared.ahead.Seen.TheVariants as s
+use Rattle.pl_grammar.specs.Lexeme.{next}
+use Rattle.pl_grammar.specs.Ahead.{seen}
+use Rattle.pl_grammar.specs.Grammar.{top}
+use Rattle.pl_grammar.specs.Firsts.{first}
+use Rattle.pl_grammar.specs.Reading.{function_ahead, read_form, read_symbols}
+use Rattle.pl_reader.proofs.Tops.{of_function, function_on_top, function_fails, top_starts, top_fails, top_statements, top_last, top_more, top_deep}
+use Rattle.pl_reader.proofs.script.read_top.Goals as goal
+
+pub loop-used-init : goal.loop-used-init
+loop-used-init c = top_starts c.args.levels 0 c.args.script.now c.args.tokens.now refl c.requires
+
+pub returns-then-not-is_function_ahead : goal.returns-then-not-is_function_ahead
+returns-then-not-is_function_ahead c = top_statements (read_form c.args.levels top c.args.tokens.now) c.args.levels c.loop-used.used c.loop-used.script c.loop-used.tokens c.loop-used.invariant c.read_statements.result c.read_statements.new.script c.read_statements.new.tokens c.read_statements.ensures
+
+pub returns-in_err-read_symbols : goal.returns-in_err-read_symbols
+returns-in_err-read_symbols c =
+    let ahead : function_ahead (next c.loop-used.tokens) (seen s.Start c.loop-used.tokens) ≡ true = grind arith in
+    let e = λ (e : Stop) (is : read_symbols (read_form (c.args.levels - c.loop-used.used - 1)) of_function c.loop-used.tokens ≡ Err e). top_fails (read_form c.args.levels top c.args.tokens.now) c.args.levels c.loop-used.used c.loop-used.script c.loop-used.tokens c.loop-used.invariant e (function_fails (c.args.levels - c.loop-used.used) c.loop-used.tokens (omega (arith, c.loop-used-test.true)) e ahead is) in
+    first_of (search rules, grind (arith, common_steps))
+
+pub take_function-requires : goal.take_function-requires
+take_function-requires c = function_on_top (read_symbols (read_form (c.args.levels - c.loop-used.used - 1)) of_function c.loop-used.tokens) c.loop-used.stack c.read_symbols.new.stack c.read_symbols.new.tokens c.in_ok-read_symbols.ensures
+
+pub returns-then-not-first : goal.returns-then-not-first
+returns-then-not-first c =
+    let ahead : function_ahead (next c.loop-used.tokens) (seen s.Start c.loop-used.tokens) ≡ true = grind arith in
+    let stops : first top (next c.read_symbols.new.tokens) ≡ false = grind arith in
+    let read = c.in_ok-read_symbols.ensures in
+    top_last (read_form c.args.levels top c.args.tokens.now) c.args.levels c.loop-used.used c.loop-used.script c.loop-used.tokens c.loop-used.invariant read.0.0 c.take_function.new.script c.read_symbols.new.tokens c.loop-used-test.true ahead read.1 (c.in_ok-take_function.ensures read.0.0 c.loop-used.stack read.2) stops
+
+pub loop-used-preserved : goal.loop-used-preserved
+loop-used-preserved c =
+    let ahead : function_ahead (next c.loop-used.tokens) (seen s.Start c.loop-used.tokens) ≡ true = grind arith in
+    let goes : first top (next c.read_symbols.new.tokens) ≡ true = grind arith in
+    let read = c.in_ok-read_symbols.ensures in
+    top_more (read_form c.args.levels top c.args.tokens.now) c.args.levels c.loop-used.used c.loop-used.script c.loop-used.tokens c.loop-used.invariant read.0.0 c.take_function.new.script c.read_symbols.new.tokens c.loop-used-test.true ahead read.1 (c.in_ok-take_function.ensures read.0.0 c.loop-used.stack read.2) goes
+
+pub returns : goal.returns
+returns c = λ other. top_deep (read_form c.args.levels top c.args.tokens.now) c.args.levels c.loop-used.used c.loop-used.script c.loop-used.tokens c.loop-used.invariant c.loop-used-test.false

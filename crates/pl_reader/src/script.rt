@@ -1,0 +1,92 @@
+//! Whole scripts.
+
+ghost use Rattle.std.specs.Prelude.{◌≡◌, ◌<◌, [], false};
+ghost use Rattle.pl_grammar.specs.declared.ahead.Seen.TheVariants as s;
+ghost use Rattle.pl_grammar.specs.Ahead.{seen};
+ghost use Rattle.pl_grammar.specs.Grammar as grammar;
+ghost use Rattle.pl_grammar.specs.Lexeme.{next};
+ghost use Rattle.pl_grammar.specs.Reading as reading;
+ghost use Rattle.pl_reader.specs.Read.{ReadsAs, ReadsStatements, alone};
+
+use crate::cursor::Cursor;
+use crate::reader::read_symbols;
+use pl_builders::{take_function, take_statements};
+use pl_grammar::{Seen, Stop};
+use pl_rules::{Form, Series, Symbol, first, is_function_ahead};
+use pl_stack::Stack;
+use pl_tree::Tree;
+use std::alloc::Global;
+
+/// What a script's statements are read by.
+const STATEMENTS: [Symbol; 2] = [
+    Symbol::Phrase(Form::Statement),
+    Symbol::Repeated(Series::Statement),
+];
+
+/// What one of its functions is read by.
+const FUNCTION: [Symbol; 1] = [Symbol::Phrase(Form::Function)];
+
+/// Statements up to the end of the script, one at least.
+fn read_statements(
+    alloc: Global,
+    tokens: &mut Cursor<'_>,
+    stack: &mut Stack,
+    script: &mut Tree,
+    levels: u64,
+) -> Result<(), Stop>
+    requires some { 0 < levels }
+    requires ahead { reading.function_ahead (next tokens.old) (seen s.Start tokens.old) ≡ false }
+    requires none { script.old.statements ≡ [] }
+    ensures { ReadsStatements script.old (reading.read_form levels grammar.top tokens.old) result tokens.new script.new }
+{
+    read_symbols(alloc, tokens, stack, levels - 1, &STATEMENTS)?;
+    take_statements(stack, script)?;
+    Ok(())
+}
+
+/// Functions, as long as one is ahead, and then statements, if there are tokens that begin one.
+fn read_top(
+    alloc: Global,
+    tokens: &mut Cursor<'_>,
+    stack: &mut Stack,
+    script: &mut Tree,
+    levels: u64,
+) -> Result<(), Stop>
+    requires { script.old ≡ alone [] }
+    ensures { ReadsAs (λ tree. tree) (reading.read_form levels grammar.top tokens.old) result tokens.new script.new }
+{
+    for used in 0..levels {
+        if !is_function_ahead(tokens.peek(), tokens.look(Seen::Start)) {
+            return read_statements(alloc, tokens, stack, script, levels - used);
+        }
+        read_symbols(alloc, tokens, stack, levels - used - 1, &FUNCTION)?;
+        take_function(stack, script)?;
+        if !first(Form::Statement, tokens.peek()) {
+            return Ok(());
+        }
+    }
+    Err(Stop::TooDeep)
+}
+
+/// A whole script and nothing behind it, into a script that is empty before. Rules nest no deeper than `levels`.
+///
+/// An error says why and where reading stops; nothing is known then of what the stack and the script hold.
+pub fn read_script(
+    alloc: Global,
+    tokens: &mut Cursor<'_>,
+    stack: &mut Stack,
+    script: &mut Tree,
+    levels: u64,
+) -> Result<(), Stop>
+    requires { script.old ≡ alone [] }
+    ensures { ReadsAs (λ tree. tree) (reading.read_script levels tokens.old) result tokens.new script.new }
+{
+    if tokens.count() == 0 {
+        return Ok(());
+    }
+    read_top(alloc, tokens, stack, script, levels)?;
+    if tokens.count() != 0 {
+        return Err(tokens.refuse());
+    }
+    Ok(())
+}
