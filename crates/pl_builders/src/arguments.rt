@@ -2,7 +2,7 @@
 
 ghost use Rattle.std.specs.Prelude.{OnOk};
 ghost use Rattle.pl_grammar.specs.Grammar as g;
-ghost use Rattle.pl_stack.specs.Stack.{AreOnTop, Reduces};
+ghost use Rattle.pl_values.specs.Stack.{AreOnTop, Reduces};
 
 use pl_making::{before, lambda_of, or_none, reference_of};
 use pl_stack::Stack;

@@ -2,7 +2,7 @@
 
 ghost use Rattle.std.specs.Prelude.{OnOk};
 ghost use Rattle.pl_grammar.specs.Grammar as g;
-ghost use Rattle.pl_stack.specs.Stack.{AreOnTop, Reduces};
+ghost use Rattle.pl_values.specs.Stack.{AreOnTop, Reduces};
 
 use pl_grammar::{ElvisRest, ExprRest, Operation, Placed};
 use pl_making::{joined, operator_of, step_of, unary_of, with_elvis, with_rest, with_step};

@@ -2,12 +2,12 @@
 
 ghost use Rattle.std.specs.Prelude.{◌≡◌, ◌∷◌, List, OnOk};
 ghost use Rattle.pl_values.specs.declared.value.Value as declared;
-ghost use Rattle.pl_stack.specs.Stack.{AreTwo};
+ghost use Rattle.pl_values.specs.Stack.{AreTwo};
 
 use pl_stack::Stack;
 use std::alloc::AllocError;
 
-/// Leaves the first of two values, which is below the second.
+/// Keeps the first of two values, which is below the second.
 pub fn first(stack: &mut Stack) -> Result<(), AllocError>
     requires { AreTwo stack.old }
     ensures { OnOk result ((second : declared.Value) (first : declared.Value) (below : List declared.Value) → stack.old ≡ second ∷ first ∷ below → stack.new ≡ first ∷ below) }
@@ -16,7 +16,7 @@ pub fn first(stack: &mut Stack) -> Result<(), AllocError>
     Ok(())
 }
 
-/// Leaves the second of two values, which is on the top.
+/// Keeps the second of two values, which is on the top.
 pub fn second(stack: &mut Stack) -> Result<(), AllocError>
     requires { AreTwo stack.old }
     ensures { OnOk result ((second : declared.Value) (first : declared.Value) (below : List declared.Value) → stack.old ≡ second ∷ first ∷ below → stack.new ≡ second ∷ below) }

@@ -2,6 +2,7 @@
 #![tactic(auto)]
 
 mod arguments;
+mod builder;
 mod creations;
 mod expressions;
 mod hand_on;
@@ -14,6 +15,4 @@ mod series;
 mod statements;
 mod types;
 
-pub use reducing::reduce;
-pub use script::{take_function, take_statements};
-pub use series::{extend, push_none};
+pub use builder::Builder;

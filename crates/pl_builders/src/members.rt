@@ -2,7 +2,7 @@
 
 ghost use Rattle.std.specs.Prelude.{OnOk};
 ghost use Rattle.pl_grammar.specs.Grammar as g;
-ghost use Rattle.pl_stack.specs.Stack.{AreOnTop, Reduces};
+ghost use Rattle.pl_values.specs.Stack.{AreOnTop, Reduces};
 
 use pl_grammar::{Member, Placed, Suffix};
 use pl_making::{access_of, chained, name_or_call, suffix_of, suffixed_by};

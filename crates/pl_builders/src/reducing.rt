@@ -2,7 +2,7 @@
 
 ghost use Rattle.std.specs.Prelude.{OnOk};
 ghost use Rattle.pl_rules.specs.Names.{production_of};
-ghost use Rattle.pl_stack.specs.Stack.{AreOnTop, Reduces};
+ghost use Rattle.pl_values.specs.Stack.{AreOnTop, Reduces};
 
 use crate::arguments::{
     args_of, argued, arguments_of, block_lambda, expr_lambda, lambda, lambdas, ref_new, ref_word,

@@ -5,7 +5,7 @@ ghost use Rattle.pl_rules.specs.Names.{series_form, listed_form};
 ghost use Rattle.pl_grammar.specs.Grammar.{comma};
 ghost use Rattle.pl_values.specs.declared.value.Value.TheVariants as v;
 ghost use Rattle.pl_values.specs.Values.{list_value, value_of, held};
-ghost use Rattle.pl_stack.specs.Stack.{IsOnSeveral, Extends};
+ghost use Rattle.pl_values.specs.Stack.{IsOnSeveral, Extends};
 
 use pl_rules::{Listed, Series};
 use pl_stack::Stack;

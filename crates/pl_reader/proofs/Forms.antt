@@ -12,7 +12,7 @@ use Rattle.pl_rules.specs.declared.rule.Rule.{Rule}
 use Rattle.pl_rules.specs.Names.{production_of, meant}
 use Rattle.pl_values.specs.declared.value.Value.{Value}
 use Rattle.pl_values.specs.Values.{value_of}
-use Rattle.pl_stack.specs.Stack.{AreOnTop, Reduces}
+use Rattle.pl_values.specs.Stack.{AreOnTop, Reduces}
 use Rattle.pl_reader.specs.Read.{Held}
 use Rattle.pl_reader.proofs.Steps.{step}
 use Rattle.pl_reader.proofs.Symbols.{on}

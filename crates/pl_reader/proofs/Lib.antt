@@ -5,3 +5,5 @@ pub mod Symbols
 pub mod Turns
 pub mod Tops
 pub mod Ends
+pub mod Places
+pub mod Answered

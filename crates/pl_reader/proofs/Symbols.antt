@@ -8,7 +8,7 @@ use Rattle.pl_rules.specs.Names.{symbol_of}
 use Rattle.pl_rules.specs.declared.rule.Symbol as declared
 use Rattle.pl_values.specs.declared.value.Value.{Value}
 use Rattle.pl_values.specs.Values.{symbol_value, values_of}
-use Rattle.pl_stack.specs.Stack.{piled}
+use Rattle.pl_values.specs.Stack.{piled}
 use Rattle.pl_reader.specs.Read.{Held, ReadsAs}
 
 -- symbols are the first of them and the rest

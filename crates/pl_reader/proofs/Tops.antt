@@ -14,7 +14,7 @@ use Rattle.pl_grammar.specs.Grammar.{Form, top, function, Symbol, Trees, Product
 use Rattle.pl_grammar.specs.Firsts.{first}
 use Rattle.pl_grammar.specs.Reading.{Outcome, and_then, top_by, function_ahead, read_optional, read_symbols, read_production, read_form}
 use Rattle.pl_values.specs.declared.value.Value.{Value}
-use Rattle.pl_stack.specs.Stack.{FunctionOnTop, StatementsOnTop}
+use Rattle.pl_values.specs.Stack.{FunctionOnTop, StatementsOnTop}
 use Rattle.pl_reader.specs.Read.{Held, ReadsAs, ReadsStatements, alone}
 use Rattle.pl_reader.proofs.Symbols.{on}
 use Rattle.pl_reader.proofs.Steps.{step, no_level}

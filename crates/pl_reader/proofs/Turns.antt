@@ -9,7 +9,7 @@ use Rattle.pl_grammar.specs.Reading.{Outcome, Reader, and_then, read_repeated, r
 use Rattle.pl_values.specs.declared.value.Value.{Value}
 use Rattle.pl_values.specs.declared.value.Value.TheVariants as v
 use Rattle.pl_values.specs.Values.{value_of, list_value, option_value}
-use Rattle.pl_stack.specs.Stack.{IsOnSeveral, Extends}
+use Rattle.pl_values.specs.Stack.{IsOnSeveral, Extends}
 use Rattle.pl_reader.specs.Read.{Held, ReadsAs}
 
 module _ (inner : (f : Form) → Reader (TreeOf f)) (f : Form) where

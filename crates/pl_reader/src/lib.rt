@@ -1,9 +1,9 @@
-//! Reading by the rules of the grammar: from tokens to a script, over a stack of what is read.
+//! Reading by the rules of the grammar: from tokens to a script, over whatever keeps what is read.
 #![tactic(auto)]
 
 mod cursor;
+mod parsing;
 mod reader;
 mod script;
 
-pub use cursor::Cursor;
-pub use script::read_script;
+pub use parsing::parse_by;

@@ -1,6 +1,6 @@
 //! Whole scripts.
 
-ghost use Rattle.std.specs.Prelude.{◌≡◌, ◌<◌, [], false};
+ghost use Rattle.std.specs.Prelude.{◌≡◌, ◌<◌, [], false, OnOk};
 ghost use Rattle.pl_grammar.specs.declared.ahead.Seen.TheVariants as s;
 ghost use Rattle.pl_grammar.specs.Ahead.{seen};
 ghost use Rattle.pl_grammar.specs.Grammar as grammar;
@@ -10,11 +10,10 @@ ghost use Rattle.pl_reader.specs.Read.{ReadsAs, ReadsStatements, alone};
 
 use crate::cursor::Cursor;
 use crate::reader::read_symbols;
-use pl_builders::{take_function, take_statements};
 use pl_grammar::{Seen, Stop};
 use pl_rules::{Form, Series, Symbol, first, is_function_ahead};
-use pl_stack::Stack;
 use pl_tree::Tree;
+use pl_values::Actions;
 use std::alloc::Global;
 
 /// What a script's statements are read by.
@@ -27,40 +26,42 @@ const STATEMENTS: [Symbol; 2] = [
 const FUNCTION: [Symbol; 1] = [Symbol::Phrase(Form::Function)];
 
 /// Statements up to the end of the script, one at least.
-fn read_statements(
+fn read_statements<S: Actions>(
     alloc: Global,
     tokens: &mut Cursor<'_>,
-    stack: &mut Stack,
+    stack: &mut S,
     script: &mut Tree,
     levels: u64,
 ) -> Result<(), Stop>
     requires some { 0 < levels }
     requires ahead { reading.function_ahead (next tokens.old) (seen s.Start tokens.old) ≡ false }
     requires none { script.old.statements ≡ [] }
-    ensures { ReadsStatements script.old (reading.read_form levels grammar.top tokens.old) result tokens.new script.new }
+    ensures read { ReadsStatements script.old (reading.read_form levels grammar.top tokens.old) result tokens.new script.new }
+    ensures kept { OnOk result (S.values stack.new ≡ S.values stack.old) }
 {
     read_symbols(alloc, tokens, stack, levels - 1, &STATEMENTS)?;
-    take_statements(stack, script)?;
+    stack.take_statements(script)?;
     Ok(())
 }
 
 /// Functions, as long as one is ahead, and then statements, if there are tokens that begin one.
-fn read_top(
+fn read_top<S: Actions>(
     alloc: Global,
     tokens: &mut Cursor<'_>,
-    stack: &mut Stack,
+    stack: &mut S,
     script: &mut Tree,
     levels: u64,
 ) -> Result<(), Stop>
     requires { script.old ≡ alone [] }
-    ensures { ReadsAs (λ tree. tree) (reading.read_form levels grammar.top tokens.old) result tokens.new script.new }
+    ensures read { ReadsAs (λ tree. tree) (reading.read_form levels grammar.top tokens.old) result tokens.new script.new }
+    ensures kept { OnOk result (S.values stack.new ≡ S.values stack.old) }
 {
     for used in 0..levels {
         if !is_function_ahead(tokens.peek(), tokens.look(Seen::Start)) {
             return read_statements(alloc, tokens, stack, script, levels - used);
         }
         read_symbols(alloc, tokens, stack, levels - used - 1, &FUNCTION)?;
-        take_function(stack, script)?;
+        stack.take_function(script)?;
         if !first(Form::Statement, tokens.peek()) {
             return Ok(());
         }
@@ -71,15 +72,16 @@ fn read_top(
 /// A whole script and nothing behind it, into a script that is empty before. Rules nest no deeper than `levels`.
 ///
 /// An error says why and where reading stops; nothing is known then of what the stack and the script hold.
-pub fn read_script(
+pub fn read_script<S: Actions>(
     alloc: Global,
     tokens: &mut Cursor<'_>,
-    stack: &mut Stack,
+    stack: &mut S,
     script: &mut Tree,
     levels: u64,
 ) -> Result<(), Stop>
     requires { script.old ≡ alone [] }
-    ensures { ReadsAs (λ tree. tree) (reading.read_script levels tokens.old) result tokens.new script.new }
+    ensures read { ReadsAs (λ tree. tree) (reading.read_script levels tokens.old) result tokens.new script.new }
+    ensures kept { OnOk result (S.values stack.new ≡ S.values stack.old) }
 {
     if tokens.count() == 0 {
         return Ok(());

@@ -2,7 +2,7 @@
 
 ghost use Rattle.std.specs.Prelude.{◌≡◌, ◌≢◌, List, [], ◌∷◌, OnOk};
 ghost use Rattle.pl_values.specs.declared.value.Value as declared;
-ghost use Rattle.pl_stack.specs.Stack.{AreTwo};
+ghost use Rattle.pl_values.specs.Stack.{AreTwo};
 
 use pl_values::Value;
 use plain_data::{Boxed, Items};

@@ -1,12 +1,30 @@
+ghost use Rattle.std.specs.Prelude.{◌≡◌, []};
+
 use crate::operator::{Access, BinaryOperator, Constant, Step, UnaryOperator};
 use pl_types::Primitive;
 use plain_data::{Boxed, Items, Text};
+use std::alloc::Global;
 
 /// A script: its functions, then its statements.
 #[derive(Drop)]
 pub struct Tree {
     pub functions: Items<Function>,
     pub statements: Items<Statement>,
+}
+
+impl Tree {
+    /// Of an empty script.
+    pub fn new(alloc: Global) -> Tree
+        ensures { result ≡ record { functions = []; statements = [] } }
+    {
+        Tree {
+            functions: Items::new(alloc),
+            statements: Items::new(alloc),
+        }
+    }
+
+    /// Lets the tree go.
+    pub fn discard(self) {}
 }
 
 /// A token with the bytes that spell it.

@@ -1,7 +1,7 @@
 -- Each arm is its builder.
 use Rattle.std.proofs.Common.{◌≡◌, ◌∷◌, List}
 use Rattle.pl_values.specs.declared.value.Value.{Value}
-use Rattle.pl_stack.specs.Stack.{AreTwo}
+use Rattle.pl_values.specs.Stack.{AreTwo}
 use Rattle.pl_builders.proofs.OnOk.{on_ok}
 use Rattle.pl_builders.proofs.reducing.reduce.Goals as goal
 

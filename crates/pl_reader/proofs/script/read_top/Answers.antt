@@ -1,4 +1,4 @@
-use Rattle.std.proofs.Common.{rules, ◌≡◌, ◌-◌, true, false, Err, refl, arith}
+use Rattle.std.proofs.Common.{rules, ◌≡◌, ◌-◌, true, false, Err, refl, ◌∙◌, arith}
 use Rattle.std.proofs.lemmas.Grind.{common_steps}
 use Rattle.pl_grammar.specs.declared.stop.Stop.{Stop}
 use Rattle.pl_grammar.specs.declared.ahead.Seen.TheVariants as s
@@ -11,33 +11,39 @@ use Rattle.pl_reader.proofs.Tops.{of_function, function_on_top, function_fails, 
 use Rattle.pl_reader.proofs.script.read_top.Goals as goal
 
 pub loop-used-init : goal.loop-used-init
-loop-used-init c = top_starts c.args.levels 0 c.args.script.now c.args.tokens.now refl c.requires
+loop-used-init g c = (top_starts c.args.levels 0 c.args.script.now c.args.tokens.now refl c.requires, refl)
 
-pub returns-then-not-is_function_ahead : goal.returns-then-not-is_function_ahead
-returns-then-not-is_function_ahead c = top_statements (read_form c.args.levels top c.args.tokens.now) c.args.levels c.loop-used.used c.loop-used.script c.loop-used.tokens c.loop-used.invariant c.read_statements.result c.read_statements.new.script c.read_statements.new.tokens c.read_statements.ensures
+pub returns-then-not-is_function_ahead-clause-read : goal.returns-then-not-is_function_ahead-clause-read
+returns-then-not-is_function_ahead-clause-read g c = top_statements (read_form c.args.levels top c.args.tokens.now) c.args.levels c.loop-used.used c.loop-used.script c.loop-used.tokens c.loop-used.invariant.0 c.read_statements.result c.read_statements.new.script c.read_statements.new.tokens c.read_statements.ensures.read
 
-pub returns-in_err-read_symbols : goal.returns-in_err-read_symbols
-returns-in_err-read_symbols c =
+pub returns-in_err-read_symbols-clause-read : goal.returns-in_err-read_symbols-clause-read
+returns-in_err-read_symbols-clause-read g c =
     let ahead : function_ahead (next c.loop-used.tokens) (seen s.Start c.loop-used.tokens) ≡ true = grind arith in
-    let e = λ (e : Stop) (is : read_symbols (read_form (c.args.levels - c.loop-used.used - 1)) of_function c.loop-used.tokens ≡ Err e). top_fails (read_form c.args.levels top c.args.tokens.now) c.args.levels c.loop-used.used c.loop-used.script c.loop-used.tokens c.loop-used.invariant e (function_fails (c.args.levels - c.loop-used.used) c.loop-used.tokens (omega (arith, c.loop-used-test.true)) e ahead is) in
+    let e = λ (e : Stop) (is : read_symbols (read_form (c.args.levels - c.loop-used.used - 1)) of_function c.loop-used.tokens ≡ Err e). top_fails (read_form c.args.levels top c.args.tokens.now) c.args.levels c.loop-used.used c.loop-used.script c.loop-used.tokens c.loop-used.invariant.0 e (function_fails (c.args.levels - c.loop-used.used) c.loop-used.tokens (omega (arith, c.loop-used-test.true)) e ahead is) in
     first_of (search rules, grind (arith, common_steps))
 
 pub take_function-requires : goal.take_function-requires
-take_function-requires c = function_on_top (read_symbols (read_form (c.args.levels - c.loop-used.used - 1)) of_function c.loop-used.tokens) c.loop-used.stack c.read_symbols.new.stack c.read_symbols.new.tokens c.in_ok-read_symbols.ensures
+take_function-requires g c = function_on_top (read_symbols (read_form (c.args.levels - c.loop-used.used - 1)) of_function c.loop-used.tokens) (g.S.Actions.values c.loop-used.stack) (g.S.Actions.values c.read_symbols.new.stack) c.read_symbols.new.tokens c.in_ok-read_symbols.ensures
 
-pub returns-then-not-first : goal.returns-then-not-first
-returns-then-not-first c =
+pub returns-then-not-first-clause-read : goal.returns-then-not-first-clause-read
+returns-then-not-first-clause-read g c =
     let ahead : function_ahead (next c.loop-used.tokens) (seen s.Start c.loop-used.tokens) ≡ true = grind arith in
     let stops : first top (next c.read_symbols.new.tokens) ≡ false = grind arith in
     let read = c.in_ok-read_symbols.ensures in
-    top_last (read_form c.args.levels top c.args.tokens.now) c.args.levels c.loop-used.used c.loop-used.script c.loop-used.tokens c.loop-used.invariant read.0.0 c.take_function.new.script c.read_symbols.new.tokens c.loop-used-test.true ahead read.1 (c.in_ok-take_function.ensures read.0.0 c.loop-used.stack read.2) stops
+    top_last (read_form c.args.levels top c.args.tokens.now) c.args.levels c.loop-used.used c.loop-used.script c.loop-used.tokens c.loop-used.invariant.0 read.0.0 c.take_function.new.script c.read_symbols.new.tokens c.loop-used-test.true ahead read.1 (c.in_ok-take_function.ensures read.0.0 (g.S.Actions.values c.loop-used.stack) read.2).1 stops
+
+pub returns-then-not-first-clause-kept : goal.returns-then-not-first-clause-kept
+returns-then-not-first-clause-kept g c =
+    let read = c.in_ok-read_symbols.ensures in
+    (c.in_ok-take_function.ensures read.0.0 (g.S.Actions.values c.loop-used.stack) read.2).0 ∙ c.loop-used.invariant.1
 
 pub loop-used-preserved : goal.loop-used-preserved
-loop-used-preserved c =
+loop-used-preserved g c =
     let ahead : function_ahead (next c.loop-used.tokens) (seen s.Start c.loop-used.tokens) ≡ true = grind arith in
     let goes : first top (next c.read_symbols.new.tokens) ≡ true = grind arith in
     let read = c.in_ok-read_symbols.ensures in
-    top_more (read_form c.args.levels top c.args.tokens.now) c.args.levels c.loop-used.used c.loop-used.script c.loop-used.tokens c.loop-used.invariant read.0.0 c.take_function.new.script c.read_symbols.new.tokens c.loop-used-test.true ahead read.1 (c.in_ok-take_function.ensures read.0.0 c.loop-used.stack read.2) goes
+    let taken = c.in_ok-take_function.ensures read.0.0 (g.S.Actions.values c.loop-used.stack) read.2 in
+    (top_more (read_form c.args.levels top c.args.tokens.now) c.args.levels c.loop-used.used c.loop-used.script c.loop-used.tokens c.loop-used.invariant.0 read.0.0 c.take_function.new.script c.read_symbols.new.tokens c.loop-used-test.true ahead read.1 taken.1 goes, taken.0 ∙ c.loop-used.invariant.1)
 
-pub returns : goal.returns
-returns c = λ other. top_deep (read_form c.args.levels top c.args.tokens.now) c.args.levels c.loop-used.used c.loop-used.script c.loop-used.tokens c.loop-used.invariant c.loop-used-test.false
+pub returns-clause-read : goal.returns-clause-read
+returns-clause-read g c = λ other. top_deep (read_form c.args.levels top c.args.tokens.now) c.args.levels c.loop-used.used c.loop-used.script c.loop-used.tokens c.loop-used.invariant.0 c.loop-used-test.false

@@ -1,7 +1,7 @@
 use Rattle.std.proofs.Common.{◌-◌, ◌<◌, length, drop, arith, ap}
 use Rattle.std.proofs.lemmas.List.{take_rest}
-use Rattle.pl_parser.proofs.Lexemes.{place_of_rest}
-use Rattle.pl_parser.proofs.script.place.Goals as goal
+use Rattle.pl_reader.proofs.Places.{place_of_rest}
+use Rattle.pl_reader.proofs.parsing.place.Goals as goal
 
 pub returns-in-len1-up : goal.returns-in-len1-up
 returns-in-len1-up c =

@@ -37,14 +37,14 @@ AreTwo stack = (value : Value) × (second : Value) × (below : List Value) × (s
 abbrev pub FunctionOnTop : List Value → Type 0
 FunctionOnTop stack = (one : Function) × (below : List Value) × (stack ≡ v.Function (Some one) ∷ below)
 
--- it comes to the end of those of a script
-abbrev pub TakesFunction : List Value → Tree → Tree → Type 0
-TakesFunction stack script new = (one : Function) (below : List Value) → stack ≡ v.Function (Some one) ∷ below → new ≡ record { functions = script.functions ++ one ∷ []; statements = script.statements }
+-- it comes to the end of those of a script, and the rest is left
+abbrev pub TakesFunction : List Value → List Value → Tree → Tree → Type 0
+TakesFunction stack left script new = (one : Function) (below : List Value) → stack ≡ v.Function (Some one) ∷ below → (left ≡ below) × (new ≡ record { functions = script.functions ++ one ∷ []; statements = script.statements })
 
 -- a statement, and those that follow it above
 abbrev pub StatementsOnTop : List Value → Type 0
 StatementsOnTop stack = (one : Statement) × (others : List Statement) × (below : List Value) × (stack ≡ v.Statements (Some others) ∷ v.Statement (Some one) ∷ below)
 
--- they come to the end of those of a script
-abbrev pub TakesStatements : List Value → Tree → Tree → Type 0
-TakesStatements stack script new = (one : Statement) (others : List Statement) (below : List Value) → stack ≡ v.Statements (Some others) ∷ v.Statement (Some one) ∷ below → new ≡ record { functions = script.functions; statements = script.statements ++ one ∷ others }
+-- they come to the end of those of a script, and the rest is left
+abbrev pub TakesStatements : List Value → List Value → Tree → Tree → Type 0
+TakesStatements stack left script new = (one : Statement) (others : List Statement) (below : List Value) → stack ≡ v.Statements (Some others) ∷ v.Statement (Some one) ∷ below → (left ≡ below) × (new ≡ record { functions = script.functions; statements = script.statements ++ one ∷ others })

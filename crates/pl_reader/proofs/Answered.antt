@@ -29,6 +29,10 @@ stop_of n ls cursor e left is told stops exact =
 pub within : (text : List ℕ) (tokens : List Token) (left : ℕ) → (rest : List Lexeme) × StopsBefore (lexemes text tokens) rest × (length rest ≡ left) → left ≤ length tokens
 within text tokens left stop = omega (arith, sym (length_lexemes text tokens) ∙ ap length stop.1.whole ∙ length-append stop.1.front stop.0, stop.2)
 
+-- the tokens are refused where no script goes on
+pub refused_at : (text : List ℕ) (tokens : List Token) (place : ℕ) (rest : List Lexeme) → nesting_fault tokens ≡ None → StopsBefore (lexemes text tokens) rest → place ≡ place_of (length text) rest → Refused text tokens (nesting_fault tokens) (syntax_at place)
+refused_at text tokens place rest none stop is = subst (λ (o : Option ℕ). Refused text tokens o (syntax_at place)) (sym none) (rest, stop, ap syntax_at is)
+
 pub only_stop : (text : List ℕ) (tokens : List Token) (place : ℕ) (rest : List Lexeme) → nesting_fault tokens ≡ None → StopsBefore (lexemes text tokens) rest → place ≡ place_of (length text) rest → Unique → (reading : Result Tree Refusal) → Parses text tokens reading → Err (syntax_at place) ≡ reading
 only_stop text tokens place rest none stop is unique reading h =
-    unique text tokens (Err (syntax_at place)) reading (subst (λ (o : Option ℕ). Refused text tokens o (syntax_at place)) (sym none) (rest, stop, ap syntax_at is)) h
+    unique text tokens (Err (syntax_at place)) reading (refused_at text tokens place rest none stop is) h

@@ -1,4 +1,4 @@
-//! Whole scripts.
+//! The parser, over the actions of whoever keeps what is read.
 
 ghost use Rattle.std.specs.Prelude.{◌≡◌, ◌≤◌, ◌++◌, List, Result, length};
 ghost use Rattle.pl_types.specs.Answers.{Answers};
@@ -7,13 +7,13 @@ ghost use Rattle.pl_tree.specs.declared.tree.Tree as tree;
 ghost use Rattle.pl_grammar.specs.Lexeme.{AllLieIn, Lexeme, lexemes};
 ghost use Rattle.pl_grammar.specs.Parses.{Parses, place_of};
 
+use crate::cursor::Cursor;
+use crate::script::read_script;
 use pl_grammar::{Stop, grammar_laws, nesting_fault};
 use pl_lexer::Token;
-use pl_reader::{Cursor, read_script};
-use pl_stack::Stack;
 use pl_tree::Tree;
 use pl_types::{Fail, Refusal, rules};
-use plain_data::Items;
+use pl_values::Actions;
 use std::alloc::Global;
 
 /// Where the first of the last `left` tokens begins, or the length of the text.
@@ -28,14 +28,10 @@ fn place(text: &str, tokens: &[Token], left: usize) -> u32
     }
 }
 
-/// The tree of the script that the tokens of a text are.
+/// The tree of the script that the tokens of a text are, built by the actions `S`.
 ///
-/// Refused by the first of these rules that is broken:
-/// - NestingDeep, number 3: brackets nest too deep, or a token reaches too far. Its offset is the start of the first such
-///   token.
-/// - Syntax, number 2: the tokens are no script. Its offset is the start of the first token with which the tokens up to and
-///   including it begin no script, or the length of the text in bytes where there is no such token.
-pub fn parse(alloc: Global, text: &str, tokens: &[Token]) -> Result<Tree, Fail>
+/// Refused by NestingDeep, and else by Syntax, as `pl_parser::parse` says.
+pub fn parse_by<S: Actions>(alloc: Global, text: &str, tokens: &[Token]) -> Result<Tree, Fail>
     requires short { length text.now ≤ 1048576 }
     requires placed { AllLieIn text.now tokens.now }
     // The answer is a reading of the tokens.
@@ -52,16 +48,16 @@ pub fn parse(alloc: Global, text: &str, tokens: &[Token]) -> Result<Tree, Fail>
     }
     let levels = 32 * tokens.len() as u64 + 31;
     let mut cursor = Cursor::new(text, tokens);
-    let mut stack = Stack::new(alloc);
-    let mut tree = Tree {
-        functions: Items::new(alloc),
-        statements: Items::new(alloc),
+    let mut stack = S::new(alloc);
+    let mut script = Tree::new(alloc);
+    let Err(stop) = read_script(alloc, &mut cursor, &mut stack, &mut script, levels) else {
+        return Ok(script);
     };
-    match read_script(alloc, &mut cursor, &mut stack, &mut tree, levels) {
-        Ok(()) => Ok(tree),
-        Err(Stop::NoMemory) => Err(Fail::NoMemory),
-        Err(Stop::TooDeep) => unreachable!(),
-        Err(Stop::Unexpected(left)) => Err(Fail::Refused(Refusal {
+    script.discard();
+    match stop {
+        Stop::NoMemory => Err(Fail::NoMemory),
+        Stop::TooDeep => unreachable!(),
+        Stop::Unexpected(left) => Err(Fail::Refused(Refusal {
             number: rules::SYNTAX,
             offset: place(text, tokens, left),
         })),
