@@ -1,8 +1,8 @@
 pub mod Lexemes
+pub mod Outcomes
 pub mod Steps
-pub mod Forms
-pub mod Symbols
-pub mod Turns
+pub mod Frames
+pub mod Counts
 pub mod Tops
 pub mod Ends
 pub mod Places

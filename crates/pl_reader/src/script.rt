@@ -9,21 +9,12 @@ ghost use Rattle.pl_grammar.specs.Reading as reading;
 ghost use Rattle.pl_reader.specs.Read.{ReadsAs, ReadsStatements, alone};
 
 use crate::cursor::Cursor;
-use crate::reader::read_symbols;
+use crate::reader::{read_phrase, read_series};
 use pl_grammar::{Seen, Stop};
-use pl_rules::{Form, Series, Symbol, first, is_function_ahead};
+use pl_rules::{Form, Series, first, is_function_ahead};
 use pl_tree::Tree;
 use pl_values::Actions;
 use std::alloc::Global;
-
-/// What a script's statements are read by.
-const STATEMENTS: [Symbol; 2] = [
-    Symbol::Phrase(Form::Statement),
-    Symbol::Repeated(Series::Statement),
-];
-
-/// What one of its functions is read by.
-const FUNCTION: [Symbol; 1] = [Symbol::Phrase(Form::Function)];
 
 /// Statements up to the end of the script, one at least.
 fn read_statements<S: Actions>(
@@ -39,7 +30,8 @@ fn read_statements<S: Actions>(
     ensures read { ReadsStatements script.old (reading.read_form levels grammar.top tokens.old) result tokens.new script.new }
     ensures kept { OnOk result (S.values stack.new ≡ S.values stack.old) }
 {
-    read_symbols(alloc, tokens, stack, levels - 1, &STATEMENTS)?;
+    read_phrase(alloc, tokens, stack, levels - 1, Form::Statement)?;
+    read_series(alloc, tokens, stack, levels - 1, Series::Statement)?;
     stack.take_statements(script)?;
     Ok(())
 }
@@ -60,7 +52,7 @@ fn read_top<S: Actions>(
         if !is_function_ahead(tokens.peek(), tokens.look(Seen::Start)) {
             return read_statements(alloc, tokens, stack, script, levels - used);
         }
-        read_symbols(alloc, tokens, stack, levels - used - 1, &FUNCTION)?;
+        read_phrase(alloc, tokens, stack, levels - used - 1, Form::Function)?;
         stack.take_function(script)?;
         if !first(Form::Statement, tokens.peek()) {
             return Ok(());
