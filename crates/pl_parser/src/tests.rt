@@ -598,6 +598,17 @@ fn far_tokens(rt: HostRuntime) -> Result<(), TestFail> {
     Ok(())
 }
 
+// Behind the first block of a `try` the statements around it no longer count, so they nest deeper than tokens reach.
+#[test]
+fn deep_statements(rt: HostRuntime) -> Result<(), TestFail> {
+    let alloc = rt.alloc();
+    let statement = nested(alloc, 280, ["if(a)", "try{}catch(Object o){", ""])?;
+    let text = nested(alloc, 38, [statement.as_str(), "x", "}"])?;
+    let tree = tree_of(&rt, alloc, text.as_str())?;
+    assert_eq!(rt; tree.statements.len(), 1);
+    Ok(())
+}
+
 #[test]
 fn too_deep_scripts(rt: HostRuntime) -> Result<(), TestFail> {
     let rows = [

@@ -88,7 +88,6 @@ pub enum Body {
 
 /// A statement.
 #[cycle(tree)]
-#[derive(Drop)]
 pub enum Statement {
     If {
         at: u32,
@@ -156,6 +155,77 @@ pub enum Statement {
         at: u32,
         value: Expr,
     },
+}
+
+impl Drop for Statement {
+    /// Statements inside statements are let go one after the other, so that no nest of them is too deep for the machine's stack.
+    #[cycle(statement_drop)]
+    fn drop(mut self) {
+        loop {
+            let last = match self {
+                Statement::If {
+                    at: _,
+                    condition: _,
+                    then,
+                    otherwise,
+                } => match otherwise {
+                    Some(body) => body,
+                    None => then,
+                },
+                Statement::While {
+                    at: _,
+                    condition: _,
+                    body,
+                } => match body {
+                    Some(body) => body,
+                    None => return,
+                },
+                Statement::For {
+                    at: _,
+                    first: _,
+                    condition: _,
+                    update: _,
+                    body,
+                } => match body {
+                    Some(body) => body,
+                    None => return,
+                },
+                Statement::ForEach {
+                    at: _,
+                    of: _,
+                    name: _,
+                    over: _,
+                    body,
+                } => body,
+                Statement::ForIn {
+                    at: _,
+                    name: _,
+                    over: _,
+                    body,
+                } => body,
+                Statement::Try {
+                    at: _,
+                    block: _,
+                    catches: _,
+                } => return,
+                Statement::Do {
+                    at: _,
+                    block: _,
+                    condition: _,
+                } => return,
+                Statement::Declare(_) => return,
+                Statement::Continue { at: _ } => return,
+                Statement::Break { at: _ } => return,
+                Statement::Return { at: _, value: _ } => return,
+                Statement::Throw { at: _, value: _ } => return,
+                Statement::Expression { at: _, value: _ } => return,
+            };
+            match last {
+                Body::Statement(statement) => self = statement.into_inner(),
+                Body::Block(_) => return,
+            }
+        }
+    }
 }
 
 /// What a `for` does first.
