@@ -157,8 +157,26 @@ pub enum Statement {
     },
 }
 
+impl Body {
+    /// Whether it is a statement that another may stand in with no brackets around it.
+    fn nests(&self) -> bool {
+        match self {
+            Body::Block(_) => false,
+            Body::Statement(statement) => matches!(
+                statement.get(),
+                Statement::If { .. }
+                    | Statement::While { .. }
+                    | Statement::For { .. }
+                    | Statement::ForEach { .. }
+                    | Statement::ForIn { .. }
+            ),
+        }
+    }
+}
+
 impl Drop for Statement {
-    /// Statements inside statements are let go one after the other, so that no nest of them is too deep for the machine's stack.
+    /// Statements inside statements are let go in a loop, since they may nest too deep for the machine's stack. Where two stand in
+    /// an `if`, the one that others may stand in comes last, and the other is let go by a call.
     #[cycle(statement_drop)]
     fn drop(mut self) {
         loop {
@@ -169,7 +187,7 @@ impl Drop for Statement {
                     then,
                     otherwise,
                 } => match otherwise {
-                    Some(body) => body,
+                    Some(body) => { if body.nests() { body } else { then } }
                     None => then,
                 },
                 Statement::While {
