@@ -1,4 +1,4 @@
-use crate::{
+use outer_io::{
     FileErr, Files, Found, LONGEST, Line, LineReader, MemFiles, MemSink, MemSource, ReadErr, Sink,
     SinkErr, Source, StdFiles, StdSink, StdSource, SureFiles, SureSink, SureSource, give_all,
     read_lines,
@@ -37,14 +37,14 @@ fn sources(rt: HostRuntime) -> Result<(), Fail> {
     let alloc = rt.alloc();
     let mut sure = SureSource::new(b"hello".to_vec(alloc)?, 100);
     let (all, counts) = takes(alloc, &mut sure, 3, 3)?;
-    assert_eq!(rt; all.as_slice(), b"hello".as_slice());
-    assert_eq!(rt; counts.as_slice(), [3, 2, 0].as_slice());
+    assert!(rt; all.as_slice() == b"hello".as_slice());
+    assert!(rt; counts.as_slice() == [3, 2, 0].as_slice());
 
     let fails = [2, 4].to_vec(alloc)?;
     let mut source = MemSource::new(b"hello".to_vec(alloc)?, 2, fails);
     let (all, counts) = takes(alloc, &mut source, 4, 6)?;
-    assert_eq!(rt; all.as_slice(), b"hello".as_slice());
-    assert_eq!(rt; counts.as_slice(), [2, 9, 2, 9, 1, 0].as_slice());
+    assert!(rt; all.as_slice() == b"hello".as_slice());
+    assert!(rt; counts.as_slice() == [2, 9, 2, 9, 1, 0].as_slice());
     Ok(())
 }
 
@@ -52,16 +52,16 @@ fn sources(rt: HostRuntime) -> Result<(), Fail> {
 fn sinks(rt: HostRuntime) -> Result<(), Fail> {
     let alloc = rt.alloc();
     let mut sure = SureSink::new(alloc, 2);
-    assert_eq!(rt; sure.give(b"hello"), Ok(2));
-    assert_eq!(rt; give_all(&mut sure, b"llo"), Ok(()));
-    assert_eq!(rt; sure.bytes(), b"hello".as_slice());
+    assert!(rt; sure.give(b"hello") == Ok(2));
+    assert!(rt; give_all(&mut sure, b"llo") == Ok(()));
+    assert!(rt; sure.bytes() == b"hello".as_slice());
 
     let mut sink = MemSink::new(alloc, 1, [3].to_vec(alloc)?);
-    assert_eq!(rt; give_all(&mut sink, b"hello"), Err(SinkErr::Failed));
-    assert_eq!(rt; sink.bytes(), b"he".as_slice());
-    assert_eq!(rt; give_all(&mut sink, b"llo"), Ok(()));
-    assert_eq!(rt; sink.bytes(), b"hello".as_slice());
-    assert_eq!(rt; sink.give(b""), Ok(0));
+    assert!(rt; give_all(&mut sink, b"hello") == Err(SinkErr::Failed));
+    assert!(rt; sink.bytes() == b"he".as_slice());
+    assert!(rt; give_all(&mut sink, b"llo") == Ok(()));
+    assert!(rt; sink.bytes() == b"hello".as_slice());
+    assert!(rt; sink.give(b"") == Ok(0));
     Ok(())
 }
 
@@ -89,7 +89,8 @@ fn files_in_memory(rt: HostRuntime) -> Result<(), Fail> {
     let alloc = rt.alloc();
     let mut sure = SureFiles::new(documents(alloc)?);
     let mut files = MemFiles::new(documents(alloc)?, [1].to_vec(alloc)?);
-    assert_eq!(rt; shown(alloc, files.read(alloc, "a", 3))?.as_str(), "failed");
+    let first = shown(alloc, files.read(alloc, "a", 3))?;
+    assert!(rt; first.as_str() == "failed");
     for (name, limit, want) in [
         ("a", 3, "bytes [111, 110, 101]"),
         ("a", 2, "long"),
@@ -98,9 +99,9 @@ fn files_in_memory(rt: HostRuntime) -> Result<(), Fail> {
         ("", 9, "absent"),
     ] {
         let answer = shown(alloc, sure.read(alloc, name, limit))?;
-        assert_eq!(rt; answer.as_str(), want);
+        assert!(rt; answer.as_str() == want, "{name}");
         let answer = shown(alloc, files.read(alloc, name, limit))?;
-        assert_eq!(rt; answer.as_str(), want);
+        assert!(rt; answer.as_str() == want, "{name}");
     }
     Ok(())
 }
@@ -126,7 +127,7 @@ fn standard_files(rt: HostRuntime) -> Result<(), Fail> {
         ("a\0b", 6, "failed"),
     ] {
         let answer = shown(alloc, files.read(alloc, name, limit))?;
-        assert_eq!(rt; answer.as_str(), want);
+        assert!(rt; answer.as_str() == want, "{name}");
     }
     Ok(())
 }
@@ -136,12 +137,12 @@ fn standard_source(rt: HostRuntime) -> Result<(), Fail> {
     let alloc = rt.alloc();
     let mut source = StdSource::new(File::open(&rt, "/proc/sys/kernel/ostype")?);
     let (all, counts) = takes(alloc, &mut source, 4, 3)?;
-    assert_eq!(rt; all.as_slice(), b"Linux\n".as_slice());
-    assert_eq!(rt; counts.as_slice(), [4, 2, 0].as_slice());
+    assert!(rt; all.as_slice() == b"Linux\n".as_slice());
+    assert!(rt; counts.as_slice() == [4, 2, 0].as_slice());
 
     let mut directory = StdSource::new(File::open(&rt, "/")?);
     let (_, counts) = takes(alloc, &mut directory, 4, 1)?;
-    assert_eq!(rt; counts.as_slice(), [9].as_slice());
+    assert!(rt; counts.as_slice() == [9].as_slice());
 
     let mut input = StdSource::new(rt.reader());
     assert!(rt; input.take(&mut []) == Ok(0));
@@ -151,11 +152,11 @@ fn standard_source(rt: HostRuntime) -> Result<(), Fail> {
 #[test]
 fn standard_sink(rt: HostRuntime) -> Result<(), Fail> {
     let mut sink = StdSink::new(OpenOptions::new().write(true).open(&rt, "/dev/null")?);
-    assert_eq!(rt; give_all(&mut sink, b"hello"), Ok(()));
+    assert!(rt; give_all(&mut sink, b"hello") == Ok(()));
     let mut full = StdSink::new(OpenOptions::new().write(true).open(&rt, "/dev/full")?);
-    assert_eq!(rt; full.give(b"hello"), Err(SinkErr::Failed));
+    assert!(rt; full.give(b"hello") == Err(SinkErr::Failed));
     let mut output = StdSink::new(io::writer(&rt));
-    assert_eq!(rt; output.give(b""), Ok(0));
+    assert!(rt; output.give(b"") == Ok(0));
     Ok(())
 }
 
@@ -230,7 +231,7 @@ fn short_lines(rt: HostRuntime) -> Result<(), Fail> {
     ] {
         for most in [1, 2, 100_000] {
             let shown = input_shown(alloc, input.as_bytes(), limit, most, 0)?;
-            assert_eq!(rt; shown.as_str(), want, "{input:?} up to {limit}");
+            assert!(rt; shown.as_str() == want, "{input:?} up to {limit}");
         }
     }
     Ok(())
@@ -250,12 +251,12 @@ fn long_lines(rt: HostRuntime) -> Result<(), Fail> {
         };
         for most in [1, 65_537, 10_000_000] {
             let shown = input_shown(alloc, input.as_slice(), limit, most, 0)?;
-            assert_eq!(rt; shown.as_str(), unended);
+            assert!(rt; shown.as_str() == unended);
         }
         input.extend_from_slice(b"\nt")?;
         for most in [1, 65_537, 10_000_000] {
             let shown = input_shown(alloc, input.as_slice(), limit, most, 0)?;
-            assert_eq!(rt; shown.as_str(), want);
+            assert!(rt; shown.as_str() == want);
         }
     }
     Ok(())
@@ -280,9 +281,8 @@ fn lines_before_a_fault(rt: HostRuntime) -> Result<(), Fail> {
             } else {
                 "{\"n\":1}|{\"n\":2}|fault"
             };
-            assert_eq!(rt;
-                shown.as_str(),
-                want,
+            assert!(rt;
+                shown.as_str() == want,
                 "{most} bytes a call, call {call} fails"
             );
         }
