@@ -1,6 +1,6 @@
 -- The low bits of a number are the number that wraps.
-use Rattle.std.proofs.Common.{◌≡◌, ℕ, zero, suc, ◌+◌, ◌-◌, ◌*◌, ◌/◌, ◌%◌, ◌^◌, ◌<◌, ◌≤◌, refl, ap, ◌∙◌, sym, arith, ℤ, pos, negsuc, to_z, of_z, FitsSigned}
-use Rattle.std.specs.Int.{Width, w8, w16, w32, w64, int_wrap}
+use Rattle.std.proofs.Common.{◌≡◌, ◌%◌, refl, ap, arith, ℤ, pos, negsuc, to_z, of_z, FitsSigned}
+use Rattle.std.specs.Int.{w8, w16, w32, w64, int_wrap}
 use Rattle.arithmetic.specs.Arithmetic.{wrapped}
 
 pub int_is : (a : ℤ) → FitsSigned w64 a → to_z w32 (of_z w64 a % 4294967296) ≡ wrapped w32 a

@@ -1,5 +1,5 @@
 -- What operators give of numbers: by the type that their operands have once they are promoted.
-use Rattle.std.specs.Prelude.{◌≡◌, ℕ, Bool, true, false, not, Option, Some, None, Result, Ok, Err, ℤ, pos, int_lt, int_le, if◌then◌else◌}
+use Rattle.std.specs.Prelude.{◌≡◌, Bool, true, false, not, Option, Some, None, Result, Ok, Err, ℤ, pos, int_lt, int_le, if◌then◌else◌}
 use Rattle.std.specs.Int.{Width, w32, w64}
 use Rattle.std.specs.Ordering.{int_eq}
 use Rattle.arithmetic.specs.Arithmetic.{wrapped, sum_of, difference_of, product_of, quotient_of, remainder_of, negation_of, and_of, or_of, xor_of, complement_of, left_shift_of, right_shift_of, unsigned_shift_of}
