@@ -21,7 +21,7 @@ pub record Progress (old now : Intake) (left left' : Option (List ℕ)) (line : 
   pub unbroken : IsUnbroken before
   pub parts : before ++ now.pending ≡ old.pending ++ more
   pub going : now.ended ≡ false
-  pub later : faults ≤ faults'
+  pub quiet : faults' ≡ faults
 
 -- a test has one answer
 pub contradicts : {b : Bool} → b ≡ false → b ≡ true → ⊥
@@ -38,7 +38,7 @@ progress_none old left line faults going empty = record {
   unbroken = All-nil (λ byte. byte ≢ newline);
   parts = sym (append-nil old.pending);
   going = going;
-  later = omega arith;
+  quiet = refl;
 }
 
 -- what was taken by two calls
@@ -69,13 +69,13 @@ progress_open {old} {mid} {now} {left} {left'} p gathered = record {
   unbroken = All-append (λ byte. byte ≢ newline) p.before mid.pending p.unbroken gathered.unbroken;
   parts = ap (λ l. (p.before ++ mid.pending) ++ l) gathered.none ∙ append-nil (p.before ++ mid.pending) ∙ p.parts;
   going = gathered.same.ended ∙ p.going;
-  later = p.later;
+  quiet = p.quiet;
 }
 
 -- a further piece was taken
 pub progress_more : {old mid now : Intake} {left left' left'' : Option (List ℕ)} {line : Option (Vec ℕ Global)} {faults faults' faults'' : ℕ} → Progress old mid left left' line faults faults'
-    → mid.pending ≡ [] → RefillsMore mid now left' left'' → faults' ≤ faults'' → Progress old now left left'' line faults faults''
-progress_more {old} {mid} {now} {left} {left'} {left''} p none refill later = record {
+    → mid.pending ≡ [] → RefillsMore mid now left' left'' → faults'' ≡ faults' → Progress old now left left'' line faults faults''
+progress_more {old} {mid} {now} {left} {left'} {left''} p none refill quiet = record {
   more = p.more ++ now.pending;
   before = p.before;
   takes = takes_more old mid now left left' left'' p.more now.pending p.takes refill.takes;
@@ -85,7 +85,7 @@ progress_more {old} {mid} {now} {left} {left'} {left''} p none refill later = re
       ap (λ l. l ++ now.pending) (sym (append-nil p.before) ∙ ap (λ l. p.before ++ l) (sym none) ∙ p.parts)
       ∙ append_assoc old.pending p.more now.pending;
   going = refill.going;
-  later = omega (arith, p.later);
+  quiet = quiet ∙ p.quiet;
 }
 
 -- a line that was given is read

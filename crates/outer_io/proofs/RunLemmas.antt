@@ -38,7 +38,7 @@ pub record Run (limit : ℕ) (intake : Intake) (left left' : Option (List ℕ)) 
   pub within : intake.taken ≤ intake.limit
   pub grown : new ≡ old ++ map input_line lines
   pub state : Goes intake front lines ⊎ Ended intake left' front lines
-  pub later : faults ≤ faults'
+  pub quiet : faults' ≡ faults
 
 pub run_none : (limit : ℕ) (intake : Intake) (left : Option (List ℕ)) (old : List InputLine) (faults : ℕ)
     → intake ≡ record { limit = limit; taken = 0; pending = []; ended = false } → Run limit intake left left old old faults faults
@@ -55,7 +55,7 @@ run_none limit intake left old faults is = record {
     all = λ rest. sym (ap (λ (s : Intake). lines_of (s.pending ++ rest)) is);
     ended = λ rest. sym (ap (λ (s : Intake). ended_of (s.pending ++ rest)) is);
   });
-  later = omega arith;
+  quiet = refl;
 }
 
 -- ---- a line more
@@ -123,9 +123,9 @@ goes_of (inr ended) going = absurd (contradicts going ended.ended)
 
 -- a line more was given
 pub run_line : {limit : ℕ} {mid now : Intake} {left left' left'' : Option (List ℕ)} {old new : List InputLine} {faults faults' : ℕ} (line : List ℕ) (newer : List InputLine) (faults'' : ℕ)
-    → Run limit mid left left' old new faults faults' → ReadsLine mid now left' left'' line → now.taken ≤ now.limit → newer ≡ new ++ input_line line ∷ [] → faults' ≤ faults''
+    → Run limit mid left left' old new faults faults' → ReadsLine mid now left' left'' line → now.taken ≤ now.limit → newer ≡ new ++ input_line line ∷ [] → faults'' ≡ faults'
     → Run limit now left left'' old newer faults faults''
-run_line {limit} {mid} {now} {left} {left'} {left''} {old} {new} line newer faults'' r reads within grown later =
+run_line {limit} {mid} {now} {left} {left'} {left''} {old} {new} line newer faults'' r reads within grown quiet =
     let goes = goes_of r.state reads.going in
     let taken = run_taken r reads.more reads.takes in
     record {
@@ -142,7 +142,7 @@ run_line {limit} {mid} {now} {left} {left'} {left''} {old} {new} line newer faul
         | inl ends ↦ inl (goes_more goes reads.more line reads.unbroken ends)
         | inr ends ↦ inr (ends_more goes reads.more line reads.unbroken ends)
       ];
-      later = omega (arith, r.later, later);
+      quiet = quiet ∙ r.quiet;
     }
 
 -- fewer bytes may be taken or are pending

@@ -1,11 +1,11 @@
--- Counts of faults, and the cause that an answer of failure has.
-use Rattle.std.specs.Prelude.{◌≡◌, ℕ, ◌+◌, ◌-◌, ◌^◌, ◌≤◌, min, Result, Err}
+-- Counts of faults: when one rises.
+use Rattle.std.specs.Prelude.{◌≡◌, ℕ, ◌+◌, ◌-◌, ◌^◌, min, Result, Err}
 
--- A count of faults rose. One that stands at its last value counts as risen.
-abbrev pub Rose : ℕ → ℕ → Type 0
-Rose before now = min (before + 1) (2 ^ 64 - 1) ≤ now
+-- A count behind one more. It stands still at its last value.
+abbrev pub next_count : ℕ → ℕ
+next_count count = min (count + 1) (2 ^ 64 - 1)
 
--- The count of faults did not fall in a call, and the call answered this error only where it rose.
+-- The count of faults rose by one in a call that answered this error, and in every other it stands where it stood.
 pub record HasCause {T E : Type 0} (error : E) (before now : ℕ) (result : Result T E) : Type 0 where
-  pub later : before ≤ now
-  pub rose : result ≡ Err error → Rose before now
+  pub rose : result ≡ Err error → now ≡ next_count before
+  pub quiet : (result ≡ Err error → ⊥) → now ≡ before

@@ -1,6 +1,7 @@
 -- What the sources, sinks and files in memory are seen as.
-use Rattle.std.specs.Prelude.{ℕ, ◌+◌, ◌-◌, ◌^◌, min, Bool, List, [], ◌∷◌, Option, None, Some, if◌then◌else◌}
+use Rattle.std.specs.Prelude.{ℕ, Bool, List, [], ◌∷◌, Option, None, Some, if◌then◌else◌}
 use Rattle.std.specs.Str.{bytes_eq}
+use Rattle.outer_io.specs.Faults.{next_count}
 
 -- A source: the bytes that are not yet taken, and how many a call takes at most.
 pub record Supply : Type 0 where
@@ -31,10 +32,6 @@ pub record Calls : Type 0 where
 -- No call was made yet.
 abbrev pub uncalled : List ℕ → Calls
 uncalled fails = record { fails = fails; made = 0; faults = 0 }
-
--- A count that rises by one, and stands still at its last value.
-abbrev pub next_count : ℕ → ℕ
-next_count count = min (count + 1) (2 ^ 64 - 1)
 
 -- The number of the next call.
 abbrev pub number_of : Calls → ℕ

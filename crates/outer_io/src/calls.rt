@@ -1,13 +1,11 @@
 // Which calls fail.
-ghost use Rattle.std.specs.Prelude.{◌≡◌, ◌≤◌, ◌↔◌, Contains, IsTrue};
-ghost use Rattle.std.specs.Bool.{OnTrue};
-ghost use Rattle.outer_io.specs.Faults.{Rose};
+ghost use Rattle.std.specs.Prelude.{◌≡◌, ◌↔◌, Contains, IsTrue};
 ghost use Rattle.outer_io.specs.Memory.{uncalled, number_of, called};
 
 use std::marker::Model;
 
 /// The numbers of the calls that are to fail, and how many calls and faults there were.
-#[derive(Debug, Drop)]
+#[derive(Drop)]
 pub(crate) struct Schedule {
     fails: Vec<u64>,
     made: u64,
@@ -38,8 +36,6 @@ impl Schedule {
     pub(crate) fn fails_now(&mut self) -> bool
         ensures failed { IsTrue result ↔ Contains self.old.fails (number_of self.old) }
         ensures counted { self.new ≡ called result self.old }
-        ensures later { self.old.faults ≤ self.new.faults }
-        ensures rose { OnTrue result (Rose self.old.faults self.new.faults) }
     {
         self.made = self.made.saturating_add(1);
         let fails = self.fails.contains(&self.made);

@@ -7,7 +7,7 @@ use std::alloc::Global;
 use thiserror::Error;
 
 /// What stands under a file's name.
-#[derive(Debug, Drop)]
+#[derive(Drop)]
 pub enum Found {
     /// A file, with all of its bytes.
     Bytes(Vec<u8>),
@@ -34,7 +34,8 @@ pub trait Files {
     /// the files tell their content.
     ghost content: { Self → Option (List ℕ → Option (List ℕ)) };
 
-    /// How many faults there have been, up to 2^64 - 1.
+    /// How many faults there have been, up to 2^64 - 1. A call that answers Failed counts one more, and no other call
+    /// changes it.
     ghost faults: { Self → ℕ };
 
     /// Reads a file of at most `limit` bytes.

@@ -17,7 +17,7 @@ const NEWLINE: u8 = b'\n';
 
 /// What was taken from a source, of which at most so many bytes may be. The last piece that was
 /// taken is kept, and where in it the bytes lie that are not given out yet.
-#[derive(Debug, Drop)]
+#[derive(Drop)]
 pub(crate) struct Intake {
     piece: Vec<u8>,
     from: usize,
@@ -39,7 +39,7 @@ impl Model for Intake {
 }
 
 /// A line so far, with the bytes that are not given out yet moved into it.
-#[derive(Debug, Drop)]
+#[derive(Drop)]
 pub(crate) enum Gathered {
     /// It ends at a newline.
     Ended(Option<Vec<u8>>),

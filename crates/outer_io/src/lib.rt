@@ -4,6 +4,7 @@
 mod calls;
 mod files;
 mod intake;
+mod laws;
 mod lines;
 mod mem_files;
 mod mem_sink;
@@ -11,10 +12,9 @@ mod mem_source;
 mod sink;
 mod source;
 mod standard;
-#[cfg(test)]
-mod tests;
 
 pub use files::{FileErr, Files, Found};
+pub use laws::step_laws;
 pub use lines::{LONGEST, Line, LineReader, ReadErr, read_lines};
 pub use mem_files::{MemFiles, SureFiles};
 pub use mem_sink::{MemSink, SureSink};

@@ -16,7 +16,7 @@ use thiserror::Error;
 pub const LONGEST: usize = 1_048_576;
 
 /// A line of a source, without its newline.
-#[derive(Debug, Drop)]
+#[derive(Drop)]
 pub enum Line {
     /// A line of at most 1,048,576 bytes.
     Whole(Vec<u8>),
@@ -61,7 +61,7 @@ impl From<AllocError> for ReadErr {
 }
 
 /// Reads the lines of a source, of which it takes at most so many bytes.
-#[derive(Debug, Drop)]
+#[derive(Drop)]
 pub struct LineReader {
     intake: Intake,
     failed: bool,

@@ -1,5 +1,5 @@
 // Files in memory.
-ghost use Rattle.std.specs.Prelude.{◌≡◌, ◌↔◌, Contains, Some, OnOk, IsOkUnless, IsErrOf};
+ghost use Rattle.std.specs.Prelude.{◌≡◌, ◌↔◌, Contains, Some, IsOkUnless, IsErrOf};
 ghost use Rattle.std.specs.Option.{option_copied};
 ghost use Rattle.outer_io.specs.Content.{IsWithin, Shows};
 ghost use Rattle.outer_io.specs.Documents.{documents};
@@ -12,7 +12,7 @@ use std::alloc::Global;
 use std::marker::Model;
 
 /// Files in memory. There are no faults.
-#[derive(Debug, Drop)]
+#[derive(Drop)]
 pub struct SureFiles {
     files: Vec<(String, Vec<u8>)>,
 }
@@ -84,7 +84,7 @@ fn copied_within(alloc: Global, bytes: &[u8], limit: u64) -> Result<Found, FileE
 }
 
 /// Files in memory. The calls with the listed numbers, counted from 1, fail.
-#[derive(Debug, Drop)]
+#[derive(Drop)]
 pub struct MemFiles {
     sure: SureFiles,
     schedule: Schedule,
@@ -124,7 +124,6 @@ impl Files for MemFiles {
         ensures failed { IsErrOf result FileErr.Failed ↔ Contains self.old.calls.fails (number_of self.old.calls) }
         ensures numbered { self.new.calls.made ≡ number_of self.old.calls }
         ensures listed { self.new.calls.fails ≡ self.old.calls.fails }
-        ensures quiet { OnOk result (self.new.calls.faults ≡ self.old.calls.faults) }
     {
         if self.schedule.fails_now() {
             return Err(FileErr::Failed);

@@ -1,5 +1,5 @@
 // Sinks in memory.
-ghost use Rattle.std.specs.Prelude.{◌≡◌, ◌<◌, ◌≤◌, ◌↔◌, [], length, Contains, Some, IfOk, OnOk, IsOkUnless, IsErrOf, min};
+ghost use Rattle.std.specs.Prelude.{◌≡◌, ◌<◌, ◌≤◌, ◌↔◌, [], length, Contains, Some, IfOk, IsOkUnless, IsErrOf, min};
 ghost use Rattle.std.specs.Io.KnownBytes.{WriteAppends};
 ghost use Rattle.outer_io.specs.Faults.{HasCause};
 ghost use Rattle.outer_io.specs.Memory.{uncalled, number_of};
@@ -10,7 +10,7 @@ use std::alloc::Global;
 use std::marker::Model;
 
 /// A sink that keeps its bytes in memory, is given at most so many in a call, and has no faults.
-#[derive(Debug, Drop)]
+#[derive(Drop)]
 pub struct SureSink {
     bytes: Vec<u8>,
     most: usize,
@@ -72,7 +72,7 @@ impl Sink for SureSink {
 
 /// A sink that keeps its bytes in memory, and is given at most so many in a call. The calls with
 /// the listed numbers, counted from 1, fail.
-#[derive(Debug, Drop)]
+#[derive(Drop)]
 pub struct MemSink {
     sure: SureSink,
     schedule: Schedule,
@@ -122,7 +122,6 @@ impl Sink for MemSink {
         ensures most { self.new.store.most ≡ self.old.store.most }
         ensures numbered { self.new.calls.made ≡ number_of self.old.calls }
         ensures listed { self.new.calls.fails ≡ self.old.calls.fails }
-        ensures quiet { OnOk result (self.new.calls.faults ≡ self.old.calls.faults) }
     {
         if self.schedule.fails_now() {
             return Err(SinkErr::Failed);

@@ -1,5 +1,5 @@
 // Sources in memory.
-ghost use Rattle.std.specs.Prelude.{◌≡◌, ◌≤◌, ◌↔◌, length, Contains, Some, Ok, IfOk, OnOk, IsErrOf, min, take, drop};
+ghost use Rattle.std.specs.Prelude.{◌≡◌, ◌≤◌, ◌↔◌, length, Contains, Some, Ok, IfOk, IsErrOf, min, take, drop};
 ghost use Rattle.std.specs.Io.KnownBytes.{ReadConsumes};
 ghost use Rattle.outer_io.specs.Faults.{HasCause};
 ghost use Rattle.outer_io.specs.Memory.{uncalled, number_of};
@@ -9,7 +9,7 @@ use crate::source::{Failed, Source};
 use std::marker::Model;
 
 /// Bytes in memory, of which a call takes at most so many, and never a fault.
-#[derive(Debug, Drop)]
+#[derive(Drop)]
 pub struct SureSource {
     bytes: Vec<u8>,
     taken: usize,
@@ -74,7 +74,7 @@ fn copy_front(from: &[u8], into: &mut [u8], most: usize) -> usize
 
 /// Bytes in memory, of which a call takes at most so many. The calls with the listed numbers,
 /// counted from 1, fail.
-#[derive(Debug, Drop)]
+#[derive(Drop)]
 pub struct MemSource {
     sure: SureSource,
     schedule: Schedule,
@@ -116,7 +116,6 @@ impl Source for MemSource {
         ensures most { self.new.supply.most ≡ self.old.supply.most }
         ensures numbered { self.new.calls.made ≡ number_of self.old.calls }
         ensures listed { self.new.calls.fails ≡ self.old.calls.fails }
-        ensures quiet { OnOk result (self.new.calls.faults ≡ self.old.calls.faults) }
     {
         if self.schedule.fails_now() {
             return Err(Failed);

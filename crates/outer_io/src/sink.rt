@@ -22,7 +22,8 @@ pub trait Sink {
     /// The bytes that were given to it, in their order, where the sink tells them.
     ghost held: { Self → Option (List ℕ) };
 
-    /// How many faults there have been, up to 2^64 - 1.
+    /// How many faults there have been, up to 2^64 - 1. A call that answers Failed counts one more, and no other call
+    /// changes it.
     ghost faults: { Self → ℕ };
 
     /// Gives it the front of a piece, and says how many bytes that is: at least one where the

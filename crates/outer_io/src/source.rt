@@ -12,7 +12,7 @@ pub trait Source {
     /// The bytes that are not yet taken, where the source tells them.
     ghost left: { Self → Option (List ℕ) };
 
-    /// How many faults there have been, up to 2^64 - 1.
+    /// How many faults there have been, up to 2^64 - 1. A call that fails counts one more, and no other call changes it.
     ghost faults: { Self → ℕ };
 
     /// Takes the next bytes into the front of a piece, and says how many they are. None are taken

@@ -53,7 +53,7 @@ pub struct StdSink<W> {
 }
 
 impl<W> StdSink<W> {
-    /// A sink over a writer. Each of its errors is a fault.
+    /// A sink over a writer. Each of its errors is a fault, but want of memory.
     pub fn new(writer: W) -> StdSink<W>
         ensures { result ≡ record { writer = writer; faults = 0 } }
     {
@@ -74,12 +74,11 @@ impl<W: Write> Sink for StdSink<W> {
                 Err(SinkErr::Failed)
             }
             Err(error) => {
-                self.faults = self.faults.saturating_add(1);
                 if is_want_of_memory(&error) {
-                    Err(SinkErr::NoMemory)
-                } else {
-                    Err(SinkErr::Failed)
+                    return Err(SinkErr::NoMemory);
                 }
+                self.faults = self.faults.saturating_add(1);
+                Err(SinkErr::Failed)
             }
         }
     }
@@ -93,7 +92,8 @@ pub struct StdFiles<S> {
 }
 
 impl<S> StdFiles<S> {
-    /// The files of a file system. Each of its errors is a fault, but that there is no such file.
+    /// The files of a file system. Each of its errors is a fault, but that there is no such
+    /// file and want of memory.
     pub fn new(system: S) -> StdFiles<S>
         ensures { result ≡ record { system = system; faults = 0 } }
     {
@@ -114,12 +114,11 @@ impl<S: rt::Files> Files for StdFiles<S> {
         match answer {
             Ok(found) => Ok(found),
             Err(error) => {
-                self.faults = self.faults.saturating_add(1);
                 if is_want_of_memory(&error) {
-                    Err(FileErr::NoMemory)
-                } else {
-                    Err(FileErr::Failed)
+                    return Err(FileErr::NoMemory);
                 }
+                self.faults = self.faults.saturating_add(1);
+                Err(FileErr::Failed)
             }
         }
     }

@@ -31,4 +31,4 @@ pieces-preserved g c =
     let p = c.pieces.invariant in
     let gathered = subst (λ x. Gathers c.pieces.intake c.gather.new.self p.before (Ok x)) c.in-Open.is (c.in_ok-whole.ensures.gathered p.before p.holds) in
     let refilled = subst (λ x. Refills c.gather.new.self c.refill.new.self (g.S.Source.left c.pieces.source) (g.S.Source.left c.refill.new.source) (Ok x)) c.if-not-goes_on.false c.in_ok-goes_on.ensures.refilled in
-    progress_more (progress_open p gathered) gathered.none refilled c.refill.ensures.cause.later
+    progress_more (progress_open p gathered) gathered.none refilled (c.in_ok-goes_on.ensures.cause.quiet (λ failed. cc))

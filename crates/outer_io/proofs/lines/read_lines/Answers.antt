@@ -43,7 +43,7 @@ lines-preserved g c =
     let line = line_read c.lines.reader.intake c.next.new.self.intake _ _ c.in_ok-line.line some c.in_ok-line.ensures.read in
     let grown : shown c.push.new.self.items ≡ shown c.lines.lines.items ++ input_line line.0 ∷ [] =
     shown-push c.lines.lines.items c.push.new.self.items c.in_ok-line.line line.0 c.in_ok-push.ensures.items line.2 in
-    (c.in_ok-line.ensures.failed, run_line line.0 (shown c.push.new.self.items) (g.S.Source.faults c.next.new.source) c.lines.invariant.1 line.1 c.next.ensures.within grown c.next.ensures.cause.later)
+    (c.in_ok-line.ensures.failed, run_line line.0 (shown c.push.new.self.items) (g.S.Source.faults c.next.new.source) c.lines.invariant.1 line.1 c.next.ensures.within grown (c.in_ok-line.ensures.cause.quiet (λ failed. cc)))
 
 pub returns-in_err-push-clause-given : goal.returns-in_err-push-clause-given
 returns-in_err-push-clause-given g c =
