@@ -1,14 +1,20 @@
 -- The members of the catalogue, and what is found among them.
-use Rattle.std.proofs.Common.{◌≡◌, ℕ, zero, suc, ◌+◌, Bool, true, false, not, ◌&&◌, ◌||◌, cond, eqb, List, [], ◌∷◌, ◌++◌, Option, Some, None, length, refl, sym, ap, ◌∙◌, arith}
+use Rattle.std.proofs.Common.{◌≡◌, ℕ, zero, suc, ◌+◌, ◌<◌, Bool, true, false, not, ◌&&◌, ◌||◌, cond, eqb, ltb, List, [], ◌∷◌, ◌++◌, Option, Some, None, get_or, length, map, refl, sym, ap, ◌∙◌, inl, inr, arith}
 use Rattle.std.specs.Str.{bytes_eq}
-use Rattle.std.specs.List.{list_any, flat_map, slice_get}
-use Rattle.std.proofs.lemmas.Bool.{eqb-true, eq-eqb, and_parts, not-true, false≢true}
+use Rattle.std.specs.List.{list_any, flat_map, range_with_len, slice_get}
+use Rattle.std.proofs.lemmas.Bool.{eqb-true, eq-eqb, and_parts, not-true, false≢true, cases_lt, ltb-true}
+use Rattle.std.proofs.lemmas.List.FromFn.{get_or-map-range_with_len}
+use Rattle.std.proofs.lemmas.Option.{slice_get-get_or}
 use Rattle.std.proofs.lemmas.Slice.Eq.{bytes_eq-Decides}
-use Rattle.pl_types.specs.Classes.{lineage_of, parents_of}
+use Rattle.pl_types.specs.Classes.{class_is_below, class_row, class_table, has, lineage_of, parents_of}
 use Rattle.allowlist.specs.declared.member.MemberType.{MemberType}
-use Rattle.allowlist.specs.Catalogue.{catalogue}
-use Rattle.allowlist.specs.Allow.{AllowList, flag, has_name, is_called, first_member, own_member, member_of, first_along, or_else}
-use Rattle.allowlist.proofs.Members.{own_of, asks}
+use Rattle.allowlist.specs.declared.member.MemberKind.{MemberKind}
+use Rattle.allowlist.specs.declared.member.MemberKind.TheVariants.{Constructor, Static, Instance, Field}
+use Rattle.allowlist.specs.Catalogue.{catalogue, constructor}
+use Rattle.allowlist.specs.Index.{member_at}
+use Rattle.allowlist.specs.Allow.{AllowList, flag, has_name, is_called, first_member, own_member, member_of, first_along, or_else, iface_method_of}
+use Rattle.allowlist.proofs.Members.{own_of, asks, iface_past}
+use Rattle.allowlist.proofs.Tables.{length-catalogue}
 
 same_key : MemberType → MemberType → Bool
 same_key a b = eqb a.owner b.owner && eqb (length a.params) (length b.params) && bytes_eq a.name b.name
@@ -107,3 +113,76 @@ found_is_allowed allow class name arity number h =
     let d = and_parts (bytes_eq p.1.name name) (eqb (length p.1.params) arity) b.1 in
     let z : number ≡ p.0 = (let q : 0 + p.0 ≡ p.0 = omega arith in p.2 ∙ q) in
     (a.0, (p.1, ap (slice_get catalogue) z ∙ p.3, (bytes_eq-Decides p.1.name name).0 d.0, eqb-true (length p.1.params) arity d.1))
+
+-- what is found along a lineage is found at a class of it
+one_in_at : (f : ℕ → Option ℕ) (x : ℕ) (xs : List ℕ) (k : ℕ) (o : Option ℕ) → f x ≡ o → first_along f (x ∷ xs) ≡ Some k → (first_along f xs ≡ Some k → (y : ℕ) × (has xs y ≡ true) × (f y ≡ Some k)) → (y : ℕ) × (has (x ∷ xs) y ≡ true) × (f y ≡ Some k)
+one_in_at f x xs k None e h further =
+    let r = further (sym (ap (λ z. or_else z (first_along f xs)) e) ∙ h) in
+    (r.0, or_right (eqb x r.0) (has xs r.0) r.1, r.2)
+  where
+    or_right : (a b : Bool) → b ≡ true → (a || b) ≡ true
+    or_right true b h = refl
+    or_right false b h = h
+one_in_at f x xs k (Some j) e h further =
+    (x, ap (λ t. t || has xs x) (eq-eqb x x refl), e ∙ sym (ap (λ z. or_else z (first_along f xs)) e) ∙ h)
+
+one_in : (f : ℕ → Option ℕ) (xs : List ℕ) (k : ℕ) → first_along f xs ≡ Some k → (x : ℕ) × (has xs x ≡ true) × (f x ≡ Some k)
+one_in f [] k h = cc
+one_in f (x ∷ xs) k h = one_in_at f x xs k (f x) refl h (one_in f xs k)
+
+pub found_above : (allow : AllowList) (class : ℕ) (name : List ℕ) (arity number : ℕ) → member_of allow class name arity ≡ Some number → (m : MemberType) × (slice_get catalogue number ≡ Some m) × (class_is_below class m.owner ≡ true)
+unfolding member_of own_member class_is_below
+found_above allow class name arity number h =
+    let o = one_in (own_of allow name arity) (lineage_of class) number h in
+    let p = found_passes (asks allow o.0 name arity) 0 catalogue number o.2 in
+    let a = and_parts (flag allow.members number) (is_called o.0 name arity p.1) p.4 in
+    let b = and_parts (eqb p.1.owner o.0) (has_name name arity p.1) a.1 in
+    let z : number ≡ p.0 = (let q : 0 + p.0 ≡ p.0 = omega arith in p.2 ∙ q) in
+    (p.1, ap (slice_get catalogue) z ∙ p.3, ap (has (lineage_of class)) (eqb-true p.1.owner o.0 b.0) ∙ o.1)
+
+-- The one method of an interface.
+
+is_instance : MemberKind → Bool
+is_instance Instance = true
+is_instance Constructor = false
+is_instance Static = false
+is_instance Field = false
+
+instance_is : (k : MemberKind) → is_instance k ≡ true → k ≡ Instance
+unfolding is_instance
+instance_is Instance h = refl
+instance_is Constructor h = absurd (false≢true h)
+instance_is Static h = absurd (false≢true h)
+instance_is Field h = absurd (false≢true h)
+
+method_fits : ℕ → Option ℕ → Bool
+method_fits class None = true
+method_fits class (Some number) = ltb number 228 && (is_instance (member_at number).kind && class_is_below class (member_at number).owner)
+
+each_fits : map (λ c. method_fits c (iface_method_of c)) (range_with_len 0 57) ≡ map (λ c. true) (range_with_len 0 57)
+unfolding method_fits is_instance iface_method_of class_is_below lineage_of parents_of class_row class_table catalogue
+each_fits = refl
+
+fits_at : (class : ℕ) → class < 57 → method_fits class (iface_method_of class) ≡ true
+fits_at class h =
+    sym (get_or-map-range_with_len (λ c. method_fits c (iface_method_of c)) 0 57 class class true h (omega arith))
+    ∙ ap (λ xs. get_or xs class true) each_fits
+    ∙ get_or-map-range_with_len (λ c. true) 0 57 class class true h (omega arith)
+
+abbrev MethodOf : ℕ → ℕ → Type 0
+MethodOf class number = (m : MemberType) × (slice_get catalogue number ≡ Some m) × (m.kind ≡ Instance) × (class_is_below class m.owner ≡ true)
+
+fitting : (class number : ℕ) → method_fits class (Some number) ≡ true → MethodOf class number
+unfolding method_fits
+fitting class number h =
+    let a = and_parts (ltb number 228) (is_instance (member_at number).kind && class_is_below class (member_at number).owner) h in
+    let b = and_parts (is_instance (member_at number).kind) (class_is_below class (member_at number).owner) a.1 in
+    let within : number < length catalogue = omega (arith, ltb-true number 228 a.0, length-catalogue) in
+    (member_at number, slice_get-get_or catalogue number (constructor 0 []) within, instance_is (member_at number).kind b.0, b.1)
+
+pub method_above : (class number : ℕ) → iface_method_of class ≡ Some number → MethodOf class number
+method_above class number h =
+    elim (cases_lt class 57) [
+      | inl l ↦ fitting class number (ap (method_fits class) (sym h) ∙ fits_at class l)
+      | inr g ↦ (let e = sym (iface_past class g) ∙ h in cc)
+    ]

@@ -2,20 +2,20 @@
 use Rattle.std.specs.Prelude.{◌==◌, ◌+◌, ◌-◌, ◌&&◌, ◌||◌, not, ℕ, Bool, true, false, List, [], ◌∷◌, Option, Some, None, Result, Ok, Err, if◌then◌else◌, is_some, nat_lt, codes}
 use Rattle.std.specs.Str.{bytes_eq}
 use Rattle.std.specs.List.{position_or_len}
-use Rattle.pl_types.specs.declared.primitive.Primitive.{Primitive}
-use Rattle.pl_types.specs.declared.primitive.Primitive.TheVariants as prim
 use Rattle.pl_types.specs.declared.ty.Ty.{Ty}
 use Rattle.pl_types.specs.declared.ty.Ty.TheOpen.{Ty-F}
 use Rattle.pl_types.specs.declared.ty.Ty.TheFolds.{fold-Ty}
-use Rattle.pl_types.specs.declared.classes.TheConstants.{CLASS_COUNT}
+use Rattle.pl_types.specs.declared.classes.TheConstants.{CLASS_COUNT, PRELUDE}
 use Rattle.pl_types.specs.Classes.{full_name, short_name}
+use Rattle.pl_types.specs.Names.{class_of_full}
+use Rattle.pl_types.specs.Texts.{primitive_word}
 use Rattle.allowlist.specs.declared.member.MemberType.{MemberType}
 use Rattle.allowlist.specs.declared.member.MemberKind.{MemberKind}
 use Rattle.allowlist.specs.declared.member.MemberKind.TheVariants.{Constructor, Static, Instance, Field}
 use Rattle.allowlist.specs.declared.member.Origin.{Origin}
 use Rattle.allowlist.specs.declared.member.Origin.TheVariants.{Augmented, AugmentedPrelude}
 use Rattle.allowlist.specs.Catalogue.{catalogue}
-use Rattle.allowlist.specs.Allow.{AllowList, empty_list, first_member, first_class, flag, with_flag, dotted}
+use Rattle.allowlist.specs.Allow.{AllowList, empty_list, first_member, flag, with_flag, dotted}
 use Rattle.allowlist.specs.Lines.{Form, Blank, Opens, Imports, Closes, Makes, Calls, Has, TypeText, form_of}
 
 -- Lines end at newlines; what stands after the last newline is a line only if it has a byte.
@@ -30,15 +30,6 @@ lines_of (b ∷ bs) = if b == 10 then [] ∷ lines_of bs else begins_line b (lin
 -- how many bytes stand before the first newline
 abbrev pub line_len : List ℕ → ℕ
 line_len bytes = position_or_len (λ b. b == 10) bytes
-
--- the word of a primitive
-abbrev pub primitive_word : Primitive → List ℕ
-primitive_word prim.Boolean = codes "boolean"
-primitive_word prim.Byte = codes "byte"
-primitive_word prim.Short = codes "short"
-primitive_word prim.Char = codes "char"
-primitive_word prim.Int = codes "int"
-primitive_word prim.Long = codes "long"
 
 -- a class in a signature stands by its full or its short name, with `$` or `.` before the name of a nested class
 abbrev pub is_word_of : ℕ → List ℕ → Bool
@@ -92,17 +83,21 @@ unfoldable pub declared_member : ℕ → Form → Option ℕ
 declared_member class form = first_member (λ n m. (m.owner == class) && declares form m) 0 catalogue
 
 -- the class of a full name; the hidden classes have none in files
-unfoldable pub class_of_line : List ℕ → Option ℕ
-class_of_line name = first_class (λ class. bytes_eq (full_name class) name) 0 55
+abbrev pub in_files : Option ℕ → Option ℕ
+in_files None = None
+in_files (Some class) = if nat_lt class PRELUDE then Some class else None
+
+abbrev pub class_of_line : List ℕ → Option ℕ
+class_of_line name = in_files (class_of_full name)
 
 -- What was read so far: the class whose members stand here, if one is open, and the list.
 pub record Reading : Type 0 where
   pub inside : Option ℕ
   pub allow : AllowList
 
--- whether a class is open after a line
+-- whether a class is open after a line; one that the catalogue lacks opens none
 abbrev pub open_after : Bool → Form → Bool
-open_after open_ (Opens name) = true
+open_after open_ (Opens name) = is_some (class_of_line name)
 open_after open_ Closes = false
 open_after open_ form = open_
 

@@ -1,3 +1,4 @@
+pub mod Accessors
 pub mod Allow
 pub mod Answers
 pub mod Catalogue

@@ -1,6 +1,6 @@
 -- The lines of an allowlist file.
-use Rattle.std.specs.Prelude.{◌==◌, ◌+◌, ◌&&◌, ◌||◌, ℕ, zero, suc, Bool, true, false, List, [], ◌∷◌, Option, Some, None, if◌then◌else◌, nat_le, length, take, drop, codes, option_and_then}
-use Rattle.std.specs.List.{prefix_len, before_first}
+use Rattle.std.specs.Prelude.{◌==◌, ◌+◌, ◌&&◌, ◌||◌, not, ℕ, zero, suc, Bool, true, false, List, [], ◌∷◌, Option, Some, None, if◌then◌else◌, nat_le, length, take, drop, codes, option_and_then}
+use Rattle.std.specs.List.{prefix_len, before_first, list_any}
 use Rattle.std.specs.Str.{bytes_eq, is_utf8}
 
 -- space and tab
@@ -25,6 +25,48 @@ o >>= f = option_and_then f o
 unfoldable pub word_at : List ℕ → Option (List ℕ × List ℕ)
 word_at s = if prefix_len is_word_byte s == 0 then None else Some (take (prefix_len is_word_byte s) s, past_blanks (drop (prefix_len is_word_byte s) s))
 
+-- what may begin a name
+abbrev pub is_letter : ℕ → Bool
+is_letter b = nat_le 97 b && nat_le b 122 || nat_le 65 b && nat_le b 90 || b == 95
+
+abbrev pub is_digit : ℕ → Bool
+is_digit b = nat_le 48 b && nat_le b 57
+
+-- what stands between the names in the name of a class, `.` or `$`
+abbrev pub is_joint : ℕ → Bool
+is_joint b = b == 46 || b == 36
+
+-- whether a name has to begin after a byte; nothing where the byte may not stand there
+abbrev pub joined_after : Bool → ℕ → Option Bool
+joined_after begins b = if is_letter b then Some false else (if begins then None else (if is_joint b then Some true else (if is_digit b then Some false else None)))
+
+abbrev pub joined_or : Option Bool → (Bool → Bool) → Bool
+joined_or None go_on = false
+joined_or (Some begins) go_on = go_on begins
+
+-- whether names with `.` or `$` between them end here, where one has to begin or where one may go on
+unfoldable pub names_joined : Bool → List ℕ → Bool
+names_joined begins [] = not begins
+names_joined begins (b ∷ bs) = joined_or (joined_after begins b) (λ next. names_joined next bs)
+
+-- the name of a class or of a type: names with `.` or `$` between them
+abbrev pub is_class_name : List ℕ → Bool
+is_class_name word = names_joined true word
+
+-- the name of a member: one name
+abbrev pub is_name : List ℕ → Bool
+is_name word = names_joined true word && not (list_any is_joint word)
+
+abbrev pub only_where : (List ℕ → Bool) → List ℕ × List ℕ → Option (List ℕ × List ℕ)
+only_where test w = if test w.0 then Some w else None
+
+-- a word that is the name of a class or of a type, and one that is the name of a member
+unfoldable pub class_name_at : List ℕ → Option (List ℕ × List ℕ)
+class_name_at s = word_at s >>= only_where is_class_name
+
+unfoldable pub name_at : List ℕ → Option (List ℕ × List ℕ)
+name_at s = word_at s >>= only_where is_name
+
 -- one byte
 unfoldable pub mark_at : ℕ → List ℕ → Option (List ℕ)
 mark_at mark [] = None
@@ -47,7 +89,7 @@ brackets_at (suc n) depth s = closed_pair (brackets_at n (depth + 1)) depth s (m
 
 unfoldable pub type_at : List ℕ → Option (TypeText × List ℕ)
 type_at s = do
-  w ← word_at s
+  w ← class_name_at s
   d ← brackets_at (length w.1) 0 w.1
   Some (record { word = w.0; depth = d.0 }, d.1)
 
@@ -102,13 +144,13 @@ called gives augmented name s = do
 
 -- what follows the augmentation word
 unfoldable pub augmented_at : TypeText → List ℕ → Option Form
-augmented_at gives s = word_at s >>= λ m. called gives true m.0 m.1
+augmented_at gives s = name_at s >>= λ m. called gives true m.0 m.1
 
--- what follows a name: the end of the line, or parameters
+-- what follows a word after a type: the end of the line, or parameters, where the word is a name, or else an augmented member
 unfoldable pub after_name : TypeText → List ℕ → List ℕ → Option Form
-after_name gives name [] = Some (Has gives name)
+after_name gives name [] = if is_name name then Some (Has gives name) else None
 after_name gives name (b ∷ bs) =
-    if b == 40 then called gives false name (b ∷ bs)
+    if b == 40 then (if is_name name then called gives false name (b ∷ bs) else None)
     else (if bytes_eq name augmentation then augmented_at gives (b ∷ bs) else None)
 
 -- what follows a type
@@ -117,7 +159,7 @@ named_at gives s = word_at s >>= λ n. after_name gives n.0 n.1
 
 unfoldable pub opening_at : List ℕ → Option Form
 opening_at s = do
-  n ← word_at s
+  n ← class_name_at s
   r ← mark_at 123 n.1
   at_end r (Opens n.0)
 
@@ -132,7 +174,7 @@ unfoldable pub after_word : List ℕ → List ℕ → Option Form
 after_word word s =
     if bytes_eq word (codes "class") then opening_at s
     else (if bytes_eq word (codes "static_import") then import_at s
-    else member_at word s)
+    else (if is_class_name word then member_at word s else None))
 
 unfoldable pub constructor_at : List ℕ → Option Form
 constructor_at s = params_at s >>= λ ps. at_end ps.1 (Makes ps.0)

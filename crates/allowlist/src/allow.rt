@@ -2,12 +2,14 @@
 
 ghost use Rattle.std.specs.Prelude.{◌≡◌, ◌<◌, ◌&&◌, Some, slice_get, IfOk, length};
 ghost use Rattle.pl_types.specs.Classes.{full_name};
+ghost use Rattle.allowlist.specs.Accessors.{accessor_name, arity_of, seen_name};
 ghost use Rattle.allowlist.specs.Catalogue.{catalogue};
 ghost use Rattle.allowlist.specs.Allow.{full_list, prelude_list, empty_list, own_member, member_of, iface_method_of, with_flag};
 
 use crate::build::{flags, types};
 use crate::index::{index, member_called};
 use crate::member::MemberType;
+use crate::name::{Accessor, Name, arity_of};
 use crate::table::{MEMBER_COUNT, method_of_interface};
 use pl_types::classes::CLASS_COUNT;
 use pl_types::{class_full, class_lineage};
@@ -37,11 +39,30 @@ impl Model for Allow {
 }
 
 impl Allow {
-    /// The member that a call means, by its class, its name and its number of arguments: the class's own that this list
-    /// allows, else the first that the parents give, depth first in their order. A class that the list lacks has no own
-    /// members and still has its parents. `None` where there is none.
+    /// The member of a class with a name and a number of parameters: the class's own that this list allows, else the first
+    /// that the parents give, depth first in their order. A class that the list lacks has no own members and still has its
+    /// parents. `None` where there is none.
+    ///
+    /// What it answers may be a field, a static member or an instance one, or, for the empty name, a constructor, also one
+    /// of a parent. A caller tells them apart by the member's kind and owner: a call on a value takes an instance member
+    /// alone, a call on a class a static one, `new` a constructor that the class itself owns, and no call a field.
     pub fn member(&self, class: u32, name: &str, arity: u32) -> Option<u32>
         ensures { result ≡ member_of self.now class name.now arity }
+    {
+        self.found(class, &Name::Whole(name.as_bytes()), arity)
+    }
+
+    /// The member that `member` gives for `get`, `is` or `set` before the name of a property, whose first letter is put
+    /// into upper case where it is an ASCII one: `getKey` for `key`. No text is made for it.
+    pub fn accessor(&self, class: u32, accessor: Accessor, property: &str) -> Option<u32>
+        ensures { result ≡ member_of self.now class (accessor_name accessor property.now) (arity_of accessor) }
+    {
+        let name = Name::Of(accessor, property.as_bytes());
+        self.found(class, &name, arity_of(accessor))
+    }
+
+    fn found(&self, class: u32, name: &Name<'_>, arity: u32) -> Option<u32>
+        ensures { result ≡ member_of self.now class (seen_name name.now) arity }
     {
         if class >= CLASS_COUNT {
             return None;
@@ -56,8 +77,8 @@ impl Allow {
         None
     }
 
-    fn own(&self, class: u32, name: &str, arity: u32) -> Option<u32>
-        ensures { result ≡ own_member self.now class name.now arity }
+    fn own(&self, class: u32, name: &Name<'_>, arity: u32) -> Option<u32>
+        ensures { result ≡ own_member self.now class (seen_name name.now) arity }
     {
         if class >= CLASS_COUNT {
             return None;

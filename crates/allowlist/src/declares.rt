@@ -2,7 +2,8 @@
 
 ghost use Rattle.std.specs.Prelude.{◌≡◌, ◌==◌, ◌&&◌, not, if◌then◌else◌, map};
 ghost use Rattle.std.specs.Str.{bytes_eq};
-ghost use Rattle.allowlist.specs.Files.{spells, spells_all, is_word_of, is_augmented, is_constructor, is_field, is_call, declares, primitive_word};
+ghost use Rattle.allowlist.specs.Files.{spells, spells_all, is_word_of, is_augmented, is_constructor, is_field, is_call, declares};
+ghost use Rattle.pl_types.specs.Texts.{primitive_word};
 ghost use Rattle.allowlist.specs.Seen.{seen_text, seen_form};
 
 use crate::form::Form;
@@ -10,7 +11,7 @@ use crate::member::{MemberKind, MemberType, Origin};
 use crate::names::is_dotted;
 use crate::scan::TypeText;
 use pl_types::classes::CLASS_COUNT;
-use pl_types::{Primitive, Ty, class_full, class_short};
+use pl_types::{Primitive, Ty, class_full, class_short, primitive_word};
 
 /// Whether a line is that of a member.
 pub(crate) fn declares(form: &Form<'_>, member: &MemberType) -> bool
@@ -135,14 +136,7 @@ fn plain(depth: usize, test: bool) -> bool
 fn is_primitive(primitive: Primitive, word: &[u8]) -> bool
     ensures { result ≡ bytes_eq word.now (primitive_word primitive) }
 {
-    match primitive {
-        Primitive::Boolean => same(word, b"boolean".as_slice()),
-        Primitive::Byte => same(word, b"byte".as_slice()),
-        Primitive::Short => same(word, b"short".as_slice()),
-        Primitive::Char => same(word, b"char".as_slice()),
-        Primitive::Int => same(word, b"int".as_slice()),
-        Primitive::Long => same(word, b"long".as_slice()),
-    }
+    same(word, primitive_word(primitive).as_bytes())
 }
 
 /// Whether a word is a class: its full or its short name, with `$` or `.` before the name of a nested one.

@@ -1,12 +1,15 @@
 //! What a line of an allowlist file says.
 
-ghost use Rattle.std.specs.Prelude.{◌≡◌, ◌==◌, ◌≤◌, IfOk, length, option_map};
+ghost use Rattle.std.specs.Prelude.{◌≡◌, ◌==◌, ◌≤◌, IfOk, None, if◌then◌else◌, length, option_map};
 ghost use Rattle.std.specs.List.{position_or_len};
 ghost use Rattle.std.specs.Str.{bytes_eq, is_utf8};
-ghost use Rattle.allowlist.specs.Lines.{types_at, params_at, called, augmented_at, after_name, named_at, opening_at, import_at, member_at, after_word, constructor_at, content_form, form_of, at_end, augmentation};
+ghost use Rattle.allowlist.specs.Lines.{types_at, params_at, called, augmented_at, after_name, named_at, opening_at, import_at, member_at, after_word, constructor_at, content_form, form_of, at_end, augmentation, is_name, is_class_name};
 ghost use Rattle.allowlist.specs.Seen.{seen_text, seen_list, seen_form};
 
-use crate::scan::{TypeText, brackets_at, mark_at, past_blanks, type_at, word_at};
+use crate::scan::{
+    TypeText, brackets_at, class_name_at, is_class_name, is_name, mark_at, name_at, past_blanks,
+    type_at, word_at,
+};
 use std::alloc::{AllocError, Global};
 
 /// What a line says.
@@ -106,13 +109,30 @@ fn augmented_at<'a>(
 ) -> Result<Option<Form<'a>>, AllocError>
     ensures { IfOk result (λ form. option_map seen_form form ≡ augmented_at (seen_text gives.entry) text.now) }
 {
-    match word_at(text) {
+    match name_at(text) {
         Some((name, rest)) => called(alloc, gives, true, name, rest),
         None => Ok(None),
     }
 }
 
-/// What follows a name: the end of the line, or parameters.
+/// A member's parameters after its name, where the word is a name.
+fn called_by<'a>(
+    alloc: Global,
+    gives: TypeText<'a>,
+    name: &'a [u8],
+    text: &'a [u8],
+) -> Result<Option<Form<'a>>, AllocError>
+    ensures { IfOk result (λ form. option_map seen_form form ≡ (if is_name name.now then called (seen_text gives.entry) false name.now text.now else None)) }
+{
+    if is_name(name) {
+        called(alloc, gives, false, name, text)
+    } else {
+        Ok(None)
+    }
+}
+
+/// What follows a word after a type: the end of the line, or parameters, where the word is a name, or else an augmented
+/// member.
 #[tactic(auto, unfolding(crate::specs::Lines::after_name))]
 fn after_name<'a>(
     alloc: Global,
@@ -123,10 +143,16 @@ fn after_name<'a>(
     ensures { IfOk result (λ form. option_map seen_form form ≡ after_name (seen_text gives.entry) name.now text.now) }
 {
     match text {
-        [] => Ok(Some(Form::Has(gives, name))),
+        [] => {
+            if is_name(name) {
+                Ok(Some(Form::Has(gives, name)))
+            } else {
+                Ok(None)
+            }
+        }
         [first, ..] => {
             if *first == b'(' {
-                return called(alloc, gives, false, name, text);
+                return called_by(alloc, gives, name, text);
             }
             if is_augmentation(name) {
                 return augmented_at(alloc, gives, text);
@@ -162,7 +188,7 @@ fn named_at<'a>(
 fn opening_at(text: &[u8]) -> Option<Form<'_>>
     ensures { option_map seen_form result ≡ opening_at text.now }
 {
-    let (name, rest) = word_at(text)?;
+    let (name, rest) = class_name_at(text)?;
     let end = mark_at(rest, b'{')?;
     at_end(end, Form::Opens(name))
 }
@@ -206,7 +232,11 @@ fn after_word<'a>(
     if word == b"static_import".as_slice() {
         return Ok(import_at(text));
     }
-    member_at(alloc, word, text)
+    if is_class_name(word) {
+        member_at(alloc, word, text)
+    } else {
+        Ok(None)
+    }
 }
 
 /// A constructor's parameters, after the opening bracket.

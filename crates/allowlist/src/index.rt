@@ -1,10 +1,12 @@
 //! The index of the members of a list, and what is found by it.
 
 ghost use Rattle.std.specs.Prelude.{◌≡◌, ◌<◌, IfOk};
+ghost use Rattle.allowlist.specs.Accessors.{seen_name};
 ghost use Rattle.allowlist.specs.Catalogue.{catalogue};
 ghost use Rattle.allowlist.specs.Index.{IsIndex, IsMemberCalled, order_of};
 
 use crate::member::MemberType;
+use crate::name::{Name, compare};
 use crate::table::start_of_class;
 use pl_types::classes::CLASS_COUNT;
 use std::alloc::{AllocError, Global};
@@ -39,10 +41,10 @@ pub(crate) fn index(alloc: Global) -> Result<Vec<u32>, AllocError>
 }
 
 /// How a member stands to a name and a number of parameters.
-fn order(member: &MemberType, name: &str, arity: u32) -> Ordering
-    ensures { result ≡ order_of name.now arity member.now }
+fn order(member: &MemberType, name: &Name<'_>, arity: u32) -> Ordering
+    ensures { result ≡ order_of (seen_name name.now) arity member.now }
 {
-    let names = member.name.as_str().cmp(name);
+    let names = compare(member.name.as_str().as_bytes(), name);
     let counts = member.params.len().cmp(&(arity as usize));
     names.then(counts)
 }
@@ -53,13 +55,13 @@ pub(crate) fn member_called(
     types: &[MemberType],
     index: &[u32],
     class: u32,
-    name: &str,
+    name: &Name<'_>,
     arity: u32,
 ) -> Option<u32>
     requires types { types.now ≡ catalogue }
     requires index { IsIndex index.now }
     requires class { class < CLASS_COUNT }
-    ensures { IsMemberCalled class name.now arity result }
+    ensures { IsMemberCalled class (seen_name name.now) arity result }
 {
     let mut low = start_of_class(class);
     let mut high = start_of_class(class + 1);

@@ -1,10 +1,10 @@
 //! What holds of the catalogue and of every list.
 
 ghost use Rattle.std.specs.Prelude.{◌≡◌, ℕ, List, Some, true, slice_get, length};
-ghost use Rattle.pl_types.specs.Classes.{parents_of};
+ghost use Rattle.pl_types.specs.Classes.{class_is_below, parents_of};
 ghost use Rattle.allowlist.specs.declared.member.MemberType.{MemberType};
 ghost use Rattle.allowlist.specs.Catalogue.{catalogue};
-ghost use Rattle.allowlist.specs.Allow.{AllowList, own_member, member_of, or_else, first_along, flag};
+ghost use Rattle.allowlist.specs.Allow.{AllowList, own_member, member_of, or_else, first_along, flag, iface_method_of};
 
 use pl_types::class_laws;
 
@@ -19,6 +19,12 @@ pub fn catalogue_laws()
     // What is found is in the list, and is called so.
     ensures allowed { (allow : AllowList) (class : ℕ) (name : List ℕ) (arity number : ℕ) → member_of allow class name arity ≡ Some number
         → (flag allow.members number ≡ true) × ((m : MemberType) × (slice_get catalogue number ≡ Some m) × (m.name ≡ name) × (length m.params ≡ arity)) }
+    // The owner of what is found is the class or stands above it.
+    ensures above { (allow : AllowList) (class : ℕ) (name : List ℕ) (arity number : ℕ) → member_of allow class name arity ≡ Some number
+        → (m : MemberType) × (slice_get catalogue number ≡ Some m) × (class_is_below class m.owner ≡ true) }
+    // The one method of a functional interface is an instance member of the interface or of what stands above it.
+    ensures method { (class number : ℕ) → iface_method_of class ≡ Some number
+        → (m : MemberType) × (slice_get catalogue number ≡ Some m) × (m.kind ≡ MemberKind.Instance) × (class_is_below class m.owner ≡ true) }
 {
     class_laws();
 }

@@ -10,6 +10,7 @@ mod index;
 mod laws;
 mod lookup;
 mod member;
+mod name;
 mod names;
 mod reading;
 mod scan;
@@ -19,6 +20,7 @@ pub use allow::{Allow, Catalogue};
 pub use error::AllowErr;
 pub use laws::catalogue_laws;
 pub use member::{MemberKind, MemberType, Origin};
+pub use name::Accessor;
 pub use table::MEMBER_COUNT;
 
 #[cfg(test)]

@@ -28,7 +28,7 @@ pub enum Origin {
 }
 
 /// A member of the catalogue.
-#[derive(Debug, Drop)]
+#[derive(Drop)]
 pub struct MemberType {
     /// The number of its class.
     pub owner: u32,

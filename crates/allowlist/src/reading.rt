@@ -7,26 +7,22 @@ ghost use Rattle.allowlist.specs.Files.{class_of_line, declared_member, declares
 ghost use Rattle.allowlist.specs.Seen.{seen_form};
 
 use crate::allow::Allow;
-use crate::declares::{declares, same};
+use crate::declares::declares;
 use crate::error::AllowErr;
 use crate::form::{Form, bytes_before, form_of};
 use crate::member::MemberType;
 use crate::table::MEMBER_COUNT;
-use pl_types::class_full;
-use pl_types::classes::CLASS_COUNT;
+use pl_types::class_of_full_bytes;
+use pl_types::classes::{CLASS_COUNT, PRELUDE};
 use std::alloc::Global;
 
-/// The class of a full name.
+/// The class of a full name; the hidden classes have none in files.
 fn class_of_line(name: &[u8]) -> Option<u32>
     ensures class { result ≡ class_of_line name.now }
     ensures within { IfSome result (λ class. class < CLASS_COUNT) }
 {
-    for class in 0..55 {
-        if same(class_full(class).as_bytes(), name) {
-            return Some(class);
-        }
-    }
-    None
+    let class = class_of_full_bytes(name)?;
+    if class < PRELUDE { Some(class) } else { None }
 }
 
 /// The member of a class that a line declares.
@@ -101,12 +97,12 @@ fn next_reading(allow: &mut Allow, inside: Option<u32>, form: &Form<'_>) -> Opti
     }
 }
 
-/// Whether a class is open after a line.
+/// Whether a class is open after a line. One that the catalogue lacks opens none.
 fn open_after(opened: bool, form: &Form<'_>) -> bool
     ensures { result ≡ open_after opened (seen_form form.now) }
 {
     match form {
-        Form::Opens(_) => true,
+        Form::Opens(name) => class_of_line(name).is_some(),
         Form::Closes => false,
         Form::Blank => opened,
         Form::Imports => opened,
@@ -185,7 +181,7 @@ fn past_line(text: &[u8]) -> &[u8]
 
 impl Allow {
     /// The list that an allowlist file denotes, or the first line that gives a fault. At one line Syntax is tried
-    /// before Unknown.
+    /// before Unknown; a line that opens a class which the catalogue lacks is Unknown, also where the file ends there.
     pub fn read(alloc: Global, bytes: &[u8]) -> Result<Allow, AllowErr>
         ensures { ReadAnswers (λ allow. allow) result (allowlist_of bytes.now) }
     {

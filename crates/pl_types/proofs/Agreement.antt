@@ -1,5 +1,5 @@
 -- No two rows of the table of casts give different casts.
-use Rattle.std.proofs.Common.{◌≡◌, ℕ, Bool, true, false, not, ◌&&◌, ◌||◌, eqb, Option, Some, None, refl, sym, ap, ◌∙◌, subst, ◌⊎◌, inl, inr, List, [], ◌∷◌, ◌↔◌}
+use Rattle.std.proofs.Common.{◌≡◌, ℕ, Bool, true, false, not, ◌&&◌, ◌||◌, eqb, Option, Some, None, refl, sym, ap, ◌∙◌, subst, List, [], ◌∷◌, ◌↔◌}
 use Rattle.std.specs.List.{AllByRecursion}
 use Rattle.std.proofs.lemmas.Bool.{eqb-true}
 use Rattle.pl_types.specs.declared.primitive.Primitive.{Primitive}
@@ -7,9 +7,9 @@ use Rattle.pl_types.specs.declared.primitive.Primitive.TheVariants as prim
 use Rattle.pl_types.specs.declared.ty.Ty.{Ty, out-Ty}
 use Rattle.pl_types.specs.declared.ty.Ty.TheOpen.{Ty-F}
 use Rattle.pl_types.specs.declared.conversion.Cast.{Cast}
-use Rattle.pl_types.specs.declared.conversion.Cast.TheVariants.{Keep, Number, Wrap, Unwrap, Implicit, Explicit, CharToText, TextToChar}
+use Rattle.pl_types.specs.declared.conversion.Cast.TheVariants.{Keep, Wrap, Explicit, CharToText, TextToChar}
 use Rattle.pl_types.specs.Types.{same_primitives, same_types}
-use Rattle.pl_types.specs.Casts.{Agrees, RowsAgree, NoRowGives, Row, cast_of, cast_from, given_by, cast_rows, cast_between, only_if, first_of_two, wrapped_as, unwrapped_as, is_plain, keeps, narrows, widens, unboxed, box_of}
+use Rattle.pl_types.specs.Casts.{Agrees, RowsAgree, NoRowGives, Row, cast_of, cast_from, given_by, cast_rows, cast_between, only_if, first_of_two, wrapped_as, unwrapped_as, is_plain, keeps, narrows, unboxed, box_of}
 use Rattle.pl_types.proofs.Shapes.{unboxed_is}
 
 abbrev Fine : (ℕ → ℕ → Bool) → Ty-F Ty → Ty-F Ty → Bool → Type 0

@@ -1,11 +1,11 @@
 -- What stands above a class, by the table and by its parents.
-use Rattle.std.proofs.Common.{◌≡◌, ℕ, zero, suc, ◌+◌, ◌<◌, ◌≤◌, Bool, true, false, ◌||◌, ◌&&◌, eqb, ltb, List, [], ◌∷◌, ◌++◌, get_or, length, map, sym, refl, ap, ◌∙◌, ◌⊎◌, inl, inr, subst, arith, All, IsTrue, ◌↔◌}
-use Rattle.std.specs.List.{list_any, list_all, flat_map, range_with_len}
+use Rattle.std.proofs.Common.{◌≡◌, ℕ, zero, suc, ◌<◌, ◌≤◌, Bool, true, false, ◌||◌, eqb, ltb, List, [], ◌∷◌, get_or, map, sym, refl, ap, ◌∙◌, ◌⊎◌, inl, inr, subst, arith, All}
+use Rattle.std.specs.List.{list_all, flat_map, range_with_len}
 use Rattle.std.proofs.Math.ListN.{get_or-eq_default}
 use Rattle.std.proofs.lemmas.Bool.{eqb-true, eq-eqb, false≢true, cases_lt, le-ltb}
 use Rattle.std.proofs.lemmas.List.Folds.{list_any-append, list_all_at}
 use Rattle.std.proofs.lemmas.List.FromFn.{get_or-map-range_with_len}
-use Rattle.pl_types.specs.Classes.{class_table, class_row, no_class, parents_of, lineage_of, lineage_within, class_is_below, has, Descends, itself, by_parent}
+use Rattle.pl_types.specs.Classes.{class_table, class_row, no_class, full_name, short_name, parents_of, lineage_of, lineage_within, class_is_below, has, Descends, itself, by_parent}
 
 -- a true choice is one of its sides
 either : (a b : Bool) → (a || b) ≡ true → (a ≡ true) ⊎ (b ≡ true)
@@ -119,3 +119,12 @@ or_false false = refl
 
 pub alone : (a b : ℕ) → 57 ≤ a → eqb a b ≡ class_is_below a b
 alone a b h = or_false (eqb a b) ∙ sym (below-past a b h)
+
+-- nor has it names
+pub full-past : (a : ℕ) → 57 ≤ a → [] ≡ full_name a
+unfolding full_name class_row class_table
+full-past a h = sym (ap (λ r. r.full) (get_or-eq_default class_table no_class h))
+
+pub short-past : (a : ℕ) → 57 ≤ a → [] ≡ short_name a
+unfolding short_name class_row class_table
+short-past a h = sym (ap (λ r. r.short) (get_or-eq_default class_table no_class h))

@@ -7,6 +7,7 @@ use Rattle.pl_types.specs.declared.classes.ClassRow.{ClassRow}
 use Rattle.std.specs.Borrow.{Bor}
 use Rattle.pl_types.specs.Refusals.{rule_name}
 use Rattle.pl_types.specs.Classes.{full_name, short_name, parents_of, lineage_of}
+use Rattle.pl_types.specs.Names.{numbers_of_length}
 
 agree_at : {R X : Type 0} (f : R → X) (g : ℕ → X) (rows : List R) (n i : ℕ) (d : R) → map f rows ≡ map g (range_with_len 0 n) → i < n → f (get_or rows i d) ≡ g i
 agree_at f g rows n i d same h =
@@ -24,8 +25,11 @@ parents_at rows i d same h = agree_at (λ (r : ClassRow). r.parents.now) parents
 pub lineage_at : (rows : List ClassRow) (i : ℕ) (d : ClassRow) → map (λ (r : ClassRow). r.lineage.now) rows ≡ map lineage_of (range_with_len 0 57) → i < 57 → (get_or rows i d).lineage.now ≡ lineage_of i
 lineage_at rows i d same h = agree_at (λ (r : ClassRow). r.lineage.now) lineage_of rows 57 i d same h
 
-pub rule_at : (rows : List (Bor (List ℕ))) (i : ℕ) (d : Bor (List ℕ)) → map (λ (r : Bor (List ℕ)). r.now) rows ≡ map (λ k. rule_name (k + 1)) (range_with_len 0 20) → i < 20 → (get_or rows i d).now ≡ rule_name (i + 1)
-rule_at rows i d same h = agree_at (λ (r : Bor (List ℕ)). r.now) (λ k. rule_name (k + 1)) rows 20 i d same h
+pub rule_at : (rows : List (Bor (List ℕ))) (i : ℕ) (d : Bor (List ℕ)) → map (λ (r : Bor (List ℕ)). r.now) rows ≡ map (λ k. rule_name (k + 1)) (range_with_len 0 34) → i < 34 → (get_or rows i d).now ≡ rule_name (i + 1)
+rule_at rows i d same h = agree_at (λ (r : Bor (List ℕ)). r.now) (λ k. rule_name (k + 1)) rows 34 i d same h
 
-pub rule_here : (rows : List (Bor (List ℕ))) (number i : ℕ) (d : Bor (List ℕ)) → map (λ (r : Bor (List ℕ)). r.now) rows ≡ map (λ k. rule_name (k + 1)) (range_with_len 0 20) → i + 1 ≡ number → i < 20 → (get_or rows i d).now ≡ rule_name number
+pub rule_here : (rows : List (Bor (List ℕ))) (number i : ℕ) (d : Bor (List ℕ)) → map (λ (r : Bor (List ℕ)). r.now) rows ≡ map (λ k. rule_name (k + 1)) (range_with_len 0 34) → i + 1 ≡ number → i < 34 → (get_or rows i d).now ≡ rule_name number
 rule_here rows number i d same e h = rule_at rows i d same h ∙ ap rule_name e
+
+pub numbers_at : (rows : List (Bor (List ℕ))) (i : ℕ) (d : Bor (List ℕ)) → map (λ (r : Bor (List ℕ)). r.now) rows ≡ map numbers_of_length (range_with_len 0 50) → i < 50 → (get_or rows i d).now ≡ numbers_of_length i
+numbers_at rows i d same h = agree_at (λ (r : Bor (List ℕ)). r.now) numbers_of_length rows 50 i d same h

@@ -1,4 +1,5 @@
--- The rules that a script may break, in the order of their numbers, which begin at 1.
+-- The refusals, in the order of their numbers, which begin at 1. The first twenty are the rules that a script may break. The
+-- numbers by name are the constants of the code, `declared.rules.TheConstants`.
 use Rattle.std.specs.Prelude.{ℕ, ◌-◌, List, [], ◌∷◌, codes, slice_index_or}
 
 unfoldable pub rule_names : List (List ℕ)
@@ -23,6 +24,20 @@ rule_names =
     ∷ codes "LiteralRange"
     ∷ codes "OutOfProfile"
     ∷ codes "TooLarge"
+    ∷ codes "JobSyntax"
+    ∷ codes "JobField"
+    ∷ codes "AllowSyntax"
+    ∷ codes "AllowUnknown"
+    ∷ codes "LimitRange"
+    ∷ codes "MappingBad"
+    ∷ codes "ListingSyntax"
+    ∷ codes "ListingVersion"
+    ∷ codes "BadShape"
+    ∷ codes "BadTarget"
+    ∷ codes "BadMember"
+    ∷ codes "BackJump"
+    ∷ codes "PipelineBad"
+    ∷ codes "FunctionsBad"
     ∷ []
 
 unfoldable pub rule_name : ℕ → List ℕ

@@ -1,5 +1,5 @@
 -- Types, as plain data.
-use Rattle.std.specs.Prelude.{ℕ, Bool, true, false, ◌==◌}
+use Rattle.std.specs.Prelude.{Bool, true, false, ◌==◌}
 use Rattle.pl_types.specs.declared.primitive.Primitive.{Primitive}
 use Rattle.pl_types.specs.declared.primitive.Primitive.TheVariants.{Boolean, Byte, Short, Char, Int, Long}
 use Rattle.pl_types.specs.declared.ty.Ty.{Ty, out-Ty}

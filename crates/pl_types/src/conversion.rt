@@ -1,7 +1,7 @@
 use crate::primitive::Primitive;
 
 /// What a cast does to a value.
-#[derive(Clone, Copy, Debug, PartialEq, Eq)]
+#[derive(Clone, Copy)]
 pub enum Cast {
     /// The value stays.
     Keep,

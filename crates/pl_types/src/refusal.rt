@@ -5,16 +5,20 @@ use std::alloc::{AllocError, AllocFailed};
 /// Why a script is refused, and where.
 #[derive(Clone, Copy, Debug, PartialEq, Eq)]
 pub struct Refusal {
-    /// The number of the rule that is broken, from 1 to 20.
+    /// The number of the rule that is broken, from 1 to 20, as `rules` names them.
     pub number: u8,
     /// Where it is broken: a byte of the script, counted from 0.
     pub offset: u32,
 }
 
 /// Why a stage that reads a script gives nothing.
-#[derive(Debug, Drop)]
+#[derive(Debug, Drop, thiserror::Error)]
 pub enum Fail {
+    /// The script breaks a rule.
+    #[error("the script is refused by rule {} at byte {}", .0.number, .0.offset)]
     Refused(Refusal),
+    /// Memory ran out.
+    #[error("out of memory")]
     NoMemory,
 }
 

@@ -1,4 +1,5 @@
-//! The rules that a script may break: their numbers and names.
+//! The numbers and names of refusals: of the rules that a script may break, and of what a job, an allowlist or a listing
+//! is refused for.
 
 ghost use Rattle.std.specs.Prelude.{◌≡◌, ◌<◌, ◌≤◌};
 ghost use Rattle.pl_types.specs.Refusals.{rule_name};
@@ -44,10 +45,42 @@ pub const OUT_OF_PROFILE: u8 = 19;
 /// A script of more than 65,535 bytes.
 pub const TOO_LARGE: u8 = 20;
 
-/// How many rules there are.
+/// How many rules a script may break.
 pub const RULE_COUNT: u8 = 20;
 
-static NAMES: [&str; 20] = [
+/// A job file that is not read as an object.
+pub const JOB_SYNTAX: u8 = 21;
+/// A key of a job file that is unknown, missing or of another type.
+pub const JOB_FIELD: u8 = 22;
+/// A line that has no form of an allowlist file.
+pub const ALLOW_SYNTAX: u8 = 23;
+/// A line of an allowlist file that names what is not known, or what was named before.
+pub const ALLOW_UNKNOWN: u8 = 24;
+/// A number of a job file out of its range.
+pub const LIMIT_RANGE: u8 = 25;
+/// A field of a mapping that has no name or none of the kinds.
+pub const MAPPING_BAD: u8 = 26;
+/// A line that has no form of a listing.
+pub const LISTING_SYNTAX: u8 = 27;
+/// A listing of a version that is not supported.
+pub const LISTING_VERSION: u8 = 28;
+/// A line of a listing whose stack has no shape or another one than its instruction needs.
+pub const BAD_SHAPE: u8 = 29;
+/// A line of a listing with a number of a function, a local, an instruction or a trap out of range.
+pub const BAD_TARGET: u8 = 30;
+/// A line of a listing that names a member or a class which is not there.
+pub const BAD_MEMBER: u8 = 31;
+/// A jump back in a listing that counts no turn.
+pub const BACK_JUMP: u8 = 32;
+/// A processor of a pipeline that breaks its form.
+pub const PIPELINE_BAD: u8 = 33;
+/// A function of a score's functions that breaks its form.
+pub const FUNCTIONS_BAD: u8 = 34;
+
+/// How many refusals there are.
+pub const REFUSAL_COUNT: u8 = 34;
+
+static NAMES: [&str; 34] = [
     "BadToken",
     "Syntax",
     "NestingDeep",
@@ -68,12 +101,26 @@ static NAMES: [&str; 20] = [
     "LiteralRange",
     "OutOfProfile",
     "TooLarge",
+    "JobSyntax",
+    "JobField",
+    "AllowSyntax",
+    "AllowUnknown",
+    "LimitRange",
+    "MappingBad",
+    "ListingSyntax",
+    "ListingVersion",
+    "BadShape",
+    "BadTarget",
+    "BadMember",
+    "BackJump",
+    "PipelineBad",
+    "FunctionsBad",
 ];
 
-/// The name of a rule that a script may break, by its number.
+/// The name of a refusal, by its number: up to 20 that of a rule that a script may break.
 pub fn name_of_rule(number: u8) -> &'static str
     requires known { 1 ≤ number }
-    requires within { number ≤ RULE_COUNT }
+    requires within { number ≤ REFUSAL_COUNT }
     ensures { result.now ≡ rule_name number }
 {
     NAMES[number as usize - 1]

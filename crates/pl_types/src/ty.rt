@@ -6,7 +6,7 @@ use plain_data::Boxed;
 use std::alloc::{AllocError, Global};
 
 /// A type of the language.
-#[derive(Debug, Drop)]
+#[derive(Drop)]
 pub enum Ty {
     /// The result of what gives no value.
     Void,

@@ -1,6 +1,7 @@
 -- The first and the last place as functions are what the facts about them say.
 use Rattle.std.proofs.Common.{◌≡◌, ℕ, zero, suc, ◌+◌, ◌<◌, ◌≤◌, inl, inr, Bool, true, false, List, length, take, drop, refl, ap, sym, ◌∙◌, arith}
 use Rattle.std.specs.Prelude.{Option, Some, None, IfSome, IfNone, nat_le}
+use Rattle.std.specs.Bool.{Decides}
 use Rattle.std.specs.List.{find, range_with_len}
 use Rattle.std.proofs.lemmas.Bool.{cases_eq, le-leb, leb-true, and_from, and_parts, cond-true, cond-false, false_from_ne_true}
 use Rattle.std.proofs.lemmas.Slice.Eq.{bytes_eq-Decides}
@@ -67,3 +68,6 @@ unfolding last_place
 last_place_is text part None found none = sym (find_no_down (stands_at text part) (length text) (λ j. stands_not text part j (none j)))
 last_place_is text part (Some place) found none =
     sym (find_down (stands_at text part) (length text) place (stands text part place found.stands) (omega (arith, found.stands.0)) (λ j later. stands_not text part j (found.greatest j later)))
+
+pub stands_decides : (text part : List ℕ) (place : ℕ) → Decides (stands_at text part place) (StandsAt text part place)
+stands_decides text part place = (standing text part place, stands text part place)

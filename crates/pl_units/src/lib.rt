@@ -10,6 +10,3 @@ mod text;
 pub use laws::{order_is_total, utf8_is_kept};
 pub use number::{decimal, parse_int, parse_long};
 pub use text::UText;
-
-#[cfg(test)]
-mod tests;

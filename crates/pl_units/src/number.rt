@@ -27,14 +27,14 @@ pub fn decimal(alloc: Global, n: i64) -> Result<UText, AllocError>
 pub fn parse_int(t: &UText) -> Option<i32>
     ensures { result ≡ int_of t.now }
 {
-    int_in(t.as_slice())
+    int_in(t.units())
 }
 
 /// The same as `parse_int` for a signed number of 64 bits.
 pub fn parse_long(t: &UText) -> Option<i64>
     ensures { result ≡ long_of t.now }
 {
-    long_in(t.as_slice())
+    long_in(t.units())
 }
 
 fn int_in(text: &[u16]) -> Option<i32>

@@ -27,6 +27,17 @@ pub fn rfind_in(text: &[u16], part: &[u16]) -> Option<usize>
     None
 }
 
+// Whether the part stands at a place.
+pub fn stands_in(text: &[u16], part: &[u16], place: usize) -> bool
+    ensures { IsTrue result ↔ StandsAt text.now part.now place }
+{
+    if place < place_count(text, part) {
+        stands_at(text, part, place)
+    } else {
+        false
+    }
+}
+
 // How many places leave room for the part in the text.
 fn place_count(text: &[u16], part: &[u16]) -> usize
     ensures { (place : ℕ) → (place < result) ↔ (place + length part.now ≤ length text.now) }

@@ -1,13 +1,14 @@
 ghost use Rattle.std.specs.Prelude.{◌≡◌, ◌+◌, ◌-◌, ◌^◌, ◌<◌, ◌≤◌, ◌↔◌, ◌++◌, ℕ, [], All, IsTrue, IfNone, IfOk, IfSome, length, slice_get, take, drop};
 ghost use Rattle.std.specs.Cmp.Lexicographic.{slice_cmp};
 ghost use Rattle.std.specs.Ordering.{nat_cmp};
+ghost use Rattle.std.specs.Str.{bytes_eq};
 ghost use Rattle.std.specs.String.{string_bytes};
 ghost use Rattle.pl_units.specs.Order.{ComesBefore};
-ghost use Rattle.pl_units.specs.Places.{StandsAt, IsFirstPlace, IsLastPlace, first_place, last_place};
+ghost use Rattle.pl_units.specs.Places.{StandsAt, IsFirstPlace, IsLastPlace, first_place, last_place, stands_at};
 ghost use Rattle.pl_units.specs.Utf16.{units, bytes};
 
 use crate::convert::push_scalar;
-use crate::search::{find_in, rfind_in};
+use crate::search::{find_in, rfind_in, stands_in};
 use std::alloc::{AllocError, Global};
 use std::cmp::Ordering;
 use std::marker::Model;
@@ -42,19 +43,34 @@ impl UText {
         Ok(UText { content })
     }
 
-    /// The text of these units, whatever they are.
-    pub fn from_units(alloc: Global, text: &[u16]) -> Result<UText, AllocError>
-        ensures { IfOk result (λ t. t ≡ text.now) }
+    /// The text of these units, whatever they are. It keeps the vector, and takes no memory.
+    pub fn from_units(units: Vec<u16>) -> UText
+        ensures { result ≡ units.items }
     {
-        let content = Vec::from_slice(alloc, text)?;
+        UText { content: units }
+    }
+
+    /// The text of a copy of these units, whatever they are.
+    pub fn from_slice(alloc: Global, units: &[u16]) -> Result<UText, AllocError>
+        ensures { IfOk result (λ t. t ≡ units.now) }
+    {
+        let content = Vec::from_slice(alloc, units)?;
         Ok(UText { content })
     }
 
-    /// The units of the text.
-    pub fn as_slice(&self) -> &[u16]
+    /// The units of the text, lent.
+    pub fn units(&self) -> &[u16]
         ensures { result.now ≡ self.now }
     {
         self.content.as_slice()
+    }
+
+    /// The vector of the units, which the text gives up.
+    pub fn into_units(self) -> Vec<u16>
+        ensures { result.items ≡ self }
+    {
+        let UText { content } = self;
+        content
     }
 
     /// The text in UTF-8: a surrogate pair is one scalar value, and an unpaired surrogate becomes U+FFFD.
@@ -62,7 +78,7 @@ impl UText {
     pub fn to_utf8(&self) -> Result<String, AllocError>
         ensures { IfOk result (λ s. string_bytes s ≡ bytes self.now) }
     {
-        String::from_utf16_lossy(self.alloc(), self.as_slice())
+        String::from_utf16_lossy(self.alloc(), self.units())
     }
 
     /// How many units the text has.
@@ -70,7 +86,7 @@ impl UText {
         ensures value { result ≡ length self.now }
         ensures in_range { All (λ unit. unit < 2 ^ 16) self.now }
     {
-        let content = self.as_slice();
+        let content = self.units();
         content.len()
     }
 
@@ -93,7 +109,7 @@ impl UText {
     pub fn share(&self) -> Result<UText, AllocError>
         ensures { IfOk result (λ t. t ≡ self.now) }
     {
-        UText::from_units(self.alloc(), self.as_slice())
+        UText::from_slice(self.alloc(), self.units())
     }
 
     /// The units from the place `from` up to the place `to`, without the one at `to`. It may cut a surrogate pair in two.
@@ -102,7 +118,7 @@ impl UText {
         requires within { to ≤ length self.now }
         ensures { IfOk result (λ t. t ≡ take (to - from) (drop from self.now)) }
     {
-        UText::from_units(self.alloc(), &self.as_slice()[from..to])
+        UText::from_slice(self.alloc(), &self.units()[from..to])
     }
 
     /// This text and then the other. A high surrogate at the end of this one and a low one at the start of the other become
@@ -110,8 +126,8 @@ impl UText {
     pub fn joined(&self, other: &UText) -> Result<UText, AllocError>
         ensures { IfOk result (λ t. t ≡ self.now ++ other.now) }
     {
-        let mut content = Vec::from_slice(self.alloc(), self.as_slice())?;
-        content.extend_from_slice(other.as_slice())?;
+        let mut content = Vec::from_slice(self.alloc(), self.units())?;
+        content.extend_from_slice(other.units())?;
         Ok(UText { content })
     }
 
@@ -126,7 +142,7 @@ impl UText {
         ensures none { IfNone result
             ((place : ℕ) → from ≤ place → ¬ StandsAt self.now part.now place) }
     {
-        find_in(self.as_slice(), part.as_slice(), from)
+        find_in(self.units(), part.units(), from)
     }
 
     /// The greatest place at which the part stands, or `None` if there is none. For the empty part it is the text's length,
@@ -136,7 +152,24 @@ impl UText {
         ensures found { IfSome result (IsLastPlace self.now part.now) }
         ensures none { IfNone result ((place : ℕ) → ¬ StandsAt self.now part.now place) }
     {
-        rfind_in(self.as_slice(), part.as_slice())
+        rfind_in(self.units(), part.units())
+    }
+
+    /// Whether the part stands at a place. It stands nowhere past the place that leaves room for it, and the empty part at
+    /// each place up to the text's length.
+    pub fn stands_at(&self, part: &UText, place: usize) -> bool
+        ensures value { result ≡ stands_at self.now part.now place }
+        ensures stands { IsTrue result ↔ StandsAt self.now part.now place }
+    {
+        stands_in(self.units(), part.units(), place)
+    }
+
+    /// Whether two texts have the same units.
+    pub fn is(&self, other: &UText) -> bool
+        ensures value { result ≡ bytes_eq self.now other.now }
+        ensures same { IsTrue result ↔ (self.now ≡ other.now) }
+    {
+        self.units() == other.units()
     }
 
     /// The order of the texts by their units, as of Java's `compareTo`: at the first place where they differ the smaller
@@ -148,7 +181,7 @@ impl UText {
         ensures equal { (result ≡ Ordering.Equal) ↔ (self.now ≡ other.now) }
         ensures greater { (result ≡ Ordering.Greater) ↔ ComesBefore other.now self.now }
     {
-        self.as_slice().cmp(&other.as_slice())
+        self.units().cmp(&other.units())
     }
 
     fn alloc(&self) -> Global {

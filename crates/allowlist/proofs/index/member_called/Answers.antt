@@ -1,4 +1,5 @@
 use Rattle.std.proofs.Common.{◌≡◌, ℕ, ◌+◌, ◌-◌, ◌/◌, ◌<◌, ◌≤◌, get_or, length, sym, ap, ◌∙◌, arith}
+use Rattle.allowlist.specs.Accessors.{seen_name}
 use Rattle.allowlist.specs.Allow.{start_of}
 use Rattle.allowlist.specs.Index.{order_of}
 use Rattle.allowlist.proofs.Tables.{length-catalogue}
@@ -37,9 +38,9 @@ loop-low-preserved-in-Less c =
     let i = middle_in c.args.class c.loop-low.low c.loop-low.high (start_of c.args.class) (start_of (c.args.class + 1)) c.loop-low-test.true c.loop-low.invariant.first c.loop-low.invariant.last in
     let n = number_within c.args.index.now middle 0 c.requires.index (place_within c.args.class middle c.requires.class i) in
     let m = read_member c.args.types.now (get_or c.args.index.now middle 0) c.index-types-number.result c.requires.types n c.index-types-number.is in
-    let o = ap (order_of c.args.name.now c.args.arity) (sym m) ∙ sym c.order.ensures ∙ c.in-Less.is in
+    let o = ap (order_of (seen_name c.args.name.now) c.args.arity) (sym m) ∙ sym c.order.ensures ∙ c.in-Less.is in
     record {
-      window = window_upper c.args.index.now c.args.class c.args.name.now c.args.arity c.loop-low.low middle c.loop-low.high c.requires.index c.requires.class i o c.loop-low.invariant.window;
+      window = window_upper c.args.index.now c.args.class (seen_name c.args.name.now) c.args.arity c.loop-low.low middle c.loop-low.high c.requires.index c.requires.class i o c.loop-low.invariant.window;
       first = omega (arith, i.0);
       last = c.loop-low.invariant.last;
     }
@@ -50,9 +51,9 @@ loop-low-preserved c =
     let i = middle_in c.args.class c.loop-low.low c.loop-low.high (start_of c.args.class) (start_of (c.args.class + 1)) c.loop-low-test.true c.loop-low.invariant.first c.loop-low.invariant.last in
     let n = number_within c.args.index.now middle 0 c.requires.index (place_within c.args.class middle c.requires.class i) in
     let m = read_member c.args.types.now (get_or c.args.index.now middle 0) c.index-types-number.result c.requires.types n c.index-types-number.is in
-    let o = ap (order_of c.args.name.now c.args.arity) (sym m) ∙ sym c.order.ensures ∙ c.in-Greater.is in
+    let o = ap (order_of (seen_name c.args.name.now) c.args.arity) (sym m) ∙ sym c.order.ensures ∙ c.in-Greater.is in
     record {
-      window = window_lower c.args.index.now c.args.class c.args.name.now c.args.arity c.loop-low.low middle c.loop-low.high c.requires.index c.requires.class i o c.loop-low.invariant.window;
+      window = window_lower c.args.index.now c.args.class (seen_name c.args.name.now) c.args.arity c.loop-low.low middle c.loop-low.high c.requires.index c.requires.class i o c.loop-low.invariant.window;
       first = c.loop-low.invariant.first;
       last = omega (arith, i.1);
     }
@@ -63,8 +64,8 @@ returns-in-Equal c =
     let i = middle_in c.args.class c.loop-low.low c.loop-low.high (start_of c.args.class) (start_of (c.args.class + 1)) c.loop-low-test.true c.loop-low.invariant.first c.loop-low.invariant.last in
     let n = number_within c.args.index.now middle 0 c.requires.index (place_within c.args.class middle c.requires.class i) in
     let m = read_member c.args.types.now (get_or c.args.index.now middle 0) c.index-types-number.result c.requires.types n c.index-types-number.is in
-    let o = ap (order_of c.args.name.now c.args.arity) (sym m) ∙ sym c.order.ensures ∙ c.in-Equal.is in
-    found c.args.index.now c.args.class c.args.name.now c.args.arity middle c.requires.index c.requires.class i o
+    let o = ap (order_of (seen_name c.args.name.now) c.args.arity) (sym m) ∙ sym c.order.ensures ∙ c.in-Equal.is in
+    found c.args.index.now c.args.class (seen_name c.args.name.now) c.args.arity middle c.requires.index c.requires.class i o
 
 pub returns : goal.returns
-returns c = not_found c.args.index.now c.args.class c.args.name.now c.args.arity c.loop-low.low c.loop-low.high c.requires.index c.requires.class c.loop-low-test.false c.loop-low.invariant.window
+returns c = not_found c.args.index.now c.args.class (seen_name c.args.name.now) c.args.arity c.loop-low.low c.loop-low.high c.requires.index c.requires.class c.loop-low-test.false c.loop-low.invariant.window

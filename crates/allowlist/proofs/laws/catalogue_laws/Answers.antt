@@ -1,4 +1,4 @@
-use Rattle.allowlist.proofs.Unique.{members_apart, depth_first, found_is_allowed}
+use Rattle.allowlist.proofs.Unique.{members_apart, depth_first, found_is_allowed, found_above, method_above}
 use Rattle.allowlist.proofs.laws.catalogue_laws.Goals as goal
 
 pub returns-clause-apart : goal.returns-clause-apart
@@ -9,3 +9,9 @@ returns-clause-depth_first c allow class name arity = depth_first allow class na
 
 pub returns-clause-allowed : goal.returns-clause-allowed
 returns-clause-allowed c = found_is_allowed
+
+pub returns-clause-above : goal.returns-clause-above
+returns-clause-above c = found_above
+
+pub returns-clause-method : goal.returns-clause-method
+returns-clause-method c = method_above

@@ -3,8 +3,8 @@ use Rattle.std.proofs.Common.{Bool}
 use Rattle.pl_types.specs.declared.conversion.Cast.TheVariants.{Keep}
 use Rattle.pl_types.specs.Types.{same_types}
 use Rattle.pl_types.specs.Casts.{only_if}
-use Rattle.std.proofs.Common.{Bool, ℕ, sym, ap, ◌∙◌, ◌&&◌}
-use Rattle.pl_types.specs.declared.conversion.Cast.TheVariants.{Keep, Number, Wrap, Unwrap, Explicit, CharToText, TextToChar}
+use Rattle.std.proofs.Common.{Bool, sym, ap, ◌∙◌}
+use Rattle.pl_types.specs.declared.conversion.Cast.TheVariants.{Keep}
 use Rattle.pl_types.specs.Casts.{only_if}
 use Rattle.pl_types.proofs.Shapes.{array_void_cast, array_null_cast, array_def_cast, array_prim_cast, array_class_cast, array_array_cast}
 use Rattle.pl_types.proofs.casting.array_cast.Goals as goal

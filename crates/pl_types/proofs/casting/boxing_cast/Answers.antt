@@ -1,5 +1,5 @@
 use Rattle.std.proofs.Common.{Bool, ℕ, sym, ap, ◌∙◌, ◌&&◌}
-use Rattle.pl_types.specs.declared.conversion.Cast.TheVariants.{Keep, Number, Wrap, Unwrap, Explicit, CharToText, TextToChar}
+use Rattle.pl_types.specs.declared.conversion.Cast.TheVariants.{Wrap, CharToText}
 use Rattle.pl_types.specs.Casts.{only_if}
 use Rattle.pl_types.proofs.Shapes.{boxing_box, boxing_text, boxing_parent}
 use Rattle.pl_types.proofs.casting.boxing_cast.Goals as goal

@@ -1,5 +1,5 @@
-use Rattle.std.proofs.Common.{Bool, ℕ, sym, ap, ◌∙◌, ◌&&◌}
-use Rattle.pl_types.specs.declared.conversion.Cast.TheVariants.{Keep, Number, Wrap, Unwrap, Explicit, CharToText, TextToChar}
+use Rattle.std.proofs.Common.{Bool, sym, ap, ◌∙◌, ◌&&◌}
+use Rattle.pl_types.specs.declared.conversion.Cast.TheVariants.{Explicit}
 use Rattle.pl_types.specs.Casts.{only_if}
 use Rattle.pl_types.proofs.Shapes.{class_same, class_up, class_down}
 use Rattle.pl_types.proofs.casting.class_cast.Goals as goal

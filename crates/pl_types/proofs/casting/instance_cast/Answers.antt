@@ -1,4 +1,4 @@
-use Rattle.std.proofs.Common.{sym, ap, ◌∙◌}
+use Rattle.std.proofs.Common.{sym}
 use Rattle.pl_types.proofs.Shapes.{class_void_cast, class_null_cast, class_def_cast, class_array_cast}
 use Rattle.pl_types.proofs.casting.instance_cast.Goals as goal
 

@@ -1,4 +1,4 @@
-use Rattle.std.proofs.Common.{sym, ap, ◌∙◌}
+use Rattle.std.proofs.Common.{sym}
 use Rattle.pl_types.proofs.Shapes.{null_void_cast, null_null_cast, null_def_cast, null_prim_cast, null_class_cast, null_array_cast}
 use Rattle.pl_types.proofs.casting.null_cast.Goals as goal
 

@@ -1,4 +1,4 @@
-use Rattle.std.proofs.Common.{sym, ap, ◌∙◌}
+use Rattle.std.proofs.Common.{sym}
 use Rattle.pl_types.proofs.Shapes.{prim_void_cast, prim_null_cast, prim_def_cast, prim_array_cast}
 use Rattle.pl_types.proofs.casting.primitive_cast.Goals as goal
 

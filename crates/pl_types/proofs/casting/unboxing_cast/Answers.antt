@@ -1,5 +1,5 @@
-use Rattle.std.proofs.Common.{Bool, ℕ, sym, ap, ◌∙◌, ◌&&◌}
-use Rattle.pl_types.specs.declared.conversion.Cast.TheVariants.{Keep, Number, Wrap, Unwrap, Explicit, CharToText, TextToChar}
+use Rattle.std.proofs.Common.{Bool, sym, ap, ◌∙◌, ◌&&◌}
+use Rattle.pl_types.specs.declared.conversion.Cast.TheVariants.{Unwrap, TextToChar}
 use Rattle.pl_types.specs.Casts.{only_if}
 use Rattle.pl_types.proofs.Shapes.{unboxing_box, unboxing_object, unboxing_number, unboxing_text, unboxing_other}
 use Rattle.pl_types.proofs.casting.unboxing_cast.Goals as goal

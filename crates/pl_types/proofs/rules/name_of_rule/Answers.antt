@@ -7,5 +7,5 @@ pub returns : goal.returns
 unfolding rule_name rule_names
 returns c =
     let place : (c.args.number - 1) + 1 ≡ c.args.number = omega (arith, c.requires.known) in
-    let within : c.args.number - 1 < 20 = omega (arith, c.requires.known, c.requires.within) in
+    let within : c.args.number - 1 < 34 = omega (arith, c.requires.known, c.requires.within) in
     search (rule_here, rules)

@@ -6,4 +6,4 @@ all_fit : (text : List ℕ) → ((i : ℕ) → Fits w16 (get_or text i 0)) → A
 all_fit text fit k d within = rw (get_or_default text k d 0 within) (fit k).fits
 
 pub returns-clause-in_range : goal.returns-clause-in_range
-returns-clause-in_range c = rw (← c.as_slice-content.ensures) (all_fit _ (search rules))
+returns-clause-in_range c = rw (← c.units-content.ensures) (all_fit _ (search rules))
