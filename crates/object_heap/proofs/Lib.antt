@@ -1,0 +1,4 @@
+pub mod Fitting
+pub mod Growth
+pub mod Paying
+pub mod Retiring

@@ -1,0 +1,6 @@
+pub mod Effects
+pub mod Fits
+pub mod Objects
+pub mod Parts
+pub mod Paying
+pub mod Store
