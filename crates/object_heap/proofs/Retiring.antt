@@ -1,8 +1,8 @@
 -- Lambdas that are gone, object by object.
-use Rattle.std.proofs.Common.{◌≡◌, ℕ, zero, suc, ◌+◌, ◌≤◌, Option, Some, None, List, [], ◌∷◌, length, map, refl, ap, ◌∙◌, arith, slice_get}
+use Rattle.std.proofs.Common.{◌≡◌, ℕ, zero, suc, ◌≤◌, List, [], ◌∷◌, length, map, refl, ap, ◌∙◌, arith, slice_get}
 use Rattle.object_values.specs.declared.object.Object.{Object}
 use Rattle.object_heap.specs.Objects.{retired}
-use Rattle.object_heap.specs.Store.{changed_at, with_change}
+use Rattle.object_heap.specs.Store.{with_change}
 use Rattle.object_heap.proofs.Growth.{cons_changed}
 
 -- the objects, of which so many in front are retired

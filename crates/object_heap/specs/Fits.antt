@@ -1,7 +1,7 @@
 -- What a store has to keep: each object names objects that are there and of the kind that it needs, holds values of the types
 -- that it declares, and is of a class for its kind. A store fits a program or a code by the same rules, which differ in two
 -- places.
-use Rattle.std.specs.Prelude.{◌≡◌, ℕ, ◌-◌, ◌<◌, ◌≤◌, ◌==◌, ◌&&◌, ◌||◌, nat_lt, nat_le, Bool, true, false, Option, Some, None, List, [], ◌∷◌, ◌++◌, length, slice_get, is_some, if◌then◌else◌}
+use Rattle.std.specs.Prelude.{◌≡◌, ℕ, ◌-◌, ◌<◌, ◌==◌, ◌&&◌, ◌||◌, nat_lt, nat_le, Bool, true, false, Option, Some, None, List, [], ◌∷◌, length, slice_get, is_some, if◌then◌else◌}
 use Rattle.pl_types.specs.declared.classes.TheConstants.{OBJECT, BYTE, SHORT, INTEGER, LONG, CHARACTER, BOOLEAN, STRING, STRING_BUILDER, COLLECTION, LIST, SET, MAP, ENTRY, ITERATOR, COMPARATOR, FUNCTION, BI_FUNCTION, UNARY_OPERATOR, BINARY_OPERATOR, PREDICATE, BI_PREDICATE, CONSUMER, BI_CONSUMER, OBJ_INT_CONSUMER, SUPPLIER, TO_INT_FUNCTION, TO_LONG_FUNCTION, EXCEPTION, PRELUDE}
 use Rattle.pl_types.specs.declared.primitive.Primitive.{Primitive}
 use Rattle.pl_types.specs.declared.primitive.Primitive.TheVariants as prim

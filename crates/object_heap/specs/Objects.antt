@@ -1,13 +1,12 @@
 -- Objects: what each weighs, what one operation makes of one, and which may replace which.
-use Rattle.std.specs.Prelude.{Bool, true, false, ℕ, suc, ◌==◌, ◌+◌, ◌-◌, ◌*◌, ◌%◌, ◌^◌, nat_le, nat_lt, if◌then◌else◌, Option, Some, None, List, [], ◌∷◌, length, slice_get, slice_set, insert, remove}
+use Rattle.std.specs.Prelude.{Bool, true, false, ℕ, suc, ◌==◌, ◌+◌, ◌-◌, ◌*◌, ◌%◌, ◌^◌, nat_le, nat_lt, if◌then◌else◌, Option, Some, None, List, length, slice_set, insert, remove}
 use Rattle.pl_types.specs.declared.ty.Ty.{Ty}
 use Rattle.pl_types.specs.Types.{same_types}
 use Rattle.object_values.specs.declared.value.Value.{Value}
 use Rattle.object_values.specs.declared.value.Value.TheVariants as v
 use Rattle.object_values.specs.declared.object.Object.{Object}
 use Rattle.object_values.specs.declared.object.Object.TheVariants as o
-use Rattle.object_values.specs.declared.object.Owner.{Owner}
-use Rattle.object_values.specs.declared.object.Owner.TheVariants.{Script, Prelude}
+use Rattle.object_values.specs.declared.object.Owner.TheVariants.{Script}
 use Rattle.object_values.specs.declared.object.Part.{Part}
 use Rattle.object_values.specs.declared.object.Part.TheVariants.{Keys, Values, Entries}
 use Rattle.object_values.specs.declared.object.Target.{Target}

@@ -1,5 +1,5 @@
 -- What comes of an operation that is paid from the room.
-use Rattle.std.specs.Prelude.{◌≡◌, ℕ, Bool, true, false, Option, Some, None, List, Result, Ok, Err}
+use Rattle.std.specs.Prelude.{◌≡◌, ℕ, Bool, true, false, Some, None, List, Result, Ok, Err}
 use Rattle.object_heap.specs.declared.error.HeapErr.{HeapErr}
 use Rattle.object_heap.specs.declared.error.HeapErr.TheVariants.{Room, NoMemory}
 use Rattle.object_values.specs.declared.object.Object.{Object}

@@ -1,5 +1,5 @@
 -- The store: its objects, and the room that is left.
-use Rattle.std.specs.Prelude.{◌≡◌, ℕ, ◌+◌, ◌-◌, nat_le, Option, Some, None, List, [], ◌∷◌, slice_get, slice_set, if◌then◌else◌}
+use Rattle.std.specs.Prelude.{ℕ, ◌+◌, ◌-◌, nat_le, Option, Some, None, List, [], ◌∷◌, slice_get, slice_set, if◌then◌else◌}
 use Rattle.object_values.specs.declared.object.Object.{Object}
 use Rattle.object_heap.specs.Objects.{weight_of}
 

@@ -9,7 +9,12 @@ use object_values::{Object, Pairs, Value};
 use std::alloc::AllocError;
 
 // Inserts an item into a list.
-pub fn insert_item(objects: &mut Vec<Object>, id: u32, at: usize, value: Value) -> Result<(), AllocError>
+pub fn insert_item(
+    objects: &mut Vec<Object>,
+    id: u32,
+    at: usize,
+    value: Value,
+) -> Result<(), AllocError>
     ensures ok { OnOk result (objects.new.items ≡ with_change objects.old.items id (with_inserted at value)) }
     ensures err { OnErr result (objects.new.items ≡ objects.old.items) }
 {
@@ -96,7 +101,12 @@ fn cut_from(object: &mut Object, at: usize) -> Option<Value>
 }
 
 // Puts a value under a key of a map, or a key into a set.
-pub fn put_key(objects: &mut Vec<Object>, id: u32, key: Value, value: Value) -> Result<Option<Value>, AllocError>
+pub fn put_key(
+    objects: &mut Vec<Object>,
+    id: u32,
+    key: Value,
+    value: Value,
+) -> Result<Option<Value>, AllocError>
     ensures before { IfOk result (λ before. before ≡ value_of (pairs_of objects.old.items id) key) }
     ensures ok { OnOk result (objects.new.items ≡ with_change objects.old.items id (with_put key value)) }
     ensures err { OnErr result (objects.new.items ≡ objects.old.items) }
@@ -131,7 +141,12 @@ fn put_key_into(object: &mut Object, key: Value, value: Value) -> Result<Option<
 }
 
 // Puts a pair, and counts a new key.
-fn put_pair(pairs: &mut Pairs, changes: &mut u64, key: Value, value: Value) -> Result<Option<Value>, AllocError>
+fn put_pair(
+    pairs: &mut Pairs,
+    changes: &mut u64,
+    key: Value,
+    value: Value,
+) -> Result<Option<Value>, AllocError>
     ensures before { IfOk result (λ before. before ≡ value_of pairs.old key) }
     ensures pairs { OnOk result (pairs.new ≡ with_pair pairs.old key value) }
     ensures counted { OnOk result (changes.new ≡ put_counted (value_of pairs.old key) changes.old) }

@@ -25,7 +25,6 @@ pub struct Heap {
 
 impl Model for Heap {
     ghost use Rattle.object_heap.specs.Store.{Store};
-
     ghost use Rattle.pl_types.specs.contracts.ty.Ty as ty;
     ghost use Rattle.std.specs.Coded.{codes};
 

@@ -20,7 +20,9 @@ pub fn may_be_renewed(object: &Object, after: &Object) -> bool
         (Object::Entry { .. }, Object::Entry { .. }) => true,
         (Object::Iter { .. }, Object::Iter { .. }) => true,
         (Object::Builder { .. }, Object::Builder { .. }) => true,
-        (Object::Fun { iface, .. }, Object::Fun { iface: other, .. }) => iface_may_become(*iface, *other),
+        (Object::Fun { iface, .. }, Object::Fun { iface: other, .. }) => iface_may_become(
+            *iface, *other,
+        ),
         (Object::Exc { class, .. }, Object::Exc { class: other, .. }) => class == other,
         _ => false,
     }
@@ -51,7 +53,11 @@ fn growth_between(object: &Object, after: &Object) -> u64
     ensures { result ≡ renewal_growth after.now object.now }
 {
     let growth = elements(after).saturating_sub(elements(object));
-    if may_be_renewed(object, after) { growth } else { 0 }
+    if may_be_renewed(object, after) {
+        growth
+    } else {
+        0
+    }
 }
 
 // Replaces an object, if it may be.

@@ -1,4 +1,4 @@
-use Rattle.std.proofs.Common.{◌≡◌, ◌∙◌, add-one, arith}
+use Rattle.std.proofs.Common.{◌∙◌, add-one, arith}
 use Rattle.object_heap.proofs.Retiring.{one_more, all_of_them}
 use Rattle.object_heap.proofs.renewal.retire_all.Goals as goal
 

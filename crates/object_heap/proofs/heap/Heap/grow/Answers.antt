@@ -1,4 +1,4 @@
-use Rattle.std.proofs.Common.{◌≡◌, ◌<◌, ◌≤◌, ℕ, refl, arith}
+use Rattle.std.proofs.Common.{refl, arith}
 use Rattle.object_heap.proofs.Paying.{paid_if, paid_not}
 use Rattle.object_heap.proofs.Growth.{insert_grows}
 use Rattle.object_heap.proofs.heap.Heap.grow.Goals as goal
