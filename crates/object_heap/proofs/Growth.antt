@@ -1,0 +1,71 @@
+-- How changes of objects change the weight of a store.
+use Rattle.std.proofs.Common.{◌≡◌, ℕ, zero, suc, ◌+◌, ◌-◌, ◌*◌, true, false, Option, Some, None, List, [], ◌∷◌, ◌++◌, length, refl, ap, arith, slice_get, if◌then◌else◌}
+use Rattle.std.proofs.lemmas.List.Edits.{length-insert}
+use Rattle.std.proofs.lemmas.Bool.Decides.{nat_tests}
+use Rattle.object_values.specs.declared.value.Value.{Value}
+use Rattle.object_values.specs.declared.value.Value.TheVariants as v
+use Rattle.object_values.specs.declared.object.Object.{Object}
+use Rattle.object_values.specs.declared.object.Object.TheVariants as o
+use Rattle.object_values.specs.Pairs.{value_of, with_pair}
+use Rattle.object_values.specs.Values.{same_value}
+use Rattle.object_heap.specs.Objects.{weight_of, with_inserted, insert_growth, with_put, put_growth, new_growth, renewed_by, renewal_growth, may_become, kind_of}
+use Rattle.object_heap.specs.Parts.{asked}
+use Rattle.object_heap.specs.Store.{weight, changed_at, with_change}
+
+weight-append : (objects : List Object) (object : Object) → weight (objects ++ object ∷ []) ≡ weight objects + weight_of object
+weight-append [] object = omega arith
+weight-append (x ∷ objects) object = omega (arith, weight-append objects object)
+
+pub cons_changed : (x : Object) (objects : List Object) (id : ℕ) (change : Object → Object) (found : Option Object) → changed_at (x ∷ objects) (suc id) change found ≡ x ∷ changed_at objects id change found
+cons_changed x objects id change None = refl
+cons_changed x objects id change (Some object) = refl
+
+-- what a change of one object adds to the weight of them all is what it adds to that one
+pub change_grows : (objects : List Object) (id : ℕ) (change : Object → Object) (growth : Object → ℕ)
+    → ((object : Object) → weight_of (change object) - weight_of object ≡ growth object)
+    → weight (with_change objects id change) - weight objects ≡ asked growth 0 (slice_get objects id)
+change_grows [] id change growth h = omega arith
+change_grows (x ∷ objects) zero change growth h = omega (arith, h x)
+change_grows (x ∷ objects) (suc id) change growth h =
+    omega (arith, ap weight (cons_changed x objects id change (slice_get objects id)), change_grows objects id change growth h)
+
+inserted_weighs : (at : ℕ) (value : Value) (object : Object) → weight_of (with_inserted at value object) - weight_of object ≡ insert_growth at object
+unfolding weight_of
+inserted_weighs at value (o.List class items guard changes) = grind (arith, nat_tests, length-insert)
+inserted_weighs at value object = omega arith
+
+pub insert_grows : (objects : List Object) (id at : ℕ) (value : Value)
+    → weight (with_change objects id (with_inserted at value)) - weight objects ≡ asked (insert_growth at) 0 (slice_get objects id)
+insert_grows objects id at value = change_grows objects id _ _ (inserted_weighs at value)
+
+pub add_grows : (objects : List Object) (object : Object) → weight (objects ++ object ∷ []) - weight objects ≡ weight_of object
+add_grows objects object = omega (arith, weight-append objects object)
+
+length-with_pair : (pairs : List (Value × Value)) (key value : Value) → length (with_pair pairs key value) ≡ length pairs + new_growth (value_of pairs key) 1
+length-with_pair [] key value = refl
+length-with_pair (pair ∷ pairs) key value =
+    elim (same_value key pair.0) as (λ b. length (if b then (pair.0, value) ∷ pairs else pair ∷ with_pair pairs key value) ≡ suc (length pairs) + new_growth (if b then Some pair.1 else value_of pairs key) 1)
+    [ true ↦ omega arith | false ↦ omega (arith, length-with_pair pairs key value) ]
+
+twice : (found : Option Value) → new_growth found 2 ≡ 2 * new_growth found 1
+twice None = refl
+twice (Some before) = refl
+
+put_weighs : (key value : Value) (object : Object) → weight_of (with_put key value object) - weight_of object ≡ put_growth key object
+unfolding weight_of
+put_weighs key value (o.Map class pairs guard changes) = omega (arith, length-with_pair pairs key value, twice (value_of pairs key))
+put_weighs key value (o.Set class items guard changes) = omega (arith, length-with_pair items key v.Null)
+put_weighs key value object = omega arith
+
+pub put_grows : (objects : List Object) (id : ℕ) (key value : Value)
+    → weight (with_change objects id (with_put key value)) - weight objects ≡ asked (put_growth key) 0 (slice_get objects id)
+put_grows objects id key value = change_grows objects id _ _ (put_weighs key value)
+
+renewal_weighs : (after object : Object) → weight_of (renewed_by after object) - weight_of object ≡ renewal_growth after object
+renewal_weighs after object =
+    elim (may_become (kind_of object) (kind_of after)) as (λ b. weight_of (if b then after else object) - weight_of object ≡ (if b then weight_of after - weight_of object else 0))
+    [ true ↦ refl | false ↦ omega arith ]
+
+pub renewal_grows : (objects : List Object) (id : ℕ) (after : Object)
+    → weight (with_change objects id (renewed_by after)) - weight objects ≡ asked (renewal_growth after) 0 (slice_get objects id)
+renewal_grows objects id after = change_grows objects id _ _ (renewal_weighs after)

@@ -1,0 +1,7 @@
+pub mod Effects
+pub mod Fits
+pub mod Laws
+pub mod Objects
+pub mod Parts
+pub mod Paying
+pub mod Store

@@ -1,0 +1,201 @@
+//! Changes of one object. What a change does not apply to stays as it is.
+ghost use Rattle.std.specs.Prelude.{◌≡◌, IfOk, OnOk, OnErr, slice_get};
+ghost use Rattle.object_values.specs.Pairs.{value_of, with_pair, without_key};
+ghost use Rattle.object_heap.specs.Objects.{with_inserted, with_item, with_removed, with_put, with_key_cut, put_counted, cut_counted};
+ghost use Rattle.object_heap.specs.Parts.{object_items, list_items, object_pairs, items_of, list_items_of, pairs_of};
+ghost use Rattle.object_heap.specs.Store.{with_change};
+
+use object_values::{Object, Pairs, Value};
+use std::alloc::AllocError;
+
+// Inserts an item into a list.
+pub fn insert_item(
+    objects: &mut Vec<Object>,
+    id: u32,
+    at: usize,
+    value: Value,
+) -> Result<(), AllocError>
+    ensures ok { OnOk result (objects.new.items ≡ with_change objects.old.items id (with_inserted at value)) }
+    ensures err { OnErr result (objects.new.items ≡ objects.old.items) }
+{
+    match objects.get_mut(id as usize) {
+        Some(object) => insert_into(object, at, value),
+        None => {
+            drop(value);
+            Ok(())
+        }
+    }
+}
+
+fn insert_into(object: &mut Object, at: usize, value: Value) -> Result<(), AllocError>
+    ensures ok { OnOk result (object.new ≡ with_inserted at value object.old) }
+    ensures err { OnErr result (object.new ≡ object.old) }
+{
+    match object {
+        Object::List { items, changes, .. } => {
+            if at <= items.len() {
+                items.insert(at, value)?;
+                *changes = changes.wrapping_add(1);
+            } else {
+                drop(value);
+            }
+            Ok(())
+        }
+        _ => {
+            drop(value);
+            Ok(())
+        }
+    }
+}
+
+// Writes an item of a list or an array.
+pub fn put_item(objects: &mut Vec<Object>, id: u32, at: usize, value: Value) -> Option<Value>
+    ensures before { result ≡ slice_get (items_of objects.old.items id) at }
+    ensures written { objects.new.items ≡ with_change objects.old.items id (with_item at value) }
+{
+    match objects.get_mut(id as usize) {
+        Some(object) => put_into(object, at, value),
+        None => {
+            drop(value);
+            None
+        }
+    }
+}
+
+fn put_into(object: &mut Object, at: usize, value: Value) -> Option<Value>
+    ensures before { result ≡ slice_get (object_items object.old) at }
+    ensures written { object.new ≡ with_item at value object.old }
+{
+    match object {
+        Object::List { items, .. } => items.put(at, value),
+        Object::Array { items, .. } => items.put(at, value),
+        _ => {
+            drop(value);
+            None
+        }
+    }
+}
+
+// Takes an item out of a list.
+pub fn cut_item(objects: &mut Vec<Object>, id: u32, at: usize) -> Option<Value>
+    ensures item { result ≡ slice_get (list_items_of objects.old.items id) at }
+    ensures rest { objects.new.items ≡ with_change objects.old.items id (with_removed at) }
+{
+    match objects.get_mut(id as usize) {
+        Some(object) => cut_from(object, at),
+        None => None,
+    }
+}
+
+fn cut_from(object: &mut Object, at: usize) -> Option<Value>
+    ensures item { result ≡ slice_get (list_items object.old) at }
+    ensures rest { object.new ≡ with_removed at object.old }
+{
+    match object {
+        Object::List { items, changes, .. } if at < items.len() => {
+            *changes = changes.wrapping_add(1);
+            Some(items.remove(at))
+        }
+        _ => None,
+    }
+}
+
+// Puts a value under a key of a map, or a key into a set.
+pub fn put_key(
+    objects: &mut Vec<Object>,
+    id: u32,
+    key: Value,
+    value: Value,
+) -> Result<Option<Value>, AllocError>
+    ensures before { IfOk result (λ before. before ≡ value_of (pairs_of objects.old.items id) key) }
+    ensures ok { OnOk result (objects.new.items ≡ with_change objects.old.items id (with_put key value)) }
+    ensures err { OnErr result (objects.new.items ≡ objects.old.items) }
+{
+    match objects.get_mut(id as usize) {
+        Some(object) => put_key_into(object, key, value),
+        None => {
+            drop(key);
+            drop(value);
+            Ok(None)
+        }
+    }
+}
+
+fn put_key_into(object: &mut Object, key: Value, value: Value) -> Result<Option<Value>, AllocError>
+    ensures before { IfOk result (λ before. before ≡ value_of (object_pairs object.old) key) }
+    ensures ok { OnOk result (object.new ≡ with_put key value object.old) }
+    ensures err { OnErr result (object.new ≡ object.old) }
+{
+    match object {
+        Object::Map { pairs, changes, .. } => put_pair(pairs, changes, key, value),
+        Object::Set { items, changes, .. } => {
+            drop(value);
+            put_pair(items, changes, key, Value::Null)
+        }
+        _ => {
+            drop(key);
+            drop(value);
+            Ok(None)
+        }
+    }
+}
+
+// Puts a pair, and counts a new key.
+fn put_pair(
+    pairs: &mut Pairs,
+    changes: &mut u64,
+    key: Value,
+    value: Value,
+) -> Result<Option<Value>, AllocError>
+    ensures before { IfOk result (λ before. before ≡ value_of pairs.old key) }
+    ensures pairs { OnOk result (pairs.new ≡ with_pair pairs.old key value) }
+    ensures counted { OnOk result (changes.new ≡ put_counted (value_of pairs.old key) changes.old) }
+    ensures pairs_stay { OnErr result (pairs.new ≡ pairs.old) }
+    ensures count_stays { OnErr result (changes.new ≡ changes.old) }
+{
+    match pairs.put(key, value) {
+        Ok(None) => {
+            *changes = changes.wrapping_add(1);
+            Ok(None)
+        }
+        Ok(Some(before)) => Ok(Some(before)),
+        Err(_) => Err(AllocError),
+    }
+}
+
+// Takes a key out of a map or a set.
+pub fn cut_key(objects: &mut Vec<Object>, id: u32, key: &Value) -> Option<Value>
+    ensures before { result ≡ value_of (pairs_of objects.old.items id) key.now }
+    ensures rest { objects.new.items ≡ with_change objects.old.items id (with_key_cut key.now) }
+{
+    match objects.get_mut(id as usize) {
+        Some(object) => cut_key_from(object, key),
+        None => None,
+    }
+}
+
+fn cut_key_from(object: &mut Object, key: &Value) -> Option<Value>
+    ensures before { result ≡ value_of (object_pairs object.old) key.now }
+    ensures rest { object.new ≡ with_key_cut key.now object.old }
+{
+    match object {
+        Object::Map { pairs, changes, .. } => cut_pair(pairs, changes, key),
+        Object::Set { items, changes, .. } => cut_pair(items, changes, key),
+        _ => None,
+    }
+}
+
+// Takes a pair out, and counts that.
+fn cut_pair(pairs: &mut Pairs, changes: &mut u64, key: &Value) -> Option<Value>
+    ensures before { result ≡ value_of pairs.old key.now }
+    ensures pairs { pairs.new ≡ without_key pairs.old key.now }
+    ensures counted { changes.new ≡ cut_counted (value_of pairs.old key.now) changes.old }
+{
+    match pairs.cut(key) {
+        Some(before) => {
+            *changes = changes.wrapping_add(1);
+            Some(before)
+        }
+        None => None,
+    }
+}

@@ -1,0 +1,380 @@
+ghost use Rattle.std.specs.Prelude.{◌≡◌, Some, None, [], ◌∷◌, ◌++◌, length, map, IfOk, OnOk, OnErr, slice_get};
+ghost use Rattle.std.specs.Option.{option_copied};
+
+use crate::changes::{cut_item, cut_key, insert_item, put_item, put_key};
+use crate::error::HeapErr;
+use crate::parts;
+use crate::renewal::{renew_at, renewal_growth_at, retire_all};
+use crate::weights::{insert_growth, put_growth, weight_within};
+use object_values::{Guard, Object, Pairs, Target, Value};
+use pl_types::Ty;
+use pl_units::UText;
+use std::alloc::{AllocError, Global};
+use std::marker::Model;
+
+/// The objects of a run, each by its number, and the room that is left for more. Numbers count from 0 in the order in which
+/// the objects came, and no object is ever removed.
+///
+/// Every call answers for every number, place and kind of object: what is not there is empty or nothing, and a change that
+/// does not apply changes nothing. A call that is paid takes the growth of the heap's weight from the room, and nothing where
+/// it shrinks.
+pub struct Heap {
+    objects: Vec<Object>,
+    room: u64,
+}
+
+impl Model for Heap {
+    ghost use Rattle.object_heap.specs.Store.{Store};
+    ghost use Rattle.pl_types.specs.contracts.ty.Ty as ty;
+    ghost use Rattle.std.specs.Coded.{codes};
+
+    ghost Value = { Store };
+
+    ghost coded = { Prim.hlevel (codes, ty.the_row.coded) };
+
+    ghost view = { λ h. record { objects = h.objects.items; room = h.room } };
+}
+
+impl Drop for Heap {
+    fn drop(self) {
+        let Heap {
+            objects: _objects,
+            room: _room,
+        } = self;
+    }
+}
+
+impl Heap {
+    ghost use Rattle.object_values.specs.Pairs.{value_of, key_at, pair_value_at};
+    ghost use Rattle.object_heap.specs.Objects.{with_item, with_inserted, with_removed, with_put, with_key_cut, renewed_by, retired};
+    ghost use Rattle.object_heap.specs.Parts.{items_of, list_items_of, map_of, pairs_of, size_of, class_of, guard_of, frozen_of, changes_of, units_of, elem_of, message_of, target_of, captures_of};
+    ghost use Rattle.object_heap.specs.Store.{with_change};
+    ghost use Rattle.object_heap.specs.Paying.{Pays, PaysSurely};
+
+    /// No objects, and this much room. It takes no memory.
+    pub fn new(alloc: Global, room: u64) -> Heap
+        ensures { result ≡ record { objects = []; room = room } }
+    {
+        Heap {
+            objects: Vec::new(alloc),
+            room,
+        }
+    }
+
+    /// The allocator that its objects take their memory from.
+    pub fn alloc(&self) -> Global {
+        *self.objects.allocator()
+    }
+
+    /// The room that is left.
+    pub fn room_left(&self) -> u64
+        ensures { result ≡ self.now.room }
+    {
+        self.room
+    }
+
+    /// How many objects there are, which is the number of the next one.
+    pub fn len(&self) -> usize
+        ensures { result ≡ length self.now.objects }
+    {
+        self.objects.len()
+    }
+
+    /// The object of this number.
+    pub fn get(&self, id: u32) -> Option<&Object>
+        ensures { option_copied result ≡ slice_get self.now.objects id }
+    {
+        self.objects.get(id as usize)
+    }
+
+    /// Gives this much room, and every lambda of a script is gone: the script has ended, and another run is to start here.
+    pub fn refill(&mut self, room: u64)
+        ensures { self.new ≡ record { objects = map retired self.old.objects; room = room } }
+    {
+        retire_all(&mut self.objects);
+        self.room = room;
+    }
+
+    /// Takes a charge from the room.
+    #[tactic(auto, using(crate::proofs::Paying::charged, crate::proofs::Paying::not_charged))]
+    pub fn charge(&mut self, units: u64) -> Result<(), HeapErr>
+        ensures { Pays self.old self.new self.old.objects units result }
+    {
+        if units > self.room {
+            return Err(HeapErr::Room);
+        }
+        self.room -= units;
+        Ok(())
+    }
+
+    /// Adds an object without a charge, for what is there before a run. Its number is the count of those before it.
+    pub fn place(&mut self, object: Object) -> Result<u32, AllocError>
+        ensures placed { OnOk result (self.new ≡ record self.old { objects = self.old.objects ++ object ∷ [] }) }
+        ensures number { IfOk result (λ id. id ≡ length self.old.objects) }
+        ensures err { OnErr result (self.new ≡ self.old) }
+    {
+        let Ok(id) = u32::try_from(self.objects.len()) else {
+            drop(object);
+            return Err(AllocError);
+        };
+        match self.objects.push(object) {
+            Ok(()) => Ok(id),
+            Err(refused) => {
+                drop(refused);
+                Err(AllocError)
+            }
+        }
+    }
+
+    /// Adds an object, whose number is the count of those before it.
+    #[tactic(auto, using(crate::proofs::Paying::paid_if, crate::proofs::Paying::paid_not, crate::proofs::Growth::add_grows))]
+    pub fn add(&mut self, object: Object) -> Result<u32, HeapErr>
+        ensures pays { Pays self.old self.new (self.old.objects ++ object ∷ []) 0 result }
+        ensures number { IfOk result (λ id. id ≡ length self.old.objects) }
+    {
+        let Some(growth) = weight_within(&object, self.room) else {
+            drop(object);
+            return Err(HeapErr::Room);
+        };
+        match self.place(object) {
+            Ok(id) => {
+                self.room -= growth;
+                Ok(id)
+            }
+            Err(_) => Err(HeapErr::NoMemory),
+        }
+    }
+
+    #[tactic(auto, using(crate::proofs::Paying::paid_if, crate::proofs::Paying::paid_not, crate::proofs::Growth::renewal_grows))]
+    /// Replaces an object by one of its kind with the same class, type, part or interface; a function value that has no
+    /// interface may take one. An object of another kind replaces nothing. It is false exactly where the growth is above the
+    /// room left, and nothing is changed then. It takes no memory.
+    pub fn renew(&mut self, id: u32, object: Object) -> bool
+        ensures { PaysSurely self.old self.new (with_change self.old.objects id (renewed_by object)) 0 result }
+    {
+        let growth = renewal_growth_at(self.objects.as_slice(), id, &object);
+        if growth > self.room {
+            drop(object);
+            return false;
+        }
+        renew_at(&mut self.objects, id, object);
+        self.room -= growth;
+        true
+    }
+
+    /// Writes an item of a list or an array, and gives the one that stood there. It takes no memory.
+    pub fn put(&mut self, id: u32, at: usize, value: Value) -> Option<Value>
+        ensures before { result ≡ slice_get (items_of self.old.objects id) at }
+        ensures written { self.new ≡ record self.old { objects = with_change self.old.objects id (with_item at value) } }
+    {
+        put_item(&mut self.objects, id, at, value)
+    }
+
+    /// Inserts an item into a list, at a place up to its size.
+    #[tactic(auto, using(crate::proofs::Paying::paid_if, crate::proofs::Paying::paid_not, crate::proofs::Growth::insert_grows))]
+    pub fn grow(&mut self, id: u32, at: usize, value: Value) -> Result<(), HeapErr>
+        ensures { Pays self.old self.new (with_change self.old.objects id (with_inserted at value)) 0 result }
+    {
+        let growth = insert_growth(self.objects.as_slice(), id, at);
+        if growth > self.room {
+            drop(value);
+            return Err(HeapErr::Room);
+        }
+        match insert_item(&mut self.objects, id, at, value) {
+            Ok(()) => {
+                self.room -= growth;
+                Ok(())
+            }
+            Err(_) => Err(HeapErr::NoMemory),
+        }
+    }
+
+    /// Takes an item out of a list, and gives it; those behind it move up. It takes no memory.
+    pub fn cut(&mut self, id: u32, at: usize) -> Option<Value>
+        ensures item { result ≡ slice_get (list_items_of self.old.objects id) at }
+        ensures rest { self.new ≡ record self.old { objects = with_change self.old.objects id (with_removed at) } }
+    {
+        cut_item(&mut self.objects, id, at)
+    }
+
+    /// The value of a key of a map, or null of a key of a set. It takes no memory.
+    pub fn map_get(&self, id: u32, key: &Value) -> Option<&Value>
+        ensures { option_copied result ≡ value_of (pairs_of self.now.objects id) key.now }
+    {
+        match self.pairs(id) {
+            Some(pairs) => pairs.get(key),
+            None => None,
+        }
+    }
+
+    #[tactic(auto, using(crate::proofs::Paying::paid_if, crate::proofs::Paying::paid_not, crate::proofs::Growth::put_grows))]
+    /// Puts a value under a key of a map, or a key into a set, and gives the value that the key had. A new key goes last, and
+    /// one that is there keeps its place. The values of a set are null, whatever value is given.
+    pub fn map_put(&mut self, id: u32, key: Value, value: Value) -> Result<Option<Value>, HeapErr>
+        ensures before { IfOk result (λ before. before ≡ value_of (pairs_of self.old.objects id) key) }
+        ensures pays { Pays self.old self.new (with_change self.old.objects id (with_put key value)) 0 result }
+    {
+        let growth = put_growth(self.objects.as_slice(), id, &key);
+        if growth > self.room {
+            drop(key);
+            drop(value);
+            return Err(HeapErr::Room);
+        }
+        match put_key(&mut self.objects, id, key, value) {
+            Ok(before) => {
+                self.room -= growth;
+                Ok(before)
+            }
+            Err(_) => Err(HeapErr::NoMemory),
+        }
+    }
+
+    /// Takes a key out of a map or a set, and gives the value that it had; the pairs behind it move up. It takes no memory.
+    pub fn map_cut(&mut self, id: u32, key: &Value) -> Option<Value>
+        ensures before { result ≡ value_of (pairs_of self.old.objects id) key.now }
+        ensures rest { self.new ≡ record self.old { objects = with_change self.old.objects id (with_key_cut key.now) } }
+    {
+        cut_key(&mut self.objects, id, key)
+    }
+
+    /// The items of a list or an array.
+    pub fn items(&self, id: u32) -> &[Value]
+        ensures { result.now ≡ items_of self.now.objects id }
+    {
+        match self.objects.get(id as usize) {
+            Some(object) => parts::items(object),
+            None => &[],
+        }
+    }
+
+    /// The pairs of a map, or of a set, whose values are null.
+    pub fn pairs(&self, id: u32) -> Option<&Pairs>
+        ensures { option_copied result ≡ map_of self.now.objects id }
+    {
+        match self.objects.get(id as usize) {
+            Some(object) => parts::pairs(object),
+            None => None,
+        }
+    }
+
+    /// The key at a place of a map or a set.
+    pub fn key_at(&self, id: u32, at: usize) -> Option<&Value>
+        ensures { option_copied result ≡ key_at (pairs_of self.now.objects id) at }
+    {
+        match self.pairs(id) {
+            Some(pairs) => pairs.key_at(at),
+            None => None,
+        }
+    }
+
+    /// The value at a place of a map.
+    pub fn value_at(&self, id: u32, at: usize) -> Option<&Value>
+        ensures { option_copied result ≡ pair_value_at (pairs_of self.now.objects id) at }
+    {
+        match self.pairs(id) {
+            Some(pairs) => pairs.value_at(at),
+            None => None,
+        }
+    }
+
+    /// How many elements a list, an array, a map or a set has.
+    pub fn size(&self, id: u32) -> usize
+        ensures { result ≡ size_of self.now.objects id }
+    {
+        match self.objects.get(id as usize) {
+            Some(object) => parts::size(object),
+            None => 0,
+        }
+    }
+
+    /// The class of a list, a map, a set or an exception.
+    pub fn class(&self, id: u32) -> Option<u32>
+        ensures { result ≡ class_of self.now.objects id }
+    {
+        match self.objects.get(id as usize) {
+            Some(object) => parts::class(object),
+            None => None,
+        }
+    }
+
+    /// What may change a list, a map or a set.
+    pub fn guard(&self, id: u32) -> Option<&Guard>
+        ensures { option_copied result ≡ guard_of self.now.objects id }
+    {
+        match self.objects.get(id as usize) {
+            Some(object) => parts::guard(object),
+            None => None,
+        }
+    }
+
+    /// Whether nothing may change the object.
+    pub fn is_frozen(&self, id: u32) -> bool
+        ensures { result ≡ frozen_of self.now.objects id }
+    {
+        match self.objects.get(id as usize) {
+            Some(object) => parts::is_frozen(object),
+            None => false,
+        }
+    }
+
+    /// The change count of a list, a map or a set: it rises by 1 for each element or key that is inserted or removed, modulo
+    /// 2^64.
+    pub fn changes(&self, id: u32) -> u64
+        ensures { result ≡ changes_of self.now.objects id }
+    {
+        match self.objects.get(id as usize) {
+            Some(object) => parts::changes(object),
+            None => 0,
+        }
+    }
+
+    /// The units of a builder.
+    pub fn units(&self, id: u32) -> &[u16]
+        ensures { result.now ≡ units_of self.now.objects id }
+    {
+        match self.objects.get(id as usize) {
+            Some(object) => parts::units(object),
+            None => &[],
+        }
+    }
+
+    /// The type of the elements of an array.
+    pub fn elem(&self, id: u32) -> Option<&Ty>
+        ensures { option_copied result ≡ elem_of self.now.objects id }
+    {
+        match self.objects.get(id as usize) {
+            Some(object) => parts::elem(object),
+            None => None,
+        }
+    }
+
+    /// The message of an exception.
+    pub fn message(&self, id: u32) -> Option<&UText>
+        ensures { option_copied result ≡ message_of self.now.objects id }
+    {
+        match self.objects.get(id as usize) {
+            Some(object) => parts::message(object),
+            None => None,
+        }
+    }
+
+    /// What a function value calls.
+    pub fn target(&self, id: u32) -> Option<&Target>
+        ensures { option_copied result ≡ target_of self.now.objects id }
+    {
+        match self.objects.get(id as usize) {
+            Some(object) => parts::target(object),
+            None => None,
+        }
+    }
+
+    /// What a function value has captured.
+    pub fn captures(&self, id: u32) -> &[Value]
+        ensures { result.now ≡ captures_of self.now.objects id }
+    {
+        match self.objects.get(id as usize) {
+            Some(object) => parts::captures(object),
+            None => &[],
+        }
+    }
+}

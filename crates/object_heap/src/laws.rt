@@ -1,0 +1,25 @@
+ghost use Rattle.object_heap.specs.Laws.{NewFits, RefillFits, ChargeFits, PlaceFits, AddFits, RenewFits, PutFits, GrowFits, CutFits, MapPutFits, MapCutFits, ThrowFits, AnswersFit, ItemsFit, ValuesFit, CapturesFit};
+
+/// Laws that callers may cite: each call keeps the fit of the heap.
+pub fn heap_keeps_fit()
+    ensures new { NewFits }
+    ensures refill { RefillFits }
+    ensures charge { ChargeFits }
+    ensures place { PlaceFits }
+    ensures add { AddFits }
+    ensures renew { RenewFits }
+    ensures put { PutFits }
+    ensures grow { GrowFits }
+    ensures cut { CutFits }
+    ensures map_put { MapPutFits }
+    ensures map_cut { MapCutFits }
+    ensures throw { ThrowFits }
+
+    // What a member's effect keeps, its call keeps.
+    ensures answers { AnswersFit }
+
+    // What is read of a heap that fits, fits.
+    ensures items { ItemsFit }
+    ensures values { ValuesFit }
+    ensures captures { CapturesFit }
+{}

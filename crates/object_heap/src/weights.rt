@@ -1,0 +1,88 @@
+//! What objects weigh, and how much a change adds.
+ghost use Rattle.std.specs.Prelude.{◌≡◌, ◌<◌, ◌≤◌, suc, MatchOption, slice_get};
+ghost use Rattle.object_values.specs.Pairs.{value_of};
+ghost use Rattle.object_heap.specs.Objects.{weight_of, new_growth};
+ghost use Rattle.object_heap.specs.Parts.{asked};
+ghost use Rattle.object_heap.specs.Objects as spec;
+
+use object_values::{Object, Pairs, Value};
+use pl_units::UText;
+
+// How many elements count in the weight, which is one more.
+#[tactic(auto, unfolding(crate::specs::Objects::weight_of))]
+pub fn elements(object: &Object) -> u64
+    ensures { suc result ≡ weight_of object.now }
+{
+    match object {
+        Object::List { items, .. } => items.len() as u64,
+        Object::Map { pairs, .. } => pairs.len() as u64 * 2,
+        Object::Set { items, .. } => items.len() as u64,
+        Object::Array { items, .. } => items.len() as u64,
+        Object::View { .. } => 0,
+        Object::Entry { .. } => 2,
+        Object::Iter { .. } => 0,
+        Object::Builder { units } => units.len() as u64,
+        Object::Fun { captures, .. } => captures.len() as u64,
+        Object::Exc { message, .. } => message_units(message),
+    }
+}
+
+fn message_units(message: &Option<UText>) -> u64
+    ensures { result ≡ spec.message_units message.now }
+{
+    match message {
+        None => 0,
+        Some(text) => text.len() as u64,
+    }
+}
+
+// The weight of an object, or `None` where it is above the room.
+pub fn weight_within(object: &Object, room: u64) -> Option<u64>
+    ensures { MatchOption result (room < weight_of object.now) (λ weight. (weight ≡ weight_of object.now) × (weight ≤ room)) }
+{
+    let elements = elements(object);
+    if elements < room {
+        Some(elements + 1)
+    } else {
+        None
+    }
+}
+
+// How much the insertion of an item adds to the weight.
+pub fn insert_growth(objects: &[Object], id: u32, at: usize) -> u64
+    ensures { result ≡ asked (spec.insert_growth at) 0 (slice_get objects.now id) }
+{
+    match objects.get(id as usize) {
+        Some(Object::List { items, .. }) if at <= items.len() => 1,
+        _ => 0,
+    }
+}
+
+// How much a put adds to the weight.
+pub fn put_growth(objects: &[Object], id: u32, key: &Value) -> u64
+    ensures { result ≡ asked (spec.put_growth key.now) 0 (slice_get objects.now id) }
+{
+    match objects.get(id as usize) {
+        Some(object) => put_growth_in(object, key),
+        None => 0,
+    }
+}
+
+fn put_growth_in(object: &Object, key: &Value) -> u64
+    ensures { result ≡ spec.put_growth key.now object.now }
+{
+    match object {
+        Object::Map { pairs, .. } => growth_of_new(pairs, key, 2),
+        Object::Set { items, .. } => growth_of_new(items, key, 1),
+        _ => 0,
+    }
+}
+
+fn growth_of_new(pairs: &Pairs, key: &Value, growth: u64) -> u64
+    ensures { result ≡ new_growth (value_of pairs.now key.now) growth }
+{
+    match pairs.get(key) {
+        None => growth,
+        Some(_) => 0,
+    }
+}

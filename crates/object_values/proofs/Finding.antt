@@ -1,0 +1,30 @@
+-- Looking up, setting and taking out, by the map's words and by ours.
+use Rattle.std.proofs.Common.{◌≡◌, false, Some, None, List, [], ◌∷◌, refl, ap, if◌then◌else◌}
+use Rattle.std.specs.Map.{lookup, remove_entry, keys_of}
+use Rattle.std.specs.List.{IsDistinct, AllByRecursion}
+use Rattle.indexmap.specs.IndexMap.{insert_entry}
+use Rattle.object_values.specs.declared.value.Value.{Value}
+use Rattle.object_values.specs.Values.{same_value}
+use Rattle.object_values.specs.Pairs.{value_of, with_pair, without_key, HasDistinctKeys}
+
+pub puts : (pairs : List (Value × Value)) (key value : Value) → insert_entry same_value pairs key value ≡ with_pair pairs key value
+puts [] key value = refl
+puts (pair ∷ pairs) key value = ap (λ rest. if same_value key pair.0 then (pair.0, value) ∷ pairs else pair ∷ rest) (puts pairs key value)
+
+pub finds : (pairs : List (Value × Value)) (key : Value) → lookup (same_value key) pairs ≡ value_of pairs key
+finds [] key = refl
+finds (pair ∷ pairs) key = ap (λ rest. if same_value key pair.0 then Some pair.1 else rest) (finds pairs key)
+
+pub cuts : (pairs : List (Value × Value)) (key : Value) → remove_entry (same_value key) pairs ≡ without_key pairs key
+cuts [] key = refl
+cuts (pair ∷ pairs) key = ap (λ rest. if same_value key pair.0 then pairs else pair ∷ rest) (cuts pairs key)
+
+none_found : (pairs : List (Value × Value)) (key : Value) → AllByRecursion (λ other. same_value key other ≡ false) (keys_of pairs) → value_of pairs key ≡ None
+none_found [] key h = refl
+none_found (pair ∷ pairs) key h = rw h.0 (none_found pairs key h.1)
+
+-- the keys of a map are distinct
+pub distinct : (pairs : List (Value × Value)) → IsDistinct same_value (keys_of pairs) → HasDistinctKeys pairs
+unfolding IsDistinct
+distinct [] h = tt
+distinct (pair ∷ pairs) h = (none_found pairs pair.0 h.0, distinct pairs h.1)

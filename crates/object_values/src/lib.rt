@@ -1,0 +1,12 @@
+//! Values of scripts, and the objects that they refer to: every kind that the language has.
+#![tactic(auto)]
+
+mod elements;
+mod object;
+mod pairs;
+mod value;
+
+pub use elements::Elements;
+pub use object::{Guard, Object, Owner, Part, Target};
+pub use pairs::Pairs;
+pub use value::Value;
