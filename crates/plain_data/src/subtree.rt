@@ -4,10 +4,18 @@ use std::alloc::{AllocError, Global};
 use std::marker::Model;
 
 /// A part of a tree in a box, with a count of the nodes in it. Contracts see the part, and no count.
-#[derive(Drop)]
 pub struct Subtree<T> {
     inner: Box<T>,
     nodes: u32,
+}
+
+impl<T: Drop> Drop for Subtree<T> {
+    fn drop(self) {
+        let Subtree {
+            inner: _inner,
+            nodes: _,
+        } = self;
+    }
 }
 
 impl<T> Model for Subtree<T> {
@@ -36,6 +44,15 @@ impl<T> Subtree<T> {
     pub fn nodes(&self) -> u32 {
         self.nodes
     }
+}
+
+/// The sum of the counts of some parts, or the largest count.
+pub fn nodes_of<T>(parts: &[Subtree<T>]) -> u32 {
+    let mut sum = 0u32;
+    for part in parts {
+        sum = sum.saturating_add(part.nodes);
+    }
+    sum
 }
 
 impl<T: Drop> Subtree<T> {
