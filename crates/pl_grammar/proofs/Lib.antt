@@ -22,3 +22,4 @@ pub mod Levels
 pub mod Prefix
 pub mod Whole
 pub mod Deep
+pub mod Answered

@@ -35,3 +35,7 @@ Ends = (ls : List Lexeme) → read_script (levels_for ls) ls ≡ Err TooDeep →
 -- the tokens of a text have at most one reading
 abbrev pub Unique : Type 0
 Unique = (text : List ℕ) (tokens : List Token) (a b : Result Tree Refusal) → Parses text tokens a → Parses text tokens b → a ≡ b
+
+-- the tokens of a text have a reading: they are a script, or are refused
+abbrev pub Answered : Type 0
+Answered = (text : List ℕ) (tokens : List Token) → (reading : Result Tree Refusal) × Parses text tokens reading

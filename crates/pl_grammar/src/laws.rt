@@ -1,6 +1,6 @@
 //! What holds of the grammar, whatever the tokens.
 
-ghost use Rattle.pl_grammar.specs.Laws.{Sound, Complete, Exact, Begun, Ends, Unique};
+ghost use Rattle.pl_grammar.specs.Laws.{Sound, Complete, Exact, Begun, Ends, Unique, Answered};
 
 /// What holds of the grammar and of the function that reads by it. It runs nothing.
 pub fn grammar_laws()
@@ -16,4 +16,6 @@ pub fn grammar_laws()
     ensures ends { Ends }
     // The tokens of a text have at most one reading.
     ensures unique { Unique }
+    // .. and they have one.
+    ensures answered { Answered }
 {}

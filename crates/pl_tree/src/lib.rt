@@ -4,6 +4,7 @@
 //! A node's place is its first token, if nothing else is said.
 #![tactic(auto)]
 
+mod nodes;
 mod operator;
 mod tree;
 mod typed;

@@ -1,15 +1,15 @@
-ghost use Rattle.std.specs.Prelude.{◌≡◌, []};
+ghost use Rattle.std.specs.Prelude.{◌≡◌, [], IfOk};
 
 use crate::operator::{Access, BinaryOperator, Constant, Step, UnaryOperator};
 use pl_types::Primitive;
-use plain_data::{Boxed, Items, Text};
-use std::alloc::Global;
+use plain_data::{Items, Subtree, Text};
+use std::alloc::{AllocError, Global};
 
 /// A script: its functions, then its statements.
 #[derive(Drop)]
 pub struct Tree {
     pub functions: Items<Function>,
-    pub statements: Items<Statement>,
+    pub statements: Items<Subtree<Statement>>,
 }
 
 impl Tree {
@@ -35,12 +35,35 @@ pub struct Spelled {
 }
 
 /// A type, as it is written.
-#[derive(Drop)]
 pub struct TypeName {
     pub at: u32,
     pub base: TypeBase,
     /// Where each `[` of its `[]` stands.
     pub brackets: Items<u32>,
+}
+
+impl Drop for TypeName {
+    fn drop(self) {
+        let TypeName {
+            at: _,
+            base: _base,
+            brackets: _brackets,
+        } = self;
+    }
+}
+
+impl TypeName {
+    /// With these brackets in place of its own.
+    pub fn with_brackets(self, brackets: Items<u32>) -> TypeName
+        ensures { result ≡ record { at = self.at; base = self.base; brackets = brackets } }
+    {
+        let TypeName {
+            at,
+            base,
+            brackets: _before,
+        } = self;
+        TypeName { at, base, brackets }
+    }
 }
 
 /// What a type begins with.
@@ -55,7 +78,6 @@ pub enum TypeBase {
 }
 
 /// A user's function.
-#[derive(Drop)]
 pub struct Function {
     pub result: TypeName,
     pub name: Spelled,
@@ -63,19 +85,47 @@ pub struct Function {
     pub body: Block,
 }
 
+impl Drop for Function {
+    fn drop(self) {
+        let Function {
+            result: _result,
+            name: _name,
+            parameters: _parameters,
+            body: _body,
+        } = self;
+    }
+}
+
 /// A parameter of a function or of a lambda. A function's has a type.
-#[derive(Drop)]
 pub struct Parameter {
     pub of: Option<TypeName>,
     pub name: Spelled,
 }
 
+impl Drop for Parameter {
+    fn drop(self) {
+        let Parameter {
+            of: _of,
+            name: _name,
+        } = self;
+    }
+}
+
 /// `{ .. }`, at its `{`.
 #[cycle(tree)]
-#[derive(Drop)]
 pub struct Block {
     pub at: u32,
-    pub statements: Items<Statement>,
+    pub statements: Items<Subtree<Statement>>,
+}
+
+impl Drop for Block {
+    #[cycle(letting_go)]
+    fn drop(self) {
+        let Block {
+            at: _,
+            statements: _statements,
+        } = self;
+    }
 }
 
 /// What an `if` or a loop runs.
@@ -83,7 +133,7 @@ pub struct Block {
 #[derive(Drop)]
 pub enum Body {
     Block(Block),
-    Statement(Boxed<Statement>),
+    Statement(Subtree<Statement>),
 }
 
 /// A statement.
@@ -91,22 +141,22 @@ pub enum Body {
 pub enum Statement {
     If {
         at: u32,
-        condition: Expr,
+        condition: Subtree<Expr>,
         then: Body,
         otherwise: Option<Body>,
     },
     /// The body is missing where a `;` stands in its place.
     While {
         at: u32,
-        condition: Expr,
+        condition: Subtree<Expr>,
         body: Option<Body>,
     },
     /// `for (first; condition; update) body`. The body is missing where a `;` stands in its place.
     For {
         at: u32,
         first: Option<First>,
-        condition: Option<Expr>,
-        update: Option<Expr>,
+        condition: Option<Subtree<Expr>>,
+        update: Option<Subtree<Expr>>,
         body: Option<Body>,
     },
     /// `for (of name : over) body`
@@ -114,14 +164,14 @@ pub enum Statement {
         at: u32,
         of: TypeName,
         name: Spelled,
-        over: Expr,
+        over: Subtree<Expr>,
         body: Body,
     },
     /// `for (name in over) body`
     ForIn {
         at: u32,
         name: Spelled,
-        over: Expr,
+        over: Subtree<Expr>,
         body: Body,
     },
     /// A `try`, with one catch at least.
@@ -133,7 +183,7 @@ pub enum Statement {
     Do {
         at: u32,
         block: Block,
-        condition: Expr,
+        condition: Subtree<Expr>,
     },
     Declare(Declaration),
     Continue {
@@ -148,51 +198,40 @@ pub enum Statement {
     },
     Throw {
         at: u32,
-        value: Expr,
+        value: Subtree<Expr>,
     },
     /// An expression, at its first token.
     Expression {
         at: u32,
-        value: Expr,
+        value: Subtree<Expr>,
     },
 }
 
-impl Body {
-    /// Whether it is a statement that another may stand in with no brackets around it.
-    fn nests(&self) -> bool {
-        match self {
-            Body::Block(_) => false,
-            Body::Statement(statement) => matches!(
-                statement.get(),
-                Statement::If { .. }
-                    | Statement::While { .. }
-                    | Statement::For { .. }
-                    | Statement::ForEach { .. }
-                    | Statement::ForIn { .. }
-            ),
-        }
-    }
-}
-
 impl Drop for Statement {
-    /// Statements inside statements are let go in a loop, since they may nest too deep for the machine's stack. Where two stand in
-    /// an `if`, the one that others may stand in comes last, and the other is let go by a call.
-    #[cycle(statement_drop)]
+    /// Statements inside statements are let go in a loop, since they may nest too deep for the machine's stack: it goes on with the
+    /// one of most nodes, and the others are let go by calls, which nest at most as the logarithm of the number of nodes.
+    #[cycle(letting_go)]
     fn drop(mut self) {
         loop {
             let last = match self {
                 Statement::If {
                     at: _,
-                    condition: _,
+                    condition: _condition,
                     then,
                     otherwise,
                 } => match otherwise {
-                    Some(body) => { if body.nests() { body } else { then } }
+                    Some(body) => {
+                        if then.nodes() < body.nodes() {
+                            body
+                        } else {
+                            then
+                        }
+                    }
                     None => then,
                 },
                 Statement::While {
                     at: _,
-                    condition: _,
+                    condition: _condition,
                     body,
                 } => match body {
                     Some(body) => body,
@@ -200,9 +239,9 @@ impl Drop for Statement {
                 },
                 Statement::For {
                     at: _,
-                    first: _,
-                    condition: _,
-                    update: _,
+                    first: _first,
+                    condition: _condition,
+                    update: _update,
                     body,
                 } => match body {
                     Some(body) => body,
@@ -210,69 +249,114 @@ impl Drop for Statement {
                 },
                 Statement::ForEach {
                     at: _,
-                    of: _,
-                    name: _,
-                    over: _,
+                    of: _of,
+                    name: _name,
+                    over: _over,
                     body,
                 } => body,
                 Statement::ForIn {
                     at: _,
-                    name: _,
-                    over: _,
+                    name: _name,
+                    over: _over,
                     body,
                 } => body,
                 Statement::Try {
                     at: _,
-                    block: _,
-                    catches: _,
+                    block: _block,
+                    catches: _catches,
                 } => return,
                 Statement::Do {
                     at: _,
-                    block: _,
-                    condition: _,
+                    block: _block,
+                    condition: _condition,
                 } => return,
-                Statement::Declare(_) => return,
+                Statement::Declare(_declaration) => return,
                 Statement::Continue { at: _ } => return,
                 Statement::Break { at: _ } => return,
-                Statement::Return { at: _, value: _ } => return,
-                Statement::Throw { at: _, value: _ } => return,
-                Statement::Expression { at: _, value: _ } => return,
+                Statement::Return {
+                    at: _,
+                    value: _value,
+                } => return,
+                Statement::Throw {
+                    at: _,
+                    value: _value,
+                } => return,
+                Statement::Expression {
+                    at: _,
+                    value: _value,
+                } => return,
             };
             match last {
                 Body::Statement(statement) => self = statement.into_inner(),
-                Body::Block(_) => return,
+                Body::Block(_block) => return,
             }
         }
     }
 }
 
+impl Statement {
+    /// In a box, with the count of its nodes.
+    pub fn held(alloc: Global, statement: Statement) -> Result<Subtree<Statement>, AllocError>
+        ensures { IfOk result (λ held. held ≡ statement) }
+    {
+        let nodes = statement.nodes();
+        Subtree::new(alloc, statement, nodes)
+    }
+}
+
 /// What a `for` does first.
 #[cycle(tree)]
-#[derive(Drop)]
 pub enum First {
     Declare(Declaration),
-    Expression(Expr),
+    Expression(Subtree<Expr>),
+}
+
+impl Drop for First {
+    #[cycle(letting_go)]
+    fn drop(self) {
+        match self {
+            First::Declare(_declaration) => {}
+            First::Expression(_expr) => {}
+        }
+    }
 }
 
 /// Variables of one type, one at least.
 #[cycle(tree)]
-#[derive(Drop)]
 pub struct Declaration {
     pub of: TypeName,
     pub variables: Items<Variable>,
 }
 
+impl Drop for Declaration {
+    #[cycle(letting_go)]
+    fn drop(self) {
+        let Declaration {
+            of: _of,
+            variables: _variables,
+        } = self;
+    }
+}
+
 /// A variable, at its name.
 #[cycle(tree)]
-#[derive(Drop)]
 pub struct Variable {
     pub name: Spelled,
     pub value: Option<Argument>,
 }
 
+impl Drop for Variable {
+    #[cycle(letting_go)]
+    fn drop(self) {
+        let Variable {
+            name: _name,
+            value: _value,
+        } = self;
+    }
+}
+
 /// `catch (of name) block`
 #[cycle(tree)]
-#[derive(Drop)]
 pub struct Catch {
     pub at: u32,
     pub of: TypeName,
@@ -280,70 +364,81 @@ pub struct Catch {
     pub block: Block,
 }
 
+impl Drop for Catch {
+    #[cycle(letting_go)]
+    fn drop(self) {
+        let Catch {
+            at: _,
+            of: _of,
+            name: _name,
+            block: _block,
+        } = self;
+    }
+}
+
 /// An expression.
 #[cycle(tree)]
-#[derive(Drop)]
 pub enum Expr {
     /// An assignment, at its operator. A compound one has the operator that it applies.
     Assign {
         operator: Option<BinaryOperator>,
         at: u32,
-        target: Boxed<Expr>,
-        value: Boxed<Expr>,
+        target: Subtree<Expr>,
+        value: Subtree<Expr>,
     },
     /// `condition ? yes : no`, at the `?`.
     Conditional {
         at: u32,
-        condition: Boxed<Expr>,
-        yes: Boxed<Expr>,
-        no: Boxed<Expr>,
+        condition: Subtree<Expr>,
+        yes: Subtree<Expr>,
+        no: Subtree<Expr>,
     },
     /// `left ?: right`, at the `?:`.
     Elvis {
         at: u32,
-        left: Boxed<Expr>,
-        right: Boxed<Expr>,
+        left: Subtree<Expr>,
+        right: Subtree<Expr>,
     },
     /// Two operands, at the operator between them.
     Binary {
         operator: BinaryOperator,
         at: u32,
-        left: Boxed<Expr>,
-        right: Boxed<Expr>,
+        left: Subtree<Expr>,
+        right: Subtree<Expr>,
     },
     /// `operand instanceof of`, at the `instanceof`.
     Instanceof {
         at: u32,
-        operand: Boxed<Expr>,
+        operand: Subtree<Expr>,
         of: TypeName,
     },
     Unary {
         operator: UnaryOperator,
         at: u32,
-        operand: Boxed<Expr>,
+        operand: Subtree<Expr>,
     },
     /// `++` or `--` before its operand.
     Prefix {
         step: Step,
         at: u32,
-        target: Boxed<Expr>,
+        target: Subtree<Expr>,
     },
     /// `++` or `--` after its operand, at the operand's first token.
     Postfix {
         step: Step,
         at: u32,
-        target: Boxed<Expr>,
+        target: Subtree<Expr>,
     },
     /// `(of) operand`
     Cast {
         at: u32,
         of: TypeName,
-        operand: Boxed<Expr>,
+        operand: Subtree<Expr>,
     },
     /// An expression in brackets.
     Bracketed {
         at: u32,
-        inner: Boxed<Expr>,
+        inner: Subtree<Expr>,
     },
     Integer {
         at: u32,
@@ -360,7 +455,7 @@ pub enum Expr {
     },
     List {
         at: u32,
-        items: Items<Expr>,
+        items: Items<Subtree<Expr>>,
     },
     Map {
         at: u32,
@@ -386,13 +481,13 @@ pub enum Expr {
     NewArray {
         at: u32,
         of: TypeName,
-        sizes: Items<Expr>,
+        sizes: Items<Subtree<Expr>>,
     },
     /// `new of[] { items }`
     NewItems {
         at: u32,
         of: TypeName,
-        items: Items<Expr>,
+        items: Items<Subtree<Expr>>,
     },
     /// A type, whose member is taken.
     Type {
@@ -402,14 +497,14 @@ pub enum Expr {
     Member {
         access: Access,
         at: u32,
-        receiver: Boxed<Expr>,
+        receiver: Subtree<Expr>,
         spelling: Text,
     },
     /// A call of a member, at its name.
     Method {
         access: Access,
         at: u32,
-        receiver: Boxed<Expr>,
+        receiver: Subtree<Expr>,
         spelling: Text,
         arguments: Items<Argument>,
     },
@@ -417,30 +512,203 @@ pub enum Expr {
     Element {
         access: Access,
         at: u32,
-        receiver: Boxed<Expr>,
+        receiver: Subtree<Expr>,
         spelling: Text,
     },
     /// `receiver[index]`, at the `[`.
     Index {
         at: u32,
-        receiver: Boxed<Expr>,
-        index: Boxed<Expr>,
+        receiver: Subtree<Expr>,
+        index: Subtree<Expr>,
     },
+}
+
+impl Drop for Expr {
+    /// Expressions inside expressions are let go in a loop, since they may nest too deep for the machine's stack: it goes on with the
+    /// one of most nodes, and the others are let go by calls, which nest at most as the logarithm of the number of nodes.
+    #[cycle(letting_go)]
+    fn drop(mut self) {
+        loop {
+            let last = match self {
+                Expr::Assign {
+                    operator: _,
+                    at: _,
+                    target,
+                    value,
+                } => {
+                    if target.nodes() < value.nodes() {
+                        value
+                    } else {
+                        target
+                    }
+                },
+                Expr::Conditional {
+                    at: _,
+                    condition,
+                    yes,
+                    no,
+                } => {
+                    let side = if yes.nodes() < no.nodes() { no } else { yes };
+                    if side.nodes() < condition.nodes() {
+                        condition
+                    } else {
+                        side
+                    }
+                },
+                Expr::Elvis { at: _, left, right } => {
+                    if left.nodes() < right.nodes() {
+                        right
+                    } else {
+                        left
+                    }
+                },
+                Expr::Binary {
+                    operator: _,
+                    at: _,
+                    left,
+                    right,
+                } => {
+                    if left.nodes() < right.nodes() {
+                        right
+                    } else {
+                        left
+                    }
+                },
+                Expr::Instanceof {
+                    at: _,
+                    operand,
+                    of: _of,
+                } => operand,
+                Expr::Unary {
+                    operator: _,
+                    at: _,
+                    operand,
+                } => operand,
+                Expr::Prefix {
+                    step: _,
+                    at: _,
+                    target,
+                } => target,
+                Expr::Postfix {
+                    step: _,
+                    at: _,
+                    target,
+                } => target,
+                Expr::Cast {
+                    at: _,
+                    of: _of,
+                    operand,
+                } => operand,
+                Expr::Bracketed { at: _, inner } => inner,
+                Expr::Integer {
+                    at: _,
+                    spelling: _spelling,
+                } => return,
+                Expr::Text {
+                    at: _,
+                    spelling: _spelling,
+                } => return,
+                Expr::Constant { constant: _, at: _ } => return,
+                Expr::List {
+                    at: _,
+                    items: _items,
+                } => return,
+                Expr::Map {
+                    at: _,
+                    entries: _entries,
+                } => return,
+                Expr::Name {
+                    at: _,
+                    spelling: _spelling,
+                } => return,
+                Expr::Call {
+                    at: _,
+                    spelling: _spelling,
+                    arguments: _arguments,
+                } => return,
+                Expr::New {
+                    at: _,
+                    of: _of,
+                    arguments: _arguments,
+                } => return,
+                Expr::NewArray {
+                    at: _,
+                    of: _of,
+                    sizes: _sizes,
+                } => return,
+                Expr::NewItems {
+                    at: _,
+                    of: _of,
+                    items: _items,
+                } => return,
+                Expr::Type { of: _of } => return,
+                Expr::Member {
+                    access: _,
+                    at: _,
+                    receiver,
+                    spelling: _spelling,
+                } => receiver,
+                Expr::Method {
+                    access: _,
+                    at: _,
+                    receiver,
+                    spelling: _spelling,
+                    arguments: _arguments,
+                } => receiver,
+                Expr::Element {
+                    access: _,
+                    at: _,
+                    receiver,
+                    spelling: _spelling,
+                } => receiver,
+                Expr::Index {
+                    at: _,
+                    receiver,
+                    index,
+                } => {
+                    if receiver.nodes() < index.nodes() {
+                        index
+                    } else {
+                        receiver
+                    }
+                },
+            };
+            self = last.into_inner();
+        }
+    }
+}
+
+impl Expr {
+    /// In a box, with the count of its nodes.
+    pub fn held(alloc: Global, expr: Expr) -> Result<Subtree<Expr>, AllocError>
+        ensures { IfOk result (λ held. held ≡ expr) }
+    {
+        let nodes = expr.nodes();
+        Subtree::new(alloc, expr, nodes)
+    }
 }
 
 /// A key of a map, and its value.
 #[cycle(tree)]
-#[derive(Drop)]
 pub struct Entry {
-    pub key: Expr,
-    pub value: Expr,
+    pub key: Subtree<Expr>,
+    pub value: Subtree<Expr>,
+}
+
+impl Drop for Entry {
+    #[cycle(letting_go)]
+    fn drop(self) {
+        let Entry {
+            key: _key,
+            value: _value,
+        } = self;
+    }
 }
 
 /// What is passed, assigned at a declaration, or returned.
 #[cycle(tree)]
-#[derive(Drop)]
 pub enum Argument {
-    Value(Expr),
+    Value(Subtree<Expr>),
     /// A lambda, at its first token.
     Lambda {
         at: u32,
@@ -463,10 +731,42 @@ pub enum Argument {
     },
 }
 
+impl Drop for Argument {
+    #[cycle(letting_go)]
+    fn drop(self) {
+        match self {
+            Argument::Value(_expr) => {}
+            Argument::Lambda {
+                at: _,
+                parameters: _parameters,
+                body: _body,
+            } => {}
+            Argument::Reference {
+                of: _of,
+                spelling: _spelling,
+            } => {}
+            Argument::NewReference { of: _of } => {}
+            Argument::ThisReference {
+                at: _,
+                spelling: _spelling,
+            } => {}
+        }
+    }
+}
+
 /// What a lambda runs.
 #[cycle(tree)]
-#[derive(Drop)]
 pub enum LambdaBody {
     Block(Block),
-    Expression(Boxed<Expr>),
+    Expression(Subtree<Expr>),
+}
+
+impl Drop for LambdaBody {
+    #[cycle(letting_go)]
+    fn drop(self) {
+        match self {
+            LambdaBody::Block(_block) => {}
+            LambdaBody::Expression(_expr) => {}
+        }
+    }
 }

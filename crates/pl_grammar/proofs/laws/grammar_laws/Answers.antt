@@ -11,6 +11,7 @@ use Rattle.pl_grammar.specs.Parses.{IsScript, BeginsScript, Parses, Refused}
 use Rattle.pl_grammar.specs.Reading.{read_script}
 use Rattle.pl_grammar.proofs.Complete.{Gets}
 use Rattle.pl_grammar.proofs.Prefix.{form_prefix}
+use Rattle.pl_grammar.proofs.Answered.{answered}
 use Rattle.pl_grammar.proofs.Whole.{script_sound, script_full, script_shallow, script_stops, only_tree, only_stop, only_deep}
 use Rattle.pl_grammar.proofs.laws.grammar_laws.Goals as goal
 
@@ -47,3 +48,6 @@ once text tokens (Err r) b h g = by (nesting_fault tokens) refl h
 
 pub returns-clause-unique : goal.returns-clause-unique
 returns-clause-unique c = λ text tokens a b h g. once text tokens a b h g
+
+pub returns-clause-answered : goal.returns-clause-answered
+returns-clause-answered c = λ text tokens. answered text tokens
