@@ -1,6 +1,7 @@
 -- One lemma for each kind of node: its code does what it means.
 use Rattle.std.proofs.Common.{ℕ, suc, List, ◌∷◌, Option, Some, None, ℤ, refl}
-use Rattle.int_arith.specs.Arithmetic.{quotient_of, remainder_of}
+use Rattle.std.specs.Int.{w32}
+use Rattle.arithmetic.specs.Arithmetic.{quotient_of, remainder_of}
 use Rattle.machine.specs.declared.code.Instruction.{Instruction}
 use Rattle.machine.specs.declared.code.Operand.{Operand}
 use Rattle.machine.specs.declared.code.Operand.TheVariants.{Int}
@@ -26,7 +27,7 @@ module _ (code : List Instruction) where
   operation_follows Add q stack a b = lands_here code
   operation_follows Subtract q stack a b = lands_here code
   operation_follows Multiply q stack a b = lands_here code
-  operation_follows Divide q stack a b = division_follows (suc q) stack (quotient_of a b)
+  operation_follows Divide q stack a b = division_follows (suc q) stack (quotient_of w32 a b)
   operation_follows Remainder q stack a b = division_follows (suc q) stack (remainder_of a b)
 
   constant_runs : (n : ℤ) → Runs (Constant n)

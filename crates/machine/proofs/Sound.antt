@@ -1,7 +1,8 @@
 -- A run of well-shaped code never comes where no row fits, and ends.
 use Rattle.std.proofs.Common.{◌≡◌, ◌≢◌, ℕ, zero, suc, ◌+◌, ◌<◌, ◌≤◌, List, [], ◌∷◌, map, length, Option, Some, None, ℤ, refl, sym, ap, ◌∙◌, subst, arith}
 use Rattle.std.specs.Prelude.{slice_get}
-use Rattle.int_arith.specs.Arithmetic.{quotient_of, remainder_of}
+use Rattle.std.specs.Int.{w32}
+use Rattle.arithmetic.specs.Arithmetic.{quotient_of, remainder_of}
 use Rattle.machine.specs.declared.code.Instruction.{Instruction}
 use Rattle.machine.specs.declared.code.Instruction.TheVariants.{ConstantI, AddI, SubI, MulI, DivI, RemI, NegI, BoxInt, Ret}
 use Rattle.machine.specs.declared.code.Operand.{Operand}
@@ -58,7 +59,7 @@ act_agrees (ConstantI n) line stack = (refl, refl)
 act_agrees AddI line stack = ints_agree (suc line) stack _ (λ a b stack. (refl, refl))
 act_agrees SubI line stack = ints_agree (suc line) stack _ (λ a b stack. (refl, refl))
 act_agrees MulI line stack = ints_agree (suc line) stack _ (λ a b stack. (refl, refl))
-act_agrees DivI line stack = ints_agree (suc line) stack _ (λ a b stack. division_agrees (suc line) (quotient_of a b) stack)
+act_agrees DivI line stack = ints_agree (suc line) stack _ (λ a b stack. division_agrees (suc line) (quotient_of w32 a b) stack)
 act_agrees RemI line stack = ints_agree (suc line) stack _ (λ a b stack. division_agrees (suc line) (remainder_of a b) stack)
 act_agrees NegI line stack = int_agrees (suc line) stack _ _ (λ a stack. (refl, refl))
 act_agrees BoxInt line stack = int_agrees (suc line) stack _ _ (λ a stack. (refl, refl))

@@ -1,6 +1,7 @@
 -- What the machine does: one row for each instruction.
 use Rattle.std.specs.Prelude.{◌≡◌, ℕ, zero, suc, ◌<◌, List, [], ◌∷◌, Option, Some, None, ℤ, slice_get}
-use Rattle.int_arith.specs.Arithmetic.{sum_of, difference_of, product_of, quotient_of, remainder_of, negation_of}
+use Rattle.std.specs.Int.{w32}
+use Rattle.arithmetic.specs.Arithmetic.{sum_of, difference_of, product_of, quotient_of, remainder_of, negation_of}
 use Rattle.machine.specs.declared.code.Instruction.{Instruction}
 use Rattle.machine.specs.declared.code.Instruction.TheVariants.{ConstantI, AddI, SubI, MulI, DivI, RemI, NegI, BoxInt, Ret}
 use Rattle.machine.specs.declared.code.Operand.{Operand}
@@ -59,12 +60,12 @@ on_result (BoxedInt v ∷ u ∷ stack) = Stuck
 -- an instruction at a line, on a stack
 abbrev pub act : Instruction → ℕ → List Operand → Next
 act (ConstantI n) line stack = to_line (suc line) (Int n ∷ stack)
-act AddI line stack = on_ints stack (λ a b stack. to_line (suc line) (Int (sum_of a b) ∷ stack))
-act SubI line stack = on_ints stack (λ a b stack. to_line (suc line) (Int (difference_of a b) ∷ stack))
-act MulI line stack = on_ints stack (λ a b stack. to_line (suc line) (Int (product_of a b) ∷ stack))
-act DivI line stack = on_ints stack (λ a b stack. on_division (quotient_of a b) (suc line) stack)
+act AddI line stack = on_ints stack (λ a b stack. to_line (suc line) (Int (sum_of w32 a b) ∷ stack))
+act SubI line stack = on_ints stack (λ a b stack. to_line (suc line) (Int (difference_of w32 a b) ∷ stack))
+act MulI line stack = on_ints stack (λ a b stack. to_line (suc line) (Int (product_of w32 a b) ∷ stack))
+act DivI line stack = on_ints stack (λ a b stack. on_division (quotient_of w32 a b) (suc line) stack)
 act RemI line stack = on_ints stack (λ a b stack. on_division (remainder_of a b) (suc line) stack)
-act NegI line stack = on_int stack (λ a stack. to_line (suc line) (Int (negation_of a) ∷ stack))
+act NegI line stack = on_int stack (λ a stack. to_line (suc line) (Int (negation_of w32 a) ∷ stack))
 act BoxInt line stack = on_int stack (λ a stack. to_line (suc line) (BoxedInt a ∷ stack))
 act Ret line stack = on_result stack
 

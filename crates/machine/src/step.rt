@@ -5,7 +5,7 @@ ghost use Rattle.machine.specs.declared.code.Operand.TheVariants.{Int, BoxedInt}
 
 use crate::code::{Code, Instruction, Operand};
 use crate::stack::Stack;
-use int_arith::{difference, negation, product, quotient, remainder, sum};
+use arithmetic::int::{difference, negation, product, quotient, remainder, sum};
 use script_end::{End, Exception};
 use std::alloc::{AllocError, Global};
 

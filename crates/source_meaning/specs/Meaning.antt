@@ -1,7 +1,8 @@
 -- What an expression means: a value of the type `int`, or a thrown error.
 -- Operands are evaluated from the left to the right, and the first that throws ends the evaluation (Java Language Specification, 15.7).
 use Rattle.std.specs.Prelude.{Option, Some, None, ℤ}
-use Rattle.int_arith.specs.Arithmetic.{sum_of, difference_of, product_of, quotient_of, remainder_of, negation_of}
+use Rattle.std.specs.Int.{w32}
+use Rattle.arithmetic.specs.Arithmetic.{sum_of, difference_of, product_of, quotient_of, remainder_of, negation_of}
 use Rattle.pl_tree.specs.declared.typed.Operator.{Operator}
 use Rattle.pl_tree.specs.declared.typed.Operator.TheVariants.{Add, Subtract, Multiply, Divide, Remainder}
 use Rattle.pl_tree.specs.declared.typed.Typed.{Typed}
@@ -22,15 +23,15 @@ divided None = Thrown DivisionByZero
 
 -- what an operator makes of the values of its two sides
 abbrev pub applied : Operator → ℤ → ℤ → End
-applied Add a b = Value (sum_of a b)
-applied Subtract a b = Value (difference_of a b)
-applied Multiply a b = Value (product_of a b)
-applied Divide a b = divided (quotient_of a b)
+applied Add a b = Value (sum_of w32 a b)
+applied Subtract a b = Value (difference_of w32 a b)
+applied Multiply a b = Value (product_of w32 a b)
+applied Divide a b = divided (quotient_of w32 a b)
 applied Remainder a b = divided (remainder_of a b)
 
 abbrev pub tree_meaning : Tree → End
 tree_meaning (Constant n) = Value n
-tree_meaning (Negated operand) = and_then (tree_meaning operand) (λ v. Value (negation_of v))
+tree_meaning (Negated operand) = and_then (tree_meaning operand) (λ v. Value (negation_of w32 v))
 tree_meaning (Applied operator left right) = and_then (tree_meaning left) (λ a. and_then (tree_meaning right) (λ b. applied operator a b))
 
 abbrev pub meaning_of : Typed → End

@@ -1,7 +1,7 @@
 ghost use Rattle.std.specs.Prelude.{◌≡◌};
 ghost use Rattle.source_meaning.specs.Meaning.{meaning_of, applied, divided};
 
-use int_arith::{difference, negation, product, quotient, remainder, sum};
+use arithmetic::int::{difference, negation, product, quotient, remainder, sum};
 use pl_tree::{Operator, Typed};
 use script_end::{End, Exception};
 
