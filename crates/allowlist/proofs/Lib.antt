@@ -1,4 +1,5 @@
 pub mod Comparing
+pub mod Joining
 pub mod Tables
 pub mod Places
 pub mod Members

@@ -1,6 +1,6 @@
 //! What a line of an allowlist file says.
 
-ghost use Rattle.std.specs.Prelude.{◌≡◌, ◌==◌, ◌≤◌, IfOk, None, if◌then◌else◌, length, option_map};
+ghost use Rattle.std.specs.Prelude.{◌≡◌, ◌==◌, ◌≤◌, IfOk, None, if◌then◌else◌, false, true, length, option_map};
 ghost use Rattle.std.specs.List.{position_or_len};
 ghost use Rattle.std.specs.Str.{bytes_eq, is_utf8};
 ghost use Rattle.allowlist.specs.Lines.{types_at, params_at, called, augmented_at, after_name, named_at, opening_at, import_at, member_at, after_word, constructor_at, content_form, form_of, at_end, augmentation, is_name, is_class_name};

@@ -2,6 +2,7 @@
 
 ghost use Rattle.std.specs.Prelude.{◌≡◌, ℕ, List, Some, true, slice_get, length};
 ghost use Rattle.pl_types.specs.Classes.{class_is_below, parents_of};
+ghost use Rattle.allowlist.specs.declared.member.MemberKind.TheVariants.{Instance};
 ghost use Rattle.allowlist.specs.declared.member.MemberType.{MemberType};
 ghost use Rattle.allowlist.specs.Catalogue.{catalogue};
 ghost use Rattle.allowlist.specs.Allow.{AllowList, own_member, member_of, or_else, first_along, flag, iface_method_of};
@@ -24,7 +25,7 @@ pub fn catalogue_laws()
         → (m : MemberType) × (slice_get catalogue number ≡ Some m) × (class_is_below class m.owner ≡ true) }
     // The one method of a functional interface is an instance member of the interface or of what stands above it.
     ensures method { (class number : ℕ) → iface_method_of class ≡ Some number
-        → (m : MemberType) × (slice_get catalogue number ≡ Some m) × (m.kind ≡ MemberKind.Instance) × (class_is_below class m.owner ≡ true) }
+        → (m : MemberType) × (slice_get catalogue number ≡ Some m) × (m.kind ≡ Instance) × (class_is_below class m.owner ≡ true) }
 {
     class_laws();
 }

@@ -22,6 +22,3 @@ pub use laws::catalogue_laws;
 pub use member::{MemberKind, MemberType, Origin};
 pub use name::Accessor;
 pub use table::MEMBER_COUNT;
-
-#[cfg(test)]
-mod tests;
