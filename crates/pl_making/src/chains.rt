@@ -1,36 +1,39 @@
 //! Operators and members that follow one another.
 
-ghost use Rattle.std.specs.Prelude.{◌≡◌, IfOk};
+ghost use Rattle.std.specs.Prelude.{◌≡◌, ℕ, IfOk};
 ghost use Rattle.pl_grammar.specs.Making as making;
 
 use crate::lists::turned;
 use pl_grammar::{Operation, Placed, Suffix};
 use pl_tree::Expr;
-use plain_data::{Boxed, Items};
+use plain_data::{Items, Subtree};
 use std::alloc::{AllocError, Global};
+
+/// What an operation makes of its left operand.
+fn operation_on(operand: Subtree<Expr>, operation: Operation) -> Expr
+    ensures { (start : ℕ) → record { start = start; expr = result } ≡ making.applied (record { start = start; expr = operand }) operation }
+{
+    match operation {
+        Operation::Binary(operator, at, right) => Expr::Binary {
+            operator,
+            at,
+            left: operand,
+            right,
+        },
+        Operation::Test(at, of) => Expr::Instanceof { at, operand, of },
+    }
+}
 
 /// An expression with one operation more, to the right.
 fn applied(alloc: Global, left: Placed, operation: Operation) -> Result<Placed, AllocError>
     ensures { IfOk result (λ placed. placed ≡ making.applied left operation) }
 {
-    let Placed { start, expr } = left;
-    let operand = Boxed::new(alloc, expr)?;
-    match operation {
-        Operation::Binary(operator, at, right) => {
-            let other = Boxed::new(alloc, right)?;
-            let expr = Expr::Binary {
-                operator,
-                at,
-                left: operand,
-                right: other,
-            };
-            Ok(Placed { start, expr })
-        }
-        Operation::Test(at, of) => {
-            let expr = Expr::Instanceof { at, operand, of };
-            Ok(Placed { start, expr })
-        }
-    }
+    let Placed {
+        start,
+        expr: operand,
+    } = left;
+    let expr = Expr::held(alloc, operation_on(operand, operation))?;
+    Ok(Placed { start, expr })
 }
 
 /// An expression and the operations after it, which group to the left.
@@ -50,39 +53,46 @@ pub fn joined(
 }
 
 /// What a suffix takes of an expression.
-pub fn suffixed_by(alloc: Global, of: Expr, suffix: Suffix) -> Result<Expr, AllocError>
-    ensures { IfOk result (λ expr. expr ≡ making.suffixed_by of suffix) }
+fn suffix_on(receiver: Subtree<Expr>, suffix: Suffix) -> Expr
+    ensures { result ≡ making.suffixed_by receiver suffix }
 {
-    let receiver = Boxed::new(alloc, of)?;
     match suffix {
-        Suffix::Member(access, at, spelling) => Ok(Expr::Member {
+        Suffix::Member(access, at, spelling) => Expr::Member {
             access,
             at,
             receiver,
             spelling,
-        }),
-        Suffix::Method(access, at, spelling, arguments) => Ok(Expr::Method {
+        },
+        Suffix::Method(access, at, spelling, arguments) => Expr::Method {
             access,
             at,
             receiver,
             spelling,
             arguments,
-        }),
-        Suffix::Element(access, at, spelling) => Ok(Expr::Element {
+        },
+        Suffix::Element(access, at, spelling) => Expr::Element {
             access,
             at,
             receiver,
             spelling,
-        }),
-        Suffix::Index(at, index) => {
-            let index = Boxed::new(alloc, index)?;
-            Ok(Expr::Index {
-                at,
-                receiver,
-                index,
-            })
-        }
+        },
+        Suffix::Index(at, index) => Expr::Index {
+            at,
+            receiver,
+            index,
+        },
     }
+}
+
+/// What a suffix takes of an expression, in a box.
+pub fn suffixed_by(
+    alloc: Global,
+    of: Subtree<Expr>,
+    suffix: Suffix,
+) -> Result<Subtree<Expr>, AllocError>
+    ensures { IfOk result (λ expr. expr ≡ making.suffixed_by of suffix) }
+{
+    Expr::held(alloc, suffix_on(of, suffix))
 }
 
 fn followed_by(alloc: Global, of: Placed, suffix: Suffix) -> Result<Placed, AllocError>
