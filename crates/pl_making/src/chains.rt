@@ -1,6 +1,6 @@
 //! Operators and members that follow one another.
 
-ghost use Rattle.std.specs.Prelude.{◌≡◌, ℕ, IfOk};
+ghost use Rattle.std.specs.Prelude.{◌≡◌, IfOk};
 ghost use Rattle.pl_grammar.specs.Making as making;
 
 use crate::lists::turned;
@@ -8,21 +8,6 @@ use pl_grammar::{Operation, Placed, Suffix};
 use pl_tree::Expr;
 use plain_data::{Items, Subtree};
 use std::alloc::{AllocError, Global};
-
-/// What an operation makes of its left operand.
-fn operation_on(operand: Subtree<Expr>, operation: Operation) -> Expr
-    ensures { (start : ℕ) → record { start = start; expr = result } ≡ making.applied (record { start = start; expr = operand }) operation }
-{
-    match operation {
-        Operation::Binary(operator, at, right) => Expr::Binary {
-            operator,
-            at,
-            left: operand,
-            right,
-        },
-        Operation::Test(at, of) => Expr::Instanceof { at, operand, of },
-    }
-}
 
 /// An expression with one operation more, to the right.
 fn applied(alloc: Global, left: Placed, operation: Operation) -> Result<Placed, AllocError>
@@ -32,8 +17,22 @@ fn applied(alloc: Global, left: Placed, operation: Operation) -> Result<Placed, 
         start,
         expr: operand,
     } = left;
-    let expr = Expr::held(alloc, operation_on(operand, operation))?;
-    Ok(Placed { start, expr })
+    match operation {
+        Operation::Binary(operator, at, right) => {
+            let whole = Expr::Binary {
+                operator,
+                at,
+                left: operand,
+                right,
+            };
+            let expr = Expr::held(alloc, whole)?;
+            Ok(Placed { start, expr })
+        }
+        Operation::Test(at, of) => {
+            let expr = Expr::held(alloc, Expr::Instanceof { at, operand, of })?;
+            Ok(Placed { start, expr })
+        }
+    }
 }
 
 /// An expression and the operations after it, which group to the left.

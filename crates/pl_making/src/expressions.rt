@@ -1,42 +1,41 @@
 //! Expressions of operators.
 
-ghost use Rattle.std.specs.Prelude.{◌≡◌, ℕ, Some, IfOk};
+ghost use Rattle.std.specs.Prelude.{◌≡◌, Some, IfOk};
 ghost use Rattle.pl_grammar.specs.Making as making;
 
 use crate::token::step_of;
 use pl_grammar::{ElvisRest, ExprRest, Placed};
 use pl_lexer::Token;
 use pl_tree::Expr;
-use plain_data::Subtree;
 use std::alloc::{AllocError, Global};
 
 /// The conditional or assignment with this left side.
-fn rest_on(left: Subtree<Expr>, rest: ExprRest) -> Expr
-    ensures { (start : ℕ) → record { start = start; expr = result } ≡ making.with_rest (record { start = start; expr = left }) (Some rest) }
-{
-    match rest {
-        ExprRest::Conditional(at, yes, no) => Expr::Conditional {
-            at,
-            condition: left,
-            yes,
-            no,
-        },
-        ExprRest::Assign(operator, at, value) => Expr::Assign {
-            operator,
-            at,
-            target: left,
-            value,
-        },
-    }
-}
-
-/// The same, with its place.
 fn continued(alloc: Global, left: Placed, rest: ExprRest) -> Result<Placed, AllocError>
     ensures { IfOk result (λ placed. placed ≡ making.with_rest left (Some rest)) }
 {
     let Placed { start, expr } = left;
-    let expr = Expr::held(alloc, rest_on(expr, rest))?;
-    Ok(Placed { start, expr })
+    match rest {
+        ExprRest::Conditional(at, yes, no) => {
+            let whole = Expr::Conditional {
+                at,
+                condition: expr,
+                yes,
+                no,
+            };
+            let expr = Expr::held(alloc, whole)?;
+            Ok(Placed { start, expr })
+        }
+        ExprRest::Assign(operator, at, value) => {
+            let whole = Expr::Assign {
+                operator,
+                at,
+                target: expr,
+                value,
+            };
+            let expr = Expr::held(alloc, whole)?;
+            Ok(Placed { start, expr })
+        }
+    }
 }
 
 /// A left side with what makes it a conditional or an assignment, if anything.
