@@ -72,20 +72,50 @@ pub const LONG_LISTS: [(&str, &str, &str); 8] = [
 
 /// Scripts of some 65,000 bytes that are one statement each. What stands before the middle is so many times a part so many times and
 /// a part with a `}`; what stands behind it is such a part too.
-pub const DEEP_TREES: [(usize, usize, [&str; 2], &str, [&str; 2]); 11] = [
+pub const DEEP_TREES: [(usize, usize, [&str; 3], &str, [&str; 3]); 11] = [
     // 32,000 levels to the left and to the right.
-    (80, 400, ["", ""], "a", ["+a", "+new a[]{}"]),
-    (80, 400, ["a=", "new a[]{}="], "a", ["", ""]),
-    (53, 400, ["a?:", "new a[]{}?:"], "a", ["", ""]),
-    (85, 250, ["", ""], "a", ["[0]", "[new a[]{}]"]),
-    (80, 400, ["", ""], "a", [".a", "[new a[]{}]"]),
+    (80, 400, ["", "", ""], "a", ["+a", "+new a[]{}", ""]),
+    (80, 400, ["a=", "new a[]{}=", ""], "a", ["", "", ""]),
+    (53, 400, ["a?:", "new a[]{}?:", ""], "a", ["", "", ""]),
+    (85, 250, ["", "", ""], "a", ["[0]", "[new a[]{}]", ""]),
+    (80, 400, ["", "", ""], "a", [".a", "[new a[]{}]", ""]),
     // 16,000 levels in the middle.
-    (40, 400, ["a?", "new a[]{}?"], "a", [":a", ":new a[]{}"]),
+    (
+        40,
+        400,
+        ["a?", "new a[]{}?", ""],
+        "a",
+        [":a", ":new a[]{}", ""],
+    ),
     // To the left and to the right in turns.
-    (40, 200, ["a=a+", "new a[]{}="], "a", ["", ""]),
-    (52, 200, ["a?a:", "new a[]{}?a:"], "a", ["+a", "+new a[]{}"]),
+    (40, 200, ["a=a+", "new a[]{}=", ""], "a", ["", "", ""]),
+    (
+        52,
+        200,
+        ["a?a:", "new a[]{}?a:", ""],
+        "a",
+        ["+a", "+new a[]{}", ""],
+    ),
     // Statements.
-    (38, 280, ["if(a)", "try{}catch(Object o){"], "x", ["", "}"]),
-    (2800, 1, ["if(a)", "do{}while(a);else "], "x", ["", ""]),
-    (3500, 1, ["if(a)", "while(a){}else "], "for(;;);", ["", ""]),
+    (
+        38,
+        280,
+        ["if(a)", "try{}catch(Object o){", ""],
+        "x",
+        ["", "}", ""],
+    ),
+    (
+        2800,
+        1,
+        ["if(a)", "do{}while(a);else ", ""],
+        "x",
+        ["", "", ""],
+    ),
+    (
+        3500,
+        1,
+        ["if(a)", "while(a){}else ", ""],
+        "for(;;);",
+        ["", "", ""],
+    ),
 ];

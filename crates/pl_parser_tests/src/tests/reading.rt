@@ -157,14 +157,14 @@ pub fn are_deep(
     Ok(())
 }
 
-/// Many such parts, each with one more behind it.
-fn parts(
+/// Many such parts, each nested so many times.
+fn blocks_of(
     alloc: Global,
     blocks: usize,
     times: usize,
-    [part, last]: [&str; 2],
+    parts: [&str; 3],
 ) -> Result<String, AllocError> {
-    let block = nested(alloc, times, [part, last, ""])?;
+    let block = nested(alloc, times, parts)?;
     nested(alloc, blocks, [block.as_str(), "", ""])
 }
 
@@ -172,11 +172,11 @@ fn parts(
 pub fn have_one_statement(
     rt: &impl Abort,
     alloc: Global,
-    rows: &[(usize, usize, [&str; 2], &str, [&str; 2])],
+    rows: &[(usize, usize, [&str; 3], &str, [&str; 3])],
 ) -> Result<(), Fail> {
     for (blocks, times, before, middle, behind) in rows {
-        let front = parts(alloc, *blocks, *times, *before)?;
-        let back = parts(alloc, *blocks, *times, *behind)?;
+        let front = blocks_of(alloc, *blocks, *times, *before)?;
+        let back = blocks_of(alloc, *blocks, *times, *behind)?;
         let text = format!(in alloc; "{front}{middle}{back}")?;
         let tree = tree_of(rt, alloc, text.as_str())?;
         assert!(rt;
