@@ -303,20 +303,6 @@ const LINEAGE: [(u32, u32, bool); 11] = [
     (UNARY_OPERATOR, UNARY_OPERATOR, true),
 ];
 
-/// Classes with their full and their short names.
-const NAMES: [(u32, &str, &str); 6] = [
-    (OBJECT, "java.lang.Object", "Object"),
-    (ENTRY, "java.util.Map$Entry", "Map$Entry"),
-    (MAP, "java.util.Map", "Map"),
-    (
-        SCRIPT_DOC_VALUES,
-        "org.elasticsearch.index.fielddata.ScriptDocValues",
-        "ScriptDocValues",
-    ),
-    (PRELUDE, "Prelude", "Prelude"),
-    (STATIC_IMPORT, "static_import", "static_import"),
-];
-
 fn has_names(class: u32, full: &str, short: &str) -> bool {
     if class >= CLASS_COUNT {
         return false;
@@ -331,18 +317,12 @@ fn lineage_and_names(rt: HostRuntime) {
         let so = class_below(a, b) == below;
         assert!(rt; so);
     }
-    for (class, full, short) in NAMES {
-        assert!(rt; class_of_full_name(full) == Some(class), "{full}");
-        assert!(rt; class < 57);
-        assert!(rt;
-            class_full(class) == full && class_short(class) == short,
-            "{full}"
-        );
-    }
-    for name in ["", "Object", "java.util.Map.Entry", "java.util.Maps"] {
-        let none = class_of_full_name(name).is_none();
-        assert!(rt; none);
-    }
+    assert!(rt; has_names(OBJECT, "java.lang.Object", "Object"));
+    assert!(rt; has_names(ENTRY, "java.util.Map$Entry", "Map$Entry"));
+    assert!(rt; has_names(PRELUDE, "Prelude", "Prelude"));
+    assert!(rt; has_names(STATIC_IMPORT, "static_import", "static_import"));
+    assert!(rt; class_of_full_name("Map$Entry").is_none());
+    assert!(rt; class_of_full_name("java.util.Map.Entry").is_none());
 }
 
 /// Two primitives, and what they are promoted to.
