@@ -24,7 +24,7 @@ use pl_types::classes::{
 };
 
 /// A type that is no array, as a row of the table has it.
-#[derive(Clone, Copy, Debug)]
+#[derive(Clone, Copy)]
 pub enum Element {
     Def,
     Prim(Primitive),
@@ -32,7 +32,7 @@ pub enum Element {
 }
 
 /// A type as a row of the table has it.
-#[derive(Clone, Copy, Debug)]
+#[derive(Clone, Copy)]
 pub enum TypeRow {
     Void,
     One(Element),
@@ -42,7 +42,7 @@ pub enum TypeRow {
 }
 
 /// How a member is used, and whose work it is.
-#[derive(Clone, Copy, Debug)]
+#[derive(Clone, Copy)]
 pub enum How {
     /// A constructor.
     Makes,

@@ -3,7 +3,8 @@ use Rattle.std.specs.Prelude.{◌≡◌, ◌≢◌, ℕ, ◌+◌, ◌<◌, ◌�
 use Rattle.pl_types.specs.declared.refusal.Refusal.{Refusal}
 use Rattle.pl_lexer.specs.declared.token.Token.{Token}
 use Rattle.pl_lexer.specs.declared.token.Kind.{Kind}
-use Rattle.pl_lexer.specs.declared.TheConstants.{MOST_BYTES, BAD_TOKEN, OUT_OF_PROFILE, TOO_LARGE}
+use Rattle.pl_types.specs.declared.rules.TheConstants.{BAD_TOKEN, OUT_OF_PROFILE, TOO_LARGE}
+use Rattle.pl_lexer.specs.declared.TheConstants.{MOST_BYTES}
 use Rattle.pl_lexer.specs.Lexeme.{Lexeme, blank, token, foreign}
 use Rattle.pl_lexer.specs.Longest.{Leads, NothingLeads}
 use Rattle.pl_lexer.specs.Spelling.{spelling, is_dot}

@@ -8,7 +8,8 @@ ghost use Rattle.pl_lexer.specs.Tokens.{Lexes};
 
 use crate::found::Found;
 use crate::reading::found_at;
-use crate::{BAD_TOKEN, Kind, MOST_BYTES, OUT_OF_PROFILE, Sign, TOO_LARGE, Token};
+use crate::{Kind, MOST_BYTES, Sign, Token};
+use pl_types::rules::{BAD_TOKEN, OUT_OF_PROFILE, TOO_LARGE};
 use pl_types::{Fail, Refusal, TypeNames};
 use std::alloc::Global;
 

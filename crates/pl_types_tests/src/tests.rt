@@ -1,7 +1,7 @@
 ghost use Rattle.pl_types.specs.Classes.{class_is_below};
 
 use pl_types::classes::{
-    ARRAY_LIST, CHARACTER, COMPARABLE, ENTRY, EXCEPTION, HASH_SET, INTEGER, ITERABLE,
+    ARRAY_LIST, CHARACTER, CLASS_COUNT, COMPARABLE, ENTRY, EXCEPTION, HASH_SET, INTEGER, ITERABLE,
     LINKED_HASH_MAP, LINKED_HASH_SET, LIST, MAP, MATH, NUMBER, NUMBER_FORMAT_EXCEPTION, OBJECT,
     PRELUDE, SCRIPT_DOC_VALUES, STATIC_IMPORT, UNARY_OPERATOR,
 };
@@ -27,70 +27,49 @@ impl Lineage for Catalogue {
 }
 
 /// From, to, the cast that is not written, and the one that is.
-const CASTS: [(&str, &str, &str, &str); 42] = [
-    ("int", "java.lang.Integer", "wrap int int", "wrap int int"),
-    ("int", "java.lang.Long", "wrap int long", "wrap int long"),
-    ("int", "java.lang.Byte", "none", "wrap int byte"),
-    ("int", "java.lang.Number", "wrap int int", "wrap int int"),
-    (
-        "int",
-        "java.lang.Comparable",
-        "wrap int int",
-        "wrap int int",
-    ),
-    ("int", "java.lang.Object", "wrap int int", "wrap int int"),
-    ("int", "java.lang.String", "none", "none"),
-    ("boolean", "java.lang.Integer", "none", "none"),
-    ("char", "java.lang.Number", "none", "none"),
-    (
-        "char",
-        "java.lang.Integer",
-        "wrap char int",
-        "wrap char int",
-    ),
-    ("char", "java.lang.String", "none", "char to text"),
-    ("java.lang.String", "char", "none", "text to char"),
-    ("java.lang.String", "int", "none", "none"),
-    (
-        "java.lang.Integer",
-        "int",
-        "unwrap int int",
-        "unwrap int int",
-    ),
-    ("java.lang.Long", "int", "none", "unwrap long int"),
-    (
-        "java.lang.Character",
-        "int",
-        "unwrap char int",
-        "unwrap char int",
-    ),
-    ("java.lang.Integer", "boolean", "none", "none"),
-    ("java.lang.Integer", "java.lang.Number", "keep", "keep"),
-    ("java.lang.Number", "java.lang.Integer", "none", "explicit"),
-    ("java.lang.Integer", "java.lang.Long", "none", "none"),
-    ("java.util.List", "java.util.Map", "none", "none"),
-    ("java.lang.Object", "int", "none", "explicit"),
-    ("java.lang.Number", "int", "none", "explicit"),
-    ("java.lang.Comparable", "int", "none", "none"),
-    ("def", "int", "implicit", "explicit"),
-    ("def", "java.lang.String", "implicit", "explicit"),
-    ("def", "def", "keep", "keep"),
-    ("int", "def", "wrap int int", "wrap int int"),
-    ("java.lang.String", "def", "keep", "keep"),
-    ("null", "java.lang.String", "keep", "keep"),
-    ("null", "def", "keep", "keep"),
-    ("null", "null", "keep", "keep"),
-    ("null", "int", "none", "none"),
-    ("def", "null", "none", "none"),
-    ("void", "void", "none", "none"),
-    ("void", "def", "none", "none"),
-    ("def", "void", "none", "none"),
-    ("int[]", "int[]", "keep", "keep"),
-    ("int[]", "int[][]", "none", "none"),
-    ("int[]", "java.lang.Object", "keep", "keep"),
-    ("int[]", "java.util.List", "none", "none"),
-    ("java.lang.Object", "int[]", "none", "none"),
-];
+const CASTS: &str = "\
+int|java.lang.Integer|wrap int int|wrap int int
+int|java.lang.Long|wrap int long|wrap int long
+int|java.lang.Byte|none|wrap int byte
+int|java.lang.Number|wrap int int|wrap int int
+int|java.lang.Comparable|wrap int int|wrap int int
+int|java.lang.Object|wrap int int|wrap int int
+int|java.lang.String|none|none
+boolean|java.lang.Integer|none|none
+char|java.lang.Number|none|none
+char|java.lang.Integer|wrap char int|wrap char int
+char|java.lang.String|none|char to text
+java.lang.String|char|none|text to char
+java.lang.String|int|none|none
+java.lang.Integer|int|unwrap int int|unwrap int int
+java.lang.Long|int|none|unwrap long int
+java.lang.Character|int|unwrap char int|unwrap char int
+java.lang.Integer|boolean|none|none
+java.lang.Integer|java.lang.Number|keep|keep
+java.lang.Number|java.lang.Integer|none|explicit
+java.lang.Integer|java.lang.Long|none|none
+java.util.List|java.util.Map|none|none
+java.lang.Object|int|none|explicit
+java.lang.Number|int|none|explicit
+java.lang.Comparable|int|none|none
+def|int|implicit|explicit
+def|java.lang.String|implicit|explicit
+def|def|keep|keep
+int|def|wrap int int|wrap int int
+java.lang.String|def|keep|keep
+null|java.lang.String|keep|keep
+null|def|keep|keep
+null|null|keep|keep
+null|int|none|none
+def|null|none|none
+void|void|none|none
+void|def|none|none
+def|void|none|none
+int[]|int[]|keep|keep
+int[]|int[][]|none|none
+int[]|java.lang.Object|keep|keep
+int[]|java.util.List|none|none
+java.lang.Object|int[]|none|none";
 
 /// From each primitive to boolean, byte, short, char, int and long: `=` the same, `w` widening and so implicit, `n`
 /// narrowing and so explicit alone, `-` none. The Java Language Specification, 5.1.2 and 5.1.3.
@@ -105,17 +84,33 @@ const CONVERSIONS: [(&str, &str); 6] = [
 
 const PRIMITIVES: [&str; 6] = ["boolean", "byte", "short", "char", "int", "long"];
 
+fn cast_name(cast: Option<Cast>) -> &'static str {
+    match cast {
+        None => "none",
+        Some(Cast::Keep) => "keep",
+        Some(Cast::Implicit) => "implicit",
+        Some(Cast::Explicit) => "explicit",
+        Some(Cast::CharToText) => "char to text",
+        Some(Cast::TextToChar) => "text to char",
+        Some(Cast::Number(_, _)) => "number",
+        Some(Cast::Wrap(_, _)) => "wrap",
+        Some(Cast::Unwrap(_, _)) => "unwrap",
+    }
+}
+
+fn cast_types(cast: Option<Cast>) -> Option<(Primitive, Primitive)> {
+    match cast {
+        Some(Cast::Number(from, to)) => Some((from, to)),
+        Some(Cast::Wrap(from, to)) => Some((from, to)),
+        Some(Cast::Unwrap(from, to)) => Some((from, to)),
+        _ => None,
+    }
+}
+
 fn cast_text(alloc: Global, cast: Option<Cast>) -> Result<String, AllocError> {
-    let (name, from, to) = match cast {
-        None => return String::from_str(alloc, "none"),
-        Some(Cast::Keep) => return String::from_str(alloc, "keep"),
-        Some(Cast::Implicit) => return String::from_str(alloc, "implicit"),
-        Some(Cast::Explicit) => return String::from_str(alloc, "explicit"),
-        Some(Cast::CharToText) => return String::from_str(alloc, "char to text"),
-        Some(Cast::TextToChar) => return String::from_str(alloc, "text to char"),
-        Some(Cast::Number(from, to)) => ("number", from, to),
-        Some(Cast::Wrap(from, to)) => ("wrap", from, to),
-        Some(Cast::Unwrap(from, to)) => ("unwrap", from, to),
+    let name = cast_name(cast);
+    let Some((from, to)) = cast_types(cast) else {
+        return String::from_str(alloc, name);
     };
     let (from, to) = (primitive_word(from), primitive_word(to));
     format!(in alloc; "{name} {from} {to}")
@@ -129,23 +124,51 @@ fn casts(
     explicit: bool,
     wanted: &str,
 ) -> Result<bool, AllocError> {
-    let (Some(from), Some(to)) = (
-        Ty::of_full_text(alloc, from.as_bytes())?,
-        Ty::of_full_text(alloc, to.as_bytes())?,
-    ) else {
+    match Ty::of_full_text(alloc, from.as_bytes())? {
+        Some(from) => casts_from(alloc, &from, to, explicit, wanted),
+        None => Ok(false),
+    }
+}
+
+fn casts_from(
+    alloc: Global,
+    from: &Ty,
+    to: &str,
+    explicit: bool,
+    wanted: &str,
+) -> Result<bool, AllocError> {
+    match Ty::of_full_text(alloc, to.as_bytes())? {
+        Some(to) => has_text(alloc, cast(&Catalogue, from, &to, explicit), wanted),
+        None => Ok(false),
+    }
+}
+
+fn has_text(alloc: Global, cast: Option<Cast>, wanted: &str) -> Result<bool, AllocError> {
+    let given = cast_text(alloc, cast)?;
+    Ok(given.as_str() == wanted)
+}
+
+/// Whether the two casts of a line are those between its types.
+fn is_so(alloc: Global, line: &str) -> Result<bool, AllocError> {
+    let Some((from, line)) = line.split_once('|') else {
         return Ok(false);
     };
-    let given = cast_text(alloc, cast(&Catalogue, &from, &to, explicit))?;
-    Ok(given.as_str() == wanted)
+    let Some((to, line)) = line.split_once('|') else {
+        return Ok(false);
+    };
+    let Some((added, written)) = line.split_once('|') else {
+        return Ok(false);
+    };
+    let implicit = casts(alloc, from, to, false, added)?;
+    let explicit = casts(alloc, from, to, true, written)?;
+    Ok(implicit && explicit)
 }
 
 #[test]
 fn casts_of_each_kind(rt: HostRuntime) -> Result<(), test::Fail> {
-    for (from, to, added, written) in CASTS {
-        let implicit = casts(rt.alloc(), from, to, false, added)?;
-        assert!(rt; implicit, "{from} to {to}");
-        let explicit = casts(rt.alloc(), from, to, true, written)?;
-        assert!(rt; explicit, "({to}) {from}");
+    for line in CASTS.lines() {
+        let so = is_so(rt.alloc(), line)?;
+        assert!(rt; so, "{line}");
     }
     Ok(())
 }
@@ -210,12 +233,44 @@ const NO_TYPES: [&str; 12] = [
 ];
 
 fn has_texts(alloc: Global, full: &str, short: &str) -> Result<bool, AllocError> {
-    let Some(ty) = Ty::of_full_text(alloc, full.as_bytes())? else {
-        return Ok(false);
-    };
+    match Ty::of_full_text(alloc, full.as_bytes())? {
+        Some(ty) => texts_are(alloc, &ty, full, short),
+        None => Ok(false),
+    }
+}
+
+fn texts_are(alloc: Global, ty: &Ty, full: &str, short: &str) -> Result<bool, AllocError> {
+    let full_is = full_text_is(alloc, ty, full)?;
+    let short_is = short_text_is(alloc, ty, short)?;
+    let copied = is_copied(alloc, ty)?;
+    Ok(full_is && short_is && copied)
+}
+
+fn full_text_is(alloc: Global, ty: &Ty, wanted: &str) -> Result<bool, AllocError> {
+    let text = ty.full_text(alloc)?;
+    Ok(text.as_str() == wanted)
+}
+
+fn short_text_is(alloc: Global, ty: &Ty, wanted: &str) -> Result<bool, AllocError> {
+    let text = ty.short_text(alloc)?;
+    Ok(text.as_str() == wanted)
+}
+
+fn is_copied(alloc: Global, ty: &Ty) -> Result<bool, AllocError> {
     let copy = ty.share(alloc)?;
-    let (full_again, short_again) = (copy.full_text(alloc)?, copy.short_text(alloc)?);
-    Ok(ty.is(&copy) && full_again.as_str() == full && short_again.as_str() == short)
+    Ok(ty.is(&copy))
+}
+
+fn is_keyword(word: &str) -> bool {
+    match primitive_of_word(word.as_bytes()) {
+        Some(primitive) => primitive_word(primitive) == word,
+        None => false,
+    }
+}
+
+fn is_no_type(alloc: Global, text: &str) -> Result<bool, AllocError> {
+    let read = Ty::of_full_text(alloc, text.as_bytes())?;
+    Ok(read.is_none())
 }
 
 #[test]
@@ -225,12 +280,11 @@ fn texts_of_types(rt: HostRuntime) -> Result<(), test::Fail> {
         assert!(rt; same, "{full}");
     }
     for text in NO_TYPES {
-        let read = Ty::of_full_text(rt.alloc(), text.as_bytes())?;
-        assert!(rt; read.is_none(), "{text}");
+        let none = is_no_type(rt.alloc(), text)?;
+        assert!(rt; none, "{text}");
     }
     for word in PRIMITIVES {
-        let primitive = primitive_of_word(word.as_bytes());
-        assert!(rt; primitive.is_some_and(|p| primitive_word(p) == word));
+        assert!(rt; is_keyword(word), "{word}");
     }
     Ok(())
 }
@@ -249,36 +303,26 @@ const LINEAGE: [(u32, u32, bool); 11] = [
     (UNARY_OPERATOR, UNARY_OPERATOR, true),
 ];
 
-/// Classes with their full and their short names.
-const NAMES: [(u32, &str, &str); 6] = [
-    (OBJECT, "java.lang.Object", "Object"),
-    (ENTRY, "java.util.Map$Entry", "Map$Entry"),
-    (MAP, "java.util.Map", "Map"),
-    (
-        SCRIPT_DOC_VALUES,
-        "org.elasticsearch.index.fielddata.ScriptDocValues",
-        "ScriptDocValues",
-    ),
-    (PRELUDE, "Prelude", "Prelude"),
-    (STATIC_IMPORT, "static_import", "static_import"),
-];
+fn has_names(class: u32, full: &str, short: &str) -> bool {
+    if class >= CLASS_COUNT {
+        return false;
+    }
+    let found = class_of_full_name(full) == Some(class);
+    found && class_full(class) == full && class_short(class) == short
+}
 
 #[test]
 fn lineage_and_names(rt: HostRuntime) {
     for (a, b, below) in LINEAGE {
-        assert!(rt; class_below(a, b) == below, "{a} below {b}");
+        let so = class_below(a, b) == below;
+        assert!(rt; so);
     }
-    for (class, full, short) in NAMES {
-        assert!(rt; class_of_full_name(full) == Some(class), "{full}");
-        assert!(rt; class < 57);
-        assert!(rt;
-            class_full(class) == full && class_short(class) == short,
-            "{full}"
-        );
-    }
-    for name in ["", "Object", "java.util.Map.Entry", "java.util.Maps"] {
-        assert!(rt; class_of_full_name(name).is_none(), "{name}");
-    }
+    assert!(rt; has_names(OBJECT, "java.lang.Object", "Object"));
+    assert!(rt; has_names(ENTRY, "java.util.Map$Entry", "Map$Entry"));
+    assert!(rt; has_names(PRELUDE, "Prelude", "Prelude"));
+    assert!(rt; has_names(STATIC_IMPORT, "static_import", "static_import"));
+    assert!(rt; class_of_full_name("Map$Entry").is_none());
+    assert!(rt; class_of_full_name("java.util.Map.Entry").is_none());
 }
 
 /// Two primitives, and what they are promoted to.
