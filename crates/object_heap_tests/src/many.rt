@@ -18,8 +18,9 @@ fn fill(heap: &mut Heap) -> Result<(), HeapErr> {
 // Takes the keys 100, 200, .. up to 10,000 out, and says how many were there.
 fn thin_out(heap: &mut Heap) -> u32 {
     let mut found = 0u32;
-    for step in 1..101 {
-        if taken(heap.map_cut(0, &Value::Int(step * 100))) == step * 100 {
+    for step in 1i32..101 {
+        let key = step.wrapping_mul(100);
+        if taken(heap.map_cut(0, &Value::Int(key))) == key {
             found = found.saturating_add(1);
         }
     }

@@ -107,7 +107,9 @@ fn pay(heap: &mut Heap, paid: Paid) -> Result<bool, AllocError> {
             Ok(_) => Ok(true),
             Err(_) => Ok(false),
         },
-        Paid::Append => Ok(is_ok(heap.append(2, &[97, 98, 99])) && is_ok(heap.append(0, &[97, 98, 99]))),
+        Paid::Append => Ok(
+            is_ok(heap.append(2, &[97, 98, 99])) && is_ok(heap.append(0, &[97, 98, 99])),
+        ),
         Paid::Renew(count) => {
             let after = list(heap.alloc(), ARRAY_LIST, count, Guard::Open)?;
             Ok(heap.renew(0, after))
