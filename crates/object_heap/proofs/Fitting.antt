@@ -11,12 +11,12 @@ use Rattle.object_values.specs.declared.object.Target.TheVariants as t
 use Rattle.object_values.specs.Values.{is_simple}
 use Rattle.object_values.specs.Pairs.{value_of}
 use Rattle.object_heap.specs.Fits.{kinds, is_map, can_iterate, Typed, Rules, is_element, target_fits, ValueFits, AllFit, PairsFit, KeysFit, AreElements, ObjectFits, ObjectsFit, Fits, ItemFits}
-use Rattle.object_heap.specs.Objects.{Kind, AList, kind_of, may_become, changed, with_item, with_inserted, with_removed, with_put, with_key_cut, renewed_by, retired_target, retired}
+use Rattle.object_heap.specs.Objects.{Kind, AList, kind_of, may_become, changed, with_item, with_inserted, with_removed, with_put, with_key_cut, with_pair_cut, with_units, renewed_by, retired_target, retired}
 use Rattle.object_heap.specs.Parts.{object_items, object_pairs, object_captures, items_of, pairs_of, captures_of}
 use Rattle.object_heap.specs.Store.{with_change}
 use Rattle.object_heap.proofs.Growth.{cons_changed}
 use Rattle.object_heap.proofs.KindLemmas.{becomes_refl, Follows, follows_refl, follows_more, follows_length, still_passes, is_map_kept, can_iterate_kept, is_element_more, target_more}
-use Rattle.object_heap.proofs.PairLemmas.{distinct_with, distinct_without, pairs_with, pairs_without, keys_with, keys_without, value_there}
+use Rattle.object_heap.proofs.PairLemmas.{distinct_with, distinct_without, pairs_with, pairs_without, keys_with, keys_without, distinct_removed, pairs_removed, keys_removed, value_there}
 
 value_more : (n m : ℕ) → n ≤ m → (value : Value) → ValueFits n value → ValueFits m value
 value_more n m h (v.Ref id) f = omega arith
@@ -218,6 +218,38 @@ pub map_cut_fits : (rules : Rules) (objects : List Object) (id : ℕ) (key : Val
 map_cut_fits rules objects id key f = changed_fits rules objects id (with_key_cut key) (record {
   kind = key_cut_kind key;
   fit = λ object is g. key_cut_fit rules (kinds objects) key object g;
+}) f
+
+-- a pair that is taken out by its place
+pair_cut_kind : (at : ℕ) (object : Object) → may_become (kind_of object) (kind_of (with_pair_cut at object)) ≡ true
+pair_cut_kind at (o.Map class pairs guard changes) = becomes_refl (kind_of (o.Map class pairs guard changes))
+pair_cut_kind at (o.Set class items guard changes) = becomes_refl (kind_of (o.Set class items guard changes))
+pair_cut_kind at object = becomes_refl (kind_of object)
+
+pair_cut_fit : (rules : Rules) (ks : List Kind) (at : ℕ) (object : Object) → ObjectFits rules ks object → ObjectFits rules ks (with_pair_cut at object)
+pair_cut_fit rules ks at (o.Map class pairs guard changes) f = (f.0, pairs_removed _ pairs at f.1, distinct_removed pairs at f.2)
+pair_cut_fit rules ks at (o.Set class items guard changes) f = (f.0, keys_removed items at f.1, distinct_removed items at f.2)
+pair_cut_fit rules ks at object f = f
+
+pub map_cut_at_fits : (rules : Rules) (objects : List Object) (id at : ℕ) → Fits rules objects → Fits rules (with_change objects id (with_pair_cut at))
+map_cut_at_fits rules objects id at f = changed_fits rules objects id (with_pair_cut at) (record {
+  kind = pair_cut_kind at;
+  fit = λ object is g. pair_cut_fit rules (kinds objects) at object g;
+}) f
+
+-- units at the end of a builder
+units_kind : (more : List ℕ) (object : Object) → may_become (kind_of object) (kind_of (with_units more object)) ≡ true
+units_kind more (o.Builder units) = refl
+units_kind more object = becomes_refl (kind_of object)
+
+units_fit : (rules : Rules) (ks : List Kind) (more : List ℕ) (object : Object) → ObjectFits rules ks object → ObjectFits rules ks (with_units more object)
+units_fit rules ks more (o.Builder units) f = tt
+units_fit rules ks more object f = f
+
+pub append_fits : (rules : Rules) (objects : List Object) (id : ℕ) (more : List ℕ) → Fits rules objects → Fits rules (with_change objects id (with_units more))
+append_fits rules objects id more f = changed_fits rules objects id (with_units more) (record {
+  kind = units_kind more;
+  fit = λ object is g. units_fit rules (kinds objects) more object g;
 }) f
 
 -- an object that is replaced

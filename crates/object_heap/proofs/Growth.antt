@@ -1,5 +1,5 @@
 -- How changes of objects change the weight of a store.
-use Rattle.std.proofs.Common.{◌≡◌, ℕ, zero, suc, ◌+◌, ◌-◌, ◌*◌, true, false, Option, Some, None, List, [], ◌∷◌, ◌++◌, length, refl, ap, arith, slice_get, if◌then◌else◌}
+use Rattle.std.proofs.Common.{◌≡◌, ℕ, zero, suc, ◌+◌, ◌-◌, ◌*◌, true, false, Option, Some, None, List, [], ◌∷◌, ◌++◌, length, refl, ap, arith, length-append, slice_get, if◌then◌else◌}
 use Rattle.std.proofs.lemmas.List.Edits.{length-insert}
 use Rattle.std.proofs.lemmas.Bool.Decides.{nat_tests}
 use Rattle.object_values.specs.declared.value.Value.{Value}
@@ -8,7 +8,7 @@ use Rattle.object_values.specs.declared.object.Object.{Object}
 use Rattle.object_values.specs.declared.object.Object.TheVariants as o
 use Rattle.object_values.specs.Pairs.{value_of, with_pair}
 use Rattle.object_values.specs.Values.{same_value}
-use Rattle.object_heap.specs.Objects.{weight_of, with_inserted, insert_growth, with_put, put_growth, new_growth, renewed_by, renewal_growth, may_become, kind_of}
+use Rattle.object_heap.specs.Objects.{weight_of, with_inserted, insert_growth, with_put, with_units, units_growth, put_growth, new_growth, renewed_by, renewal_growth, may_become, kind_of}
 use Rattle.object_heap.specs.Parts.{asked}
 use Rattle.object_heap.specs.Store.{weight, changed_at, with_change}
 
@@ -40,6 +40,15 @@ insert_grows objects id at value = change_grows objects id _ _ (inserted_weighs 
 
 pub add_grows : (objects : List Object) (object : Object) → weight (objects ++ object ∷ []) - weight objects ≡ weight_of object
 add_grows objects object = omega (arith, weight-append objects object)
+
+units_weigh : (more : List ℕ) (object : Object) → weight_of (with_units more object) - weight_of object ≡ units_growth (length more) object
+unfolding weight_of
+units_weigh more (o.Builder units) = omega (arith, length-append units more)
+units_weigh more object = omega arith
+
+pub append_grows : (objects : List Object) (id : ℕ) (more : List ℕ)
+    → weight (with_change objects id (with_units more)) - weight objects ≡ asked (units_growth (length more)) 0 (slice_get objects id)
+append_grows objects id more = change_grows objects id _ _ (units_weigh more)
 
 length-with_pair : (pairs : List (Value × Value)) (key value : Value) → length (with_pair pairs key value) ≡ length pairs + new_growth (value_of pairs key) 1
 length-with_pair [] key value = refl

@@ -1,5 +1,5 @@
 -- Pairs with distinct keys keep them distinct.
-use Rattle.std.proofs.Common.{◌≡◌, ℕ, Bool, true, false, Option, Some, None, List, [], ◌∷◌, refl, ◌∙◌, subst, if◌then◌else◌}
+use Rattle.std.proofs.Common.{remove, suc, zero, ◌≡◌, ℕ, Bool, true, false, Option, Some, None, List, [], ◌∷◌, refl, ◌∙◌, subst, if◌then◌else◌}
 use Rattle.object_values.specs.declared.value.Value.{Value}
 use Rattle.object_values.specs.declared.value.Value.TheVariants as v
 use Rattle.object_values.specs.Values.{same_value, is_simple}
@@ -48,6 +48,32 @@ distinct_without [] key f = tt
 distinct_without (pair ∷ pairs) key f =
     elim (same_value key pair.0) as (λ b. HasDistinctKeys (if b then pairs else pair ∷ without_key pairs key))
     [ true ↦ f.1 | false ↦ (absent_without pairs key pair.0 f.0, distinct_without pairs key f.1) ]
+
+absent_removed : (pairs : List (Value × Value)) (at : ℕ) (other : Value) → value_of pairs other ≡ None → value_of (remove pairs at) other ≡ None
+absent_removed [] zero other h = refl
+absent_removed [] (suc at) other h = refl
+absent_removed (pair ∷ pairs) zero other h = (not_found (same_value other pair.0) pair.1 (value_of pairs other) h).1
+absent_removed (pair ∷ pairs) (suc at) other h =
+    let apart = not_found (same_value other pair.0) pair.1 (value_of pairs other) h in
+    passed_by (same_value other pair.0) pair.1 (value_of (remove pairs at) other) apart.0 (absent_removed pairs at other apart.1)
+
+pub distinct_removed : (pairs : List (Value × Value)) (at : ℕ) → HasDistinctKeys pairs → HasDistinctKeys (remove pairs at)
+distinct_removed [] zero f = tt
+distinct_removed [] (suc at) f = tt
+distinct_removed (pair ∷ pairs) zero f = f.1
+distinct_removed (pair ∷ pairs) (suc at) f = (absent_removed pairs at pair.0 f.0, distinct_removed pairs at f.1)
+
+pub pairs_removed : (n : ℕ) (pairs : List (Value × Value)) (at : ℕ) → PairsFit n pairs → PairsFit n (remove pairs at)
+pairs_removed n [] zero f = tt
+pairs_removed n [] (suc at) f = tt
+pairs_removed n (pair ∷ pairs) zero f = f.2
+pairs_removed n (pair ∷ pairs) (suc at) f = (f.0, f.1, pairs_removed n pairs at f.2)
+
+pub keys_removed : (pairs : List (Value × Value)) (at : ℕ) → KeysFit pairs → KeysFit (remove pairs at)
+keys_removed [] zero f = tt
+keys_removed [] (suc at) f = tt
+keys_removed (pair ∷ pairs) zero f = f.2
+keys_removed (pair ∷ pairs) (suc at) f = (f.0, f.1, keys_removed pairs at f.2)
 
 pub pairs_with : (n : ℕ) (pairs : List (Value × Value)) (key value : Value) → is_simple key ≡ true → ValueFits n value → PairsFit n pairs → PairsFit n (with_pair pairs key value)
 pairs_with n [] key value k h f = (k, h, tt)

@@ -11,7 +11,7 @@ use Rattle.object_heap.specs.declared.answer.Answer.{Answer}
 use Rattle.object_heap.specs.declared.error.HeapErr.{HeapErr}
 use Rattle.object_heap.specs.Effects.{Effect, Answers, throws}
 use Rattle.object_heap.specs.Fits.{kinds, Rules, ValueFits, AllFit, ObjectFits, Fits, ItemFits, EffectFits, AnswerFits}
-use Rattle.object_heap.specs.Objects.{with_item, with_inserted, with_removed, with_put, with_key_cut, renewed_by, retired}
+use Rattle.object_heap.specs.Objects.{with_item, with_inserted, with_removed, with_put, with_key_cut, with_pair_cut, with_units, renewed_by, retired}
 use Rattle.object_heap.specs.Parts.{items_of, pairs_of, captures_of}
 use Rattle.object_heap.specs.Paying.{Pays, PaysSurely}
 use Rattle.object_heap.specs.Store.{Store, with_change}
@@ -59,6 +59,13 @@ MapPutFits = (rules : Rules) (old new : Store) (id : ℕ) (key value : Value) (r
 
 abbrev pub MapCutFits : Type 0
 MapCutFits = (rules : Rules) (objects : List Object) (id : ℕ) (key : Value) → Fits rules objects → Fits rules (with_change objects id (with_key_cut key))
+
+abbrev pub MapCutAtFits : Type 0
+MapCutAtFits = (rules : Rules) (objects : List Object) (id at : ℕ) → Fits rules objects → Fits rules (with_change objects id (with_pair_cut at))
+
+abbrev pub AppendFits : Type 0
+AppendFits = (rules : Rules) (old new : Store) (id : ℕ) (more : List ℕ) (result : Result (Unit {0}) HeapErr)
+    → Pays old new (with_change old.objects id (with_units more)) 0 result → Fits rules old.objects → Fits rules new.objects
 
 abbrev pub ThrowFits : Type 0
 ThrowFits = (rules : Rules) (old new : Store) (class : ℕ) (message : Option (List ℕ)) (answer : Answer) → Answers (throws old class message) old new answer

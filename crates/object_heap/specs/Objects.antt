@@ -1,5 +1,5 @@
 -- Objects: what each weighs, what one operation makes of one, and which may replace which.
-use Rattle.std.specs.Prelude.{Bool, true, false, ℕ, suc, ◌==◌, ◌+◌, ◌-◌, ◌*◌, ◌%◌, ◌^◌, nat_le, nat_lt, if◌then◌else◌, Option, Some, None, List, length, slice_set, insert, remove}
+use Rattle.std.specs.Prelude.{Bool, true, false, ℕ, suc, ◌==◌, ◌+◌, ◌-◌, ◌*◌, ◌%◌, ◌^◌, nat_le, nat_lt, if◌then◌else◌, Option, Some, None, List, length, ◌++◌, slice_get, slice_set, insert, remove}
 use Rattle.pl_types.specs.declared.ty.Ty.{Ty}
 use Rattle.pl_types.specs.Types.{same_types}
 use Rattle.object_values.specs.declared.value.Value.{Value}
@@ -74,10 +74,29 @@ with_key_cut key (o.Map class pairs guard changes) = o.Map class (without_key pa
 with_key_cut key (o.Set class items guard changes) = o.Set class (without_key items key) guard (cut_counted (value_of items key) changes)
 with_key_cut key object = object
 
--- how much an insertion and a put add to the weight
+-- with the pair at a place taken out of a map or a set
+abbrev pub pair_counted : Option (Value × Value) → ℕ → ℕ
+pair_counted None changes = changes
+pair_counted (Some pair) changes = changed changes
+
+abbrev pub with_pair_cut : ℕ → Object → Object
+with_pair_cut at (o.Map class pairs guard changes) = o.Map class (remove pairs at) guard (pair_counted (slice_get pairs at) changes)
+with_pair_cut at (o.Set class items guard changes) = o.Set class (remove items at) guard (pair_counted (slice_get items at) changes)
+with_pair_cut at object = object
+
+-- with units written at the end of a builder
+abbrev pub with_units : List ℕ → Object → Object
+with_units more (o.Builder units) = o.Builder (units ++ more)
+with_units more object = object
+
+-- how much an insertion, a put and units add to the weight
 abbrev pub insert_growth : ℕ → Object → ℕ
 insert_growth at (o.List class items guard changes) = if nat_le at (length items) then 1 else 0
 insert_growth at object = 0
+
+abbrev pub units_growth : ℕ → Object → ℕ
+units_growth count (o.Builder units) = count
+units_growth count object = 0
 
 abbrev pub new_growth : Option Value → ℕ → ℕ
 new_growth None growth = growth

@@ -88,6 +88,11 @@ abbrev pub object_message : Object → Option (List ℕ)
 object_message (o.Exc class message) = message
 object_message object = None
 
+-- the interface of a function value
+abbrev pub object_iface : Object → Option ℕ
+object_iface (o.Fun iface target captures) = iface
+object_iface object = None
+
 -- what a function value calls, and what it has captured
 abbrev pub object_target : Object → Option Target
 object_target (o.Fun iface target captures) = Some target
@@ -137,6 +142,9 @@ elem_of objects id = asked object_elem None (slice_get objects id)
 
 abbrev pub message_of : List Object → ℕ → Option (List ℕ)
 message_of objects id = asked object_message None (slice_get objects id)
+
+abbrev pub iface_of : List Object → ℕ → Option ℕ
+iface_of objects id = asked object_iface None (slice_get objects id)
 
 abbrev pub target_of : List Object → ℕ → Option Target
 target_of objects id = asked object_target None (slice_get objects id)

@@ -7,6 +7,7 @@ use object_values::{Object, Value};
 use pl_units::UText;
 
 /// What a call of a member or an operator comes to. After Room and want of memory the heap is as before.
+#[derive(Drop)]
 pub enum Answer {
     Value(Value),
     /// The number of the exception that is thrown.
@@ -15,17 +16,6 @@ pub enum Answer {
     Room,
     /// There was no memory.
     NoMemory,
-}
-
-impl Drop for Answer {
-    fn drop(self) {
-        match self {
-            Answer::Value(_value) => {}
-            Answer::Thrown(_id) => {}
-            Answer::Room => {}
-            Answer::NoMemory => {}
-        }
-    }
 }
 
 /// Throws a new exception of a class with a message or none. It is paid for as any object.

@@ -1,7 +1,7 @@
 //! Changes of one object. What a change does not apply to stays as it is.
-ghost use Rattle.std.specs.Prelude.{◌≡◌, IfOk, OnOk, OnErr, slice_get};
+ghost use Rattle.std.specs.Prelude.{◌≡◌, IfOk, OnOk, OnErr, ◌++◌, slice_get, remove};
 ghost use Rattle.object_values.specs.Pairs.{value_of, with_pair, without_key};
-ghost use Rattle.object_heap.specs.Objects.{with_inserted, with_item, with_removed, with_put, with_key_cut, put_counted, cut_counted};
+ghost use Rattle.object_heap.specs.Objects.{with_inserted, with_item, with_removed, with_put, with_key_cut, with_pair_cut, with_units, put_counted, cut_counted, pair_counted};
 ghost use Rattle.object_heap.specs.Parts.{object_items, list_items, object_pairs, items_of, list_items_of, pairs_of};
 ghost use Rattle.object_heap.specs.Store.{with_change};
 
@@ -182,6 +182,64 @@ fn cut_key_from(object: &mut Object, key: &Value) -> Option<Value>
         Object::Map { pairs, changes, .. } => cut_pair(pairs, changes, key),
         Object::Set { items, changes, .. } => cut_pair(items, changes, key),
         _ => None,
+    }
+}
+
+// Takes the pair at a place out of a map or a set.
+pub fn cut_pair_at(objects: &mut Vec<Object>, id: u32, at: usize) -> Option<(Value, Value)>
+    ensures pair { result ≡ slice_get (pairs_of objects.old.items id) at }
+    ensures rest { objects.new.items ≡ with_change objects.old.items id (with_pair_cut at) }
+{
+    match objects.get_mut(id as usize) {
+        Some(object) => cut_pair_from(object, at),
+        None => None,
+    }
+}
+
+fn cut_pair_from(object: &mut Object, at: usize) -> Option<(Value, Value)>
+    ensures pair { result ≡ slice_get (object_pairs object.old) at }
+    ensures rest { object.new ≡ with_pair_cut at object.old }
+{
+    match object {
+        Object::Map { pairs, changes, .. } => remove_pair(pairs, changes, at),
+        Object::Set { items, changes, .. } => remove_pair(items, changes, at),
+        _ => None,
+    }
+}
+
+// Takes the pair at a place out, and counts that.
+fn remove_pair(pairs: &mut Pairs, changes: &mut u64, at: usize) -> Option<(Value, Value)>
+    ensures pair { result ≡ slice_get pairs.old at }
+    ensures pairs { pairs.new ≡ remove pairs.old at }
+    ensures counted { changes.new ≡ pair_counted (slice_get pairs.old at) changes.old }
+{
+    match pairs.remove(at) {
+        Some(pair) => {
+            *changes = changes.wrapping_add(1);
+            Some(pair)
+        }
+        None => None,
+    }
+}
+
+// Writes units at the end of a builder.
+pub fn append_units(objects: &mut Vec<Object>, id: u32, units: &[u16]) -> Result<(), AllocError>
+    ensures ok { OnOk result (objects.new.items ≡ with_change objects.old.items id (with_units units.now)) }
+    ensures err { OnErr result (objects.new.items ≡ objects.old.items) }
+{
+    match objects.get_mut(id as usize) {
+        Some(object) => append_to(object, units),
+        None => Ok(()),
+    }
+}
+
+fn append_to(object: &mut Object, more: &[u16]) -> Result<(), AllocError>
+    ensures ok { OnOk result (object.new ≡ with_units more.now object.old) }
+    ensures err { OnErr result (object.new ≡ object.old) }
+{
+    match object {
+        Object::Builder { units } => units.extend(more),
+        _ => Ok(()),
     }
 }
 

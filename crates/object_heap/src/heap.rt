@@ -1,11 +1,13 @@
 ghost use Rattle.std.specs.Prelude.{◌≡◌, Some, None, [], ◌∷◌, ◌++◌, length, map, IfOk, OnOk, OnErr, slice_get};
 ghost use Rattle.std.specs.Option.{option_copied};
 
-use crate::changes::{cut_item, cut_key, insert_item, put_item, put_key};
+use crate::changes::{
+    append_units, cut_item, cut_key, cut_pair_at, insert_item, put_item, put_key,
+};
 use crate::error::HeapErr;
 use crate::parts;
 use crate::renewal::{renew_at, renewal_growth_at, retire_all};
-use crate::weights::{insert_growth, put_growth, weight_within};
+use crate::weights::{insert_growth, put_growth, units_growth, weight_within};
 use object_values::{Guard, Object, Pairs, Target, Value};
 use pl_types::Ty;
 use pl_units::UText;
@@ -46,8 +48,8 @@ impl Drop for Heap {
 
 impl Heap {
     ghost use Rattle.object_values.specs.Pairs.{value_of, key_at, pair_value_at};
-    ghost use Rattle.object_heap.specs.Objects.{with_item, with_inserted, with_removed, with_put, with_key_cut, renewed_by, retired};
-    ghost use Rattle.object_heap.specs.Parts.{items_of, list_items_of, map_of, pairs_of, size_of, class_of, guard_of, frozen_of, changes_of, units_of, elem_of, message_of, target_of, captures_of};
+    ghost use Rattle.object_heap.specs.Objects.{with_item, with_inserted, with_removed, with_put, with_key_cut, with_pair_cut, with_units, renewed_by, retired};
+    ghost use Rattle.object_heap.specs.Parts.{items_of, list_items_of, map_of, pairs_of, size_of, class_of, guard_of, frozen_of, changes_of, units_of, elem_of, message_of, iface_of, target_of, captures_of};
     ghost use Rattle.object_heap.specs.Store.{with_change};
     ghost use Rattle.object_heap.specs.Paying.{Pays, PaysSurely};
 
@@ -237,6 +239,32 @@ impl Heap {
         cut_key(&mut self.objects, id, key)
     }
 
+    /// Takes the pair at a place out of a map or a set, and gives it; those behind it move up. It takes no memory.
+    pub fn map_cut_at(&mut self, id: u32, at: usize) -> Option<(Value, Value)>
+        ensures pair { result ≡ slice_get (pairs_of self.old.objects id) at }
+        ensures rest { self.new ≡ record self.old { objects = with_change self.old.objects id (with_pair_cut at) } }
+    {
+        cut_pair_at(&mut self.objects, id, at)
+    }
+
+    /// Writes units at the end of a builder.
+    #[tactic(auto, using(crate::proofs::Paying::paid_if, crate::proofs::Paying::paid_not, crate::proofs::Growth::append_grows))]
+    pub fn append(&mut self, id: u32, units: &[u16]) -> Result<(), HeapErr>
+        ensures { Pays self.old self.new (with_change self.old.objects id (with_units units.now)) 0 result }
+    {
+        let growth = units_growth(self.objects.as_slice(), id, units.len());
+        if growth > self.room {
+            return Err(HeapErr::Room);
+        }
+        match append_units(&mut self.objects, id, units) {
+            Ok(()) => {
+                self.room -= growth;
+                Ok(())
+            }
+            Err(_) => Err(HeapErr::NoMemory),
+        }
+    }
+
     /// The items of a list or an array.
     pub fn items(&self, id: u32) -> &[Value]
         ensures { result.now ≡ items_of self.now.objects id }
@@ -354,6 +382,16 @@ impl Heap {
     {
         match self.objects.get(id as usize) {
             Some(object) => parts::message(object),
+            None => None,
+        }
+    }
+
+    /// The interface of a function value, if it has taken one.
+    pub fn iface(&self, id: u32) -> Option<u32>
+        ensures { result ≡ iface_of self.now.objects id }
+    {
+        match self.objects.get(id as usize) {
+            Some(object) => parts::iface(object),
             None => None,
         }
     }

@@ -1,4 +1,4 @@
-ghost use Rattle.object_heap.specs.Laws.{NewFits, RefillFits, ChargeFits, PlaceFits, AddFits, RenewFits, PutFits, GrowFits, CutFits, MapPutFits, MapCutFits, ThrowFits, AnswersFit, ItemsFit, ValuesFit, CapturesFit};
+ghost use Rattle.object_heap.specs.Laws.{NewFits, RefillFits, ChargeFits, PlaceFits, AddFits, RenewFits, PutFits, GrowFits, CutFits, MapPutFits, MapCutFits, MapCutAtFits, AppendFits, ThrowFits, AnswersFit, ItemsFit, ValuesFit, CapturesFit};
 
 /// Laws that callers may cite: each call keeps the fit of the heap.
 pub fn heap_keeps_fit()
@@ -13,6 +13,8 @@ pub fn heap_keeps_fit()
     ensures cut { CutFits }
     ensures map_put { MapPutFits }
     ensures map_cut { MapCutFits }
+    ensures map_cut_at { MapCutAtFits }
+    ensures append { AppendFits }
     ensures throw { ThrowFits }
 
     // What a member's effect keeps, its call keeps.

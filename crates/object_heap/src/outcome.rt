@@ -11,6 +11,7 @@ pub enum Which {
 }
 
 /// What a run comes to.
+#[derive(Drop)]
 pub enum End {
     Value(Value),
     /// The number of the exception that was thrown.
@@ -19,17 +20,8 @@ pub enum End {
     Limit(Which),
 }
 
-impl Drop for End {
-    fn drop(self) {
-        match self {
-            End::Value(_value) => {}
-            End::Thrown(_id) => {}
-            End::Limit(_which) => {}
-        }
-    }
-}
-
 /// What a run leaves.
+#[derive(Drop)]
 pub struct Outcome {
     pub end: End,
     pub heap: Heap,
@@ -39,16 +31,4 @@ pub struct Outcome {
     pub steps: u64,
     /// The members that were called, by their numbers, in the order of their first calls.
     pub reached: Elements<u32>,
-}
-
-impl Drop for Outcome {
-    fn drop(self) {
-        let Outcome {
-            end: _end,
-            heap: _heap,
-            ticks: _ticks,
-            steps: _steps,
-            reached: _reached,
-        } = self;
-    }
 }

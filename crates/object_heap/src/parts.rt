@@ -1,7 +1,7 @@
 //! The parts of one object. What an object does not have is empty or nothing.
 ghost use Rattle.std.specs.Prelude.{◌≡◌};
 ghost use Rattle.std.specs.Option.{option_copied};
-ghost use Rattle.object_heap.specs.Parts.{object_items, object_map, object_size, object_class, object_guard, object_changes, object_units, object_elem, object_message, object_target, object_captures, is_closed};
+ghost use Rattle.object_heap.specs.Parts.{object_items, object_map, object_size, object_class, object_guard, object_changes, object_units, object_elem, object_message, object_iface, object_target, object_captures, is_closed};
 ghost use Rattle.object_heap.specs.Parts as spec;
 
 use object_values::{Guard, Object, Pairs, Target, Value};
@@ -117,6 +117,15 @@ pub fn message(object: &Object) -> Option<&UText>
 {
     match object {
         Object::Exc { message, .. } => message.as_ref(),
+        _ => None,
+    }
+}
+
+pub fn iface(object: &Object) -> Option<u32>
+    ensures { result ≡ object_iface object.now }
+{
+    match object {
+        Object::Fun { iface, .. } => *iface,
         _ => None,
     }
 }

@@ -58,6 +58,16 @@ pub fn insert_growth(objects: &[Object], id: u32, at: usize) -> u64
     }
 }
 
+// How much units at the end of a builder add to the weight.
+pub fn units_growth(objects: &[Object], id: u32, count: usize) -> u64
+    ensures { result ≡ asked (spec.units_growth count) 0 (slice_get objects.now id) }
+{
+    match objects.get(id as usize) {
+        Some(Object::Builder { .. }) => count as u64,
+        _ => 0,
+    }
+}
+
 // How much a put adds to the weight.
 pub fn put_growth(objects: &[Object], id: u32, key: &Value) -> u64
     ensures { result ≡ asked (spec.put_growth key.now) 0 (slice_get objects.now id) }

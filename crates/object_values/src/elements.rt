@@ -42,6 +42,14 @@ impl<T> Elements<T> {
         Elements { items }
     }
 
+    /// The vector of the elements.
+    pub fn into_vec(self) -> Vec<T>
+        ensures { result.items ≡ self }
+    {
+        let Elements { items } = self;
+        items
+    }
+
     /// The elements as a slice.
     pub fn as_slice(&self) -> &[T]
         ensures { result.now ≡ self.now }
@@ -54,6 +62,16 @@ impl<T> Elements<T> {
         ensures { result ≡ length self.now }
     {
         self.items.len()
+    }
+}
+
+impl<T: Copy> Elements<T> {
+    /// Adds elements at the end. After want of memory the elements are as before.
+    pub fn extend(&mut self, more: &[T]) -> Result<(), AllocError>
+        ensures ok { OnOk result (self.new ≡ self.old ++ more.now) }
+        ensures err { OnErr result (self.new ≡ self.old) }
+    {
+        self.items.extend_from_slice(more)
     }
 }
 

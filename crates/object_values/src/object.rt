@@ -1,9 +1,12 @@
+ghost use Rattle.std.specs.Prelude.{◌≡◌, IfOk};
+
 use crate::elements::Elements;
 use crate::pairs::Pairs;
 use crate::value::Value;
 use pl_types::Ty;
 use pl_units::UText;
 use plain_data::Text;
+use std::alloc::{AllocError, Global};
 
 /// What may change a list, a map or a set.
 pub enum Guard {
@@ -62,6 +65,23 @@ impl Drop for Target {
             Target::Member(_class, _name) => {}
             Target::New(_made) => {}
             Target::Gone => {}
+        }
+    }
+}
+
+impl Target {
+    /// The same target once more.
+    pub fn share(&self, alloc: Global) -> Result<Target, AllocError>
+        ensures { IfOk result (λ copy. copy ≡ self.now) }
+    {
+        match self {
+            Target::Lambda(owner, number) => Ok(Target::Lambda(*owner, *number)),
+            Target::Member(class, name) => Ok(Target::Member(
+                *class,
+                Text::new(alloc, name.as_str())?,
+            )),
+            Target::New(made) => Ok(Target::New(made.share(alloc)?)),
+            Target::Gone => Ok(Target::Gone),
         }
     }
 }

@@ -1,4 +1,4 @@
-ghost use Rattle.std.specs.Prelude.{◌≡◌, ◌<◌, ◌^◌, [], IfOk, OnOk, OnErr, length, slice_get};
+ghost use Rattle.std.specs.Prelude.{◌≡◌, ◌<◌, ◌^◌, [], IfOk, OnOk, OnErr, length, slice_get, remove};
 ghost use Rattle.std.specs.Option.{option_copied, option_map};
 
 use crate::value::Value;
@@ -95,5 +95,13 @@ impl Pairs {
         ensures rest { self.new ≡ without_key self.old key.now }
     {
         self.map.shift_remove(key)
+    }
+
+    /// Takes the pair at a place out, if there is one; those behind it move up. It takes no memory.
+    pub fn remove(&mut self, at: usize) -> Option<(Value, Value)>
+        ensures pair { result ≡ slice_get self.old at }
+        ensures rest { self.new ≡ remove self.old at }
+    {
+        self.map.shift_remove_index(at)
     }
 }

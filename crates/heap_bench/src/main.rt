@@ -1,0 +1,123 @@
+//! Prints what the calls of the heap take, in nanoseconds, over a map of few and of many keys. It measures where it is given
+//! an argument, and else prints nothing: `rt run -- times`.
+#![tactic(auto)]
+
+ghost use Rattle.std.specs.Prelude.{◌<◌};
+
+use object_heap::Heap;
+use object_values::{Elements, Guard, Object, Pairs, Value};
+use pl_types::classes::{ARRAY_LIST, HASH_MAP};
+use std::alloc::Global;
+use std::rt::Clock;
+use std::time::Instant;
+use std::{env, io};
+
+#[derive(Clone, Copy)]
+enum Call {
+    MapGet,
+    MapPut,
+    MapCutOfNone,
+    Put,
+    Grow,
+    Add,
+}
+
+fn name(call: Call) -> &'static str {
+    match call {
+        Call::MapGet => "map_get",
+        Call::MapPut => "map_put",
+        Call::MapCutOfNone => "map_cut of no key",
+        Call::Put => "put",
+        Call::Grow => "grow at the end",
+        Call::Add => "add",
+    }
+}
+
+const TIMES: u32 = 1_000_000;
+
+fn number(turn: u32) -> Value {
+    Value::Long(i64::from(turn))
+}
+
+// Calls once, and says whether it came to something.
+fn call_once(heap: &mut Heap, call: Call, turn: u32) -> bool {
+    match call {
+        Call::MapGet => heap.map_get(0, &number(turn)).is_some(),
+        Call::MapPut => heap.map_put(0, number(turn), Value::Null).is_ok(),
+        Call::MapCutOfNone => heap.map_cut(0, &Value::Int(7)).is_some(),
+        Call::Put => heap.put(1, turn as usize, Value::Null).is_some(),
+        Call::Grow => {
+            let end = heap.size(1);
+            heap.grow(1, end, Value::Null).is_ok()
+        }
+        Call::Add => heap.add(empty_list(heap.alloc())).is_ok(),
+    }
+}
+
+fn empty_list(alloc: Global) -> Object {
+    Object::List {
+        class: ARRAY_LIST,
+        items: Elements::new(alloc),
+        guard: Guard::Open,
+        changes: 0,
+    }
+}
+
+fn call_often(heap: &mut Heap, call: Call, keys: u32) -> u32
+    requires { 0 < keys }
+{
+    let mut done = 0u32;
+    for turn in 0..TIMES {
+        if call_once(heap, call, turn % keys) {
+            done = done.saturating_add(1);
+        }
+    }
+    done
+}
+
+// A map of so many keys, and a list of one item.
+fn filled(alloc: Global, keys: u32) -> Heap {
+    let mut heap = Heap::new(alloc, u64::MAX);
+    let _ = heap.add(Object::Map {
+        class: HASH_MAP,
+        pairs: Pairs::new(alloc),
+        guard: Guard::Open,
+        changes: 0,
+    });
+    let _ = heap.add(empty_list(alloc));
+    let _ = heap.grow(1, 0, Value::Null);
+    for key in 0..keys {
+        let _ = heap.map_put(0, number(key), Value::Null);
+    }
+    heap
+}
+
+fn measure(rt: &(impl Clock + Print), heap: &mut Heap, call: Call, keys: u32) -> io::Result<()>
+    requires { 0 < keys }
+{
+    let start = Instant::now(rt)?;
+    let done = call_often(heap, call, keys);
+    let spent = start.elapsed(rt)?.as_nanos() / u128::from(TIMES);
+    let name = name(call);
+    println!(rt; "{name}, {keys} keys: {spent} ns ({done} of {TIMES} came to something)")
+}
+
+fn main(rt: HostRuntime) -> io::Result<()> {
+    if env::args(&rt)?.nth(1).is_none() {
+        return Ok(());
+    }
+    for keys in [10, 400_000] {
+        let mut heap = filled(rt.alloc(), keys);
+        for call in [
+            Call::MapGet,
+            Call::MapPut,
+            Call::MapCutOfNone,
+            Call::Put,
+            Call::Grow,
+            Call::Add,
+        ] {
+            measure(&rt, &mut heap, call, keys)?;
+        }
+    }
+    Ok(())
+}

@@ -1,0 +1,79 @@
+//! Lists and arrays, step by step.
+
+use crate::making::{array, list, number, taken};
+use object_heap::{Heap, HeapErr};
+use object_values::{Guard, Value};
+use pl_types::classes::ARRAY_LIST;
+use pl_types::{Primitive, Ty};
+use std::test::Fail;
+
+#[derive(Clone, Copy)]
+enum Step {
+    Put,
+    Grow,
+    Cut,
+}
+
+// Object 0 is a list of 0, 1, 2, object 1 an array of 0, 1, and there is no object 2. A growth answers no value.
+const ROWS: [(u32, Step, usize, i32, i32, usize, u64, u64); 15] = [
+    (0, Step::Put, 1, 9, 1, 3, 10, 0),
+    (0, Step::Put, 3, 9, -1, 3, 10, 0),
+    (0, Step::Grow, 3, 5, -1, 4, 9, 1),
+    (0, Step::Grow, 0, 6, -1, 5, 8, 2),
+    (0, Step::Grow, 6, 7, -1, 5, 8, 2),
+    (0, Step::Cut, 0, 0, 6, 4, 8, 3),
+    (0, Step::Cut, 3, 0, 5, 3, 8, 4),
+    (0, Step::Cut, 3, 0, -1, 3, 8, 4),
+    (1, Step::Put, 0, 4, 0, 2, 8, 0),
+    (1, Step::Put, 2, 4, -1, 2, 8, 0),
+    (1, Step::Grow, 0, 4, -1, 2, 8, 0),
+    (1, Step::Cut, 0, 0, -1, 2, 8, 0),
+    (2, Step::Put, 0, 1, -1, 0, 8, 0),
+    (2, Step::Grow, 0, 1, -1, 0, 8, 0),
+    (2, Step::Cut, 0, 0, -1, 0, 8, 0),
+];
+
+fn taken_step(heap: &mut Heap, id: u32, step: Step, at: usize, value: i32) -> Result<i32, HeapErr> {
+    match step {
+        Step::Put => Ok(taken(heap.put(id, at, Value::Int(value)))),
+        Step::Grow => {
+            heap.grow(id, at, Value::Int(value))?;
+            Ok(-1)
+        }
+        Step::Cut => Ok(taken(heap.cut(id, at))),
+    }
+}
+
+// What the list and the array hold at the end.
+const LEFT: [(u32, usize, i32); 6] = [
+    (0, 0, 0),
+    (0, 1, 9),
+    (0, 2, 2),
+    (0, 3, -1),
+    (1, 0, 4),
+    (1, 1, 1),
+];
+
+#[test]
+fn lists_and_arrays(rt: HostRuntime) -> Result<(), Fail> {
+    let mut heap = Heap::new(rt.alloc(), 10);
+    let items = list(rt.alloc(), ARRAY_LIST, 3, Guard::Open)?;
+    heap.place(items)?;
+    let items = array(rt.alloc(), Ty::Prim(Primitive::Int), 2)?;
+    heap.place(items)?;
+    for (id, step, at, value, before, size, room, changes) in &ROWS {
+        let found = taken_step(&mut heap, *id, *step, *at, *value)?;
+        assert!(rt; found == *before);
+        let found = heap.size(*id);
+        assert!(rt; found == *size);
+        let left = heap.room_left();
+        assert!(rt; left == *room);
+        let count = heap.changes(*id);
+        assert!(rt; count == *changes);
+    }
+    for (id, at, value) in &LEFT {
+        let found = number(heap.items(*id).get(*at));
+        assert!(rt; found == *value);
+    }
+    Ok(())
+}
