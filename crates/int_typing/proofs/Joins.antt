@@ -1,7 +1,11 @@
 -- Operators one after the other, each to the left side of the one before it.
-use Rattle.std.proofs.Common.{◌≡◌, ℕ, ◌<◌, List, [], ◌∷◌, ◌++◌, Result, Ok, Err, refl, ap, ◌∙◌, arith}
-use Rattle.std.proofs.lemmas.List.Elements.{All-push, All-pop, All-same}
+use Rattle.std.proofs.Common.{◌≡◌, ℕ, ◌<◌, List, [], ◌∷◌, ◌++◌, Result, Ok, Err, Some, refl, sym, ap, ◌∙◌, arith}
+use Rattle.std.proofs.lemmas.List.Elements.{All-nil, All-push, All-pop, All-same}
 use Rattle.pl_types.specs.declared.refusal.Refusal.{Refusal}
+use Rattle.pl_types.specs.Answers.{Answers}
+use Rattle.pl_types.specs.declared.refusal.Fail.{Fail}
+use Rattle.pl_types.specs.declared.refusal.Fail.TheVariants.{Refused, NoMemory}
+use Rattle.pl_tree.specs.declared.typed.Typed.TheVariants as t
 use Rattle.pl_tree.specs.declared.tree.Expr.{Expr, size-Expr}
 use Rattle.pl_tree.specs.declared.typed.Typed.{Typed}
 use Rattle.int_typing.specs.Typing.{both, readings_of}
@@ -44,3 +48,41 @@ along_more new joins before join left inner whole along is same right smaller = 
   smaller = λ n less all. (let whole_less : size-Expr inner < n = along.smaller n less all in omega arith);
   rights = λ n less all. below-more n new joins join is (along.rights n less all) (let whole_less : size-Expr inner < n = along.smaller n less all in omega arith);
 }
+
+-- the first operator
+pub one_join : (r : Result Typed Refusal) (new old : List Join) (join : Join) → new ≡ old ++ join ∷ [] → old ≡ [] → applied r new ≡ both join.operator r (readings_of join.right.now).plain
+one_join r new old join is none = ap (applied r) (is ∙ ap (λ (js : List Join). js ++ join ∷ []) none)
+
+pub one_below : (n : ℕ) (new old : List Join) (join : Join) → new ≡ old ++ join ∷ [] → old ≡ [] → size-Expr join.right.now < n → AreBelow n new
+one_below n new old join is none less =
+    below-more n new [] join (is ∙ ap (λ (js : List Join). js ++ join ∷ []) none) (All-nil (λ (join : Join). size-Expr join.right.now < n)) less
+
+-- the last operator taken off
+pub below_pop : (n : ℕ) (xs ys : List Join) (join : Join) → xs ≡ ys ++ join ∷ [] → AreBelow n xs → AreBelow n ys × (size-Expr join.right.now < n)
+below_pop n xs ys join is all = All-pop (λ (join : Join). size-Expr join.right.now < n) xs ys (Some join) is all
+
+-- the innermost left side is refused
+pub joined_refused : (fail : Fail) (inner whole : Result Typed Refusal) (joins : List Join) → applied inner joins ≡ whole
+    → Answers {X = Typed} {Y = Typed} (λ t. t) (Err fail) (λ a. a ≡ inner) → Answers {X = Typed} {Y = Typed} (λ t. t) (Err fail) (λ a. a ≡ whole)
+joined_refused (Refused refusal) inner whole joins e h = sym (applied-refused refusal joins) ∙ ap (λ (r : Result Typed Refusal). applied r joins) h ∙ e
+joined_refused NoMemory inner whole joins e h = tt
+
+abbrev gives : Typed → Result Typed Refusal
+gives typed = Ok typed
+
+-- the right side of the last operator is refused
+pub pop_refused : (fail : Fail) (all : Typed) (whole : Result Typed Refusal) (xs ys : List Join) (join : Join) → applied (Ok all) xs ≡ whole → xs ≡ ys ++ join ∷ []
+    → Answers {X = Typed} {Y = Typed} (λ t. t) (Err fail) (λ a. a ≡ (readings_of join.right.now).plain) → Answers {X = Typed} {Y = Typed} (λ t. t) (Err fail) (λ a. a ≡ whole)
+pop_refused (Refused refusal) all whole xs ys join e is h =
+    sym (applied-refused refusal ys) ∙ ap (λ (r : Result Typed Refusal). applied (both join.operator (gives all) r) ys) h ∙ sym (applied-more (gives all) ys join)
+    ∙ ap (applied (gives all)) (sym is) ∙ e
+pop_refused NoMemory all whole xs ys join e is h = tt
+
+-- .. or joined
+pub pop_joined : (all right left' right' : Typed) (whole : Result Typed Refusal) (xs ys : List Join) (join : Join) → applied (Ok all) xs ≡ whole → xs ≡ ys ++ join ∷ []
+    → Ok right ≡ (readings_of join.right.now).plain → left' ≡ all → right' ≡ right → applied (Ok (t.Binary join.operator left' right')) ys ≡ whole
+pop_joined all right left' right' whole xs ys join e is h same same' =
+    ap (λ (l : Typed). applied (gives (t.Binary join.operator l right')) ys) same
+    ∙ ap (λ (r : Typed). applied (gives (t.Binary join.operator all r)) ys) same'
+    ∙ ap (λ (r : Result Typed Refusal). applied (both join.operator (gives all) r) ys) h ∙ sym (applied-more (gives all) ys join)
+    ∙ ap (applied (gives all)) (sym is) ∙ e

@@ -450,18 +450,18 @@ fn go_on<'a>(alloc: Global, tree: &'a Expr) -> Result<Step<'a>, Fail>
             Ok(Step::Typed(literal))
         }
         Expr::Unary {
-            operator: UnaryOperator::Minus,
-            at: _,
-            operand,
-        } => {
-            let negative = negated(alloc, operand.get())?;
-            Ok(Step::Typed(negative))
-        }
-        Expr::Unary {
-            operator: _,
+            operator,
             at,
             operand,
-        } => one_part(alloc, *at, operand.get()),
+        } => match operator {
+            UnaryOperator::Minus => {
+                let negative = negated(alloc, operand.get())?;
+                Ok(Step::Typed(negative))
+            }
+            UnaryOperator::Plus => one_part(alloc, *at, operand.get()),
+            UnaryOperator::Not => one_part(alloc, *at, operand.get()),
+            UnaryOperator::Complement => one_part(alloc, *at, operand.get()),
+        },
         Expr::Binary {
             operator,
             at,
@@ -541,26 +541,14 @@ fn go_on<'a>(alloc: Global, tree: &'a Expr) -> Result<Step<'a>, Fail>
             receiver,
             spelling: _,
             arguments,
-        } => called_on(alloc, *at, receiver.get(), arguments.as_slice()),
+        } => {
+            if !is_built(receiver.get()) {
+                return Ok(Step::Part(receiver.get()));
+            }
+            visit(alloc, receiver.get())?;
+            Err(refuse_arguments(alloc, *at, arguments.as_slice()))
+        }
     }
-}
-
-/// Refuses a call of a member by its arguments or as a node, or says that typing goes on with the receiver.
-#[cycle(typing)]
-fn called_on<'a>(
-    alloc: Global,
-    at: u32,
-    receiver: &'a Expr,
-    arguments: &[Argument],
-) -> Result<Step<'a>, Fail>
-    ensures goes { Goes result (no_expression at (refused (readings_of receiver.now) ∷ map argument_of arguments.now)).plain }
-    ensures smaller { (n : ℕ) → size-Expr receiver.now < n → IsBelow n result }
-{
-    if !is_built(receiver) {
-        return Ok(Step::Part(receiver));
-    }
-    visit(alloc, receiver)?;
-    Err(refuse_arguments(alloc, at, arguments))
 }
 
 /// The typed tree of an expression with the unary minus that stands directly before it.
