@@ -12,12 +12,12 @@ ghost use Rattle.int_typing.specs.Visits.{Visits};
 ghost use Rattle.int_typing.specs.Steps.{Goes, IsBelow};
 
 use crate::literal::{LEAST, is_long, literal_value};
+use crate::spine::{Join, spine_of};
 use pl_tree::{
     Argument, BinaryOperator, Block, Body, Declaration, Entry, Expr, First, LambdaBody, Operator,
     Statement, Tree, Typed, UnaryOperator, Variable,
 };
 use pl_types::{Fail, Refusal, rules};
-use crate::spine::{Join, spine_of};
 use plain_data::{Boxed, Subtree};
 use std::alloc::Global;
 
@@ -576,7 +576,11 @@ fn joined(alloc: Global, operator: Operator, left: &Expr, right: &Expr) -> Resul
     let mut all = typed(alloc, innermost)?;
     'joins: while let Some(join) = joins.pop() {
         let right = typed(alloc, join.right)?;
-        all = Typed::Binary(join.operator, Boxed::new(alloc, all)?, Boxed::new(alloc, right)?);
+        all = Typed::Binary(
+            join.operator,
+            Boxed::new(alloc, all)?,
+            Boxed::new(alloc, right)?,
+        );
     }
     Ok(all)
 }

@@ -62,30 +62,30 @@ pub go_on-returns-in-Conditional-clause-smaller : goal.go_on-returns-in-Conditio
 go_on-returns-in-Conditional-clause-smaller t c = c.three_parts.ensures.smaller (size-Expr c.args.tree.now) (search (rules, the_lemmas)) (search (rules, the_lemmas)) (search (rules, the_lemmas))
 
 pub go_on-returns-in-List-clause-goes : goal.go_on-returns-in-List-clause-goes
-go_on-returns-in-List-clause-goes t c = 
+go_on-returns-in-List-clause-goes t c =
     node_goes (readings_of c.args.tree.now) c.in-List.at (map (λ (e : Expr). refused (readings_of e)) c.as_slice.result.now) c.refuse_items.result
     (ap readings_of c.in-List.is ∙ list_readings c.in-List.at c.in-List.items ∙ ap (λ (xs : List Expr). no_expression c.in-List.at (map (λ (e : Expr). refused (readings_of e)) xs)) (sym c.as_slice.ensures))
     c.refuse_items.ensures
 
 pub go_on-returns-in-NewArray-clause-goes : goal.go_on-returns-in-NewArray-clause-goes
-go_on-returns-in-NewArray-clause-goes t c = 
+go_on-returns-in-NewArray-clause-goes t c =
     node_goes (readings_of c.args.tree.now) c.in-NewArray.at (map (λ (e : Expr). refused (readings_of e)) c.as_slice-in-NewArray.result.now) c.refuse_items-in-NewArray.result
     (ap readings_of c.in-NewArray.is ∙ new_array_readings c.in-NewArray.at c.in-NewArray.of c.in-NewArray.sizes ∙ ap (λ (xs : List Expr). no_expression c.in-NewArray.at (map (λ (e : Expr). refused (readings_of e)) xs)) (sym c.as_slice-in-NewArray.ensures))
     c.refuse_items-in-NewArray.ensures
 
 pub go_on-returns-in-NewItems-clause-goes : goal.go_on-returns-in-NewItems-clause-goes
-go_on-returns-in-NewItems-clause-goes t c = 
+go_on-returns-in-NewItems-clause-goes t c =
     node_goes (readings_of c.args.tree.now) c.in-NewItems.at (map (λ (e : Expr). refused (readings_of e)) c.as_slice-in-NewItems.result.now) c.refuse_items-in-NewItems.result
     (ap readings_of c.in-NewItems.is ∙ new_items_readings c.in-NewItems.at c.in-NewItems.of c.in-NewItems.items ∙ ap (λ (xs : List Expr). no_expression c.in-NewItems.at (map (λ (e : Expr). refused (readings_of e)) xs)) (sym c.as_slice-in-NewItems.ensures))
     c.refuse_items-in-NewItems.ensures
 
 pub joined-typed-requires : goal.joined-typed-requires
-joined-typed-requires t c = 
+joined-typed-requires t c =
     let below : size-Expr c.in_ok-innermost.innermost.now < max (size-Expr c.args.left.now) (size-Expr c.args.right.now) + 1 = c.in_ok-innermost.ensures.smaller (max (size-Expr c.args.left.now) (size-Expr c.args.right.now) + 1) (omega arith) (one_below (max (size-Expr c.args.left.now) (size-Expr c.args.right.now) + 1) c.push.new.self.items c.new-joins.result.items (record { operator = c.args.operator; right = c.args.right }) c.in_ok-push.ensures.items c.new-joins.ensures.items (omega arith)) in
     (omega arith, tt)
 
 pub joined-returns-in_err-all : goal.joined-returns-in_err-all
-joined-returns-in_err-all t c = 
+joined-returns-in_err-all t c =
     let p = err_from_is_err_and c.from_residual-in_err-all.result c.from_residual-in_err-all.ensures.1 in
     record { exact = rw (p.1, p.2) (joined_refused c.in_err-all.field-0.0 (readings_of c.in_ok-innermost.innermost.now).plain _ c.spine_of.new.joins.items (c.in_ok-innermost.ensures.same ∙ one_join (readings_of c.args.left.now).plain c.push.new.self.items c.new-joins.result.items (record { operator = c.args.operator; right = c.args.right }) c.in_ok-push.ensures.items c.new-joins.ensures.items) c.in_err-all.ensures.exact) }
 
@@ -96,12 +96,12 @@ joined-joins-init t c = record {
 }
 
 pub joined-typed-requires-in-Some : goal.joined-typed-requires-in-Some
-joined-typed-requires-in-Some t c = 
+joined-typed-requires-in-Some t c =
     let below : size-Expr c.in-Some.join.right.now < max (size-Expr c.args.left.now) (size-Expr c.args.right.now) + 1 = (below_pop (max (size-Expr c.args.left.now) (size-Expr c.args.right.now) + 1) c.joins.joins.items c.pop.new.self.items c.in-Some.join c.in-Some.ensures.items c.joins.invariant.rights).1 in
     (omega arith, tt)
 
 pub joined-returns-in_err-right : goal.joined-returns-in_err-right
-joined-returns-in_err-right t c = 
+joined-returns-in_err-right t c =
     let p = err_from_is_err_and c.from_residual-in_err-right.result c.from_residual-in_err-right.ensures.1 in
     record { exact = rw (p.1, p.2) (pop_refused c.in_err-right.field-0.0 c.joins.all _ c.joins.joins.items c.pop.new.self.items c.in-Some.join c.joins.invariant.same c.in-Some.ensures.items c.in_err-right.ensures.exact) }
 
@@ -112,13 +112,13 @@ joined-joins-preserved t c = record {
 }
 
 pub refuse_declaration-returns-in-Err : goal.refuse_declaration-returns-in-Err
-refuse_declaration-returns-in-Err t c = 
+refuse_declaration-returns-in-Err t c =
     let d = out-Declaration c.args.declaration.now in
     visited_refuses variable_of c.as_slice-variable-items.result.now c.loop-variable.variable-index c.variable-item.result d.of.at (declaration_of c.args.declaration.now) c.in-Err.fail
     (declaration_refusal c.args.declaration.now ∙ ap (λ (xs : List Variable). unbuilt d.of.at (map variable_of xs)) (sym c.as_slice-variable-items.ensures)) c.loop-variable.invariant c.loop-variable-test.true c.variable-item.is c.in-Err.ensures
 
 pub refuse_declaration-returns : goal.refuse_declaration-returns
-refuse_declaration-returns t c = 
+refuse_declaration-returns t c =
     let d = out-Declaration c.args.declaration.now in
     visited_ends variable_of c.as_slice-variable-items.result.now c.loop-variable.variable-index d.of.at (declaration_of c.args.declaration.now) c.out_of_profile.result
     (declaration_refusal c.args.declaration.now ∙ ap (λ (xs : List Variable). unbuilt d.of.at (map variable_of xs)) (sym c.as_slice-variable-items.ensures)) c.loop-variable.invariant c.loop-variable-test.false c.out_of_profile.ensures
@@ -145,7 +145,7 @@ pub statement_step-returns-in-Do-clause-smaller : goal.statement_step-returns-in
 statement_step-returns-in-Do-clause-smaller t c = c.first_statement-in-Do.ensures.smaller (size-Statement c.args.statement.now) (search (rules, the_lemmas))
 
 pub visit_lambda-refuse_statement-requires : goal.visit_lambda-refuse_statement-requires
-visit_lambda-refuse_statement-requires t c = 
+visit_lambda-refuse_statement-requires t c =
     let below : size-Statement c.in_ok-first-in-Block.first.now < size-LambdaBody c.args.body.now =
     c.in_ok-first-in-Block.ensures.smaller (size-LambdaBody c.args.body.now) (search (rules, the_lemmas)) in
     (omega arith, tt)
