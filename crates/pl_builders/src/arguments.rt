@@ -7,7 +7,6 @@ ghost use Rattle.pl_values.specs.Stack.{AreOnTop, Reduces};
 use pl_making::{before, lambda_of, or_none, reference_of};
 use pl_stack::Stack;
 use pl_tree::{Argument, LambdaBody};
-use plain_data::Boxed;
 use std::alloc::{AllocError, Global};
 
 /// `(arguments)`
@@ -125,6 +124,6 @@ pub fn expr_lambda(alloc: Global, stack: &mut Stack) -> Result<(), AllocError>
     requires { AreOnTop g.expr_lambda stack.old }
     ensures { OnOk result (Reduces g.expr_lambda stack.old stack.new) }
 {
-    let value = Boxed::new(alloc, stack.placed().expr)?;
+    let value = stack.placed().expr;
     stack.push_lambda_body(alloc, LambdaBody::Expression(value))
 }

@@ -20,7 +20,7 @@ pub fn created(alloc: Global, stack: &mut Stack) -> Result<(), AllocError>
     let rest = stack.new_rest();
     let of = stack.type_name();
     let at = stack.token().start;
-    let object = created_as(at, of, rest);
+    let object = created_as(alloc, at, of, rest)?;
     stack.push_placed(alloc, chained(alloc, object, others)?)
 }
 

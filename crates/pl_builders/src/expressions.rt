@@ -8,7 +8,6 @@ use pl_grammar::{ElvisRest, ExprRest, Operation, Placed};
 use pl_making::{joined, operator_of, step_of, unary_of, with_elvis, with_rest, with_step};
 use pl_stack::Stack;
 use pl_tree::Expr;
-use plain_data::Boxed;
 use std::alloc::{AllocError, Global};
 
 /// An expression.
@@ -79,13 +78,16 @@ pub fn prefix(alloc: Global, stack: &mut Stack) -> Result<(), AllocError>
     requires { AreOnTop g.prefix stack.old }
     ensures { OnOk result (Reduces g.prefix stack.old stack.new) }
 {
-    let target = Boxed::new(alloc, stack.placed().expr)?;
+    let target = stack.placed().expr;
     let token = stack.token();
-    let expr = Expr::Prefix {
-        step: step_of(token.kind),
-        at: token.start,
-        target,
-    };
+    let expr = Expr::held(
+        alloc,
+        Expr::Prefix {
+            step: step_of(token.kind),
+            at: token.start,
+            target,
+        },
+    )?;
     stack.push_placed(
         alloc,
         Placed {
@@ -100,13 +102,16 @@ pub fn signed(alloc: Global, stack: &mut Stack) -> Result<(), AllocError>
     requires { AreOnTop g.signed stack.old }
     ensures { OnOk result (Reduces g.signed stack.old stack.new) }
 {
-    let operand = Boxed::new(alloc, stack.placed().expr)?;
+    let operand = stack.placed().expr;
     let token = stack.token();
-    let expr = Expr::Unary {
-        operator: unary_of(token.kind),
-        at: token.start,
-        operand,
-    };
+    let expr = Expr::held(
+        alloc,
+        Expr::Unary {
+            operator: unary_of(token.kind),
+            at: token.start,
+            operand,
+        },
+    )?;
     stack.push_placed(
         alloc,
         Placed {
@@ -121,11 +126,11 @@ pub fn cast(alloc: Global, stack: &mut Stack) -> Result<(), AllocError>
     requires { AreOnTop g.cast stack.old }
     ensures { OnOk result (Reduces g.cast stack.old stack.new) }
 {
-    let operand = Boxed::new(alloc, stack.placed().expr)?;
+    let operand = stack.placed().expr;
     stack.skip();
     let of = stack.type_name();
     let at = stack.token().start;
-    let expr = Expr::Cast { at, of, operand };
+    let expr = Expr::held(alloc, Expr::Cast { at, of, operand })?;
     stack.push_placed(alloc, Placed { start: at, expr })
 }
 
@@ -145,9 +150,9 @@ pub fn bracketed(alloc: Global, stack: &mut Stack) -> Result<(), AllocError>
     ensures { OnOk result (Reduces g.bracketed stack.old stack.new) }
 {
     stack.skip();
-    let inner = Boxed::new(alloc, stack.placed().expr)?;
+    let inner = stack.placed().expr;
     let at = stack.token().start;
-    let expr = Expr::Bracketed { at, inner };
+    let expr = Expr::held(alloc, Expr::Bracketed { at, inner })?;
     stack.push_placed(alloc, Placed { start: at, expr })
 }
 

@@ -17,7 +17,7 @@ pub fn integer(alloc: Global, stack: &mut Stack) -> Result<(), AllocError>
     ensures { OnOk result (Reduces g.integer stack.old stack.new) }
 {
     let Spelled { at, spelling } = stack.spelled();
-    let expr = Expr::Integer { at, spelling };
+    let expr = Expr::held(alloc, Expr::Integer { at, spelling })?;
     stack.push_placed(alloc, Placed { start: at, expr })
 }
 
@@ -27,7 +27,7 @@ pub fn string(alloc: Global, stack: &mut Stack) -> Result<(), AllocError>
     ensures { OnOk result (Reduces g.string stack.old stack.new) }
 {
     let Spelled { at, spelling } = stack.spelled();
-    let expr = Expr::Text { at, spelling };
+    let expr = Expr::held(alloc, Expr::Text { at, spelling })?;
     stack.push_placed(alloc, Placed { start: at, expr })
 }
 
@@ -37,10 +37,13 @@ pub fn constant(alloc: Global, stack: &mut Stack) -> Result<(), AllocError>
     ensures { OnOk result (Reduces g.constant stack.old stack.new) }
 {
     let token = stack.token();
-    let expr = Expr::Constant {
-        constant: constant_of(token.kind),
-        at: token.start,
-    };
+    let expr = Expr::held(
+        alloc,
+        Expr::Constant {
+            constant: constant_of(token.kind),
+            at: token.start,
+        },
+    )?;
     stack.push_placed(
         alloc,
         Placed {

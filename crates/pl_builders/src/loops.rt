@@ -20,14 +20,15 @@ pub fn looped(alloc: Global, stack: &mut Stack) -> Result<(), AllocError>
     let condition = stack.placed().expr;
     stack.skip();
     let at = stack.token().start;
-    stack.push_statement(
+    let statement = Statement::held(
         alloc,
         Statement::While {
             at,
             condition,
             body,
         },
-    )
+    )?;
+    stack.push_statement(alloc, statement)
 }
 
 /// `do block while (condition)`
@@ -41,14 +42,15 @@ pub fn do_loop(alloc: Global, stack: &mut Stack) -> Result<(), AllocError>
     stack.skip();
     let block = stack.block();
     let at = stack.token().start;
-    stack.push_statement(
+    let statement = Statement::held(
         alloc,
         Statement::Do {
             at,
             block,
             condition,
         },
-    )
+    )?;
+    stack.push_statement(alloc, statement)
 }
 
 /// What a loop runs.
@@ -77,7 +79,7 @@ pub fn for_loop(alloc: Global, stack: &mut Stack) -> Result<(), AllocError>
     let rest = stack.for_rest();
     stack.skip();
     let at = stack.token().start;
-    stack.push_statement(alloc, for_statement(at, rest))
+    stack.push_statement(alloc, for_statement(alloc, at, rest)?)
 }
 
 /// The head of a `for` that does nothing first.

@@ -18,7 +18,7 @@ pub fn named(alloc: Global, stack: &mut Stack) -> Result<(), AllocError>
     let given = stack.arguments_if_any();
     let name = stack.spelled();
     let start = name.at;
-    let expr = name_or_call(name, given);
+    let expr = Expr::held(alloc, name_or_call(name, given))?;
     stack.push_placed(alloc, Placed { start, expr })
 }
 
@@ -41,7 +41,8 @@ pub fn typed(alloc: Global, stack: &mut Stack) -> Result<(), AllocError>
     let one = stack.suffix();
     let of = stack.type_name();
     let start = of.at;
-    let expr = suffixed_by(alloc, Expr::Type { of }, one)?;
+    let type_expr = Expr::held(alloc, Expr::Type { of })?;
+    let expr = suffixed_by(alloc, type_expr, one)?;
     let member = Placed { start, expr };
     stack.push_placed(alloc, chained(alloc, member, others)?)
 }

@@ -7,7 +7,6 @@ ghost use Rattle.pl_values.specs.Stack.{AreOnTop, Reduces};
 use pl_making::{before, jump_of};
 use pl_stack::Stack;
 use pl_tree::{Block, Body, Catch, Declaration, Statement, Variable};
-use plain_data::Boxed;
 use std::alloc::{AllocError, Global};
 
 /// `{ statements }`
@@ -32,7 +31,7 @@ pub fn conditional(alloc: Global, stack: &mut Stack) -> Result<(), AllocError>
     let condition = stack.placed().expr;
     stack.skip();
     let at = stack.token().start;
-    stack.push_statement(
+    let statement = Statement::held(
         alloc,
         Statement::If {
             at,
@@ -40,7 +39,8 @@ pub fn conditional(alloc: Global, stack: &mut Stack) -> Result<(), AllocError>
             then,
             otherwise,
         },
-    )
+    )?;
+    stack.push_statement(alloc, statement)
 }
 
 /// `try block`, and its catches.
@@ -53,7 +53,8 @@ pub fn tried(alloc: Global, stack: &mut Stack) -> Result<(), AllocError>
     let block = stack.block();
     let at = stack.token().start;
     let catches = before(alloc, one, others)?;
-    stack.push_statement(alloc, Statement::Try { at, block, catches })
+    let statement = Statement::held(alloc, Statement::Try { at, block, catches })?;
+    stack.push_statement(alloc, statement)
 }
 
 /// `catch (of name) block`
@@ -84,7 +85,8 @@ pub fn declared(alloc: Global, stack: &mut Stack) -> Result<(), AllocError>
     ensures { OnOk result (Reduces g.declared stack.old stack.new) }
 {
     let one = stack.declaration();
-    stack.push_statement(alloc, Statement::Declare(one))
+    let statement = Statement::held(alloc, Statement::Declare(one))?;
+    stack.push_statement(alloc, statement)
 }
 
 /// `continue` or `break`
@@ -93,7 +95,8 @@ pub fn jump(alloc: Global, stack: &mut Stack) -> Result<(), AllocError>
     ensures { OnOk result (Reduces g.jump stack.old stack.new) }
 {
     let token = stack.token();
-    stack.push_statement(alloc, jump_of(token))
+    let statement = Statement::held(alloc, jump_of(token))?;
+    stack.push_statement(alloc, statement)
 }
 
 /// `return`, and its value if any.
@@ -103,7 +106,8 @@ pub fn returned(alloc: Global, stack: &mut Stack) -> Result<(), AllocError>
 {
     let value = stack.argument_if_any();
     let at = stack.token().start;
-    stack.push_statement(alloc, Statement::Return { at, value })
+    let statement = Statement::held(alloc, Statement::Return { at, value })?;
+    stack.push_statement(alloc, statement)
 }
 
 /// `throw value`
@@ -113,7 +117,8 @@ pub fn thrown(alloc: Global, stack: &mut Stack) -> Result<(), AllocError>
 {
     let value = stack.placed().expr;
     let at = stack.token().start;
-    stack.push_statement(alloc, Statement::Throw { at, value })
+    let statement = Statement::held(alloc, Statement::Throw { at, value })?;
+    stack.push_statement(alloc, statement)
 }
 
 /// An expression as a statement.
@@ -122,13 +127,14 @@ pub fn value_statement(alloc: Global, stack: &mut Stack) -> Result<(), AllocErro
     ensures { OnOk result (Reduces g.value stack.old stack.new) }
 {
     let given = stack.placed();
-    stack.push_statement(
+    let statement = Statement::held(
         alloc,
         Statement::Expression {
             at: given.start,
             value: given.expr,
         },
-    )
+    )?;
+    stack.push_statement(alloc, statement)
 }
 
 /// `of variables`
@@ -168,6 +174,5 @@ pub fn statement_body(alloc: Global, stack: &mut Stack) -> Result<(), AllocError
     ensures { OnOk result (Reduces g.statement_body stack.old stack.new) }
 {
     let statement = stack.statement();
-    let statement = Boxed::new(alloc, statement)?;
     stack.push_body(alloc, Body::Statement(statement))
 }

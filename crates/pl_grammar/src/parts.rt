@@ -1,20 +1,20 @@
 //! Parts of trees, as they are read.
 
 use pl_tree::{Access, Argument, BinaryOperator, Body, Entry, Expr, First, Spelled, TypeName};
-use plain_data::Items;
+use plain_data::{Items, Subtree, Text};
 
 /// An expression, and where its first token begins.
 #[derive(Drop)]
 pub struct Placed {
     pub start: u32,
-    pub expr: Expr,
+    pub expr: Subtree<Expr>,
 }
 
 /// What follows the left operand of a binary operator.
 #[derive(Drop)]
 pub enum Operation {
     /// The operator, its place and the right operand.
-    Binary(BinaryOperator, u32, Expr),
+    Binary(BinaryOperator, u32, Subtree<Expr>),
     /// The place of `instanceof`, and the type.
     Test(u32, TypeName),
 }
@@ -23,29 +23,29 @@ pub enum Operation {
 #[derive(Drop)]
 pub enum ExprRest {
     /// The place of `?`, and the two sides.
-    Conditional(u32, Expr, Expr),
+    Conditional(u32, Subtree<Expr>, Subtree<Expr>),
     /// The operator that is applied, the place of the assignment's, and the value.
-    Assign(Option<BinaryOperator>, u32, Expr),
+    Assign(Option<BinaryOperator>, u32, Subtree<Expr>),
 }
 
 /// `?:` and its right side.
 #[derive(Drop)]
 pub struct ElvisRest {
     pub at: u32,
-    pub right: Expr,
+    pub right: Subtree<Expr>,
 }
 
 /// What takes a part of the expression before it.
 #[derive(Drop)]
 pub enum Suffix {
     /// The member's place and name.
-    Member(Access, u32, plain_data::Text),
+    Member(Access, u32, Text),
     /// The member's place, name and arguments.
-    Method(Access, u32, plain_data::Text, Items<Argument>),
+    Method(Access, u32, Text, Items<Argument>),
     /// The number's place and spelling.
-    Element(Access, u32, plain_data::Text),
+    Element(Access, u32, Text),
     /// The place of `[`, and the index.
-    Index(u32, Expr),
+    Index(u32, Subtree<Expr>),
 }
 
 /// What follows a dot.
@@ -62,9 +62,9 @@ pub enum New {
     /// Where each `[` of the type's `[]` stands, and the arguments.
     Object(Items<u32>, Items<Argument>),
     /// The sizes of an array.
-    Sized(Items<Expr>),
+    Sized(Items<Subtree<Expr>>),
     /// The items of an array.
-    Filled(Items<Expr>),
+    Filled(Items<Subtree<Expr>>),
 }
 
 /// What stands in the brackets of a list or a map that is not the empty list.
@@ -72,29 +72,29 @@ pub enum New {
 pub enum Contents {
     /// A `:` alone.
     NoEntries,
-    Filled(Expr, Option<More>),
+    Filled(Subtree<Expr>, Option<More>),
 }
 
 /// What follows the first expression there.
 #[derive(Drop)]
 pub enum More {
-    Items(Items<Expr>),
+    Items(Items<Subtree<Expr>>),
     /// The first value, and the further entries.
-    Entries(Expr, Items<Entry>),
+    Entries(Subtree<Expr>, Items<Entry>),
 }
 
 /// What follows the first part of a `for`.
 #[derive(Drop)]
 pub struct Three {
-    pub condition: Option<Expr>,
-    pub update: Option<Expr>,
+    pub condition: Option<Subtree<Expr>>,
+    pub update: Option<Subtree<Expr>>,
     pub body: Option<Body>,
 }
 
 /// What follows the condition of a `for`.
 #[derive(Drop)]
 pub struct Tail {
-    pub update: Option<Expr>,
+    pub update: Option<Subtree<Expr>>,
     pub body: Option<Body>,
 }
 
@@ -102,6 +102,6 @@ pub struct Tail {
 #[derive(Drop)]
 pub enum ForRest {
     Three(Option<First>, Three),
-    Each(TypeName, Spelled, Expr, Body),
-    In(Spelled, Expr, Body),
+    Each(TypeName, Spelled, Subtree<Expr>, Body),
+    In(Spelled, Subtree<Expr>, Body),
 }

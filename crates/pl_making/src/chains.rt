@@ -6,28 +6,30 @@ ghost use Rattle.pl_grammar.specs.Making as making;
 use crate::lists::turned;
 use pl_grammar::{Operation, Placed, Suffix};
 use pl_tree::Expr;
-use plain_data::{Boxed, Items};
+use plain_data::{Items, Subtree};
 use std::alloc::{AllocError, Global};
 
 /// An expression with one operation more, to the right.
 fn applied(alloc: Global, left: Placed, operation: Operation) -> Result<Placed, AllocError>
     ensures { IfOk result (λ placed. placed ≡ making.applied left operation) }
 {
-    let Placed { start, expr } = left;
-    let operand = Boxed::new(alloc, expr)?;
+    let Placed {
+        start,
+        expr: operand,
+    } = left;
     match operation {
         Operation::Binary(operator, at, right) => {
-            let other = Boxed::new(alloc, right)?;
-            let expr = Expr::Binary {
+            let whole = Expr::Binary {
                 operator,
                 at,
                 left: operand,
-                right: other,
+                right,
             };
+            let expr = Expr::held(alloc, whole)?;
             Ok(Placed { start, expr })
         }
         Operation::Test(at, of) => {
-            let expr = Expr::Instanceof { at, operand, of };
+            let expr = Expr::held(alloc, Expr::Instanceof { at, operand, of })?;
             Ok(Placed { start, expr })
         }
     }
@@ -50,39 +52,46 @@ pub fn joined(
 }
 
 /// What a suffix takes of an expression.
-pub fn suffixed_by(alloc: Global, of: Expr, suffix: Suffix) -> Result<Expr, AllocError>
-    ensures { IfOk result (λ expr. expr ≡ making.suffixed_by of suffix) }
+fn suffix_on(receiver: Subtree<Expr>, suffix: Suffix) -> Expr
+    ensures { result ≡ making.suffixed_by receiver suffix }
 {
-    let receiver = Boxed::new(alloc, of)?;
     match suffix {
-        Suffix::Member(access, at, spelling) => Ok(Expr::Member {
+        Suffix::Member(access, at, spelling) => Expr::Member {
             access,
             at,
             receiver,
             spelling,
-        }),
-        Suffix::Method(access, at, spelling, arguments) => Ok(Expr::Method {
+        },
+        Suffix::Method(access, at, spelling, arguments) => Expr::Method {
             access,
             at,
             receiver,
             spelling,
             arguments,
-        }),
-        Suffix::Element(access, at, spelling) => Ok(Expr::Element {
+        },
+        Suffix::Element(access, at, spelling) => Expr::Element {
             access,
             at,
             receiver,
             spelling,
-        }),
-        Suffix::Index(at, index) => {
-            let index = Boxed::new(alloc, index)?;
-            Ok(Expr::Index {
-                at,
-                receiver,
-                index,
-            })
-        }
+        },
+        Suffix::Index(at, index) => Expr::Index {
+            at,
+            receiver,
+            index,
+        },
     }
+}
+
+/// What a suffix takes of an expression, in a box.
+pub fn suffixed_by(
+    alloc: Global,
+    of: Subtree<Expr>,
+    suffix: Suffix,
+) -> Result<Subtree<Expr>, AllocError>
+    ensures { IfOk result (λ expr. expr ≡ making.suffixed_by of suffix) }
+{
+    Expr::held(alloc, suffix_on(of, suffix))
 }
 
 fn followed_by(alloc: Global, of: Placed, suffix: Suffix) -> Result<Placed, AllocError>

@@ -6,11 +6,16 @@ ghost use Rattle.pl_grammar.specs.Making as making;
 use crate::lists::{before, single};
 use pl_grammar::{Contents, More};
 use pl_tree::{Entry, Expr};
-use plain_data::Items;
+use plain_data::{Items, Subtree};
 use std::alloc::{AllocError, Global};
 
 /// The list or map that begins with this expression.
-fn filled_as(alloc: Global, at: u32, one: Expr, more: Option<More>) -> Result<Expr, AllocError>
+fn filled_as(
+    alloc: Global,
+    at: u32,
+    one: Subtree<Expr>,
+    more: Option<More>,
+) -> Result<Expr, AllocError>
     ensures { IfOk result (λ expr. expr ≡ making.filled_as at one more) }
 {
     match more {
@@ -31,7 +36,7 @@ fn filled_as(alloc: Global, at: u32, one: Expr, more: Option<More>) -> Result<Ex
 }
 
 /// The list or map with these contents.
-pub fn collected(alloc: Global, at: u32, inside: Option<Contents>) -> Result<Expr, AllocError>
+fn contents_of(alloc: Global, at: u32, inside: Option<Contents>) -> Result<Expr, AllocError>
     ensures { IfOk result (λ expr. expr ≡ making.collected at inside) }
 {
     match inside {
@@ -45,4 +50,16 @@ pub fn collected(alloc: Global, at: u32, inside: Option<Contents>) -> Result<Exp
         }),
         Some(Contents::Filled(one, more)) => filled_as(alloc, at, one, more),
     }
+}
+
+/// The list or map with these contents, in a box.
+pub fn collected(
+    alloc: Global,
+    at: u32,
+    inside: Option<Contents>,
+) -> Result<Subtree<Expr>, AllocError>
+    ensures { IfOk result (λ expr. expr ≡ making.collected at inside) }
+{
+    let expr = contents_of(alloc, at, inside)?;
+    Expr::held(alloc, expr)
 }

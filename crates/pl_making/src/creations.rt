@@ -9,23 +9,26 @@ use pl_tree::{Expr, TypeName};
 use std::alloc::{AllocError, Global};
 
 /// What `new of` and what follows make.
-pub fn created_as(at: u32, of: TypeName, rest: New) -> Placed
-    ensures { result ≡ making.created_as at of rest }
+fn creation(at: u32, of: TypeName, rest: New) -> Expr
+    ensures { record { start = at; expr = result } ≡ making.created_as at of rest }
 {
-    let expr = match rest {
+    match rest {
         New::Object(brackets, arguments) => Expr::New {
             at,
-            of: TypeName {
-                at: of.at,
-                base: of.base,
-                brackets,
-            },
+            of: of.with_brackets(brackets),
             arguments,
         },
         New::Sized(sizes) => Expr::NewArray { at, of, sizes },
         New::Filled(items) => Expr::NewItems { at, of, items },
-    };
-    Placed { start: at, expr }
+    }
+}
+
+/// What `new of` and what follows make, with its place.
+pub fn created_as(alloc: Global, at: u32, of: TypeName, rest: New) -> Result<Placed, AllocError>
+    ensures { IfOk result (λ placed. placed ≡ making.created_as at of rest) }
+{
+    let expr = Expr::held(alloc, creation(at, of, rest))?;
+    Ok(Placed { start: at, expr })
 }
 
 /// What follows the first `[` of a type, which is one of its brackets if a `]` follows.

@@ -2,49 +2,12 @@
 
 ghost use Rattle.std.specs.Prelude.{◌≡◌, Some, IfOk};
 ghost use Rattle.pl_grammar.specs.Making as making;
-ghost use Rattle.pl_tree.specs.declared.tree.Expr.TheVariants as e;
 
 use crate::token::step_of;
 use pl_grammar::{ElvisRest, ExprRest, Placed};
 use pl_lexer::Token;
-use pl_tree::{BinaryOperator, Expr};
-use plain_data::Boxed;
+use pl_tree::Expr;
 use std::alloc::{AllocError, Global};
-
-/// `condition ? yes : no`
-fn choice(alloc: Global, at: u32, condition: Expr, yes: Expr, no: Expr) -> Result<Expr, AllocError>
-    ensures { IfOk result (λ expr. expr ≡ e.Conditional at condition yes no) }
-{
-    let condition = Boxed::new(alloc, condition)?;
-    let yes = Boxed::new(alloc, yes)?;
-    let no = Boxed::new(alloc, no)?;
-    Ok(Expr::Conditional {
-        at,
-        condition,
-        yes,
-        no,
-    })
-}
-
-/// `target = value`, or with an operator that is applied.
-fn assignment(
-    alloc: Global,
-    operator: Option<BinaryOperator>,
-    at: u32,
-    target: Expr,
-    value: Expr,
-) -> Result<Expr, AllocError>
-    ensures { IfOk result (λ expr. expr ≡ e.Assign operator at target value) }
-{
-    let target = Boxed::new(alloc, target)?;
-    let value = Boxed::new(alloc, value)?;
-    Ok(Expr::Assign {
-        operator,
-        at,
-        target,
-        value,
-    })
-}
 
 /// The conditional or assignment with this left side.
 fn continued(alloc: Global, left: Placed, rest: ExprRest) -> Result<Placed, AllocError>
@@ -52,12 +15,24 @@ fn continued(alloc: Global, left: Placed, rest: ExprRest) -> Result<Placed, Allo
 {
     let Placed { start, expr } = left;
     match rest {
-        ExprRest::Conditional(at, one, other) => {
-            let expr = choice(alloc, at, expr, one, other)?;
+        ExprRest::Conditional(at, yes, no) => {
+            let whole = Expr::Conditional {
+                at,
+                condition: expr,
+                yes,
+                no,
+            };
+            let expr = Expr::held(alloc, whole)?;
             Ok(Placed { start, expr })
         }
-        ExprRest::Assign(operator, at, given) => {
-            let expr = assignment(alloc, operator, at, expr, given)?;
+        ExprRest::Assign(operator, at, value) => {
+            let whole = Expr::Assign {
+                operator,
+                at,
+                target: expr,
+                value,
+            };
+            let expr = Expr::held(alloc, whole)?;
             Ok(Placed { start, expr })
         }
     }
@@ -84,10 +59,8 @@ pub fn with_elvis(
     let Some(ElvisRest { at, right }) = rest else {
         return Ok(left);
     };
-    let Placed { start, expr } = left;
-    let left = Boxed::new(alloc, expr)?;
-    let right = Boxed::new(alloc, right)?;
-    let expr = Expr::Elvis { at, left, right };
+    let Placed { start, expr: left } = left;
+    let expr = Expr::held(alloc, Expr::Elvis { at, left, right })?;
     Ok(Placed { start, expr })
 }
 
@@ -98,12 +71,18 @@ pub fn with_step(alloc: Global, one: Placed, step: Option<Token>) -> Result<Plac
     let Some(token) = step else {
         return Ok(one);
     };
-    let Placed { start, expr } = one;
-    let target = Boxed::new(alloc, expr)?;
-    let expr = Expr::Postfix {
-        step: step_of(token.kind),
-        at: start,
-        target,
-    };
+    let Placed {
+        start,
+        expr: target,
+    } = one;
+    let step = step_of(token.kind);
+    let expr = Expr::held(
+        alloc,
+        Expr::Postfix {
+            step,
+            at: start,
+            target,
+        },
+    )?;
     Ok(Placed { start, expr })
 }

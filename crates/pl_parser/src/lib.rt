@@ -32,6 +32,3 @@ pub fn parse(alloc: Global, text: &str, tokens: &[Token]) -> Result<Tree, Fail>
 {
     parse_by::<Builder>(alloc, text, tokens)
 }
-
-#[cfg(test)]
-mod tests;

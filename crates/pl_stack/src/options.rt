@@ -10,7 +10,7 @@ use pl_grammar::{Contents, ElvisRest, ExprRest, More, Placed};
 use pl_lexer::Token;
 use pl_tree::{Argument, Body, Expr, Parameter};
 use pl_values::Value;
-use plain_data::Items;
+use plain_data::{Items, Subtree};
 
 impl Stack {
     /// Takes the value on the top, parameters, which may be left out.
@@ -126,7 +126,7 @@ impl Stack {
     }
 
     /// Takes the value on the top, expressions, which may be left out.
-    pub fn exprs_if_any(&mut self) -> Option<Items<Expr>>
+    pub fn exprs_if_any(&mut self) -> Option<Items<Subtree<Expr>>>
         requires { starts_with (spec.is_any spec.is_exprs) self.old ≡ true }
         ensures { self.old ≡ option_value (held v.Exprs) result ∷ self.new }
     {

@@ -14,7 +14,7 @@ use pl_tree::{
     Spelled, Statement, TypeName, Variable,
 };
 use pl_values::Value;
-use plain_data::Items;
+use plain_data::{Items, Subtree};
 use std::alloc::{AllocError, Global};
 
 impl Stack {
@@ -86,7 +86,11 @@ impl Stack {
     }
 
     /// Puts a value on the top: a statement.
-    pub fn push_statement(&mut self, alloc: Global, statement: Statement) -> Result<(), AllocError>
+    pub fn push_statement(
+        &mut self,
+        alloc: Global,
+        statement: Subtree<Statement>,
+    ) -> Result<(), AllocError>
         ensures { OnOk result (self.new ≡ v.Statement (Some statement) ∷ self.old) }
     {
         self.push(alloc, Value::Statement(Some(statement)))
@@ -96,7 +100,7 @@ impl Stack {
     pub fn push_statements(
         &mut self,
         alloc: Global,
-        statements: Items<Statement>,
+        statements: Items<Subtree<Statement>>,
     ) -> Result<(), AllocError>
         ensures { OnOk result (self.new ≡ v.Statements (Some statements) ∷ self.old) }
     {
@@ -243,14 +247,18 @@ impl Stack {
     }
 
     /// Puts a value on the top: an expression.
-    pub fn push_expr(&mut self, alloc: Global, expr: Expr) -> Result<(), AllocError>
+    pub fn push_expr(&mut self, alloc: Global, expr: Subtree<Expr>) -> Result<(), AllocError>
         ensures { OnOk result (self.new ≡ v.Expr (Some expr) ∷ self.old) }
     {
         self.push(alloc, Value::Expr(Some(expr)))
     }
 
     /// Puts a value on the top: expressions.
-    pub fn push_exprs(&mut self, alloc: Global, exprs: Items<Expr>) -> Result<(), AllocError>
+    pub fn push_exprs(
+        &mut self,
+        alloc: Global,
+        exprs: Items<Subtree<Expr>>,
+    ) -> Result<(), AllocError>
         ensures { OnOk result (self.new ≡ v.Exprs (Some exprs) ∷ self.old) }
     {
         self.push(alloc, Value::Exprs(Some(exprs)))

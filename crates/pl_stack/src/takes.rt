@@ -13,7 +13,7 @@ use pl_tree::{
     Spelled, Statement, TypeName, Variable,
 };
 use pl_values::Value;
-use plain_data::Items;
+use plain_data::{Items, Subtree};
 
 impl Stack {
     /// Takes the value on the top, a token.
@@ -160,7 +160,7 @@ impl Stack {
     }
 
     /// Takes the value on the top, a statement.
-    pub fn statement(&mut self) -> Statement
+    pub fn statement(&mut self) -> Subtree<Statement>
         requires { starts_with spec.is_statement self.old ≡ true }
         ensures { self.old ≡ v.Statement (Some result) ∷ self.new }
     {
@@ -177,7 +177,7 @@ impl Stack {
     }
 
     /// Takes the value on the top, statements.
-    pub fn statements(&mut self) -> Items<Statement>
+    pub fn statements(&mut self) -> Items<Subtree<Statement>>
         requires { starts_with spec.is_statements self.old ≡ true }
         ensures { self.old ≡ v.Statements (Some result) ∷ self.new }
     {
@@ -435,7 +435,7 @@ impl Stack {
     }
 
     /// Takes the value on the top, an expression.
-    pub fn expr(&mut self) -> Expr
+    pub fn expr(&mut self) -> Subtree<Expr>
         requires { starts_with spec.is_expr self.old ≡ true }
         ensures { self.old ≡ v.Expr (Some result) ∷ self.new }
     {
@@ -450,7 +450,7 @@ impl Stack {
     }
 
     /// Takes the value on the top, expressions.
-    pub fn exprs(&mut self) -> Items<Expr>
+    pub fn exprs(&mut self) -> Items<Subtree<Expr>>
         requires { starts_with spec.is_exprs self.old ≡ true }
         ensures { self.old ≡ v.Exprs (Some result) ∷ self.new }
     {

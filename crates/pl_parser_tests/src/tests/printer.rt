@@ -192,9 +192,9 @@ fn put_parameters(to: &mut Printer, parameters: &[Parameter]) -> Result<(), Allo
 
 #[cycle(printing)]
 fn put_entry(to: &mut Printer, entry: &Entry) -> Result<(), AllocError> {
-    put_expr(to, &entry.key)?;
+    put_expr(to, entry.key.get())?;
     to.put(":")?;
-    put_expr(to, &entry.value)
+    put_expr(to, entry.value.get())
 }
 
 #[cycle(printing)]
@@ -208,7 +208,7 @@ fn put_lambda_body(to: &mut Printer, body: &LambdaBody) -> Result<(), AllocError
 #[cycle(printing)]
 fn put_argument(to: &mut Printer, argument: &Argument) -> Result<(), AllocError> {
     match argument {
-        Argument::Value(value) => put_expr(to, value),
+        Argument::Value(value) => put_expr(to, value.get()),
         Argument::Lambda {
             at,
             parameters,
@@ -250,7 +250,7 @@ fn put_block(to: &mut Printer, block: &Block) -> Result<(), AllocError> {
         if some {
             to.put(" ")?;
         }
-        put_statement(to, statement)?;
+        put_statement(to, statement.get())?;
         some = true;
     }
     to.put_word("}", block.at)
@@ -298,7 +298,7 @@ fn put_declaration(to: &mut Printer, declaration: &Declaration) -> Result<(), Al
 fn put_first(to: &mut Printer, first: &First) -> Result<(), AllocError> {
     match first {
         First::Declare(declaration) => put_declaration(to, declaration),
-        First::Expression(value) => put_expr(to, value),
+        First::Expression(value) => put_expr(to, value.get()),
     }
 }
 
@@ -323,7 +323,7 @@ fn put_statement(to: &mut Printer, statement: &Statement) -> Result<(), AllocErr
             otherwise,
         } => {
             to.open("if", *at)?;
-            put_expr(to, condition)?;
+            put_expr(to, condition.get())?;
             to.put(" ")?;
             put_body(to, then)?;
             if let Some(otherwise) = otherwise {
@@ -338,7 +338,7 @@ fn put_statement(to: &mut Printer, statement: &Statement) -> Result<(), AllocErr
             body,
         } => {
             to.open("while", *at)?;
-            put_expr(to, condition)?;
+            put_expr(to, condition.get())?;
             to.put(" ")?;
             put_run(to, body)?;
             to.put(")")
@@ -357,12 +357,12 @@ fn put_statement(to: &mut Printer, statement: &Statement) -> Result<(), AllocErr
             }
             to.put(" ")?;
             match condition {
-                Some(condition) => put_expr(to, condition)?,
+                Some(condition) => put_expr(to, condition.get())?,
                 None => to.put("_")?,
             }
             to.put(" ")?;
             match update {
-                Some(update) => put_expr(to, update)?,
+                Some(update) => put_expr(to, update.get())?,
                 None => to.put("_")?,
             }
             to.put(" ")?;
@@ -381,7 +381,7 @@ fn put_statement(to: &mut Printer, statement: &Statement) -> Result<(), AllocErr
             to.put(" ")?;
             put_spelled(to, name)?;
             to.put(" ")?;
-            put_expr(to, over)?;
+            put_expr(to, over.get())?;
             to.put(" ")?;
             put_body(to, body)?;
             to.put(")")
@@ -395,7 +395,7 @@ fn put_statement(to: &mut Printer, statement: &Statement) -> Result<(), AllocErr
             to.open("in", *at)?;
             put_spelled(to, name)?;
             to.put(" ")?;
-            put_expr(to, over)?;
+            put_expr(to, over.get())?;
             to.put(" ")?;
             put_body(to, body)?;
             to.put(")")
@@ -417,7 +417,7 @@ fn put_statement(to: &mut Printer, statement: &Statement) -> Result<(), AllocErr
             to.open("do", *at)?;
             put_block(to, block)?;
             to.put(" ")?;
-            put_expr(to, condition)?;
+            put_expr(to, condition.get())?;
             to.put(")")
         }
         Statement::Declare(declaration) => put_declaration(to, declaration),
@@ -434,12 +434,12 @@ fn put_statement(to: &mut Printer, statement: &Statement) -> Result<(), AllocErr
         }
         Statement::Throw { at, value } => {
             to.open("throw", *at)?;
-            put_expr(to, value)?;
+            put_expr(to, value.get())?;
             to.put(")")
         }
         Statement::Expression { at, value } => {
             to.put_at(*at)?;
-            put_expr(to, value)
+            put_expr(to, value.get())
         }
     }
 }
@@ -545,7 +545,7 @@ fn put_expr(to: &mut Printer, expr: &Expr) -> Result<(), AllocError> {
                 if some {
                     to.put(" ")?;
                 }
-                put_expr(to, item)?;
+                put_expr(to, item.get())?;
                 some = true;
             }
             to.put_word("]", *at)
@@ -593,7 +593,7 @@ fn put_expr(to: &mut Printer, expr: &Expr) -> Result<(), AllocError> {
             put_type(to, of)?;
             for size in sizes.as_slice() {
                 to.put(" ")?;
-                put_expr(to, size)?;
+                put_expr(to, size.get())?;
             }
             to.put(")")
         }
@@ -602,7 +602,7 @@ fn put_expr(to: &mut Printer, expr: &Expr) -> Result<(), AllocError> {
             put_type(to, of)?;
             for element in items.as_slice() {
                 to.put(" ")?;
-                put_expr(to, element)?;
+                put_expr(to, element.get())?;
             }
             to.put(")")
         }
@@ -686,7 +686,7 @@ pub fn printed(alloc: Global, detail: Detail, tree: &Tree) -> Result<String, All
     }
     for statement in tree.statements.as_slice() {
         to.put(between)?;
-        put_statement(&mut to, statement)?;
+        put_statement(&mut to, statement.get())?;
         between = " ";
     }
     let Printer {

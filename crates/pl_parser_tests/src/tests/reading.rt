@@ -4,8 +4,8 @@ ghost use Rattle.std.specs.Prelude.{IfOk};
 ghost use Rattle.pl_grammar.specs.Lexeme.{AllLieIn};
 
 use super::printer::{Detail, printed};
-use crate::parse;
 use pl_lexer::{MOST_BYTES, Token, lex};
+use pl_parser::parse;
 use pl_tree::Tree;
 use pl_types::{Fail, TypeNames};
 use std::alloc::{AllocError, Global};
@@ -152,6 +152,36 @@ pub fn are_deep(
             read.as_str(),
             expected.as_str(),
             "in {times} of {script:?}"
+        );
+    }
+    Ok(())
+}
+
+/// Many such parts, each with one more behind it.
+fn parts(
+    alloc: Global,
+    blocks: usize,
+    times: usize,
+    [part, last]: [&str; 2],
+) -> Result<String, AllocError> {
+    let block = nested(alloc, times, [part, last, ""])?;
+    nested(alloc, blocks, [block.as_str(), "", ""])
+}
+
+/// Each script is one statement, however deep it is.
+pub fn have_one_statement(
+    rt: &impl Abort,
+    alloc: Global,
+    rows: &[(usize, usize, [&str; 2], &str, [&str; 2])],
+) -> Result<(), Fail> {
+    for (blocks, times, before, middle, behind) in rows {
+        let front = parts(alloc, *blocks, *times, *before)?;
+        let back = parts(alloc, *blocks, *times, *behind)?;
+        let text = format!(in alloc; "{front}{middle}{back}")?;
+        let tree = tree_of(rt, alloc, text.as_str())?;
+        assert!(rt;
+            tree.statements.len() == 1,
+            "in {before:?} {middle:?} {behind:?}"
         );
     }
     Ok(())
