@@ -24,7 +24,7 @@ pub enum Instruction {
 }
 
 /// The code of one function.
-#[derive(Debug, Drop)]
+#[derive(Drop)]
 pub struct Code {
     /// Its instructions, in order. Lines are counted from 0.
     pub lines: Items<Instruction>,
