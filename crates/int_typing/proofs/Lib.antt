@@ -2,3 +2,4 @@ pub mod Values
 pub mod Firsts
 pub mod Refusals
 pub mod Shapes
+pub mod Joins

@@ -1,3 +1,5 @@
 pub mod Literals
 pub mod Typing
 pub mod Visits
+pub mod Steps
+pub mod Spines

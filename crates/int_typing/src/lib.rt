@@ -3,6 +3,7 @@
 #![tactic(auto)]
 
 mod literal;
+mod spine;
 mod typing;
 
 pub use typing::{negated_literal, plain_literal, typed, typed_script};

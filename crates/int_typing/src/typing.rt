@@ -1,18 +1,24 @@
 //! Typing: of all that a script may say only the arithmetic of `int` is built. Every other node is refused as out of the
 //! profile, at its own place, once its parts have been visited from the left to the right.
 
-ghost use Rattle.std.specs.Prelude.{◌≡◌, Some};
+ghost use Rattle.std.specs.Prelude.{◌≡◌, ◌<◌, ℕ, false, true, is_err, Some, Err, ◌∷◌, [], map, MatchResult, IfOk};
 ghost use Rattle.pl_types.specs.Answers.{Answers};
-ghost use Rattle.int_typing.specs.Typing.{argument_of, body_of, block_of, declaration_of, entry_of, first_part_of, lambda_of, literal, operator_of, out_of_profile, out_of_range, readings_of, refusal_of, refused, typed_of, variable_of};
+ghost use Rattle.pl_tree.specs.declared.tree.Expr.{Expr, size-Expr};
+ghost use Rattle.pl_tree.specs.declared.tree.Statement.{size-Statement, out-Statement};
+ghost use Rattle.pl_tree.specs.declared.tree.Block.{size-Block};
+ghost use Rattle.pl_tree.specs.declared.tree.Body.{size-Body};
+ghost use Rattle.int_typing.specs.Typing.{argument_of, block_of, body_of, both, declaration_of, entry_of, first_part_of, lambda_of, last_of, literal, no_expression, operator_of, out_of_profile, out_of_range, readings_of, refusal_of, refused, typed_of, unbuilt, variable_of};
 ghost use Rattle.int_typing.specs.Visits.{Visits};
+ghost use Rattle.int_typing.specs.Steps.{Goes, IsBelow};
 
 use crate::literal::{LEAST, is_long, literal_value};
+use crate::spine::{Join, spine_of};
 use pl_tree::{
     Argument, BinaryOperator, Block, Body, Declaration, Entry, Expr, First, LambdaBody, Operator,
     Statement, Tree, Typed, UnaryOperator, Variable,
 };
 use pl_types::{Fail, Refusal, rules};
-use plain_data::Boxed;
+use plain_data::{Boxed, Subtree};
 use std::alloc::Global;
 
 /// The refusal of a node that is not built.
@@ -25,7 +31,8 @@ fn out_of_profile(at: u32) -> Fail
     })
 }
 
-fn operator_of(operator: BinaryOperator) -> Option<Operator>
+/// The operator of a typed tree, for one that is built.
+pub(crate) fn operator_of(operator: BinaryOperator) -> Option<Operator>
     ensures { result ≡ operator_of operator }
 {
     match operator {
@@ -83,6 +90,28 @@ pub fn negated_literal(at: u32, spelling: &str) -> Result<Typed, Fail>
     }
 }
 
+/// What typing an expression comes to, or with which part of it typing goes on: one that is typed, or refused, as the whole.
+#[derive(Drop)]
+enum Step<'a> {
+    Typed(Typed),
+    Part(&'a Expr),
+}
+
+/// Whether an expression is built, by its outermost node. One that is not is refused, whatever its parts.
+fn is_built(tree: &Expr) -> bool
+    ensures { result ≡ false → is_err (readings_of tree.now).plain ≡ true }
+{
+    match tree {
+        Expr::Integer { .. } | Expr::Bracketed { .. } => true,
+        Expr::Unary {
+            operator: UnaryOperator::Minus,
+            ..
+        } => true,
+        Expr::Binary { operator, .. } => operator_of(*operator).is_some(),
+        _ => false,
+    }
+}
+
 /// Looks for a refusal in an expression.
 #[cycle(typing)]
 fn visit(alloc: Global, tree: &Expr) -> Result<(), Fail>
@@ -92,13 +121,102 @@ fn visit(alloc: Global, tree: &Expr) -> Result<(), Fail>
     Ok(())
 }
 
+/// One part of a node that is not built: typing goes on with it where it is not built either, and else refuses it or the node.
+#[cycle(typing)]
+fn one_part<'a>(alloc: Global, at: u32, part: &'a Expr) -> Result<Step<'a>, Fail>
+    ensures goes { Goes result (no_expression at (refused (readings_of part.now) ∷ [])).plain }
+    ensures smaller { (n : ℕ) → size-Expr part.now < n → IsBelow n result }
+{
+    if !is_built(part) {
+        return Ok(Step::Part(part));
+    }
+    visit(alloc, part)?;
+    Err(out_of_profile(at))
+}
+
+/// The same of two parts, from the left to the right.
+#[cycle(typing)]
+fn two_parts<'a>(
+    alloc: Global,
+    at: u32,
+    first: &'a Expr,
+    second: &'a Expr,
+) -> Result<Step<'a>, Fail>
+    ensures goes { Goes result (no_expression at (refused (readings_of first.now) ∷ refused (readings_of second.now) ∷ [])).plain }
+    ensures smaller { (n : ℕ) → size-Expr first.now < n → size-Expr second.now < n → IsBelow n result }
+{
+    if !is_built(first) {
+        return Ok(Step::Part(first));
+    }
+    visit(alloc, first)?;
+    one_part(alloc, at, second)
+}
+
+/// The same of three parts.
+#[cycle(typing)]
+fn three_parts<'a>(
+    alloc: Global,
+    at: u32,
+    first: &'a Expr,
+    second: &'a Expr,
+    third: &'a Expr,
+) -> Result<Step<'a>, Fail>
+    ensures goes { Goes result (no_expression at (refused (readings_of first.now) ∷ refused (readings_of second.now) ∷ refused (readings_of third.now) ∷ [])).plain }
+    ensures smaller { (n : ℕ) → size-Expr first.now < n → size-Expr second.now < n → size-Expr third.now < n → IsBelow n result }
+{
+    if !is_built(first) {
+        return Ok(Step::Part(first));
+    }
+    visit(alloc, first)?;
+    two_parts(alloc, at, second, third)
+}
+
+/// Refuses a node with a list of parts: by the first of them that is refused, or as a node.
+#[cycle(typing)]
+fn refuse_items(alloc: Global, at: u32, items: &[Subtree<Expr>]) -> Fail
+    ensures { Visits (Err result) (Some (unbuilt at (map (λ (e : Expr). refused (readings_of e)) items.now))) }
+{
+    for item in items {
+        if let Err(fail) = visit(alloc, item.get()) {
+            return fail;
+        }
+    }
+    out_of_profile(at)
+}
+
+/// The same of a map's entries.
+#[cycle(typing)]
+fn refuse_entries(alloc: Global, at: u32, entries: &[Entry]) -> Fail
+    ensures { Visits (Err result) (Some (unbuilt at (map entry_of entries.now))) }
+{
+    for entry in entries {
+        if let Err(fail) = visit_entry(alloc, entry) {
+            return fail;
+        }
+    }
+    out_of_profile(at)
+}
+
+/// The same of arguments.
+#[cycle(typing)]
+fn refuse_arguments(alloc: Global, at: u32, arguments: &[Argument]) -> Fail
+    ensures { Visits (Err result) (Some (unbuilt at (map argument_of arguments.now))) }
+{
+    for argument in arguments {
+        if let Err(fail) = visit_argument(alloc, argument) {
+            return fail;
+        }
+    }
+    out_of_profile(at)
+}
+
 /// Looks for a refusal in the two parts of an entry of a map.
 #[cycle(typing)]
 fn visit_entry(alloc: Global, entry: &Entry) -> Result<(), Fail>
     ensures { Visits result (entry_of entry.now) }
 {
-    visit(alloc, &entry.key)?;
-    visit(alloc, &entry.value)
+    visit(alloc, entry.key.get())?;
+    visit(alloc, entry.value.get())
 }
 
 #[cycle(typing)]
@@ -106,7 +224,7 @@ fn visit_argument(alloc: Global, argument: &Argument) -> Result<(), Fail>
     ensures { Visits result (argument_of argument.now) }
 {
     match argument {
-        Argument::Value(value) => visit(alloc, value),
+        Argument::Value(value) => visit(alloc, value.get()),
         Argument::Lambda {
             at,
             parameters: _,
@@ -126,29 +244,33 @@ fn visit_lambda(alloc: Global, body: &LambdaBody) -> Result<(), Fail>
     ensures { Visits result (lambda_of body.now) }
 {
     match body {
-        LambdaBody::Block(block) => visit_block(alloc, block),
+        LambdaBody::Block(block) => {
+            let first = first_statement(block)?;
+            Err(refuse_statement(alloc, first))
+        }
         LambdaBody::Expression(value) => visit(alloc, value.get()),
     }
 }
 
-/// Refuses a block: by its first statement, or as a block.
-#[cycle(typing)]
-fn visit_block(alloc: Global, block: &Block) -> Result<(), Fail>
-    ensures { Visits result (Some (block_of block.now)) }
+/// The statement that a block is refused by, if it has one.
+fn first_statement(block: &Block) -> Result<&Statement, Fail>
+    ensures refused { MatchResult result (λ first. refusal_of first.now ≡ block_of block.now) (λ fail. Visits (Err fail) (Some (block_of block.now))) }
+    ensures smaller { (n : ℕ) → size-Block block.now < n → IfOk result (λ first. size-Statement first.now < n) }
 {
     match block.statements.as_slice() {
         [] => Err(out_of_profile(block.at)),
-        [first, ..] => visit_statement(alloc, first),
+        [first, ..] => Ok(first.get()),
     }
 }
 
-#[cycle(typing)]
-fn visit_body(alloc: Global, body: &Body) -> Result<(), Fail>
-    ensures { Visits result (Some (body_of body.now)) }
+/// The statement that a body is refused by, if it has one.
+fn first_of_body(body: &Body) -> Result<&Statement, Fail>
+    ensures refused { MatchResult result (λ first. refusal_of first.now ≡ body_of body.now) (λ fail. Visits (Err fail) (Some (body_of body.now))) }
+    ensures smaller { (n : ℕ) → size-Body body.now < n → IfOk result (λ first. size-Statement first.now < n) }
 {
     match body {
-        Body::Block(block) => visit_block(alloc, block),
-        Body::Statement(statement) => visit_statement(alloc, statement.get()),
+        Body::Block(block) => first_statement(block),
+        Body::Statement(statement) => Ok(statement.get()),
     }
 }
 
@@ -163,14 +285,17 @@ fn visit_variable(alloc: Global, variable: &Variable) -> Result<(), Fail>
     }
 }
 
+/// Refuses a declaration: by the first of its variables that is refused, or at its type.
 #[cycle(typing)]
-fn visit_declaration(alloc: Global, declaration: &Declaration) -> Result<(), Fail>
-    ensures { Visits result (Some (declaration_of declaration.now)) }
+fn refuse_declaration(alloc: Global, declaration: &Declaration) -> Fail
+    ensures { Visits (Err result) (Some (declaration_of declaration.now)) }
 {
     for variable in declaration.variables.as_slice() {
-        visit_variable(alloc, variable)?;
+        if let Err(fail) = visit_variable(alloc, variable) {
+            return fail;
+        }
     }
-    Err(out_of_profile(declaration.of.at))
+    out_of_profile(declaration.of.at)
 }
 
 #[cycle(typing)]
@@ -178,15 +303,31 @@ fn visit_first(alloc: Global, first: &First) -> Result<(), Fail>
     ensures { Visits result (first_part_of first.now) }
 {
     match first {
-        First::Declare(declaration) => visit_declaration(alloc, declaration),
-        First::Expression(value) => visit(alloc, value),
+        First::Declare(declaration) => Err(refuse_declaration(alloc, declaration)),
+        First::Expression(value) => visit(alloc, value.get()),
     }
 }
 
-/// Refuses a statement: by a refusal among its parts, or as a statement.
+/// Refuses a statement. Statements in statements are gone through in a loop, since they may nest too deep for the machine's
+/// stack.
 #[cycle(typing)]
-fn visit_statement(alloc: Global, statement: &Statement) -> Result<(), Fail>
-    ensures { Visits result (Some (refusal_of statement.now)) }
+fn refuse_statement(alloc: Global, statement: &Statement) -> Fail
+    ensures { Visits (Err result) (Some (refusal_of statement.now)) }
+{
+    let mut part = statement;
+    'parts: loop {
+        match statement_step(alloc, part) {
+            Ok(inner) => part = inner,
+            Err(fail) => return fail,
+        }
+    }
+}
+
+/// Refuses a statement, by its parts from the left to the right or as a statement, or says with which part of it that goes on.
+#[cycle(typing)]
+fn statement_step<'a>(alloc: Global, statement: &'a Statement) -> Result<&'a Statement, Fail>
+    ensures refused { MatchResult result (λ part. refusal_of part.now ≡ refusal_of statement.now) (λ fail. Visits (Err fail) (Some (refusal_of statement.now))) }
+    ensures smaller { IfOk result (λ part. size-Statement part.now < size-Statement statement.now) }
 {
     match statement {
         Statement::If {
@@ -195,17 +336,17 @@ fn visit_statement(alloc: Global, statement: &Statement) -> Result<(), Fail>
             then,
             otherwise: _,
         } => {
-            visit(alloc, condition)?;
-            visit_body(alloc, then)
+            visit(alloc, condition.get())?;
+            first_of_body(then)
         }
         Statement::While {
             at,
             condition,
             body,
         } => {
-            visit(alloc, condition)?;
+            visit(alloc, condition.get())?;
             match body {
-                Some(body) => visit_body(alloc, body),
+                Some(body) => first_of_body(body),
                 None => Err(out_of_profile(*at)),
             }
         }
@@ -220,13 +361,13 @@ fn visit_statement(alloc: Global, statement: &Statement) -> Result<(), Fail>
                 visit_first(alloc, first)?;
             }
             if let Some(condition) = condition {
-                visit(alloc, condition)?;
+                visit(alloc, condition.get())?;
             }
             if let Some(update) = update {
-                visit(alloc, update)?;
+                visit(alloc, update.get())?;
             }
             match body {
-                Some(body) => visit_body(alloc, body),
+                Some(body) => first_of_body(body),
                 None => Err(out_of_profile(*at)),
             }
         }
@@ -237,8 +378,8 @@ fn visit_statement(alloc: Global, statement: &Statement) -> Result<(), Fail>
             over,
             body,
         } => {
-            visit(alloc, over)?;
-            visit_body(alloc, body)
+            visit(alloc, over.get())?;
+            first_of_body(body)
         }
         Statement::ForIn {
             at: _,
@@ -246,20 +387,20 @@ fn visit_statement(alloc: Global, statement: &Statement) -> Result<(), Fail>
             over,
             body,
         } => {
-            visit(alloc, over)?;
-            visit_body(alloc, body)
+            visit(alloc, over.get())?;
+            first_of_body(body)
         }
         Statement::Try {
             at: _,
             block,
             catches: _,
-        } => visit_block(alloc, block),
+        } => first_statement(block),
         Statement::Do {
             at: _,
             block,
             condition: _,
-        } => visit_block(alloc, block),
-        Statement::Declare(declaration) => visit_declaration(alloc, declaration),
+        } => first_statement(block),
+        Statement::Declare(declaration) => Err(refuse_declaration(alloc, declaration)),
         Statement::Continue { at } => Err(out_of_profile(*at)),
         Statement::Break { at } => Err(out_of_profile(*at)),
         Statement::Return { at, value } => {
@@ -269,17 +410,18 @@ fn visit_statement(alloc: Global, statement: &Statement) -> Result<(), Fail>
             Err(out_of_profile(*at))
         }
         Statement::Throw { at, value } => {
-            visit(alloc, value)?;
+            visit(alloc, value.get())?;
             Err(out_of_profile(*at))
         }
         Statement::Expression { at, value } => {
-            visit(alloc, value)?;
+            visit(alloc, value.get())?;
             Err(out_of_profile(*at))
         }
     }
 }
 
-/// The typed tree of an expression.
+/// The typed tree of an expression. Expressions in expressions are gone through in a loop as far as no bracket stands between
+/// them, since they may nest too deep for the machine's stack.
 ///
 /// LiteralRange (18), at the literal: an int literal that is 2,147,483,648 or more, or more than that where a unary minus
 /// stands directly before it. OutOfProfile (19), at the node: what is not built.
@@ -287,21 +429,39 @@ fn visit_statement(alloc: Global, statement: &Statement) -> Result<(), Fail>
 pub fn typed(alloc: Global, tree: &Expr) -> Result<Typed, Fail>
     ensures exact { Answers (λ t. t) result (λ a. a ≡ (readings_of tree.now).plain) }
 {
+    let mut part = tree;
+    'parts: loop {
+        match go_on(alloc, part)? {
+            Step::Typed(typed) => return Ok(typed),
+            Step::Part(inner) => part = inner,
+        }
+    }
+}
+
+/// Types an expression, or says with which part of it typing goes on.
+#[cycle(typing)]
+fn go_on<'a>(alloc: Global, tree: &'a Expr) -> Result<Step<'a>, Fail>
+    ensures goes { Goes result (readings_of tree.now).plain }
+    ensures smaller { IsBelow (size-Expr tree.now) result }
+{
     match tree {
-        Expr::Integer { at, spelling } => plain_literal(*at, spelling.as_str()),
+        Expr::Integer { at, spelling } => {
+            let literal = plain_literal(*at, spelling.as_str())?;
+            Ok(Step::Typed(literal))
+        }
         Expr::Unary {
-            operator: UnaryOperator::Minus,
-            at: _,
-            operand,
-        } => negated(alloc, operand.get()),
-        Expr::Unary {
-            operator: _,
+            operator,
             at,
             operand,
-        } => {
-            visit(alloc, operand.get())?;
-            Err(out_of_profile(*at))
-        }
+        } => match operator {
+            UnaryOperator::Minus => {
+                let negative = negated(alloc, operand.get())?;
+                Ok(Step::Typed(negative))
+            }
+            UnaryOperator::Plus => one_part(alloc, *at, operand.get()),
+            UnaryOperator::Not => one_part(alloc, *at, operand.get()),
+            UnaryOperator::Complement => one_part(alloc, *at, operand.get()),
+        },
         Expr::Binary {
             operator,
             at,
@@ -309,71 +469,37 @@ pub fn typed(alloc: Global, tree: &Expr) -> Result<Typed, Fail>
             right,
         } => match operator_of(*operator) {
             Some(operator) => {
-                let left = typed(alloc, left.get())?;
-                let right = typed(alloc, right.get())?;
-                Ok(Typed::Binary(
-                    operator,
-                    Boxed::new(alloc, left)?,
-                    Boxed::new(alloc, right)?,
-                ))
+                let all = joined(alloc, operator, left.get(), right.get())?;
+                Ok(Step::Typed(all))
             }
-            None => {
-                visit(alloc, left.get())?;
-                visit(alloc, right.get())?;
-                Err(out_of_profile(*at))
-            }
+            None => two_parts(alloc, *at, left.get(), right.get()),
         },
-        Expr::Bracketed { at: _, inner } => typed(alloc, inner.get()),
+        Expr::Bracketed { at: _, inner } => Ok(Step::Part(inner.get())),
         Expr::Assign {
             operator: _,
             at,
             target,
             value,
-        } => {
-            visit(alloc, target.get())?;
-            visit(alloc, value.get())?;
-            Err(out_of_profile(*at))
-        }
+        } => two_parts(alloc, *at, target.get(), value.get()),
         Expr::Conditional {
             at,
             condition,
             yes,
             no,
-        } => {
-            visit(alloc, condition.get())?;
-            visit(alloc, yes.get())?;
-            visit(alloc, no.get())?;
-            Err(out_of_profile(*at))
-        }
-        Expr::Elvis { at, left, right } => {
-            visit(alloc, left.get())?;
-            visit(alloc, right.get())?;
-            Err(out_of_profile(*at))
-        }
-        Expr::Instanceof { at, operand, of: _ } => {
-            visit(alloc, operand.get())?;
-            Err(out_of_profile(*at))
-        }
+        } => three_parts(alloc, *at, condition.get(), yes.get(), no.get()),
+        Expr::Elvis { at, left, right } => two_parts(alloc, *at, left.get(), right.get()),
+        Expr::Instanceof { at, operand, of: _ } => one_part(alloc, *at, operand.get()),
         Expr::Prefix {
             step: _,
             at,
             target,
-        } => {
-            visit(alloc, target.get())?;
-            Err(out_of_profile(*at))
-        }
+        } => one_part(alloc, *at, target.get()),
         Expr::Postfix {
             step: _,
             at,
             target,
-        } => {
-            visit(alloc, target.get())?;
-            Err(out_of_profile(*at))
-        }
-        Expr::Cast { at, operand, of: _ } => {
-            visit(alloc, operand.get())?;
-            Err(out_of_profile(*at))
-        }
+        } => one_part(alloc, *at, target.get()),
+        Expr::Cast { at, operand, of: _ } => one_part(alloc, *at, operand.get()),
         Expr::Text { at, spelling: _ } => Err(out_of_profile(*at)),
         Expr::Constant { constant: _, at } => Err(out_of_profile(*at)),
         Expr::Name { at, spelling: _ } => Err(out_of_profile(*at)),
@@ -383,72 +509,32 @@ pub fn typed(alloc: Global, tree: &Expr) -> Result<Typed, Fail>
             at,
             receiver,
             spelling: _,
-        } => {
-            visit(alloc, receiver.get())?;
-            Err(out_of_profile(*at))
-        }
+        } => one_part(alloc, *at, receiver.get()),
         Expr::Element {
             access: _,
             at,
             receiver,
             spelling: _,
-        } => {
-            visit(alloc, receiver.get())?;
-            Err(out_of_profile(*at))
-        }
+        } => one_part(alloc, *at, receiver.get()),
         Expr::Index {
             at,
             receiver,
             index,
-        } => {
-            visit(alloc, receiver.get())?;
-            visit(alloc, index.get())?;
-            Err(out_of_profile(*at))
-        }
-        Expr::List { at, items } => {
-            for item in items.as_slice() {
-                visit(alloc, item)?;
-            }
-            Err(out_of_profile(*at))
-        }
-        Expr::Map { at, entries } => {
-            for entry in entries.as_slice() {
-                visit_entry(alloc, entry)?;
-            }
-            Err(out_of_profile(*at))
-        }
+        } => two_parts(alloc, *at, receiver.get(), index.get()),
+        Expr::List { at, items } => Err(refuse_items(alloc, *at, items.as_slice())),
+        Expr::Map { at, entries } => Err(refuse_entries(alloc, *at, entries.as_slice())),
         Expr::Call {
             at,
             spelling: _,
             arguments,
-        } => {
-            for argument in arguments.as_slice() {
-                visit_argument(alloc, argument)?;
-            }
-            Err(out_of_profile(*at))
-        }
+        } => Err(refuse_arguments(alloc, *at, arguments.as_slice())),
         Expr::New {
             at,
             of: _,
             arguments,
-        } => {
-            for given in arguments.as_slice() {
-                visit_argument(alloc, given)?;
-            }
-            Err(out_of_profile(*at))
-        }
-        Expr::NewArray { at, of: _, sizes } => {
-            for size in sizes.as_slice() {
-                visit(alloc, size)?;
-            }
-            Err(out_of_profile(*at))
-        }
-        Expr::NewItems { at, of: _, items } => {
-            for element in items.as_slice() {
-                visit(alloc, element)?;
-            }
-            Err(out_of_profile(*at))
-        }
+        } => Err(refuse_arguments(alloc, *at, arguments.as_slice())),
+        Expr::NewArray { at, of: _, sizes } => Err(refuse_items(alloc, *at, sizes.as_slice())),
+        Expr::NewItems { at, of: _, items } => Err(refuse_items(alloc, *at, items.as_slice())),
         Expr::Method {
             access: _,
             at,
@@ -456,11 +542,11 @@ pub fn typed(alloc: Global, tree: &Expr) -> Result<Typed, Fail>
             spelling: _,
             arguments,
         } => {
-            visit(alloc, receiver.get())?;
-            for passed in arguments.as_slice() {
-                visit_argument(alloc, passed)?;
+            if !is_built(receiver.get()) {
+                return Ok(Step::Part(receiver.get()));
             }
-            Err(out_of_profile(*at))
+            visit(alloc, receiver.get())?;
+            Err(refuse_arguments(alloc, *at, arguments.as_slice()))
         }
     }
 }
@@ -479,6 +565,26 @@ fn negated(alloc: Global, tree: &Expr) -> Result<Typed, Fail>
     }
 }
 
+/// The typed tree of an operator that is built. The operators on its left sides are typed from the innermost outwards.
+#[cycle(typing)]
+fn joined(alloc: Global, operator: Operator, left: &Expr, right: &Expr) -> Result<Typed, Fail>
+    ensures exact { Answers (λ t. t) result (λ a. a ≡ both operator (readings_of left.now).plain (readings_of right.now).plain) }
+{
+    let mut joins = Vec::new(alloc);
+    joins.push(Join { operator, right })?;
+    let innermost = spine_of(left, &mut joins)?;
+    let mut all = typed(alloc, innermost)?;
+    'joins: while let Some(join) = joins.pop() {
+        let right = typed(alloc, join.right)?;
+        all = Typed::Binary(
+            join.operator,
+            Boxed::new(alloc, all)?,
+            Boxed::new(alloc, right)?,
+        );
+    }
+    Ok(all)
+}
+
 /// The typed tree of a script, none of the empty one.
 ///
 /// Refused as `typed` says, and as OutOfProfile at the first function, or at the first statement that is more than one
@@ -491,13 +597,20 @@ pub fn typed_script(alloc: Global, tree: &Tree) -> Result<Option<Typed>, Fail>
     }
     match tree.statements.as_slice() {
         [] => Ok(None),
-        [Statement::Expression { at: _, value }] => {
-            let value = typed(alloc, value)?;
+        [only] => only_statement(alloc, only.get()),
+        [first, ..] => Err(refuse_statement(alloc, first.get())),
+    }
+}
+
+/// The typed tree of a script's one statement.
+fn only_statement(alloc: Global, only: &Statement) -> Result<Option<Typed>, Fail>
+    ensures { Answers (λ typed. typed) result (λ a. a ≡ last_of only.now (out-Statement only.now)) }
+{
+    match only {
+        Statement::Expression { at: _, value } => {
+            let value = typed(alloc, value.get())?;
             Ok(Some(value))
         }
-        [first, ..] => {
-            visit_statement(alloc, first)?;
-            unreachable!()
-        }
+        _ => Err(refuse_statement(alloc, only)),
     }
 }

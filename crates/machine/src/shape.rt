@@ -18,7 +18,7 @@ pub enum ShapeFault {
 }
 
 /// Why the check has not passed the code.
-#[derive(Debug, Drop)]
+#[derive(Drop)]
 pub enum CheckError {
     BadShape(ShapeFault),
     NoMemory,

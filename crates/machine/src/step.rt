@@ -10,7 +10,7 @@ use script_end::{End, Exception};
 use std::alloc::{AllocError, Global};
 
 /// Where a run stands.
-#[derive(Debug, Drop)]
+#[derive(Drop)]
 pub struct Configuration {
     /// The line that is next, counted from 0.
     pub line: usize,

@@ -4,3 +4,4 @@ pub mod Placed
 pub mod Stages
 pub mod Utf8
 pub mod TwoWords
+pub mod Some

@@ -11,10 +11,11 @@ use pl_grammar::grammar_laws;
 use pl_lexer::each_text_has_one_reading;
 use std::alloc::Global;
 
-/// A law of the definition of the whole, which runs nothing: the words, over files of one content, are told one thing at
-/// most.
+/// A law of the definition of the whole, which runs nothing: the words, over files of one content, are told exactly one
+/// thing.
 pub fn one_thing_is_told()
-    ensures { (words : List (List ℕ)) (content : List ℕ → Option (List ℕ)) (a b : Told) → Tells words content a → Tells words content b → a ≡ b }
+    ensures some { (words : List (List ℕ)) (content : List ℕ → Option (List ℕ)) → (told : Told) × Tells words content told }
+    ensures once { (words : List (List ℕ)) (content : List ℕ → Option (List ℕ)) (a b : Told) → Tells words content a → Tells words content b → a ≡ b }
 {
     each_text_has_one_reading();
     grammar_laws();

@@ -12,7 +12,7 @@ use script_end::{End, Exception};
 use std::alloc::{AllocError, Global};
 
 /// A line to write, and the status with which the run ends once it is written.
-#[derive(Debug, Drop)]
+#[derive(Drop)]
 pub struct Answer {
     pub status: Status,
     pub line: String,

@@ -1,7 +1,7 @@
 use crate::status::Status;
 
 /// What a run came to, beside what it wrote.
-#[derive(Debug, Drop)]
+#[derive(Drop)]
 pub struct Report {
     pub status: Status,
     /// The listings of the codes that ran. No command gives any yet.

@@ -1,7 +1,7 @@
 //! The top call: from the words to the report.
 
 ghost use Rattle.std.specs.Prelude.{◌≡◌, ◌≢◌, ◌↔◌, ℕ, List, [], Option, IfSome, IfOk, map, string_bytes, length, ◌≤◌, MatchOption, Result};
-ghost use Rattle.outer_io.specs.Faults.{Rose};
+ghost use Rattle.outer_io.specs.Faults.{next_count};
 ghost use Rattle.painless_cli.specs.Whole.{IsEval, Tells, TellsFile, TellsScript, file_limit};
 ghost use Rattle.painless_cli.specs.Delivers.{Delivers};
 
@@ -48,9 +48,12 @@ pub fn painless<F: Files, S: Source, K: Sink>(
 
     // The words are not a command and its one word.
     ensures usage { (result.status ≡ Status.Usage) ↔ ((name : List ℕ) → IsEval (map string_bytes words.now) name → ⊥) }
-    // A fault of the sink or of the files has a cause.
-    ensures write { result.status ≡ Status.WriteFault → Rose (K.faults out.old) (K.faults out.new) }
-    ensures file { result.status ≡ Status.FileFault → Rose (F.faults files.old) (F.faults files.new) }
+    // A fault of the sink or of the files was counted, and only one: the call that failed was the last.
+    ensures write { result.status ≡ Status.WriteFault → K.faults out.new ≡ next_count (K.faults out.old) }
+    ensures file { result.status ≡ Status.FileFault → F.faults files.new ≡ next_count (F.faults files.old) }
+    // With every other status none was counted: no call failed.
+    ensures written { result.status ≢ Status.WriteFault → K.faults out.new ≡ K.faults out.old }
+    ensures filed { result.status ≢ Status.FileFault → F.faults files.new ≡ F.faults files.old }
     // No command reads the input.
     ensures untouched { input.new ≡ input.old }
 
@@ -81,8 +84,10 @@ fn eval<F: Files, K: Sink>(alloc: Global, name: &str, files: &mut F, out: &mut K
     ensures told { (content : List ℕ → Option (List ℕ)) × IfSome (F.content files.old) (λ known. known ≡ content)
         × Delivers (TellsFile (content name.now)) result (K.held out.old) (K.held out.new) }
     ensures command { result ≢ Status.Usage }
-    ensures write { result ≡ Status.WriteFault → Rose (K.faults out.old) (K.faults out.new) }
-    ensures file { result ≡ Status.FileFault → Rose (F.faults files.old) (F.faults files.new) }
+    ensures write { result ≡ Status.WriteFault → K.faults out.new ≡ next_count (K.faults out.old) }
+    ensures file { result ≡ Status.FileFault → F.faults files.new ≡ next_count (F.faults files.old) }
+    ensures written { result ≢ Status.WriteFault → K.faults out.new ≡ K.faults out.old }
+    ensures filed { result ≢ Status.FileFault → F.faults files.new ≡ F.faults files.old }
 {
     match files.read(alloc, name, FILE_LIMIT) {
         Ok(Found::Bytes(script)) => write_answer(alloc, script.as_slice(), out),
@@ -99,7 +104,8 @@ fn write_answer<K: Sink>(alloc: Global, script: &[u8], out: &mut K) -> Status
     ensures told { Delivers (TellsScript script.now) result (K.held out.old) (K.held out.new) }
     ensures command { result ≢ Status.Usage }
     ensures found { (result ≢ Status.FileFault) × (result ≢ Status.FileAbsent) × (result ≢ Status.FileLong) }
-    ensures write { result ≡ Status.WriteFault → Rose (K.faults out.old) (K.faults out.new) }
+    ensures write { result ≡ Status.WriteFault → K.faults out.new ≡ next_count (K.faults out.old) }
+    ensures written { result ≢ Status.WriteFault → K.faults out.new ≡ K.faults out.old }
 {
     let Ok(answer) = answer_to(alloc, script) else {
         return Status::NoMemory;

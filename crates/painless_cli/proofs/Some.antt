@@ -1,0 +1,111 @@
+-- Each stage has an answer, and so something is told.
+use Rattle.std.proofs.Common.{◌≡◌, ℕ, zero, suc, ◌<◌, ◌≤◌, Bool, true, false, nat_le, List, [], ◌∷◌, length, take, codes, Option, None, Some, Result, Ok, Err, inl, inr, ◌⊎◌, refl, sym, subst, ◌∙◌, ap, arith, rules}
+use Rattle.std.proofs.lemmas.Bool.{cases_order}
+use Rattle.std.proofs.lemmas.List.{take_all}
+use Rattle.std.proofs.lemmas.Str.{IsUtf8-nil, IsUtf8-from_is_utf8, is_utf8-from_IsUtf8}
+use Rattle.std.proofs.lemmas.Slice.Eq.{bytes_eq-Decides}
+use Rattle.std.specs.Str.{IsUtf8, is_utf8, IsValidUpTo, bytes_eq}
+use Rattle.pl_types.specs.declared.refusal.Refusal.{Refusal}
+use Rattle.pl_lexer.specs.declared.token.Token.{Token}
+use Rattle.pl_lexer.specs.Tokens.{Lexes}
+use Rattle.pl_grammar.specs.Parses.{Parses}
+use Rattle.pl_tree.specs.declared.tree.Tree.{Tree}
+use Rattle.pl_tree.specs.declared.typed.Typed.{Typed}
+use Rattle.script_end.specs.declared.end.End.{End}
+use Rattle.int_typing.specs.Typing.{typed_of}
+use Rattle.painless_cli.specs.declared.status.Status.TheVariants as s
+use Rattle.painless_cli.specs.Script.{end_of, GoesOn, Then, Decodes, no_classes, MeansTree, MeansTokens, MeansText, Means}
+use Rattle.painless_cli.specs.Whole.{Told, told_of, silent, file_limit, TellsScript, TellsFile, IsEval, Tells}
+
+-- there is an answer
+abbrev Answered : {A : Type 0} → (A → Type 0) → Type 0
+Answered {A} P = (a : A) × P a
+
+goes_some : {A B : Type 0} (Next : A → Result B Refusal → Type 0) → ((x : A) → Answered (Next x)) → (r : Result A Refusal) → Answered (GoesOn Next r)
+goes_some Next next (Ok x) = next x
+goes_some Next next (Err refusal) = (Err refusal, refl)
+
+then_some : {A B : Type 0} (First : Result A Refusal → Type 0) (Next : A → Result B Refusal → Type 0) → Answered First → ((x : A) → Answered (Next x)) → Answered (Then First Next)
+then_some First Next first next = let n = goes_some Next next first.0 in (n.0, (first.0, first.1, n.1))
+
+contradicts : {b : Bool} → b ≡ true → b ≡ false → ⊥
+contradicts holds fails = cc
+
+-- a front is UTF-8, or the shorter ones are tried
+by_front : (bytes : List ℕ) (k : ℕ) → suc k ≤ length bytes → ((m : ℕ) → suc k ≤ m → IsUtf8 (take m bytes) → ⊥) → (b : Bool) → is_utf8 (take k bytes) ≡ b
+    → (((m : ℕ) → k ≤ m → IsUtf8 (take m bytes) → ⊥) → (n : ℕ) × IsValidUpTo bytes n) → (n : ℕ) × IsValidUpTo bytes n
+by_front bytes k within none true is shorter = (
+  k,
+  record {
+    short = omega arith;
+    front = IsUtf8-from_is_utf8 (take k bytes) is;
+    longest = λ m above text. none m (omega arith) text;
+  },
+)
+by_front bytes k within none false is shorter = shorter (λ m from text. elim (cases_order m k) [
+  | inl e ↦ contradicts (is_utf8-from_IsUtf8 (take k bytes) (subst (λ (n : ℕ). IsUtf8 (take n bytes)) e text)) is
+  | inr lt ↦ elim lt [ inl below ↦ absurd (omega arith) | inr above ↦ none m (omega arith) text ]
+])
+
+-- the longest front that is UTF-8, which is shorter than all
+longest_front : (bytes : List ℕ) (k : ℕ) → k ≤ length bytes → ((m : ℕ) → k ≤ m → IsUtf8 (take m bytes) → ⊥) → (n : ℕ) × IsValidUpTo bytes n
+longest_front bytes zero within none = absurd (none 0 (omega arith) IsUtf8-nil)
+longest_front bytes (suc k) within none =
+    by_front bytes k within none (is_utf8 (take k bytes)) refl (λ shorter. longest_front bytes k (omega arith) shorter)
+
+decodes_some : (bytes : List ℕ) → Answered (Decodes bytes)
+decodes_some bytes = by (is_utf8 bytes) refl
+  where
+    by : (b : Bool) → is_utf8 bytes ≡ b → Answered (Decodes bytes)
+    by true is = (Ok bytes, (refl, IsUtf8-from_is_utf8 bytes is))
+    by false is =
+        let front = longest_front bytes (length bytes) (omega arith)
+        (λ m from text. contradicts (is_utf8-from_IsUtf8 bytes (subst IsUtf8 (take_all m bytes from) text)) is) in
+        (Err (record { number = 1; offset = front.0 }), (refl, front.1))
+
+tree_some : (tree : Tree) → Answered (MeansTree tree)
+tree_some tree = then_some (λ (typed : Result (Option Typed) Refusal). typed ≡ typed_of tree) (λ (typed : Option Typed) (answer : Result (Option End) Refusal). answer ≡ Ok (end_of typed))
+    (typed_of tree, refl) (λ typed. (Ok (end_of typed), refl))
+
+-- the words are the command and a name, or not
+is_eval : (words : List (List ℕ)) → ((name : List ℕ) × IsEval words name) ⊎ ((name : List ℕ) → IsEval words name → ⊥)
+is_eval [] = inr (λ name e. cc)
+is_eval (word ∷ []) = inr (λ name e. cc)
+is_eval (word ∷ name ∷ []) = by (bytes_eq word (codes "eval")) refl
+  where
+    same_first : (other : List ℕ) → IsEval (word ∷ name ∷ []) other → word ≡ codes "eval"
+    same_first other e = cc
+
+    by : (b : Bool) → bytes_eq word (codes "eval") ≡ b → ((other : List ℕ) × IsEval (word ∷ name ∷ []) other) ⊎ ((other : List ℕ) → IsEval (word ∷ name ∷ []) other → ⊥)
+    by true is = inl (name, (let same : word ≡ codes "eval" = search (rules, bytes_eq-Decides) in ap (λ (w : List ℕ). w ∷ name ∷ []) same))
+    by false is = inr (λ other e. (let same : word ≡ codes "eval" = same_first other e in search (rules, bytes_eq-Decides)))
+is_eval (word ∷ name ∷ next ∷ rest) = inr (λ other e. cc)
+
+module _ (lexes : (text : List ℕ) (names : List ℕ → Option ℕ) → Answered (Lexes text names)) (parses : (text : List ℕ) (tokens : List Token) → Answered (Parses text tokens)) where
+  text_some : (text : List ℕ) → Answered (MeansText text)
+  text_some text = then_some (Lexes text no_classes) (MeansTokens text) (lexes text no_classes)
+      (λ tokens. then_some (Parses text tokens) MeansTree (parses text tokens) tree_some)
+
+  means_some : (script : List ℕ) → Answered (Means script)
+  means_some script = then_some (Decodes script) MeansText (decodes_some script) text_some
+
+  script_some : (script : List ℕ) → Answered (TellsScript script)
+  script_some script = let m = means_some script in (told_of m.0, (m.0, m.1, refl))
+
+  file_some : (found : Option (List ℕ)) → Answered (TellsFile found)
+  file_some None = (silent s.FileAbsent, refl)
+  file_some (Some script) = elim (long_or_short (length script) file_limit) [
+    | inl long ↦ (silent s.FileLong, inl (long, refl))
+    | inr short ↦ (let t = script_some script in (t.0, inr (short, t.1)))
+  ] where
+    long_or_short : (n limit : ℕ) → (limit < n) ⊎ (n ≤ limit)
+    long_or_short n limit = elim (cases_order n limit) [
+      | inl e ↦ inr (omega arith)
+      | inr lt ↦ elim lt [ inl below ↦ inr (omega arith) | inr above ↦ inl above ]
+    ]
+
+  pub tells_some : (words : List (List ℕ)) (content : List ℕ → Option (List ℕ)) → Answered (Tells words content)
+  tells_some words content = elim (is_eval words) [
+    | inl eval ↦ (let t = file_some (content eval.0) in (t.0, inl (eval.0, eval.1, t.1)))
+    | inr none ↦ (silent s.Usage, inr (none, refl))
+  ]
