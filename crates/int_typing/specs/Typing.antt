@@ -2,6 +2,7 @@
 -- Nodes are visited in order: of a node its parts from the left to the right, and then the node itself. The first refusal counts.
 use Rattle.std.specs.Prelude.{ℕ, ◌^◌, ℤ, pos, neg_ℤ, List, [], ◌∷◌, map, Option, Some, None, Result, Ok, Err, nat_lt, nat_le, if◌then◌else◌}
 use Rattle.pl_types.specs.declared.refusal.Refusal.{Refusal}
+use Rattle.pl_types.specs.declared.rules.TheConstants.{LITERAL_RANGE, OUT_OF_PROFILE}
 use Rattle.pl_tree.specs.declared.operator.BinaryOperator.{BinaryOperator}
 use Rattle.pl_tree.specs.declared.operator.BinaryOperator.TheVariants as binary
 use Rattle.pl_tree.specs.declared.operator.UnaryOperator.{UnaryOperator}
@@ -30,12 +31,13 @@ use Rattle.int_typing.specs.Literals.{literal_value, is_long}
 
 -- the refusal of a literal that is out of range, and that of a node that is not built
 abbrev pub out_of_range : ℕ → Refusal
-out_of_range at = record { number = 18; offset = at }
+out_of_range at = record { number = LITERAL_RANGE; offset = at }
 
 abbrev pub out_of_profile : ℕ → Refusal
-out_of_profile at = record { number = 19; offset = at }
+out_of_profile at = record { number = OUT_OF_PROFILE; offset = at }
 
--- what an expression is typed to: by itself, and with the unary minus that stands directly before it
+-- What an expression is typed to: by itself, and with the unary minus that stands directly before it. There are two, since the least
+-- int is a literal only directly behind a minus: `-2147483648` is in range, and `2147483648` and `-(2147483648)` are not.
 pub record Readings : Type 0 where
   pub plain : Result Typed Refusal
   pub negated : Result Typed Refusal

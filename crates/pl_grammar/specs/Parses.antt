@@ -2,6 +2,7 @@
 use Rattle.std.specs.Prelude.{◌≡◌, ℕ, List, [], ◌∷◌, ◌++◌, length, Option, Some, None, Result, Ok, Err}
 use Rattle.pl_lexer.specs.declared.token.Token.{Token}
 use Rattle.pl_types.specs.declared.refusal.Refusal.{Refusal}
+use Rattle.pl_types.specs.declared.rules.TheConstants.{NESTING_DEEP, SYNTAX}
 use Rattle.pl_tree.specs.declared.tree.Tree.{Tree}
 use Rattle.pl_grammar.specs.Lexeme.{Lexeme, lexemes}
 use Rattle.pl_grammar.specs.Nesting.{nesting_fault}
@@ -33,10 +34,10 @@ pub record StopsBefore (ls : List Lexeme) (rest : List Lexeme) : Type 0 where
 
 -- a refusal of brackets that nest too deep, and one for want of a script, at the place
 abbrev pub deep_at : ℕ → Refusal
-deep_at offset = record { number = 3; offset = offset }
+deep_at offset = record { number = NESTING_DEEP; offset = offset }
 
 abbrev pub syntax_at : ℕ → Refusal
-syntax_at offset = record { number = 2; offset = offset }
+syntax_at offset = record { number = SYNTAX; offset = offset }
 
 -- the first token that breaks the nesting rule comes before all else
 abbrev pub Refused : List ℕ → List Token → Option ℕ → Refusal → Type 0
