@@ -1,0 +1,4 @@
+pub mod Casts
+pub mod Names
+pub mod Operators
+pub mod Outcomes
