@@ -92,19 +92,28 @@ abbrev pub to_class_of : List Object → ℕ → Bool → Value → Option Primi
 to_class_of objects class explicit value None = to_other_class objects class explicit value
 to_class_of objects class explicit value (Some p) = to_primitive p explicit value
 
+abbrev pub to_class : List Object → ℕ → Bool → Value → Casted
+to_class objects class explicit value = to_class_of objects class explicit value (unboxed class)
+
 -- To a type, by its outermost layer. Nothing goes to void and to the type of null
 abbrev pub to_layer : List Object → Ty-F Ty → Bool → Value → Casted
 to_layer objects Ty-F.Void explicit value = Refused
 to_layer objects Ty-F.Null explicit value = Refused
 to_layer objects Ty-F.Def explicit value = Kept
 to_layer objects (Ty-F.Prim p) explicit value = to_primitive p explicit value
-to_layer objects (Ty-F.Class class) explicit value = to_class_of objects class explicit value (unboxed class)
+to_layer objects (Ty-F.Class class) explicit value = to_class objects class explicit value
 to_layer objects (Ty-F.Array elem) explicit value = kept_if (value_is_array (kinds objects) elem value)
 
+abbrev pub kept : Value → Outcome
+kept value = Gives value
+
+abbrev pub text_of_unit : ℕ → Outcome
+text_of_unit unit = Makes (unit ∷ [])
+
 abbrev pub given : List Object → Value → Ty → Casted → Outcome
-given objects value to Kept = Gives value
+given objects value to Kept = kept value
 given objects value to (To made) = Gives made
-given objects value to (Text unit) = Makes (unit ∷ [])
+given objects value to (Text unit) = text_of_unit unit
 given objects value to Refused = cannot_cast objects value to
 
 -- null goes to no primitive, and to everything else

@@ -1,16 +1,18 @@
 -- Operators on values whose types are found at run time.
 use Rattle.std.specs.Prelude.{ℕ, ◌||◌, ◌==◌, Bool, true, false, not, Option, Some, None, List, [], ◌∷◌, ◌++◌, ℤ, pos, if◌then◌else◌}
 use Rattle.std.specs.Ordering.{int_eq}
+use Rattle.pl_types.specs.declared.ty.Ty.{Ty}
 use Rattle.object_values.specs.declared.object.Object.{Object}
 use Rattle.object_values.specs.declared.value.Value.{Value}
 use Rattle.object_values.specs.declared.value.Value.TheVariants as v
-use Rattle.object_heap.specs.Fits.{class_is_of, class_of_kind}
+use Rattle.object_heap.specs.Fits.{class_is_of, class_of_kind, kind_is_of, is_array_of}
 use Rattle.object_heap.specs.Objects.{kind_of}
 use Rattle.arithmetic.specs.declared.operator.Op.{Op}
 use Rattle.arithmetic.specs.declared.operator.Op.TheVariants as op
 use Rattle.arithmetic.specs.declared.operator.Num.{Num}
 use Rattle.arithmetic.specs.declared.operator.Num.TheVariants as n
 use Rattle.arithmetic.specs.Operators.{arith_of}
+use Rattle.object_walks.specs.declared.TheConstants.{VISITS}
 use Rattle.object_walks.specs.Texts.{Text, Wrote, TooDeep, TooLarge, text_of}
 use Rattle.number_ops.specs.declared.outcome.Outcome.{Outcome}
 use Rattle.number_ops.specs.declared.outcome.Outcome.TheVariants.{Gives, Makes}
@@ -38,6 +40,12 @@ is_text value = false
 abbrev pub has_class : ℕ → Object → Bool
 has_class wanted object = class_is_of wanted (class_of_kind (kind_of object))
 
+abbrev pub object_is_of : ℕ → Object → Bool
+object_is_of wanted object = kind_is_of wanted (kind_of object)
+
+abbrev pub object_is_array : Ty → Object → Bool
+object_is_array elem object = is_array_of elem (kind_of object)
+
 abbrev pub boxed : Num → Value
 boxed (n.Int number) = v.Int number
 boxed (n.Long number) = v.Long number
@@ -63,9 +71,12 @@ is_unary op.Not = true
 is_unary op.Pos = true
 is_unary o = false
 
+abbrev pub of_result : Op → Num → Value
+of_result o number = if compares o then truth_in number else boxed number
+
 abbrev pub calculated : Op → Option Num → Outcome
 calculated o None = zero_divisor
-calculated o (Some number) = Gives (if compares o then truth_in number else boxed number)
+calculated o (Some number) = Gives (of_result o number)
 
 -- of two truth values: none where the operator takes none
 abbrev pub and_flags : Bool → Bool → Bool
@@ -94,10 +105,18 @@ abbrev pub flags_given : List Object → Op → Value → Value → Option Bool 
 flags_given objects o a b None = refused objects o a b
 flags_given objects o a b (Some flag) = Gives (v.Bool flag)
 
+-- of operands that are two truth values
+abbrev pub with_flag : Op → Bool → Value → Option Bool
+with_flag o a (v.Bool b) = of_flags o a b
+with_flag o a value = None
+
+abbrev pub flags_of : Op → Value → Value → Option Bool
+flags_of o (v.Bool a) b = with_flag o a b
+flags_of o value b = None
+
 -- operands that are not both numbers
 abbrev pub of_others : List Object → Op → Value → Value → Outcome
-of_others objects o (v.Bool a) (v.Bool b) = flags_given objects o (v.Bool a) (v.Bool b) (of_flags o a b)
-of_others objects o a b = refused objects o a b
+of_others objects o a b = flags_given objects o a b (flags_of o a b)
 
 abbrev pub of_numbers : List Object → Op → Value → Value → Option Num → Option Num → Outcome
 of_numbers objects o a b (Some left) (Some right) = calculated o (arith_of o left right)
@@ -110,10 +129,13 @@ followed_by (Wrote text visits) next = next text
 followed_by TooDeep next = too_deep
 followed_by TooLarge next = too_large
 
--- a text of two values: that of the first and then that of the second. Each has a budget of visits of its own
+-- a text and then that of a value
+abbrev pub after : List ℕ → List Object → Value → Outcome
+after text objects value = followed_by (text_of objects value VISITS) (λ more. Makes (text ++ more))
+
+-- the text of one value and then that of another. Each has a budget of visits of its own
 abbrev pub concatenated : List Object → Value → Value → Outcome
-concatenated objects a b =
-    followed_by (text_of objects a 1000000) (λ left. followed_by (text_of objects b 1000000) (λ right. Makes (left ++ right)))
+concatenated objects a b = followed_by (text_of objects a VISITS) (λ text. after text objects b)
 
 abbrev pub binary : List Object → Op → Value → Value → Outcome
 binary objects o a b = of_numbers objects o a b (number_in a) (number_in b)

@@ -73,14 +73,16 @@ fn pay_text(heap: &mut Heap, text: UText) -> Answer
     }
 }
 
-/// Pays for an outcome.
-pub fn settle(heap: &mut Heap, outcome: Outcome) -> Answer
-    ensures { (told : Outcome) → Tells told outcome → Answers (effect heap.old told) heap.old heap.new result }
-{
-    match outcome {
-        Outcome::Gives(value) => Answer::Value(value),
-        Outcome::Makes(text) => pay_text(heap, text),
-        Outcome::Throws(raised, message) => throw(heap, class_raised(raised), message),
-        Outcome::NoMemory => Answer::NoMemory,
+impl Outcome {
+    /// Pays for it: a value is free, a text costs its units and 1, and an exception the units of its message and 1.
+    pub fn settle(self, heap: &mut Heap) -> Answer
+        ensures { (told : Outcome) → Tells told self → Answers (effect heap.old told) heap.old heap.new result }
+    {
+        match self {
+            Outcome::Gives(value) => Answer::Value(value),
+            Outcome::Makes(text) => pay_text(heap, text),
+            Outcome::Throws(raised, message) => throw(heap, class_raised(raised), message),
+            Outcome::NoMemory => Answer::NoMemory,
+        }
     }
 }

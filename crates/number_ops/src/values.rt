@@ -1,7 +1,7 @@
 //! What values are, and the numbers in them.
-ghost use Rattle.std.specs.Prelude.{◌≡◌};
-ghost use Rattle.object_heap.specs.Fits.{value_is_of, value_is_array, is_array_of, kind_is_of, class_is_of, kinds};
-ghost use Rattle.object_heap.specs.Objects.{kind_of};
+ghost use Rattle.std.specs.Prelude.{◌≡◌, false, slice_get};
+ghost use Rattle.object_heap.specs.Parts.{asked};
+ghost use Rattle.object_heap.specs.Fits.{value_is_of, value_is_array, class_is_of, kinds};
 ghost use Rattle.number_ops.specs.Operators as spec;
 ghost use Rattle.number_ops.specs.Operators.{boxed, truth_in, compares};
 ghost use Rattle.number_ops.specs.Casts.{primitive_in};
@@ -100,15 +100,21 @@ pub fn is_of(heap: &Heap, class: u32, value: &Value) -> bool
         Value::Int(_) => class_below(INTEGER, class),
         Value::Long(_) => class_below(LONG, class),
         Value::Str(_) => class_below(STRING, class),
-        Value::Ref(id) => match heap.get(*id) {
-            Some(object) => object_is_of(class, object),
-            None => false,
-        },
+        Value::Ref(id) => is_of_class(heap, class, *id),
+    }
+}
+
+fn is_of_class(heap: &Heap, class: u32, id: u32) -> bool
+    ensures { result ≡ asked (spec.object_is_of class) false (slice_get heap.now.objects id) }
+{
+    match heap.get(id) {
+        Some(object) => object_is_of(class, object),
+        None => false,
     }
 }
 
 fn object_is_of(class: u32, object: &Object) -> bool
-    ensures { result ≡ kind_is_of class (kind_of object.now) }
+    ensures { result ≡ spec.object_is_of class object.now }
 {
     class == OBJECT || has_class(class, object)
 }
@@ -145,10 +151,25 @@ pub fn is_array(heap: &Heap, elem: &Ty, value: &Value) -> bool
 {
     match value {
         Value::Null => true,
-        Value::Ref(id) => match heap.elem(*id) {
-            Some(other) => other.is(elem),
-            None => false,
-        },
+        Value::Ref(id) => is_array_at(heap, elem, *id),
+        _ => false,
+    }
+}
+
+fn is_array_at(heap: &Heap, elem: &Ty, id: u32) -> bool
+    ensures { result ≡ asked (spec.object_is_array elem.now) false (slice_get heap.now.objects id) }
+{
+    match heap.get(id) {
+        Some(object) => object_is_array(elem, object),
+        None => false,
+    }
+}
+
+fn object_is_array(elem: &Ty, object: &Object) -> bool
+    ensures { result ≡ spec.object_is_array elem.now object.now }
+{
+    match object {
+        Object::Array { elem: other, .. } => other.is(elem),
         _ => false,
     }
 }
