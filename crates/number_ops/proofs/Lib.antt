@@ -1,1 +1,2 @@
 pub mod KindsOf
+pub mod TextOrder
