@@ -84,7 +84,7 @@ impl PartialEq for Value {
             (Value::Char(a), Value::Char(b)) => a == b,
             (Value::Int(a), Value::Int(b)) => a == b,
             (Value::Long(a), Value::Long(b)) => a == b,
-            (Value::Str(a), Value::Str(b)) => a.as_slice() == b.as_slice(),
+            (Value::Str(a), Value::Str(b)) => a.units() == b.units(),
             (Value::Ref(a), Value::Ref(b)) => a == b,
             _ => false,
         }
@@ -133,7 +133,7 @@ impl Hash for Value {
             }
             Value::Str(text) => {
                 7u8.hash(state);
-                text.as_slice().hash(state);
+                text.units().hash(state);
             }
             Value::Ref(id) => {
                 8u8.hash(state);

@@ -1,3 +1,4 @@
+<<<<<<< HEAD
 //! Walks over values and the objects that they name: deep equality.
 #![tactic(auto)]
 
@@ -5,3 +6,24 @@ mod equality;
 mod keys;
 
 pub use equality::{Walked, equal};
+=======
+//! Walks over values: deep equality, and the text of a value. A walk visits the values that it compares or writes, at most 100 levels
+//! deep and with as many visits as its budget.
+#![tactic(auto)]
+
+mod equality;
+mod error;
+mod keyed;
+mod words;
+mod writing;
+
+pub use equality::{Walked, equal};
+pub use error::TextErr;
+pub use writing::{push_text, text};
+
+/// How many levels deep a walk goes at most.
+pub const LEVELS: u32 = 100;
+
+/// How many values a member's walk visits at most.
+pub const VISITS: u64 = 1_000_000;
+>>>>>>> 84d4af7092144b66f98c088b9ba3e095fa1b0516

@@ -1,0 +1,2 @@
+pub mod KindsOf
+pub mod TextOrder

@@ -1,0 +1,27 @@
+-- The order of texts, from one place to the next.
+use Rattle.std.proofs.Common.{◌≡◌, ℕ, zero, suc, ◌+◌, ◌-◌, ◌<◌, Option, Some, None, List, [], ◌∷◌, ◌∙◌, length, drop, get_or, slice_get, refl, ap, sym, arith, add-one, drop-cons, ℤ}
+use Rattle.std.proofs.lemmas.List.{length-drop}
+use Rattle.std.proofs.lemmas.Option.{slice_get_within, get_or_from_slice_get, slice_get-get_or}
+use Rattle.number_ops.specs.Order.{text_order, order_at, order_or, length_as_int}
+
+got : (xs : List ℕ) (at x : ℕ) → slice_get xs at ≡ Some x → drop at xs ≡ x ∷ drop (at + 1) xs
+got xs at x h =
+    let within : at < length xs = slice_get_within xs at x h in
+    let item : get_or xs at x ≡ x = get_or_from_slice_get xs at x x h in
+    rw (add-one, drop-cons xs at x within, item) refl
+
+ended : (xs : List ℕ) (at : ℕ) → slice_get xs at ≡ None → drop at xs ≡ []
+ended [] zero h = refl
+ended [] (suc at) h = refl
+ended (x ∷ xs) zero h = cc
+ended (x ∷ xs) (suc at) h = ended xs at h
+
+there : (xs : List ℕ) (at : ℕ) → at < length xs → slice_get xs at ≡ None → ⊥
+there xs at h n = let some = slice_get-get_or xs at 0 h in cc
+
+pub order_step : (a b : List ℕ) (at : ℕ) (x y : Option ℕ) → slice_get a at ≡ x → slice_get b at ≡ y → at < length a
+    → text_order (drop at a) (drop at b) ≡ order_or (order_at x y (length a - at) (length b - at)) (text_order (drop (at + 1) a) (drop (at + 1) b))
+order_step a b at None y h k l = absurd (there a at l h)
+order_step a b at (Some x) None h k l =
+    rw (got a at x h, ended b at k) (ap length_as_int (ap length (sym (got a at x h)) ∙ length-drop at a))
+order_step a b at (Some x) (Some y) h k l = rw (got a at x h, got b at y k) refl

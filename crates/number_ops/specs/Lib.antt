@@ -1,0 +1,9 @@
+pub mod Arguments
+pub mod Casts
+pub mod Chars
+pub mod Members
+pub mod Names
+pub mod Numbers
+pub mod Operators
+pub mod Order
+pub mod Outcomes

@@ -1,0 +1,55 @@
+-- What operators, casts and members come to, before it is paid.
+use Rattle.std.specs.Prelude.{◌≡◌, ℕ, Bool, true, false, Option, Some, None, List, codes, length}
+use Rattle.pl_units.specs.Utf16.{units}
+use Rattle.pl_types.specs.declared.classes.TheConstants.{ARITHMETIC_EXCEPTION, CLASS_CAST_EXCEPTION, ILLEGAL_STATE_EXCEPTION, NULL_POINTER_EXCEPTION, NUMBER_FORMAT_EXCEPTION}
+use Rattle.object_values.specs.declared.value.Value.{Value}
+use Rattle.object_values.specs.declared.value.Value.TheVariants as v
+use Rattle.object_heap.specs.Effects.{Effect, Gives, gives_text, throws}
+use Rattle.object_heap.specs.Store.{Store}
+use Rattle.number_ops.specs.declared.outcome.Raised.{Raised}
+use Rattle.number_ops.specs.declared.outcome.Raised.TheVariants.{Arithmetic, ClassCast, IllegalState, NullPointer, NumberFormat}
+use Rattle.number_ops.specs.declared.outcome.Outcome.{Outcome}
+use Rattle.number_ops.specs.declared.outcome.Outcome.TheVariants as outcome
+
+-- the class of an exception
+abbrev pub class_raised : Raised → ℕ
+class_raised Arithmetic = ARITHMETIC_EXCEPTION
+class_raised ClassCast = CLASS_CAST_EXCEPTION
+class_raised IllegalState = ILLEGAL_STATE_EXCEPTION
+class_raised NullPointer = NULL_POINTER_EXCEPTION
+class_raised NumberFormat = NUMBER_FORMAT_EXCEPTION
+
+-- The effect of an outcome: a value is free, a text is made and paid, and an exception is a new object. (Want of memory is no
+-- outcome that a definition gives.)
+abbrev pub effect : Store → Outcome → Effect
+effect store (outcome.Gives value) = Gives value store
+effect store (outcome.Makes text) = gives_text store text
+effect store (outcome.Throws raised message) = throws store (class_raised raised) message
+effect store outcome.NoMemory = Gives v.Null store
+
+-- what a call answers is the outcome, unless there was no memory
+abbrev pub Tells : Outcome → Outcome → Type 0
+Tells told outcome.NoMemory = Unit {0}
+Tells told (outcome.Gives value) = told ≡ outcome.Gives value
+Tells told (outcome.Makes text) = told ≡ outcome.Makes text
+Tells told (outcome.Throws raised message) = told ≡ outcome.Throws raised message
+
+-- what is nothing, where arguments are not of the kinds that are asked for
+abbrev pub nothing : Outcome
+nothing = outcome.Gives v.Null
+
+-- an exception with a message, given by its bytes
+unfoldable pub says : Raised → List ℕ → Outcome
+says raised message = outcome.Throws raised (Some (units message))
+
+abbrev pub null_error : Outcome
+null_error = outcome.Throws NullPointer None
+
+abbrev pub zero_divisor : Outcome
+zero_divisor = says Arithmetic (codes "/ by zero")
+
+abbrev pub too_deep : Outcome
+too_deep = says IllegalState (codes "value nested too deeply")
+
+abbrev pub too_large : Outcome
+too_large = says IllegalState (codes "value too large to walk")

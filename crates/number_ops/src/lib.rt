@@ -1,0 +1,19 @@
+//! Operators and casts of values whose types are found at run time, and the members of numbers, chars and truth values.
+#![tactic(auto)]
+
+mod arguments;
+mod casts;
+mod chars;
+mod errors;
+mod member;
+mod names;
+mod numbers;
+mod operators;
+mod order;
+mod outcome;
+mod values;
+
+pub use arithmetic::{Num, Op, Zero, arith};
+pub use casts::to_type;
+pub use member::call;
+pub use operators::{concatenate, def_op};
