@@ -1,15 +1,3 @@
-<<<<<<< HEAD
-ghost use Rattle.std.specs.Prelude.{◌≡◌, slice_get};
-ghost use Rattle.object_values.specs.Pairs.{value_of};
-ghost use Rattle.object_heap.specs.Parts.{pairs_of};
-ghost use Rattle.object_walks.specs.Equality.{deep_equal, found_or, now_of};
-ghost use Rattle.std.specs.Option.{option_copied};
-ghost use Rattle.object_walks.specs.Equality as spec;
-
-use crate::keys::have_equal_keys;
-use object_heap::Heap;
-use object_values::{Object, Pairs, Value};
-=======
 //! Deep equality.
 ghost use Rattle.std.specs.Prelude.{◌≡◌, ℕ, Option, slice_get};
 ghost use Rattle.std.specs.Option.{option_copied};
@@ -22,29 +10,11 @@ use crate::LEVELS;
 use crate::keyed::{has_keys, pair_at};
 use object_heap::Heap;
 use object_values::{Object, Pairs, Part, Value};
->>>>>>> 84d4af7092144b66f98c088b9ba3e095fa1b0516
 
 /// How far a walk came: what it found, with the visits that are left; or why it stopped.
 #[derive(Clone, Copy, Debug, PartialEq, Eq)]
 pub enum Walked {
     On(bool, u64),
-<<<<<<< HEAD
-    /// It went deeper than 100 levels.
-    Deep,
-    /// It would have made more visits than it may.
-    Large,
-}
-
-/// Compares two values deeply, with so many visits. It takes no memory.
-pub fn equal(heap: &Heap, a: &Value, b: &Value, budget: u64) -> Walked
-    ensures { result ≡ deep_equal heap.now.objects a.now b.now budget }
-{
-    equal_at(heap, 100, a, b, budget)
-}
-
-// Compares two values, at so many levels.
-#[cycle(walk)]
-=======
     /// It went more than 100 levels deep.
     Deep,
     /// It had more visits than its budget.
@@ -67,7 +37,6 @@ pub fn equal(heap: &Heap, a: &Value, b: &Value, budget: u64) -> Walked
 
 // Compares two values, at so many levels and so many visits.
 #[cycle(equality)]
->>>>>>> 84d4af7092144b66f98c088b9ba3e095fa1b0516
 fn equal_at(heap: &Heap, levels: u32, a: &Value, b: &Value, visits: u64) -> Walked
     ensures { result ≡ spec.equal_at levels heap.now.objects a.now b.now visits }
 {
@@ -78,61 +47,13 @@ fn equal_at(heap: &Heap, levels: u32, a: &Value, b: &Value, visits: u64) -> Walk
         return Walked::Large;
     }
     match (a, b) {
-<<<<<<< HEAD
-        (Value::Ref(x), Value::Ref(y)) if x != y => contents_equal(
-            heap,
-            levels - 1,
-            *x,
-            *y,
-            visits - 1,
-        ),
-=======
         (Value::Ref(x), Value::Ref(y)) if x != y => {
             contents_equal(heap, levels - 1, *x, *y, visits - 1)
         }
->>>>>>> 84d4af7092144b66f98c088b9ba3e095fa1b0516
         _ => Walked::On(a == b, visits - 1),
     }
 }
 
-<<<<<<< HEAD
-// Compares two objects by their numbers.
-#[cycle(walk)]
-fn contents_equal(heap: &Heap, levels: u32, x: u32, y: u32, visits: u64) -> Walked
-    ensures { result ≡ spec.contents_equal (spec.equal_at levels heap.now.objects) heap.now.objects (slice_get heap.now.objects x) (slice_get heap.now.objects y) visits }
-{
-    match heap.get(x) {
-        None => Walked::On(false, visits),
-        Some(left) => match heap.get(y) {
-            None => Walked::On(false, visits),
-            Some(right) => objects_equal(heap, levels, left, right, visits),
-        },
-    }
-}
-
-#[cycle(walk)]
-fn objects_equal(heap: &Heap, levels: u32, left: &Object, right: &Object, visits: u64) -> Walked
-    ensures { result ≡ spec.objects_equal (spec.equal_at levels heap.now.objects) heap.now.objects left.now right.now visits }
-{
-    match (left, right) {
-        (Object::List { items: left, .. }, Object::List { items: right, .. }) => {
-            all_equal(heap, levels, left.as_slice(), right.as_slice(), visits)
-        }
-        (Object::Array { items: left, .. }, Object::Array { items: right, .. }) => {
-            all_equal(heap, levels, left.as_slice(), right.as_slice(), visits)
-        }
-        (Object::Map { pairs: left, .. }, Object::Map { pairs: right, .. }) => maps_equal(
-            heap, levels, left, right, visits,
-        ),
-        (
-            Object::Entry { map: left, key },
-            Object::Entry {
-                map: right,
-                key: other,
-            },
-        ) => { entries_equal(heap, levels, *left, key, *right, other, visits) }
-        _ => Walked::On(have_equal_keys(heap, left, right), visits),
-=======
 // Compares two objects that are not one.
 #[cycle(equality)]
 fn contents_equal(heap: &Heap, levels: u32, x: u32, y: u32, visits: u64) -> Walked
@@ -161,17 +82,10 @@ fn objects_equal(heap: &Heap, levels: u32, object: &Object, other: &Object, visi
             sets_equal(keys_in(heap, object), keys_in(heap, other)),
             visits,
         ),
->>>>>>> 84d4af7092144b66f98c088b9ba3e095fa1b0516
     }
 }
 
 // Compares items in order, where they are as many.
-<<<<<<< HEAD
-#[cycle(walk)]
-fn all_equal(heap: &Heap, levels: u32, left: &[Value], right: &[Value], visits: u64) -> Walked
-    ensures { result ≡ spec.all_equal (spec.equal_at levels heap.now.objects) left.now right.now visits }
-{
-=======
 #[cycle(equality)]
 fn all_equal(
     heap: &Heap,
@@ -185,7 +99,6 @@ fn all_equal(
     let Some(right) = right else {
         return Walked::On(false, visits);
     };
->>>>>>> 84d4af7092144b66f98c088b9ba3e095fa1b0516
     if left.len() != right.len() {
         return Walked::On(false, visits);
     }
@@ -201,13 +114,6 @@ fn all_equal(
     Walked::On(true, rest)
 }
 
-<<<<<<< HEAD
-// Compares the values of the keys of the first map, where the maps are of one size.
-#[cycle(walk)]
-fn maps_equal(heap: &Heap, levels: u32, left: &Pairs, right: &Pairs, visits: u64) -> Walked
-    ensures { result ≡ spec.maps_equal (spec.equal_at levels heap.now.objects) left.now right.now visits }
-{
-=======
 // Compares the values of two maps under each key of the first, where they have as many keys.
 #[cycle(equality)]
 fn maps_equal(heap: &Heap, levels: u32, left: &Pairs, right: Option<&Pairs>, visits: u64) -> Walked
@@ -216,20 +122,15 @@ fn maps_equal(heap: &Heap, levels: u32, left: &Pairs, right: Option<&Pairs>, vis
     let Some(right) = right else {
         return Walked::On(false, visits);
     };
->>>>>>> 84d4af7092144b66f98c088b9ba3e095fa1b0516
     if left.len() != right.len() {
         return Walked::On(false, visits);
     }
     let mut rest = visits;
     for at in 0..left.len() {
-<<<<<<< HEAD
-        match pair_equal(heap, levels, left, right, at, rest) {
-=======
         let Some((key, value)) = pair_at(left, at) else {
             return Walked::On(false, rest);
         };
         match found_equal(heap, levels, value, right.get(key), rest) {
->>>>>>> 84d4af7092144b66f98c088b9ba3e095fa1b0516
             Walked::On(true, after) => rest = after,
             Walked::On(false, after) => return Walked::On(false, after),
             Walked::Deep => return Walked::Deep,
@@ -239,63 +140,6 @@ fn maps_equal(heap: &Heap, levels: u32, left: &Pairs, right: Option<&Pairs>, vis
     Walked::On(true, rest)
 }
 
-<<<<<<< HEAD
-// Compares the value at a place with the value that the other map has under its key.
-#[cycle(walk)]
-fn pair_equal(
-    heap: &Heap,
-    levels: u32,
-    left: &Pairs,
-    right: &Pairs,
-    at: usize,
-    visits: u64,
-) -> Walked
-    ensures { result ≡ spec.pair_equal (spec.equal_at levels heap.now.objects) (slice_get left.now at) right.now visits }
-{
-    match left.key_at(at) {
-        None => Walked::On(true, visits),
-        Some(key) => match left.value_at(at) {
-            None => Walked::On(true, visits),
-            Some(value) => match right.get(key) {
-                None => Walked::On(false, visits),
-                Some(other) => equal_at(heap, levels, value, other, visits),
-            },
-        },
-    }
-}
-
-// Compares the keys of two entries, and then the values that their maps have now.
-#[cycle(walk)]
-fn entries_equal(
-    heap: &Heap,
-    levels: u32,
-    left: u32,
-    key: &Value,
-    right: u32,
-    other: &Value,
-    visits: u64,
-) -> Walked
-    ensures { result ≡ spec.entries_equal (spec.equal_at levels heap.now.objects) key.now other.now (now_of heap.now.objects left key.now) (now_of heap.now.objects right other.now) visits }
-{
-    let null = Value::Null;
-    let value = or_else(heap.map_get(left, key), &null);
-    let other_value = or_else(heap.map_get(right, other), &null);
-    match equal_at(heap, levels, key, other, visits) {
-        Walked::On(true, rest) => equal_at(heap, levels, value, other_value, rest),
-        Walked::On(false, rest) => Walked::On(false, rest),
-        Walked::Deep => Walked::Deep,
-        Walked::Large => Walked::Large,
-    }
-}
-
-// What was found, or else the other.
-fn or_else<'a>(found: Option<&'a Value>, other: &'a Value) -> &'a Value
-    ensures { result.now ≡ found_or (option_copied found.entry) other.now }
-{
-    match found {
-        Some(value) => value,
-        None => other,
-=======
 #[cycle(equality)]
 fn found_equal(
     heap: &Heap,
@@ -407,6 +251,5 @@ fn sets_equal(left: Option<&Pairs>, right: Option<&Pairs>) -> bool
     match (left, right) {
         (Some(left), Some(right)) => left.len() == right.len() && has_keys(left, right),
         _ => false,
->>>>>>> 84d4af7092144b66f98c088b9ba3e095fa1b0516
     }
 }

@@ -1,12 +1,3 @@
-<<<<<<< HEAD
-//! Walks over values and the objects that they name: deep equality.
-#![tactic(auto)]
-
-mod equality;
-mod keys;
-
-pub use equality::{Walked, equal};
-=======
 //! Walks over values: deep equality, and the text of a value. A walk visits the values that it compares or writes, at most 100 levels
 //! deep and with as many visits as its budget.
 #![tactic(auto)]
@@ -26,4 +17,3 @@ pub const LEVELS: u32 = 100;
 
 /// How many values a member's walk visits at most.
 pub const VISITS: u64 = 1_000_000;
->>>>>>> 84d4af7092144b66f98c088b9ba3e095fa1b0516
