@@ -5,3 +5,4 @@ pub mod Controls
 pub mod Unquoting
 pub mod Parts
 pub mod Clean
+pub mod Unbroken
