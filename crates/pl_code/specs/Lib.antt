@@ -1,1 +1,4 @@
 pub mod Words
+pub mod Instructions
+pub mod Listing
+pub mod Lines

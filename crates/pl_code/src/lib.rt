@@ -1,9 +1,13 @@
 //! Code: functions of instructions, and its listing, which is written and read.
 #![tactic(auto)]
 
+mod code;
+mod fields;
 mod head;
 mod kinds;
+mod line;
 
+pub use code::{Code, FunCode, Instruction, Trap};
 pub use head::{HEADS, Head, head_of, head_word};
 pub use kinds::{
     ArithmeticOp, DynamicOp, Numbered, Plain, Quoting, Sized, Slot, Typed, Way, Width,
