@@ -2,7 +2,7 @@
 use Rattle.std.proofs.Common.{◌≡◌, ℕ, suc, ◌+◌, ◌<◌, ◌≤◌, Bool, true, false, ◌&&◌, not, cond, List, [], ◌∷◌, ◌++◌, length, take, drop, get_or, Option, Some, None, refl, sym, subst, ap, ◌∙◌, arith, inl, inr}
 use Rattle.std.specs.Prelude.{nat_lt, ◌==◌, option_and_then}
 use Rattle.std.specs.List.{list_all, position_or_len, before_first, after_first}
-use Rattle.std.proofs.lemmas.Bool.{and_parts, ltb-true, eqb-true, lt-ltb, cond-true, cond-false, ne_eqb}
+use Rattle.std.proofs.lemmas.Bool.{and_parts, ltb-true, eqb-true, lt-ltb, cond-true, cond-false, ne_eqb, false_from_ne_true}
 use Rattle.std.proofs.lemmas.Option.{cond_some, option_and_then_some, same_Some}
 use Rattle.std.proofs.lemmas.List.Sums.{split_at_first, passes_at_first}
 use Rattle.std.proofs.lemmas.List.{length-append}
@@ -13,6 +13,19 @@ use Rattle.listing_parts.proofs.Forms.{IsForm}
 -- each byte is one of ASCII that is printed
 abbrev pub IsPlain : List ℕ → Type 0
 IsPlain s = list_all is_plain s ≡ true
+
+-- a plain text has no blank
+plain_place : (a : List ℕ) → IsPlain a → position_or_len is_blank a ≡ length a
+plain_place [] p = refl
+plain_place (x ∷ xs) p =
+    let parts = and_parts (is_plain x) (list_all is_plain xs) p in
+    let low = ltb-true 32 x (and_parts (nat_lt 32 x) (nat_lt x 127) parts.0).0 in
+    let other : is_blank x ≡ false = ne_eqb x 32 (λ e. omega arith) in
+    cond-true _ _ _ (ap not other) ∙ omega (arith, plain_place xs parts.1)
+
+pub split_none : (a : List ℕ) → IsPlain a → split_at_blank a ≡ None
+unfolding split_at_blank
+split_none a p = cond-false _ _ _ (false_from_ne_true _ (λ h. let below = ltb-true (position_or_len is_blank a) (length a) h in let e = plain_place a p in omega arith))
 
 -- where the first part has no blank, the first blank ends it
 blank_place : (a b : List ℕ) → IsPlain a → position_or_len is_blank (a ++ 32 ∷ b) ≡ length a
