@@ -120,7 +120,8 @@ fn is_pairs(text: &[u8]) -> bool
     rest.is_empty()
 }
 
-fn place_of(text: &[u8], byte: u8) -> usize
+/// Where a byte stands first in a text, or the length of the text where it does not stand there.
+pub fn place_of(text: &[u8], byte: u8) -> usize
     ensures within { result ≤ length text.now }
     ensures place { result ≡ position_or_len (λ b. b == byte) text.now }
 {

@@ -1,3 +1,6 @@
 pub mod Heads
 pub mod FieldForms
 pub mod LineForms
+pub mod LineTexts
+pub mod Cuts
+pub mod Steps

@@ -2,3 +2,5 @@ pub mod Words
 pub mod Instructions
 pub mod Listing
 pub mod Lines
+pub mod Reading
+pub mod Seen

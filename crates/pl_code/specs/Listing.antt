@@ -1,5 +1,5 @@
 -- Code and its listing.
-use Rattle.std.specs.Prelude.{ℕ, ◌+◌, ◌^◌, ◌&&◌, nat_lt, Bool, true, false, List, [], ◌∷◌, ◌++◌, Option, Some, None, codes, decimal, map, length}
+use Rattle.std.specs.Prelude.{ℕ, ◌+◌, ◌^◌, ◌&&◌, nat_le, Bool, true, false, List, [], ◌∷◌, ◌++◌, Option, Some, None, codes, decimal, map, length}
 use Rattle.std.specs.List.{flat_map, list_all}
 use Rattle.listing_parts.specs.Split.{spaced}
 use Rattle.listing_parts.specs.Names.{is_class}
@@ -67,4 +67,4 @@ abbrev pub is_function : FunCode → Bool
 is_function f = list_all is_trap f.traps && list_all is_instruction f.lines
 
 unfoldable pub is_code : Code → Bool
-is_code c = list_all is_function c.functions && nat_lt (length c.functions) (2 ^ 64)
+is_code c = list_all is_function c.functions && nat_le (length c.functions) (2 ^ 64)

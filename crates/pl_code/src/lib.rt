@@ -2,12 +2,15 @@
 #![tactic(auto)]
 
 mod code;
+mod error;
 mod fields;
 mod head;
 mod kinds;
 mod line;
+mod reading;
 
 pub use code::{Code, FunCode, Instruction, Trap};
+pub use error::ListingErr;
 pub use head::{HEADS, Head, head_of, head_word};
 pub use kinds::{
     ArithmeticOp, DynamicOp, Numbered, Plain, Quoting, Sized, Slot, Typed, Way, Width,

@@ -1,6 +1,7 @@
 //! One line of a listing.
 
-ghost use Rattle.std.specs.Prelude.{◌≡◌, IfOk, List, ℕ};
+ghost use Rattle.std.specs.Prelude.{◌≡◌, IfOk, Some, None, if◌then◌else◌, List, ℕ};
+ghost use Rattle.pl_code.specs.Reading.{next};
 ghost use Rattle.listing_parts.specs.Split.{both};
 ghost use Rattle.listing_parts.specs.Names.{formed, is_class, is_type, is_word};
 ghost use Rattle.listing_parts.specs.Numbers.{natural_of};
@@ -10,6 +11,7 @@ use crate::code::{Instruction, Trap};
 use crate::fields::{interface_of, loops_of, primitive_of, result_of, slots_of, way_of};
 use crate::head::{Head, head_of};
 use crate::kinds::{Numbered, Quoting, Sized, Slot, Typed};
+use crate::reading::Reading;
 use listing_parts::{
     ClassName, ConstructorName, FieldName, MethodName, TypeName, Word, count, int, long, natural,
     split_at_blank, unquoted,
@@ -42,6 +44,20 @@ impl Drop for Line {
             Line::Caught(_trap) => {}
             Line::Do(_instruction) => {}
             Line::End => {}
+        }
+    }
+}
+
+impl Line {
+    /// What a line makes of what was read. `false` where it cannot follow.
+    pub(crate) fn join(self, alloc: Global, reading: &mut Reading) -> Result<bool, AllocError>
+        ensures { IfOk result (λ goes. (if goes then Some reading.new else None) ≡ next reading.old self) }
+    {
+        match self {
+            Line::Fun(header) => Ok(reading.begin(alloc, header)),
+            Line::Caught(trap) => reading.catch(trap),
+            Line::Do(instruction) => reading.add(instruction),
+            Line::End => reading.end(),
         }
     }
 }
