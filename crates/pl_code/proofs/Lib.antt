@@ -4,3 +4,4 @@ pub mod LineForms
 pub mod LineTexts
 pub mod Cuts
 pub mod Steps
+pub mod Writings

@@ -8,6 +8,7 @@ mod head;
 mod kinds;
 mod line;
 mod reading;
+mod writing;
 
 pub use code::{Code, FunCode, Instruction, Trap};
 pub use error::ListingErr;
@@ -15,3 +16,4 @@ pub use head::{HEADS, Head, head_of, head_word};
 pub use kinds::{
     ArithmeticOp, DynamicOp, Numbered, Plain, Quoting, Sized, Slot, Typed, Way, Width,
 };
+pub use writing::listing;
