@@ -5,3 +5,4 @@ pub mod LineTexts
 pub mod Cuts
 pub mod Steps
 pub mod Writings
+pub mod Runs

@@ -4,3 +4,4 @@ pub mod Listing
 pub mod Lines
 pub mod Reading
 pub mod Seen
+pub mod Faults
