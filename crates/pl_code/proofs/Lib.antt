@@ -6,3 +6,4 @@ pub mod Cuts
 pub mod Steps
 pub mod Writings
 pub mod Runs
+pub mod Texts

@@ -44,9 +44,9 @@ pub record Fits (fs : List FunCode) (current : Option FunCode) : Type 0 where
   pub last : FitsCurrent (length fs) current
 
 -- a line follows what was read
-record Follows (fs : List FunCode) (current : Option FunCode) (l : Line) (q : Reading) : Type 0 where
-  fits : Fits q.functions q.current
-  lines : so_far q ≡ lines_in fs current ++ line_text l ∷ []
+pub record Follows (fs : List FunCode) (current : Option FunCode) (l : Line) (q : Reading) : Type 0 where
+  pub fits : Fits q.functions q.current
+  pub lines : so_far q ≡ lines_in fs current ++ line_text l ∷ []
 
 follows : (fs : List FunCode) (current : Option FunCode) (l : Line) (p q : Reading) → Follows fs current l p → p ≡ q → Follows fs current l q
 follows fs current l p q f e = subst (Follows fs current l) e f
@@ -86,7 +86,7 @@ add_lines n f i =
     ap (λ ls. header ∷ (map trap_text f.traps ++ ls)) (map-append instruction_text f.lines (i ∷ []))
     ∙ ap (λ ls. header ∷ ls) (sym (append_assoc (map trap_text f.traps) (map instruction_text f.lines) (instruction_text i ∷ [])))
 
-step_follows : (fs : List FunCode) (current : Option FunCode) (l : Line) (q : Reading) → Fits fs current → is_line l ≡ true → next_in fs current l ≡ Some q → Follows fs current l q
+pub step_follows : (fs : List FunCode) (current : Option FunCode) (l : Line) (q : Reading) → Fits fs current → is_line l ≡ true → next_in fs current l ≡ Some q → Follows fs current l q
 unfolding line_text is_line
 step_follows fs None (Fun h) q fits line e =
     let c = cond_some (h.number == length fs) (reading_in fs (Some (begun h))) q e in
