@@ -37,7 +37,7 @@ cut_some s a b h =
       unbroken = subst HasNone (ap (λ q. q.0) p.1) (front_unbroken s);
     }
 
-none_cut : (b : Bool) (x : List ℕ × List ℕ) → cond b (Some x) None ≡ None → b ≡ false
+pub none_cut : (b : Bool) (x : List ℕ × List ℕ) → cond b (Some x) None ≡ None → b ≡ false
 none_cut true x h = absurd (none-some x (sym h))
 none_cut false x h = refl
 

@@ -7,3 +7,4 @@ pub mod Steps
 pub mod Writings
 pub mod Runs
 pub mod Texts
+pub mod Exact

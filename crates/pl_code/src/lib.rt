@@ -6,6 +6,7 @@ mod error;
 mod fields;
 mod head;
 mod kinds;
+mod laws;
 mod line;
 mod reading;
 mod writing;
@@ -16,4 +17,6 @@ pub use head::{HEADS, Head, head_of, head_word};
 pub use kinds::{
     ArithmeticOp, DynamicOp, Numbered, Plain, Quoting, Sized, Slot, Typed, Way, Width,
 };
+pub use laws::listing_laws;
+pub use reading::read_listing;
 pub use writing::listing;

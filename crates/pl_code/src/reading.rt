@@ -1,6 +1,6 @@
 //! Reading a listing.
 
-ghost use Rattle.std.specs.Prelude.{◌≡◌, ◌+◌, ◌<◌, ◌==◌, IfOk, OnOk, Option, Some, None, if◌then◌else◌, List, ℕ, [], length, option_map};
+ghost use Rattle.std.specs.Prelude.{◌≡◌, ◌+◌, ◌<◌, ◌==◌, true, false, IfOk, OnOk, Option, Some, None, if◌then◌else◌, List, ℕ, [], length, option_map};
 ghost use Rattle.std.specs.Str.{bytes_eq};
 ghost use Rattle.std.specs.Char.{is_ascii_digit};
 ghost use Rattle.std.specs.List.{list_all};
@@ -8,6 +8,10 @@ ghost use Rattle.pl_code.specs.Listing.{first_line};
 ghost use Rattle.pl_code.specs.Reading.{next, next_line, told, finished, is_natural, is_negative, is_integer, is_other_version};
 ghost use Rattle.pl_code.specs.Reading.{first_ended, is_newline, reading_in, read_bytes, first_fault, listing_of, Gives};
 ghost use Rattle.pl_code.specs.Seen.{seen_pair};
+ghost use Rattle.pl_code.specs.Listing.{is_code, written};
+ghost use Rattle.pl_code.specs.Faults.{FaultsAt, first_of, IsReading};
+ghost use Rattle.pl_code.specs.declared.code.Code.{Code as CodeData};
+ghost use Rattle.pl_code.specs.declared.error.ListingErr.TheVariants.{Syntax, Version};
 ghost use Rattle.pl_code.specs.declared.line.Line.TheVariants.{Fun, Caught, Do, End};
 
 use crate::code::{Code, FunCode, Instruction, Trap};
@@ -242,4 +246,15 @@ fn listing_of(alloc: Global, bytes: &[u8]) -> Result<Code, ListingErr>
             }
         }
     }
+}
+
+/// The code whose listing this is. The answer is Version exactly where the first line is `painless` and another number
+/// than 1. Else it is Syntax, with the line, exactly where no code has this listing. NoMemory is free.
+pub fn read_listing(alloc: Global, bytes: &[u8]) -> Result<Code, ListingErr>
+    ensures exact { IsReading bytes.now result }
+    ensures only_code { (c : CodeData) → is_code c ≡ true → written c ≡ bytes.now → Gives result (Ok c) }
+    ensures only_syntax { (n : ℕ) → is_other_version (first_of bytes.now) ≡ false → FaultsAt bytes.now n → Gives result (Err (Syntax n)) }
+    ensures only_version { is_other_version (first_of bytes.now) ≡ true → Gives result (Err Version) }
+{
+    listing_of(alloc, bytes)
 }
