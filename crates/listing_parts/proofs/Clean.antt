@@ -49,8 +49,8 @@ plain_signed (negsuc n) l = plain_decimal (suc n) (omega arith)
 
 letter_plain : (b : ℕ) → is_letter b ≡ true → is_plain b ≡ true
 letter_plain b h = elim (or_cases (nat_le 97 b && nat_le b 122 || nat_le 65 b && nat_le b 90) (b == 95) h) [
-  inl a ↦ elim (or_cases (nat_le 97 b && nat_le b 122) (nat_le 65 b && nat_le b 90) a) [
-    inl x ↦ (let p = and_parts (nat_le 97 b) (nat_le b 122) x in let l = leb-true 97 b p.0 in let g = leb-true b 122 p.1 in plain_byte b (omega arith) (omega arith))
+  | inl a ↦ elim (or_cases (nat_le 97 b && nat_le b 122) (nat_le 65 b && nat_le b 90) a) [
+    | inl x ↦ (let p = and_parts (nat_le 97 b) (nat_le b 122) x in let l = leb-true 97 b p.0 in let g = leb-true b 122 p.1 in plain_byte b (omega arith) (omega arith))
     | inr x ↦ (let p = and_parts (nat_le 65 b) (nat_le b 90) x in let l = leb-true 65 b p.0 in let g = leb-true b 90 p.1 in plain_byte b (omega arith) (omega arith))
   ]
   | inr x ↦ (let e = eqb-true b 95 x in plain_byte b (omega arith) (omega arith))
@@ -58,7 +58,7 @@ letter_plain b h = elim (or_cases (nat_le 97 b && nat_le b 122 || nat_le 65 b &&
 
 word_byte_plain : (b : ℕ) → is_word_byte b ≡ true → is_plain b ≡ true
 word_byte_plain b h = elim (or_cases (is_letter b) (nat_le 48 b && nat_le b 57) h) [
-  inl x ↦ letter_plain b x
+  | inl x ↦ letter_plain b x
   | inr x ↦ (let p = and_parts (nat_le 48 b) (nat_le b 57) x in let l = leb-true 48 b p.0 in let g = leb-true b 57 p.1 in plain_byte b (omega arith) (omega arith))
 ]
 
@@ -74,7 +74,7 @@ plain_name s h = plain_word s (and_parts (is_word s) _ h).0
 
 joint_plain : (b : ℕ) → is_joint b ≡ true → is_plain b ≡ true
 joint_plain b h = elim (or_cases (b == 46) (b == 36) h) [
-  inl x ↦ (let e = eqb-true b 46 x in plain_byte b (omega arith) (omega arith))
+  | inl x ↦ (let e = eqb-true b 46 x in plain_byte b (omega arith) (omega arith))
   | inr x ↦ (let e = eqb-true b 36 x in plain_byte b (omega arith) (omega arith))
 ]
 
@@ -88,10 +88,10 @@ plain_onto x (p ∷ ps) h =
 plain_parts : (s : List ℕ) → list_all (list_all is_plain) (slice_split is_joint s) ≡ true → IsPlain s
 plain_parts [] h = refl
 plain_parts (x ∷ xs) h = elim (cases_Bool (is_joint x)) [
-  inl is ↦ (let rest : list_all (list_all is_plain) ([] ∷ slice_split is_joint xs) ≡ true = ap (list_all (list_all is_plain)) (sym (cond-true _ _ _ is)) ∙ h in
-    and_from (is_plain x) (list_all is_plain xs) (joint_plain x is) (plain_parts xs rest))
+  | inl is ↦ (let rest : list_all (list_all is_plain) ([] ∷ slice_split is_joint xs) ≡ true = ap (list_all (list_all is_plain)) (sym (cond-true _ _ _ is)) ∙ h in
+      and_from (is_plain x) (list_all is_plain xs) (joint_plain x is) (plain_parts xs rest))
   | inr isnt ↦ (let both = plain_onto x (slice_split is_joint xs) (ap (list_all (list_all is_plain)) (sym (cond-false _ _ _ isnt)) ∙ h) in
-    and_from (is_plain x) (list_all is_plain xs) both.0 (plain_parts xs both.1))
+      and_from (is_plain x) (list_all is_plain xs) both.0 (plain_parts xs both.1))
 ]
 
 pub plain_class : (s : List ℕ) → is_class s ≡ true → IsPlain s
@@ -103,7 +103,7 @@ one_plain [] s all h = cc
 one_plain (word ∷ words) s all h =
     let parts = and_parts (list_all is_plain word) (list_all (list_all is_plain) words) all in
     elim (or_cases (bytes_eq word s) (is_one_of words s) h) [
-      inl same ↦ subst (λ t. list_all is_plain t ≡ true) ((bytes_eq-Decides word s).0 same) parts.0
+      | inl same ↦ subst (λ t. list_all is_plain t ≡ true) ((bytes_eq-Decides word s).0 same) parts.0
       | inr other ↦ one_plain words s parts.1 other
     ]
 
@@ -124,7 +124,7 @@ plain_type s h =
     let n = position_or_len is_bracket s in
     let parts = and_parts (is_one_of type_words (take n s) || is_class (take n s)) (is_pairs (drop n s)) h in
     let front : IsPlain (take n s) = elim (or_cases (is_one_of type_words (take n s)) (is_class (take n s)) parts.0) [
-      inl word ↦ one_plain type_words (take n s) refl word
+      | inl word ↦ one_plain type_words (take n s) refl word
       | inr class ↦ plain_class (take n s) class
     ] in
     subst IsPlain (take-append-drop n s) (plain-append (take n s) (drop n s) front (plain_pairs (drop n s) parts.1))

@@ -34,7 +34,7 @@ encode_high c l =
 -- a letter that has no escape stands as it is
 pub letter_kept : (c : ℕ) → (c ≡ 92 → ⊥) → (c ≡ 34 → ⊥) → 32 ≤ c → escaped_letter c ≡ encode_utf8 c
 letter_kept c n m l = elim (cases_lt c 128) [
-  inl low ↦ ap (flat_map escaped) (encode_ascii c low) ∙ ap (λ e. e ++ []) (escaped_other c n m l) ∙ sym (encode_ascii c low)
+  | inl low ↦ ap (flat_map escaped) (encode_ascii c low) ∙ ap (λ e. e ++ []) (escaped_other c n m l) ∙ sym (encode_ascii c low)
   | inr high ↦ high_kept (encode c) (encode_high c high)
 ]
 

@@ -43,11 +43,11 @@ module _ {A : Type 0} (written : A → List ℕ) (value : List ℕ → A) (fits 
   pub one_read : (s : List ℕ) (n : A) → fits n ≡ true → value (written n) ≡ n → ((m : A) → fits m ≡ true → s ≡ written m → m ≡ n)
       → number_of written value fits s ≡ cond (bytes_eq (written n) s) (Some n) None
   one_read s n f e one = elim (cases_Bool (bytes_eq (written n) s)) [
-    inl is ↦ (let same : written n ≡ s = (bytes_eq-Decides _ _).0 is in
-      ap (number_of written value fits) (sym same) ∙ written_read n f e ∙ sym (cond-true _ _ _ is))
+    | inl is ↦ (let same : written n ≡ s = (bytes_eq-Decides _ _).0 is in
+        ap (number_of written value fits) (sym same) ∙ written_read n f e ∙ sym (cond-true _ _ _ is))
     | inr isnt ↦ none_read s (λ m fm sm.
-      let is : bytes_eq (written n) s ≡ true = (bytes_eq-Decides _ _).1 (ap written (sym (one m fm sm)) ∙ sym sm) in cc)
-      ∙ sym (cond-false _ _ _ isnt)
+        let is : bytes_eq (written n) s ≡ true = (bytes_eq-Decides _ _).1 (ap written (sym (one m fm sm)) ∙ sym sm) in cc)
+        ∙ sym (cond-false _ _ _ isnt)
   ]
 
 pub natural_form : (limit : ℕ) → limit ≤ 2 ^ 64 → IsForm decimal (λ n. nat_lt n limit ≡ true) (natural_of limit)

@@ -61,16 +61,17 @@ pub both_form : {A B : Type 0} {f : A → List ℕ} {g : B → List ℕ} {F : A 
 unfolding both
 both_form {A} {B} {f} {g} {F} {G} {r} {q} first plain second = record {
   sound = λ s x h. option_and_then_some (λ (p : List ℕ × List ℕ). option_and_then (λ a. option_and_then (λ b. Some (a, b)) (q p.1)) (r p.0)) (split_at_blank s) x h
-    (λ p e h1. option_and_then_some (λ a. option_and_then (λ b. Some (a, b)) (q p.1)) (r p.0) x h1
-    (λ a e1 h2. option_and_then_some (λ b. Some (a, b)) (q p.1) x h2
-    (λ b e2 h3.
-    let one = first.sound p.0 a e1 in
-    let two = second.sound p.1 b e2 in
-    let same = same_Some (a, b) x h3 in
-    (subst (λ (z : A × B). F z.0 × G z.1) same (one.0, two.0),
-    ap (λ (z : A × B). spaced (f z.0) (g z.1)) (sym same) ∙ ap (λ t. t ++ 32 ∷ g b) one.1 ∙ ap (λ t. p.0 ++ 32 ∷ t) two.1 ∙ split_sound s p.0 p.1 e))));
+      (λ p e h1. option_and_then_some (λ a. option_and_then (λ b. Some (a, b)) (q p.1)) (r p.0) x h1
+      (λ a e1 h2. option_and_then_some (λ b. Some (a, b)) (q p.1) x h2
+      (λ b e2 h3.
+      let one = first.sound p.0 a e1 in
+      let two = second.sound p.1 b e2 in
+      let same = same_Some (a, b) x h3 in (
+        subst (λ (z : A × B). F z.0 × G z.1) same (one.0, two.0),
+        ap (λ (z : A × B). spaced (f z.0) (g z.1)) (sym same) ∙ ap (λ t. t ++ 32 ∷ g b) one.1 ∙ ap (λ t. p.0 ++ 32 ∷ t) two.1 ∙ split_sound s p.0 p.1 e,
+      ))));
   complete = λ x h.
-    ap (option_and_then (λ (p : List ℕ × List ℕ). option_and_then (λ a. option_and_then (λ b. Some (a, b)) (q p.1)) (r p.0))) (split_back (f x.0) (g x.1) (plain x.0 h.0))
-    ∙ ap (option_and_then (λ a. option_and_then (λ b. Some (a, b)) (q (g x.1)))) (first.complete x.0 h.0)
-    ∙ ap (option_and_then (λ b. Some (x.0, b))) (second.complete x.1 h.1);
+      ap (option_and_then (λ (p : List ℕ × List ℕ). option_and_then (λ a. option_and_then (λ b. Some (a, b)) (q p.1)) (r p.0))) (split_back (f x.0) (g x.1) (plain x.0 h.0))
+      ∙ ap (option_and_then (λ a. option_and_then (λ b. Some (a, b)) (q (g x.1)))) (first.complete x.0 h.0)
+      ∙ ap (option_and_then (λ b. Some (x.0, b))) (second.complete x.1 h.1);
 }

@@ -25,7 +25,7 @@ pub record IsUnbroken (s : List ℕ) : Type 0 where
 
 ascii : (s : List ℕ) → list_all (λ b. nat_lt b 128) s ≡ true → IsAscii s
 ascii s h i = elim (cases_lt i (length s)) [
-  inl within ↦ ltb-true _ 128 (AllPass-from_list_all (λ b. nat_lt b 128) s h i 0 within)
+  | inl within ↦ ltb-true _ 128 (AllPass-from_list_all (λ b. nat_lt b 128) s h i 0 within)
   | inr past ↦ (let e = get_or_past s i 0 past in omega arith)
 ]
 
@@ -72,7 +72,7 @@ escaped_unbroken : (b : ℕ) → list_all other_than_newline (escaped b) ≡ tru
 escaped_unbroken b = escape_all other_than_newline b refl refl
     (λ n h. let range = digit_range n h in other _ (λ e. omega arith))
     (λ mark. elim (or_cases (b == 92) (b == 34) mark) [
-      inl x ↦ (let is = eqb-true b 92 x in other b (λ e. omega arith))
+      | inl x ↦ (let is = eqb-true b 92 x in other b (λ e. omega arith))
       | inr x ↦ (let is = eqb-true b 34 x in other b (λ e. omega arith))
     ])
     (λ large. let above = ltb-false b 32 large in other b (λ e. omega arith))
@@ -83,8 +83,8 @@ all_unbroken (b ∷ bs) = list_all-append other_than_newline (escaped b) (flat_m
 
 letter_text : (c : ℕ) → scalar c ≡ true → IsUtf8 (escaped_letter c)
 letter_text c h = elim (cases_lt c 128) [
-  inl low ↦ (let one : escaped_letter c ≡ escaped c ++ [] = ap (flat_map escaped) (encode_ascii c low) in
-    subst IsUtf8 (sym one) (IsUtf8-append (escaped c) [] (IsUtf8-from_ascii (escaped c) (ascii (escaped c) (escaped_low c low))) IsUtf8-nil))
+  | inl low ↦ (let one : escaped_letter c ≡ escaped c ++ [] = ap (flat_map escaped) (encode_ascii c low) in
+      subst IsUtf8 (sym one) (IsUtf8-append (escaped c) [] (IsUtf8-from_ascii (escaped c) (ascii (escaped c) (escaped_low c low))) IsUtf8-nil))
   | inr high ↦ subst IsUtf8 (sym (letter_kept c (λ e. omega arith) (λ e. omega arith) (omega arith))) (IsUtf8-encode c h)
 ]
 

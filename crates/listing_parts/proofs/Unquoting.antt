@@ -17,7 +17,7 @@ use Rattle.listing_parts.proofs.Controls.{control_back}
 pub found_passes : {A : Type 0} (test : A → Bool) (xs : List A) (x : A) → find test xs ≡ Some x → test x ≡ true
 found_passes test [] x h = absurd (none-some x h)
 found_passes test (y ∷ ys) x h = elim (cases_Bool (test y)) [
-  inl is ↦ (let same : y ≡ x = same_Some _ _ (sym (cond-true _ _ _ is) ∙ h) in subst (λ z. test z ≡ true) same is)
+  | inl is ↦ (let same : y ≡ x = same_Some _ _ (sym (cond-true _ _ _ is) ∙ h) in subst (λ z. test z ≡ true) same is)
   | inr isnt ↦ found_passes test ys x (sym (cond-false _ _ _ isnt) ∙ h)
 ]
 
@@ -25,7 +25,7 @@ found_passes test (y ∷ ys) x h = elim (cases_Bool (test y)) [
 found_holds : {A : Type 0} (test other : A → Bool) (xs : List A) (x : A) → list_all other xs ≡ true → find test xs ≡ Some x → other x ≡ true
 found_holds test other [] x all h = absurd (none-some x h)
 found_holds test other (y ∷ ys) x all h = elim (cases_Bool (test y)) [
-  inl is ↦ (let same : y ≡ x = same_Some _ _ (sym (cond-true _ _ _ is) ∙ h) in subst (λ z. other z ≡ true) same (and_parts _ _ all).0)
+  | inl is ↦ (let same : y ≡ x = same_Some _ _ (sym (cond-true _ _ _ is) ∙ h) in subst (λ z. other z ≡ true) same (and_parts _ _ all).0)
   | inr isnt ↦ found_holds test other ys x (and_parts _ _ all).1 (sym (cond-false _ _ _ isnt) ∙ h)
 ]
 
@@ -63,11 +63,11 @@ mark_is b h = grind (arith, nat_tests)
 pub byte_back : (b : ℕ) (rest : List ℕ) → byte_at (escaped b ++ rest) ≡ Some (b, rest)
 unfolding byte_at
 byte_back b rest = elim (cases_Bool ((b == 92) || (b == 34))) [
-  inl mark ↦ ap (λ e. byte_at (e ++ rest)) (escaped_mark b mark) ∙ cond-false _ _ _ (mark_is b mark) ∙ cond-true _ _ _ mark
+  | inl mark ↦ ap (λ e. byte_at (e ++ rest)) (escaped_mark b mark) ∙ cond-false _ _ _ (mark_is b mark) ∙ cond-true _ _ _ mark
   | inr other ↦ elim (cases_Bool (nat_lt b 32)) [
-    inl small ↦ ap (λ e. byte_at (e ++ rest)) (escaped_control b (ltb-true b 32 small)) ∙ ap (option_map (λ x. (x, rest))) (control_back b (ltb-true b 32 small))
+    | inl small ↦ ap (λ e. byte_at (e ++ rest)) (escaped_control b (ltb-true b 32 small)) ∙ ap (option_map (λ x. (x, rest))) (control_back b (ltb-true b 32 small))
     | inr large ↦ (let parts = or_parts (b == 92) (b == 34) other in
-      ap (λ e. byte_at (e ++ rest)) (escaped_plain b other large) ∙ cond-false _ _ _ parts.0 ∙ cond-false _ _ _ (or_from (b == 34) (nat_lt b 32) parts.1 large))
+        ap (λ e. byte_at (e ++ rest)) (escaped_plain b other large) ∙ cond-false _ _ _ parts.0 ∙ cond-false _ _ _ (or_from (b == 34) (nat_lt b 32) parts.1 large))
   ]
 ]
 
@@ -97,24 +97,24 @@ control_begins (high ∷ low ∷ behind) b rest h =
 escape_begins : (s : List ℕ) (b : ℕ) (rest : List ℕ) → escape_at s ≡ Some (b, rest) → Begins (92 ∷ s) b rest
 escape_begins [] b rest h = absurd (none-some _ h)
 escape_begins (y ∷ ys) b rest h = elim (cases_Bool (y == 120)) [
-  inl is ↦ subst (λ z. Begins (92 ∷ z ∷ ys) b rest) (sym (eqb-true _ _ is)) (control_begins ys b rest (sym (cond-true _ _ _ is) ∙ h))
+  | inl is ↦ subst (λ z. Begins (92 ∷ z ∷ ys) b rest) (sym (eqb-true _ _ is)) (control_begins ys b rest (sym (cond-true _ _ _ is) ∙ h))
   | inr isnt ↦ (let p = cond_some ((y == 92) || (y == 34)) (y, ys) (b, rest) (sym (cond-false _ _ _ isnt) ∙ h) in
-    record { is = sym (ap (λ t. t ++ ys) (escaped_mark y p.0)) ∙ ap (λ q. escaped q.0 ++ q.1) p.1 })
+      record { is = sym (ap (λ t. t ++ ys) (escaped_mark y p.0)) ∙ ap (λ q. escaped q.0 ++ q.1) p.1 })
 ]
 
 other_begins : (x : ℕ) (xs : List ℕ) (b : ℕ) (rest : List ℕ) → (x == 92) ≡ false → cond {A = Option (ℕ × List ℕ)} ((x == 34) || nat_lt x 32) None (Some (x, xs)) ≡ Some (b, rest) → Begins (x ∷ xs) b rest
 other_begins x xs b rest isnt h = elim (cases_Bool ((x == 34) || nat_lt x 32)) [
-  inl bad ↦ absurd (none-some _ (sym (cond-true _ _ _ bad) ∙ h))
+  | inl bad ↦ absurd (none-some _ (sym (cond-true _ _ _ bad) ∙ h))
   | inr good ↦ (let parts = or_parts (x == 34) (nat_lt x 32) good in
-    let same = same_Some _ _ (sym (cond-false _ _ _ good) ∙ h) in
-    record { is = sym (ap (λ t. t ++ xs) (escaped_plain x (or_from (x == 92) (x == 34) isnt parts.0) parts.1)) ∙ ap (λ q. escaped q.0 ++ q.1) same })
+      let same = same_Some _ _ (sym (cond-false _ _ _ good) ∙ h) in
+      record { is = sym (ap (λ t. t ++ xs) (escaped_plain x (or_from (x == 92) (x == 34) isnt parts.0) parts.1)) ∙ ap (λ q. escaped q.0 ++ q.1) same })
 ]
 
 byte_begins : (s : List ℕ) (b : ℕ) (rest : List ℕ) → byte_at s ≡ Some (b, rest) → Begins s b rest
 unfolding byte_at
 byte_begins [] b rest h = absurd (none-some _ h)
 byte_begins (x ∷ xs) b rest h = elim (cases_Bool (x == 92)) [
-  inl is ↦ subst (λ z. Begins (z ∷ xs) b rest) (sym (eqb-true _ _ is)) (escape_begins xs b rest (sym (cond-true _ _ _ is) ∙ h))
+  | inl is ↦ subst (λ z. Begins (z ∷ xs) b rest) (sym (eqb-true _ _ is)) (escape_begins xs b rest (sym (cond-true _ _ _ is) ∙ h))
   | inr isnt ↦ other_begins x xs b rest isnt (sym (cond-false _ _ _ isnt) ∙ h)
 ]
 
@@ -156,14 +156,14 @@ unquoted_sound : (n : ℕ) (s t : List ℕ) → unquoted n s ≡ Some t → flat
 unfolding unquoted
 unquoted_sound zero s t h = absurd (none-some _ h)
 unquoted_sound (suc n) s t h = elim (cases_Bool (bytes_eq s (34 ∷ []))) [
-  inl is ↦ (let same = same_Some _ _ (sym (cond-true _ _ _ is) ∙ h) in
-    ap (λ u. flat_map escaped u ++ 34 ∷ []) (sym same) ∙ sym ((bytes_eq-Decides _ _).0 is))
+  | inl is ↦ (let same = same_Some _ _ (sym (cond-true _ _ _ is) ∙ h) in
+      ap (λ u. flat_map escaped u ++ 34 ∷ []) (sym same) ∙ sym ((bytes_eq-Decides _ _).0 is))
   | inr isnt ↦ option_and_then_some (λ (p : ℕ × List ℕ). option_map (λ u. p.0 ∷ u) (unquoted n p.1)) (byte_at s) t (sym (cond-false _ _ _ isnt) ∙ h)
-    (λ p e g.
-    let m = mapped (λ u. p.0 ∷ u) (unquoted n p.1) t g in
-    let begins = byte_begins s p.0 p.1 e in
-    ap (λ u. flat_map escaped u ++ 34 ∷ []) (sym m.to) ∙ append_assoc (escaped p.0) (flat_map escaped m.x) (34 ∷ [])
-    ∙ ap (λ r. escaped p.0 ++ r) (unquoted_sound n p.1 m.x m.from) ∙ sym begins.is)
+      (λ p e g.
+      let m = mapped (λ u. p.0 ∷ u) (unquoted n p.1) t g in
+      let begins = byte_begins s p.0 p.1 e in
+      ap (λ u. flat_map escaped u ++ 34 ∷ []) (sym m.to) ∙ append_assoc (escaped p.0) (flat_map escaped m.x) (34 ∷ [])
+      ∙ ap (λ r. escaped p.0 ++ r) (unquoted_sound n p.1 m.x m.from) ∙ sym begins.is)
 ]
 
 escaped_some : (b : ℕ) → 1 ≤ length (escaped b)
@@ -183,8 +183,8 @@ quote_sound : (s t : List ℕ) → behind_quote s ≡ Some t → quoted t ≡ s
 unfolding quoted
 quote_sound [] t h = absurd (none-some _ h)
 quote_sound (b ∷ bs) t h = elim (cases_Bool (b == 34)) [
-  inl is ↦ (let whole = unquoted_sound (length bs) bs t (sym (cond-true _ _ _ is) ∙ h) in
-    ap (λ r. 34 ∷ r) whole ∙ ap (λ q. q ∷ bs) (sym (eqb-true _ _ is)))
+  | inl is ↦ (let whole = unquoted_sound (length bs) bs t (sym (cond-true _ _ _ is) ∙ h) in
+      ap (λ r. 34 ∷ r) whole ∙ ap (λ q. q ∷ bs) (sym (eqb-true _ _ is)))
   | inr isnt ↦ absurd (none-some _ (sym (cond-false _ _ _ isnt) ∙ h))
 ]
 
@@ -193,7 +193,7 @@ pub quoted_form : IsForm quoted (λ t. is_utf8 t ≡ true) text_of
 unfolding text_of
 quoted_form = record {
   sound = λ s t h. option_and_then_some (formed is_utf8) (behind_quote s) t h (λ u e f.
-    let p = cond_some (is_utf8 u) u t f in
-    (subst (λ v. is_utf8 v ≡ true) p.1 p.0, quote_sound s t (e ∙ ap Some p.1)));
+      let p = cond_some (is_utf8 u) u t f in
+      (subst (λ v. is_utf8 v ≡ true) p.1 p.0, quote_sound s t (e ∙ ap Some p.1)));
   complete = λ t u. ap (option_and_then (formed is_utf8)) (quote_back t) ∙ cond-true _ _ _ u;
 }

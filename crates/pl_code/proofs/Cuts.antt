@@ -15,10 +15,10 @@ HasNone s = list_all other_than_newline s ≡ true
 front_unbroken : (s : List ℕ) → HasNone (take (prefix_len other_than_newline s) s)
 front_unbroken [] = refl
 front_unbroken (x ∷ xs) = elim (cases_Bool (other_than_newline x)) [
-  inl is ↦ (let n : prefix_len other_than_newline (x ∷ xs) ≡ suc (prefix_len other_than_newline xs) = cond-true _ _ _ is ∙ omega arith in
-    subst (λ k. HasNone (take k (x ∷ xs))) (sym n) (and_from (other_than_newline x) _ is (front_unbroken xs)))
+  | inl is ↦ (let n : prefix_len other_than_newline (x ∷ xs) ≡ suc (prefix_len other_than_newline xs) = cond-true _ _ _ is ∙ omega arith in
+      subst (λ k. HasNone (take k (x ∷ xs))) (sym n) (and_from (other_than_newline x) _ is (front_unbroken xs)))
   | inr isnt ↦ (let n : prefix_len other_than_newline (x ∷ xs) ≡ 0 = cond-false _ _ _ isnt in
-    subst (λ k. HasNone (take k (x ∷ xs))) (sym n) refl)
+      subst (λ k. HasNone (take k (x ∷ xs))) (sym n) refl)
 ]
 
 pub record Cut (s a b : List ℕ) : Type 0 where

@@ -42,7 +42,7 @@ begins_in fs (Some f) fits =
       is = and_from (list_all is_function (fs ++ f ∷ [])) (nat_le (length (fs ++ f ∷ [])) (2 ^ 64)) done.fits.functions (le-leb _ _ done.fits.last);
       rest = text_of (line_text End ∷ []);
       text = ap (λ ls. text_of (first_line ∷ ls)) (sym (append-nil (functions_lines 0 (fs ++ f ∷ []))) ∙ done.lines)
-        ∙ flat_map-append ended (first_line ∷ lines_in fs (Some f)) (line_text End ∷ []);
+          ∙ flat_map-append ended (first_line ∷ lines_in fs (Some f)) (line_text End ∷ []);
     }
 
 begins_after : (ds : List (List ℕ)) (r : Reading) → run (reading_in [] None) ds ≡ Some r → Begins (first_line ∷ ds)
@@ -134,8 +134,8 @@ short_fault bytes ds r n at open_ =
       good = good_at at;
       bad = λ l b. absurd (omega arith);
       short = λ l is. open_ (listing_ends ds r (behind_of bytes) bytes at.read (behind_unbroken bytes)
-        (unbroken_front (first_line ∷ ds) [] (subst AllUnbroken at.lines (ended_unbroken bytes)))
-        (ap (λ ls. text_of ls ++ behind_of bytes) (sym (at.lines ∙ append-nil (first_line ∷ ds))) ∙ whole bytes) is);
+          (unbroken_front (first_line ∷ ds) [] (subst AllUnbroken at.lines (ended_unbroken bytes)))
+          (ap (λ ls. text_of ls ++ behind_of bytes) (sym (at.lines ∙ append-nil (first_line ∷ ds))) ∙ whole bytes) is);
     }
 
 line_fault : (bytes : List ℕ) (ds : List (List ℕ)) (r : Reading) (l : List ℕ) (ls : List (List ℕ)) (n : ℕ) → At bytes ds r (l ∷ ls) n → next_line r l ≡ None → FaultsAt bytes (told (n + 1))
@@ -159,10 +159,11 @@ unfolding code_lines is_code
 code_is bytes ds r n at closed nothing =
     let ran = run_sound (reading_in [] None) ds r (record { functions = refl; last = omega arith }) at.read in
     let fits : Fits r.functions None = subst (Fits r.functions) closed ran.fits in
-    let lines : functions_lines 0 r.functions ≡ ds = sym (append-nil (functions_lines 0 r.functions)) ∙ ap (lines_in r.functions) (sym closed) ∙ ran.lines in
-    (and_from (list_all is_function r.functions) (nat_le (length r.functions) (2 ^ 64)) fits.functions (le-leb _ _ fits.last),
-    ap (λ ls. text_of (first_line ∷ ls)) lines ∙ ap text_of (sym (at.lines ∙ append-nil (first_line ∷ ds)))
-    ∙ sym (append-nil (text_of (ended_of bytes))) ∙ ap (λ t. text_of (ended_of bytes) ++ t) (sym nothing) ∙ whole bytes)
+    let lines : functions_lines 0 r.functions ≡ ds = sym (append-nil (functions_lines 0 r.functions)) ∙ ap (lines_in r.functions) (sym closed) ∙ ran.lines in (
+      and_from (list_all is_function r.functions) (nat_le (length r.functions) (2 ^ 64)) fits.functions (le-leb _ _ fits.last),
+      ap (λ ls. text_of (first_line ∷ ls)) lines ∙ ap text_of (sym (at.lines ∙ append-nil (first_line ∷ ds)))
+          ∙ sym (append-nil (text_of (ended_of bytes))) ∙ ap (λ t. text_of (ended_of bytes) ++ t) (sym nothing) ∙ whole bytes,
+    )
 
 not_none : (f : FunCode) → ◌≡◌ {A = Option FunCode} (Some f) None → ⊥
 not_none f e = none-some f (sym e)
@@ -207,7 +208,7 @@ first_is_no_other = refl
 -- a first line that is refused
 refused : (bytes line : List ℕ) → first_of bytes ≡ line → FaultsAt bytes 1 → IsAnswer bytes (Err (first_fault line))
 refused bytes line is fault = elim (cases_Bool (is_other_version line)) [
-  inl other ↦ subst (λ e. IsAnswer bytes (Err e)) (sym (cond-true (is_other_version line) Version (Syntax 1) other)) (ap is_other_version is ∙ other)
+  | inl other ↦ subst (λ e. IsAnswer bytes (Err e)) (sym (cond-true (is_other_version line) Version (Syntax 1) other)) (ap is_other_version is ∙ other)
   | inr same ↦ subst (λ e. IsAnswer bytes (Err e)) (sym (cond-false (is_other_version line) Version (Syntax 1) same)) (ap is_other_version is ∙ same, fault)
 ]
 
@@ -241,8 +242,8 @@ other_fault bytes line behind lines other un =
       within = omega arith;
       good = nothing_begins;
       bad = λ l b. (let c = subst Begins one b in
-        let p = prefix (code_lines c.code) (line ∷ []) c.rest (code_unbroken c.code c.is) (and_from (list_all other_than_newline line) true un refl) c.text in
-        other (heads_same _ _ _ _ p.lines));
+          let p = prefix (code_lines c.code) (line ∷ []) c.rest (code_unbroken c.code c.is) (and_from (list_all other_than_newline line) true un refl) c.text in
+          other (heads_same _ _ _ _ p.lines));
       short = λ l is. absurd (omega arith);
     }
 
@@ -257,13 +258,13 @@ from_exact bytes (Some p) e =
     let rest : behind_of bytes ≡ behind_of p.1 = ap behind_of cut.whole ∙ behind_cons p.0 p.1 cut.unbroken in
     let first = first_front bytes p.0 p.1 e in
     elim (cases_Bool (bytes_eq p.0 first_line)) [
-      inl is ↦ (let same : p.0 ≡ first_line = (bytes_eq-Decides p.0 first_line).0 is in
-        let at : At bytes [] (reading_in [] None) (ended_of p.1) 1 = record { lines = lines ∙ ap (λ t. t ∷ ended_of p.1) same; read = refl; count = refl } in
-        let exact = read_exact bytes (ended_of p.1) [] (reading_in [] None) 1 at in
-        subst (IsAnswer bytes) (ap (read_on 1 (reading_in [] None) (ended_of p.1)) rest ∙ sym (cond-true (bytes_eq p.0 first_line) _ (Err (first_fault p.0)) is))
-        (with_version bytes _ (ap is_other_version (first ∙ same) ∙ first_is_no_other) exact))
+      | inl is ↦ (let same : p.0 ≡ first_line = (bytes_eq-Decides p.0 first_line).0 is in
+          let at : At bytes [] (reading_in [] None) (ended_of p.1) 1 = record { lines = lines ∙ ap (λ t. t ∷ ended_of p.1) same; read = refl; count = refl } in
+          let exact = read_exact bytes (ended_of p.1) [] (reading_in [] None) 1 at in
+          subst (IsAnswer bytes) (ap (read_on 1 (reading_in [] None) (ended_of p.1)) rest ∙ sym (cond-true (bytes_eq p.0 first_line) _ (Err (first_fault p.0)) is))
+          (with_version bytes _ (ap is_other_version (first ∙ same) ∙ first_is_no_other) exact))
       | inr isnt ↦ subst (IsAnswer bytes) (sym (cond-false (bytes_eq p.0 first_line) (read_bytes 1 (reading_in [] None) p.1) (Err (first_fault p.0)) isnt))
-        (refused bytes p.0 first (other_fault bytes p.0 p.1 lines (λ same. let yes_ : bytes_eq p.0 first_line ≡ true = (bytes_eq-Decides p.0 first_line).1 same in cc) cut.unbroken))
+          (refused bytes p.0 first (other_fault bytes p.0 p.1 lines (λ same. let yes_ : bytes_eq p.0 first_line ≡ true = (bytes_eq-Decides p.0 first_line).1 same in cc) cut.unbroken))
     ]
 
 pub listing_exact : (bytes : List ℕ) → IsAnswer bytes (listing_of bytes)
@@ -304,9 +305,9 @@ begins_before xs m n l b =
 
 pub faults_once : (bytes : List ℕ) (m n : ℕ) → FaultsAt bytes m → FaultsAt bytes n → m ≡ n
 faults_once bytes m n a b = elim (cases_order a.before b.before) [
-  inl same ↦ a.number ∙ ap (λ k. told (k + 1)) same ∙ sym b.number
+  | inl same ↦ a.number ∙ ap (λ k. told (k + 1)) same ∙ sym b.number
   | inr apart ↦ elim apart [
-    inl less ↦ (let last = b.within in absurd (a.bad (omega arith) (begins_before (ended_of bytes) (a.before + 1) b.before (omega arith) b.good)))
+    | inl less ↦ (let last = b.within in absurd (a.bad (omega arith) (begins_before (ended_of bytes) (a.before + 1) b.before (omega arith) b.good)))
     | inr more ↦ (let last = a.within in absurd (b.bad (omega arith) (begins_before (ended_of bytes) (b.before + 1) a.before (omega arith) a.good)))
   ]
 ]
@@ -314,17 +315,17 @@ faults_once bytes m n a b = elim (cases_order a.before b.before) [
 -- a text of a code has no fault
 listing_has_none : (bytes : List ℕ) (n : ℕ) → IsListing bytes → FaultsAt bytes n → ⊥
 listing_has_none bytes n is f = elim (cases_order f.before (length (ended_of bytes))) [
-  inl same ↦ f.short same is
+  | inl same ↦ f.short same is
   | inr apart ↦ elim apart [
-    inl less ↦ (let k = f.before + 1 in
-      let lines = ended_of bytes in
-      let text : text_of lines ++ behind_of bytes ≡ bytes = whole bytes in
-      f.bad less (begins_front (take k lines) (drop k lines) (subst Begins (sym (take-append-drop k lines)) (record {
-        code = is.code;
-        is = is.is;
-        rest = behind_of bytes;
-        text = is.text ∙ sym text;
-      }))))
+    | inl less ↦ (let k = f.before + 1 in
+        let lines = ended_of bytes in
+        let text : text_of lines ++ behind_of bytes ≡ bytes = whole bytes in
+        f.bad less (begins_front (take k lines) (drop k lines) (subst Begins (sym (take-append-drop k lines)) (record {
+          code = is.code;
+          is = is.is;
+          rest = behind_of bytes;
+          text = is.text ∙ sym text;
+        }))))
     | inr more ↦ (let w = f.within in absurd (omega arith))
   ]
 ]

@@ -102,10 +102,10 @@ result_back (Some slot.R) = refl
 result_sound : (s : List ℕ) (r : Option Slot) → result_of s ≡ Some r → result_text r ≡ s
 result_sound [] r h = absurd (none-some r h)
 result_sound (b ∷ []) r h = elim (cases_Bool (b == 86)) [
-  inl is ↦ (let none : None ≡ r = same_Some None r (sym (cond-true _ _ _ is) ∙ h) in
-    ap result_text (sym none) ∙ ap (λ x. x ∷ []) (sym (eqb-true b 86 is)))
+  | inl is ↦ (let none : None ≡ r = same_Some None r (sym (cond-true _ _ _ is) ∙ h) in
+      ap result_text (sym none) ∙ ap (λ x. x ∷ []) (sym (eqb-true b 86 is)))
   | inr isnt ↦ (let m = mapped (λ (x : Slot). Some x) (letter_of b) r (sym (cond-false _ _ _ isnt) ∙ h) in
-    ap result_text (sym m.to) ∙ ap (λ x. x ∷ []) (letter_sound b m.x m.from))
+      ap result_text (sym m.to) ∙ ap (λ x. x ∷ []) (letter_sound b m.x m.from))
 ]
 result_sound (b ∷ c ∷ bs) r h = absurd (none-some r h)
 
@@ -148,10 +148,10 @@ slots_some s (x ∷ xs) some e = e
 slots_sound : (s : List ℕ) (slots : List Slot) → slots_of s ≡ Some slots → slots_text slots ≡ s
 unfolding slots_of
 slots_sound s slots h = elim (cases_Bool (bytes_eq s (codes "-"))) [
-  inl is ↦ (let none : [] ≡ slots = same_Some [] slots (sym (cond-true _ _ _ is) ∙ h) in
-    ap slots_text (sym none) ∙ sym ((bytes_eq-Decides s (codes "-")).0 is))
+  | inl is ↦ (let none : [] ≡ slots = same_Some [] slots (sym (cond-true _ _ _ is) ∙ h) in
+      ap slots_text (sym none) ∙ sym ((bytes_eq-Decides s (codes "-")).0 is))
   | inr isnt ↦ elim (cases_Bool (length s == 0)) [
-    inl empty ↦ absurd (none-some slots (sym (cond-true _ _ _ empty) ∙ (sym (cond-false _ _ _ isnt) ∙ h)))
+    | inl empty ↦ absurd (none-some slots (sym (cond-true _ _ _ empty) ∙ (sym (cond-false _ _ _ isnt) ∙ h)))
     | inr some ↦ slots_some s slots some (letters_sound s slots (sym (cond-false _ _ _ some) ∙ (sym (cond-false _ _ _ isnt) ∙ h)))
   ]
 ]
@@ -186,11 +186,11 @@ interface_back (Some class) h =
 interface_sound : (s : List ℕ) (i : Option (List ℕ)) → interface_of s ≡ Some i → (is_interface i ≡ true) × (interface_text i ≡ s)
 unfolding interface_of
 interface_sound s i h = elim (cases_Bool (bytes_eq s (codes "-"))) [
-  inl is ↦ (let none : None ≡ i = same_Some None i (sym (cond-true _ _ _ is) ∙ h) in
-    (ap is_interface (sym none), ap interface_text (sym none) ∙ sym ((bytes_eq-Decides s (codes "-")).0 is)))
+  | inl is ↦ (let none : None ≡ i = same_Some None i (sym (cond-true _ _ _ is) ∙ h) in
+      (ap is_interface (sym none), ap interface_text (sym none) ∙ sym ((bytes_eq-Decides s (codes "-")).0 is)))
   | inr isnt ↦ (let m = mapped (λ (c : List ℕ). Some c) (formed is_class s) i (sym (cond-false _ _ _ isnt) ∙ h) in
-    let form = (formed_form is_class).sound s m.x m.from in
-    (ap is_interface (sym m.to) ∙ form.0, ap interface_text (sym m.to) ∙ form.1))
+      let form = (formed_form is_class).sound s m.x m.from in
+      (ap is_interface (sym m.to) ∙ form.0, ap interface_text (sym m.to) ∙ form.1))
 ]
 
 pub interface_form : IsForm interface_text (λ i. is_interface i ≡ true) interface_of

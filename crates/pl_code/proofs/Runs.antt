@@ -60,7 +60,7 @@ unfolding line_text
 begin_follows fs h fits small same = record {
   fits = record { functions = fits.functions; last = (refl, subst (λ n. n < 2 ^ 64) same (ltb-true h.number (2 ^ 64) small)) };
   lines = ap (λ n. functions_lines 0 fs ++ header_text n h.loops h.result h.params h.locals ∷ []) (sym same)
-    ∙ ap (λ t. t ++ header_text h.number h.loops h.result h.params h.locals ∷ []) (sym (append-nil (functions_lines 0 fs)));
+      ∙ ap (λ t. t ++ header_text h.number h.loops h.result h.params h.locals ∷ []) (sym (append-nil (functions_lines 0 fs)));
 }
 
 -- a function with one trap more, and with one instruction more
@@ -102,7 +102,7 @@ step_follows fs (Some f) (Caught t) q fits line e =
     follows fs (Some f) (Caught t) _ q (record {
       fits = record { functions = fits.functions; last = (and_from (list_all is_trap (f.traps ++ t ∷ [])) (list_all is_instruction f.lines) traps parts.1, fits.last.1) };
       lines = ap (λ ls. functions_lines 0 fs ++ ls) (catch_lines (length fs) f t f.lines (no_lines f.lines c.0) refl)
-        ∙ sym (append_assoc (functions_lines 0 fs) (current_lines (length fs) (Some f)) (trap_text t ∷ []));
+          ∙ sym (append_assoc (functions_lines 0 fs) (current_lines (length fs) (Some f)) (trap_text t ∷ []));
     }) c.1
 step_follows fs (Some f) (Do i) q fits line e =
     let parts = and_parts (list_all is_trap f.traps) (list_all is_instruction f.lines) fits.last.0 in
@@ -110,7 +110,7 @@ step_follows fs (Some f) (Do i) q fits line e =
     follows fs (Some f) (Do i) _ q (record {
       fits = record { functions = fits.functions; last = (and_from (list_all is_trap f.traps) (list_all is_instruction (f.lines ++ i ∷ [])) parts.0 lines, fits.last.1) };
       lines = ap (λ ls. functions_lines 0 fs ++ ls) (add_lines (length fs) f i)
-        ∙ sym (append_assoc (functions_lines 0 fs) (current_lines (length fs) (Some f)) (instruction_text i ∷ []));
+          ∙ sym (append_assoc (functions_lines 0 fs) (current_lines (length fs) (Some f)) (instruction_text i ∷ []));
     }) (same_Some _ q e)
 step_follows fs (Some f) End q fits line e =
     let all : list_all is_function (fs ++ f ∷ []) ≡ true = list_all-append is_function fs (f ∷ []) ∙ and_from _ _ fits.functions (and_from (is_function f) true fits.last.0 refl) in
@@ -121,8 +121,8 @@ step_follows fs (Some f) End q fits line e =
     follows fs (Some f) End _ q (record {
       fits = record { functions = all; last = omega (arith, length-append fs (f ∷ []), fits.last.1) };
       lines = append-nil (functions_lines 0 (fs ++ f ∷ [])) ∙ functions_push 0 fs f
-        ∙ ap (λ n. functions_lines 0 fs ++ function_lines n f) count ∙ ap (λ ls. functions_lines 0 fs ++ ls) whole
-        ∙ sym (append_assoc (functions_lines 0 fs) (current_lines (length fs) (Some f)) (head_word head.End ∷ []));
+          ∙ ap (λ n. functions_lines 0 fs ++ function_lines n f) count ∙ ap (λ ls. functions_lines 0 fs ++ ls) whole
+          ∙ sym (append_assoc (functions_lines 0 fs) (current_lines (length fs) (Some f)) (head_word head.End ∷ []));
     }) (same_Some _ q e)
 
 -- lines that are read one after another

@@ -113,10 +113,10 @@ record Lines (bs : List ℕ) : Type 0 where
 ended_some : (bs : List ℕ) → list_any is_newline bs ≡ true → Lines bs
 ended_some [] h = cc
 ended_some (b ∷ bs) h = elim (cases_Bool (b == 10)) [
-  inl is ↦ record { first = []; others = ended_of bs; is = cond-true _ _ _ is }
+  | inl is ↦ record { first = []; others = ended_of bs; is = cond-true _ _ _ is }
   | inr isnt ↦ (let rest : list_any is_newline bs ≡ true = ap (λ t. t || list_any is_newline bs) (sym isnt) ∙ h in
-    let more = ended_some bs rest in
-    record { first = b ∷ more.first; others = more.others; is = cond-false _ _ _ isnt ∙ ap (before_ended b) more.is })
+      let more = ended_some bs rest in
+      record { first = b ∷ more.first; others = more.others; is = cond-false _ _ _ isnt ∙ ap (before_ended b) more.is })
 ]
 
 none_any : (bs : List ℕ) → list_any is_newline bs ≡ false → HasNone bs
@@ -128,7 +128,7 @@ none_any (b ∷ bs) h =
 pub behind_unbroken : (bs : List ℕ) → HasNone (behind_of bs)
 behind_unbroken [] = refl
 behind_unbroken (b ∷ bs) = elim (cases_Bool ((b == 10) || list_any is_newline bs)) [
-  inl is ↦ subst HasNone (sym (cond-true _ _ _ is)) (behind_unbroken bs)
+  | inl is ↦ subst HasNone (sym (cond-true _ _ _ is)) (behind_unbroken bs)
   | inr isnt ↦ subst HasNone (sym (cond-false _ _ _ isnt)) (none_any (b ∷ bs) isnt)
 ]
 
@@ -141,22 +141,22 @@ before_unbroken b (l ∷ ls) o h =
 pub ended_unbroken : (bs : List ℕ) → AllUnbroken (ended_of bs)
 ended_unbroken [] = refl
 ended_unbroken (b ∷ bs) = elim (cases_Bool (b == 10)) [
-  inl is ↦ subst AllUnbroken (sym (cond-true _ _ _ is)) (ended_unbroken bs)
+  | inl is ↦ subst AllUnbroken (sym (cond-true _ _ _ is)) (ended_unbroken bs)
   | inr isnt ↦ subst AllUnbroken (sym (cond-false _ _ _ isnt)) (before_unbroken b (ended_of bs) (ap not isnt) (ended_unbroken bs))
 ]
 
 pub whole : (bs : List ℕ) → text_of (ended_of bs) ++ behind_of bs ≡ bs
 whole [] = refl
 whole (b ∷ bs) = elim (cases_Bool (b == 10)) [
-  inl is ↦ ap (λ ls. text_of ls ++ behind_of (b ∷ bs)) (cond-true (b == 10) ([] ∷ ended_of bs) (before_ended b (ended_of bs)) is)
-    ∙ ap (λ t. 10 ∷ (text_of (ended_of bs) ++ t)) (cond-true ((b == 10) || list_any is_newline bs) (behind_of bs) (b ∷ bs) (ap (λ t. t || list_any is_newline bs) is))
-    ∙ ap (λ t. 10 ∷ t) (whole bs) ∙ ap (λ z. z ∷ bs) (sym (eqb-true b 10 is))
+  | inl is ↦ ap (λ ls. text_of ls ++ behind_of (b ∷ bs)) (cond-true (b == 10) ([] ∷ ended_of bs) (before_ended b (ended_of bs)) is)
+      ∙ ap (λ t. 10 ∷ (text_of (ended_of bs) ++ t)) (cond-true ((b == 10) || list_any is_newline bs) (behind_of bs) (b ∷ bs) (ap (λ t. t || list_any is_newline bs) is))
+      ∙ ap (λ t. 10 ∷ t) (whole bs) ∙ ap (λ z. z ∷ bs) (sym (eqb-true b 10 is))
   | inr isnt ↦ elim (cases_Bool (list_any is_newline bs)) [
-    inl some ↦ (let more = ended_some bs some in
-      ap (λ ls. text_of ls ++ behind_of (b ∷ bs)) (cond-false (b == 10) ([] ∷ ended_of bs) (before_ended b (ended_of bs)) isnt ∙ ap (before_ended b) more.is)
-      ∙ ap (λ t. b ∷ (text_of (more.first ∷ more.others) ++ t)) (cond-true ((b == 10) || list_any is_newline bs) (behind_of bs) (b ∷ bs) (or_right (b == 10) (list_any is_newline bs) some))
-      ∙ ap (λ ls. b ∷ (text_of ls ++ behind_of bs)) (sym more.is) ∙ ap (λ t. b ∷ t) (whole bs))
+    | inl some ↦ (let more = ended_some bs some in
+        ap (λ ls. text_of ls ++ behind_of (b ∷ bs)) (cond-false (b == 10) ([] ∷ ended_of bs) (before_ended b (ended_of bs)) isnt ∙ ap (before_ended b) more.is)
+        ∙ ap (λ t. b ∷ (text_of (more.first ∷ more.others) ++ t)) (cond-true ((b == 10) || list_any is_newline bs) (behind_of bs) (b ∷ bs) (or_right (b == 10) (list_any is_newline bs) some))
+        ∙ ap (λ ls. b ∷ (text_of ls ++ behind_of bs)) (sym more.is) ∙ ap (λ t. b ∷ t) (whole bs))
     | inr none ↦ ap (λ ls. text_of ls ++ behind_of (b ∷ bs)) (cond-false (b == 10) ([] ∷ ended_of bs) (before_ended b (ended_of bs)) isnt ∙ ap (before_ended b) (ended_none bs (none_any bs none)))
-      ∙ cond-false ((b == 10) || list_any is_newline bs) (behind_of bs) (b ∷ bs) (ap (λ t. t || list_any is_newline bs) isnt ∙ none)
+        ∙ cond-false ((b == 10) || list_any is_newline bs) (behind_of bs) (b ∷ bs) (ap (λ t. t || list_any is_newline bs) isnt ∙ none)
   ]
 ]

@@ -365,8 +365,5 @@ fn is_word_of(head: Head, word: &str) -> bool
 pub fn head_of(word: &str) -> Option<Head>
     ensures { result ≡ head_of word.now }
 {
-    HEADS
-        .iter()
-        .copied()
-        .find(|head| is_word_of(*head, word))
+    HEADS.iter().copied().find(|head| is_word_of(*head, word))
 }

@@ -84,12 +84,7 @@ fn push_text(out: &mut String, head: Head, text: &str) -> Result<(), AllocError>
     push_quoted(out, text)
 }
 
-fn push_with_number(
-    out: &mut String,
-    head: Head,
-    part: &str,
-    number: u32,
-) -> Result<(), AllocError>
+fn push_with_number(out: &mut String, head: Head, part: &str, number: u32) -> Result<(), AllocError>
     ensures { OnOk result (string_bytes out.new ≡ string_bytes out.old ++ with_operand head (spaced part.now (decimal number))) }
 {
     let mut buffer = Buffer::new();
@@ -131,7 +126,9 @@ fn push_instruction(out: &mut String, instruction: &Instruction) -> Result<(), A
 {
     match instruction {
         Instruction::Plain(plain) => out.push_str(head_word(Head::Plain(*plain))),
-        Instruction::Arithmetic(op, width) => out.push_str(head_word(Head::Arithmetic(*op, *width))),
+        Instruction::Arithmetic(op, width) => out.push_str(head_word(Head::Arithmetic(
+            *op, *width,
+        ))),
         Instruction::Dynamic(op) => out.push_str(head_word(Head::Dynamic(*op))),
         Instruction::Int(number) => push_int(out, *number),
         Instruction::Long(number) => push_long(out, *number),
