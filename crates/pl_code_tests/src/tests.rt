@@ -201,11 +201,17 @@ const BAD: [(&str, u32); 50] = [
     ("painless 1\nfun 0 loop I - -\nnew a.b/00\n", 3),
 ];
 
-const OTHER: [&str; 5] = ["painless 9\n", "painless 0\nx", "painless -5\n", "painless 123456789012345678901234567890\n", "painless 10"];
+const OTHER: [&str; 5] = [
+    "painless 9\n",
+    "painless 0\nx",
+    "painless -5\n",
+    "painless 123456789012345678901234567890\n",
+    "painless 10",
+];
 
 /// The line of the refusal; 0 where there is none, and another number for the others.
-fn refusal(result: Result<Code, ListingErr>) -> u32 {
-    match result {
+fn refusal(read: Result<Code, ListingErr>) -> u32 {
+    match read {
         Ok(_code) => 0,
         Err(ListingErr::Syntax(line)) => line,
         Err(ListingErr::Version) => 1_000_000,
