@@ -1,11 +1,11 @@
 -- What a listing is read as is what it is.
-use Rattle.std.proofs.Common.{◌≡◌, ℕ, zero, suc, ◌+◌, ◌-◌, ◌^◌, ◌<◌, ◌≤◌, Bool, true, false, not, ◌&&◌, cond, List, [], ◌∷◌, ◌++◌, length, take, drop, Option, Some, None, Result, Ok, Err, refl, sym, subst, ap, ◌∙◌, arith, inl, inr, append_assoc}
-use Rattle.std.specs.Prelude.{nat_lt, nat_le, ◌==◌, min, option_and_then}
+use Rattle.std.proofs.Common.{◌≡◌, ℕ, zero, suc, ◌+◌, ◌^◌, ◌≤◌, true, false, List, [], ◌∷◌, ◌++◌, length, take, drop, Option, Some, None, Result, Ok, Err, refl, sym, subst, ap, ◌∙◌, arith, inl, inr, append_assoc}
+use Rattle.std.specs.Prelude.{nat_lt, nat_le, option_and_then}
 use Rattle.std.specs.List.{list_all, position_or_len, before_first, after_first}
 use Rattle.std.specs.Str.{bytes_eq}
-use Rattle.std.proofs.lemmas.Bool.{and_parts, and_from, le-leb, cond-true, cond-false, cases_Bool, cases_order, false_from_ne_true, ltb-false}
+use Rattle.std.proofs.lemmas.Bool.{and_parts, and_from, le-leb, cond-true, cond-false, cases_Bool, cases_order, ltb-false}
 use Rattle.std.proofs.lemmas.Option.{none-some, same_Some, cond_some}
-use Rattle.std.proofs.lemmas.List.{append-nil, length-append, take-append-drop, take_all, take_more}
+use Rattle.std.proofs.lemmas.List.{append-nil, length-append, take-append-drop, take_all}
 use Rattle.std.proofs.lemmas.List.Folds.{list_all-append}
 use Rattle.listing_parts.proofs.Unbroken.{other_than_newline}
 use Rattle.std.proofs.lemmas.List.Concat.{flat_map-append}
@@ -21,10 +21,9 @@ use Rattle.pl_code.specs.Listing.{first_line, ended, text_of, functions_lines, c
 use Rattle.pl_code.specs.Lines.{line_text, is_line}
 use Rattle.pl_code.specs.Reading.{reading_in, next_line, told, finished, continued, is_newline, first_ended, ended_of, behind_of, read_on, read_bytes, first_fault, listing_from, listing_of, is_other_version, Gives}
 use Rattle.pl_code.specs.Faults.{IsListing, Begins, FaultsAt, first_of, IsReading}
-use Rattle.pl_code.proofs.Cuts.{HasNone, Cut, none_cut, cut_some, cut_none, ended_cons, ended_none, behind_cons, behind_none}
-use Rattle.pl_code.proofs.Runs.{Fits, Follows, step_follows, so_far, lines_in, run, Ran, run_sound, run-append, code_run}
-use Rattle.pl_code.proofs.Texts.{AllUnbroken, unbroken-append, code_unbroken, Prefix, prefix, has_newline, behind_unbroken, ended_unbroken, whole}
-use Rattle.pl_code.proofs.Steps.{gives}
+use Rattle.pl_code.proofs.Cuts.{HasNone, none_cut, cut_some, cut_none, ended_cons, ended_none, behind_cons}
+use Rattle.pl_code.proofs.Runs.{Fits, step_follows, lines_in, run, run_sound, run-append, code_run}
+use Rattle.pl_code.proofs.Texts.{AllUnbroken, code_unbroken, prefix, has_newline, behind_unbroken, ended_unbroken, whole}
 
 -- a code begins with what was read
 begins_in : (fs : List FunCode) (current : Option FunCode) → Fits fs current → Begins (first_line ∷ lines_in fs current)

@@ -1,17 +1,17 @@
 -- The parts of lines are read back, and nothing else is.
-use Rattle.std.proofs.Common.{◌≡◌, ℕ, suc, ◌+◌, ◌^◌, ◌<◌, ◌≤◌, Bool, true, false, not, ◌&&◌, cond, List, [], ◌∷◌, ◌++◌, length, map, Option, Some, None, refl, sym, subst, ap, ◌∙◌, arith, inl, inr}
-use Rattle.std.specs.Prelude.{nat_lt, ◌==◌, option_map, option_and_then, codes}
+use Rattle.std.proofs.Common.{◌≡◌, ℕ, Bool, true, false, List, [], ◌∷◌, length, map, Option, Some, None, refl, sym, subst, ap, ◌∙◌, arith, inl, inr}
+use Rattle.std.specs.Prelude.{◌==◌, option_map, option_and_then, codes}
 use Rattle.std.specs.List.{find, list_all}
 use Rattle.std.specs.Str.{bytes_eq}
-use Rattle.std.proofs.lemmas.Bool.{and_parts, and_from, cond-true, cond-false, eqb-true, ne_eqb, cases_Bool, false_from_ne_true}
+use Rattle.std.proofs.lemmas.Bool.{and_from, cond-true, cond-false, eqb-true, ne_eqb, cases_Bool, false_from_ne_true}
 use Rattle.std.proofs.lemmas.Option.{none-some, same_Some, option_and_then_some}
 use Rattle.std.proofs.lemmas.Slice.Eq.{bytes_eq-Decides}
 use Rattle.listing_parts.specs.Split.{is_plain}
-use Rattle.listing_parts.specs.Names.{formed, is_class, is_name, is_word}
+use Rattle.listing_parts.specs.Names.{formed, is_class, is_name}
 use Rattle.listing_parts.proofs.Forms.{IsForm, formed_form}
 use Rattle.listing_parts.proofs.Parts.{IsPlain}
 use Rattle.listing_parts.proofs.Clean.{plain_class}
-use Rattle.listing_parts.proofs.Unquoting.{found_passes, Mapped, mapped}
+use Rattle.listing_parts.proofs.Unquoting.{found_passes, mapped}
 use Rattle.pl_types.specs.declared.primitive.Primitive.{Primitive}
 use Rattle.pl_types.specs.declared.primitive.Primitive.TheVariants as primitive
 use Rattle.pl_code.specs.declared.kinds.Way.{Way}

@@ -1,5 +1,5 @@
 -- Each head is found by its word.
-use Rattle.std.proofs.Common.{◌≡◌, ℕ, Some, refl, true, List}
+use Rattle.std.proofs.Common.{◌≡◌, Some, refl}
 use Rattle.pl_code.specs.declared.head.Head.{Head}
 use Rattle.pl_code.specs.declared.head.Head.TheVariants as head
 use Rattle.pl_code.specs.declared.kinds.Plain.{Plain}
@@ -16,7 +16,6 @@ use Rattle.pl_code.specs.declared.kinds.Typed.{Typed}
 use Rattle.pl_code.specs.declared.kinds.Typed.TheVariants as typed
 use Rattle.pl_code.specs.declared.kinds.Sized.{Sized}
 use Rattle.pl_code.specs.declared.kinds.Sized.TheVariants as sized
-use Rattle.pl_code.specs.declared.kinds.Width.{Width}
 use Rattle.pl_code.specs.declared.kinds.Width.TheVariants as width
 use Rattle.pl_code.specs.Words.{head_word, head_of}
 use Rattle.listing_parts.proofs.Parts.{IsPlain}

@@ -1,23 +1,22 @@
 -- A line is read back, and nothing else is.
-use Rattle.std.proofs.Common.{◌≡◌, ℕ, suc, ◌+◌, ◌^◌, ◌<◌, ◌≤◌, Bool, true, false, ◌&&◌, List, [], ◌∷◌, ◌++◌, length, Option, Some, None, refl, sym, subst, ap, ◌∙◌, arith, inl, inr}
-use Rattle.std.specs.Prelude.{nat_lt, ◌==◌, option_map, option_and_then, codes, decimal, ℤ}
+use Rattle.std.proofs.Common.{◌≡◌, ℕ, ◌^◌, Bool, true, ◌&&◌, List, Option, Some, None, refl, subst, ap, ◌∙◌, arith}
+use Rattle.std.specs.Prelude.{nat_lt, option_map, option_and_then, decimal, ℤ}
 use Rattle.std.specs.Fmt.{signed_decimal}
 use Rattle.std.specs.Int.Signed.{mag}
-use Rattle.std.specs.List.{position_or_len}
 use Rattle.std.specs.Str.{is_utf8, bytes_eq}
 use Rattle.std.proofs.lemmas.Slice.Eq.{bytes_eq-Decides}
 use Rattle.pl_code.specs.declared.head.TheConstants.{HEADS}
-use Rattle.std.proofs.lemmas.Bool.{and_parts, and_from, ltb-true, cond-false, false_from_ne_true}
+use Rattle.std.proofs.lemmas.Bool.{and_parts, and_from, ltb-true}
 use Rattle.std.proofs.lemmas.Option.{none-some, same_Some, option_and_then_some}
-use Rattle.listing_parts.specs.Split.{split_at_blank, both, spaced, is_blank}
+use Rattle.listing_parts.specs.Split.{split_at_blank, both, spaced}
 use Rattle.listing_parts.specs.Names.{formed, is_word, is_class, is_type, is_field, is_method, is_constructor}
 use Rattle.listing_parts.specs.Numbers.{natural_of, integer_of}
 use Rattle.listing_parts.specs.Quoted.{quoted, text_of}
 use Rattle.listing_parts.proofs.Forms.{IsForm, formed_form}
 use Rattle.listing_parts.proofs.NumberForms.{natural_form, integer_form}
 use Rattle.listing_parts.proofs.Parts.{IsPlain, both_form, split_back, split_sound, split_none}
-use Rattle.listing_parts.proofs.Clean.{plain_decimal, plain_class, plain_type, plain_word}
-use Rattle.listing_parts.proofs.Unquoting.{Mapped, mapped, quoted_form, found_passes}
+use Rattle.listing_parts.proofs.Clean.{plain_decimal, plain_type, plain_word}
+use Rattle.listing_parts.proofs.Unquoting.{mapped, quoted_form, found_passes}
 use Rattle.pl_types.specs.declared.primitive.Primitive.{Primitive}
 use Rattle.pl_code.specs.declared.kinds.Way.{Way}
 use Rattle.pl_code.specs.declared.kinds.Slot.{Slot}
@@ -36,7 +35,7 @@ use Rattle.pl_code.specs.declared.line.Line.TheVariants.{Fun, Caught, Do, End}
 use Rattle.pl_code.specs.Words.{head_word, head_of, way_word, primitive_word, loop_word}
 use Rattle.pl_code.specs.Instructions.{instruction_text, is_instruction, is_number, is_interface, interface_text, with_operand}
 use Rattle.pl_code.specs.Listing.{result_text, slots_text, header_text, trap_text, is_trap}
-use Rattle.pl_code.specs.Lines.{line_text, is_line, way_of, primitive_of, loops_of, result_of, slots_of, interface_of, number_of, numbered_of, int_of, long_of, quoted_of, boxing_of, unboxing_of, cast_of, typed_of, sized_of, defcall_of, invoke_of, new_of, field_of, lambda_of, ref_of, newref_of, header_of, trap_of, operand_line, bare_line, line_from, line_of}
+use Rattle.pl_code.specs.Lines.{line_text, is_line, way_of, primitive_of, loops_of, result_of, slots_of, interface_of, number_of, operand_line, bare_line, line_from, line_of}
 use Rattle.pl_code.proofs.Heads.{head_back, head_plain}
 use Rattle.pl_code.proofs.FieldForms.{way_form, primitive_form, primitive_plain, loops_form, loops_plain, result_form, result_plain, slots_form, slots_plain, interface_form, interface_plain}
 

@@ -1,14 +1,10 @@
 -- The lines of code are text without newlines.
-use Rattle.std.proofs.Common.{◌≡◌, ℕ, ◌+◌, ◌^◌, ◌<◌, ◌≤◌, Bool, true, false, ◌&&◌, List, [], ◌∷◌, ◌++◌, Option, Some, None, refl, sym, subst, ap, ◌∙◌, arith}
-use Rattle.std.specs.Prelude.{nat_lt, codes, decimal}
+use Rattle.std.proofs.Common.{◌≡◌, ℕ, ◌^◌, true, ◌&&◌, List, Option, arith}
+use Rattle.std.specs.Prelude.{nat_lt, decimal}
 use Rattle.std.specs.Fmt.{signed_decimal}
 use Rattle.std.specs.Int.Signed.{mag}
-use Rattle.std.specs.Str.{is_utf8, IsUtf8}
 use Rattle.std.proofs.lemmas.Bool.{and_parts, ltb-true}
-use Rattle.std.proofs.lemmas.Str.{is_utf8-from_IsUtf8}
-use Rattle.listing_parts.specs.Split.{spaced}
-use Rattle.listing_parts.specs.Names.{is_word, is_class, is_type, is_field, is_method, is_constructor}
-use Rattle.listing_parts.specs.Quoted.{quoted}
+use Rattle.listing_parts.specs.Names.{is_word, is_class, is_type}
 use Rattle.listing_parts.proofs.Clean.{plain_decimal, plain_signed, plain_class, plain_type, plain_word, plain_field, plain_method, plain_constructor}
 use Rattle.listing_parts.proofs.Unbroken.{IsUnbroken, unbroken_plain, unbroken_spaced, unbroken_quoted}
 use Rattle.pl_code.specs.declared.code.Instruction.{Instruction}

@@ -1,21 +1,18 @@
 -- Reading goes on line by line.
-use Rattle.std.proofs.Common.{◌≡◌, ℕ, suc, ◌+◌, ◌-◌, ◌^◌, ◌<◌, ◌≤◌, Bool, true, false, cond, List, [], ◌∷◌, ◌++◌, length, Option, Some, None, Result, Ok, Err, refl, sym, subst, ap, ◌∙◌, arith, inl, inr}
+use Rattle.std.proofs.Common.{◌≡◌, ℕ, ◌+◌, ◌<◌, List, ◌∷◌, ◌++◌, length, Option, Some, None, Result, Ok, Err, refl, subst, ap, ◌∙◌, arith}
 use Rattle.std.specs.Prelude.{min, option_and_then}
 use Rattle.std.specs.Str.{IsUtf8}
-use Rattle.std.proofs.lemmas.Option.{none-some}
 use Rattle.std.proofs.lemmas.List.{length-append}
-use Rattle.listing_parts.proofs.Unquoting.{Mapped}
-use Rattle.pl_code.specs.declared.code.FunCode.{FunCode}
 use Rattle.pl_code.specs.declared.code.Code.{Code}
 use Rattle.pl_code.specs.declared.line.Line.{Line}
 use Rattle.pl_code.specs.declared.reading.Reading.{Reading}
 use Rattle.pl_code.specs.declared.error.ListingErr.{ListingErr}
 use Rattle.pl_code.specs.declared.error.ListingErr.TheVariants.{Syntax, Version, NoMemory}
-use Rattle.pl_code.specs.Lines.{line_of, line_text}
-use Rattle.pl_code.specs.Reading.{next, next_line, told, finished, first_ended, continued, ended_of, behind_of, read_on, read_bytes, reading_in, Gives}
+use Rattle.pl_code.specs.Lines.{line_of}
+use Rattle.pl_code.specs.Reading.{next, next_line, told, finished, first_ended, continued, ended_of, behind_of, read_on, read_bytes, Gives}
 use Rattle.pl_code.proofs.LineForms.{line_form}
 use Rattle.pl_code.proofs.LineTexts.{line_unbroken}
-use Rattle.pl_code.proofs.Cuts.{Cut, cut_some, cut_none, ended_cons, ended_none, behind_cons, behind_none}
+use Rattle.pl_code.proofs.Cuts.{cut_some, cut_none, ended_cons, ended_none, behind_cons, behind_none}
 
 no_line : (s : List ℕ) (o : Option Line) → (IsUtf8 s → ⊥) → line_of s ≡ o → o ≡ None
 no_line s None none e = refl

@@ -1,20 +1,18 @@
 -- Texts of lines.
-use Rattle.std.proofs.Common.{◌≡◌, ℕ, suc, ◌+◌, ◌^◌, ◌<◌, ◌≤◌, Bool, true, false, not, ◌&&◌, ◌||◌, cond, List, [], ◌∷◌, ◌++◌, length, map, Option, Some, None, refl, sym, subst, ap, ◌∙◌, arith, inl, inr, append_assoc}
-use Rattle.std.specs.Prelude.{nat_lt, nat_le, ◌==◌}
-use Rattle.std.specs.List.{list_all, list_any, flat_map}
+use Rattle.std.proofs.Common.{◌≡◌, ℕ, ◌+◌, ◌^◌, ◌<◌, ◌≤◌, Bool, true, false, not, ◌||◌, List, [], ◌∷◌, ◌++◌, length, map, refl, sym, subst, ap, ◌∙◌, arith, inl, inr, append_assoc}
+use Rattle.std.specs.Prelude.{nat_le, ◌==◌}
+use Rattle.std.specs.List.{list_all, list_any}
 use Rattle.std.proofs.lemmas.Bool.{and_parts, and_from, or_parts, or_right, leb-true, lt-ltb, eqb-true, cond-true, cond-false, cases_Bool}
-use Rattle.std.proofs.lemmas.List.{append-nil, length-append}
+use Rattle.std.proofs.lemmas.List.{length-append}
 use Rattle.std.proofs.lemmas.List.Folds.{list_all-append}
 use Rattle.listing_parts.proofs.Unbroken.{other_than_newline}
-use Rattle.pl_code.specs.declared.code.Instruction.{Instruction}
-use Rattle.pl_code.specs.declared.code.Trap.{Trap}
 use Rattle.pl_code.specs.declared.code.FunCode.{FunCode}
 use Rattle.pl_code.specs.declared.code.Code.{Code}
 use Rattle.pl_code.specs.declared.head.Head.TheVariants as head
 use Rattle.pl_code.specs.declared.line.Line.TheVariants.{Fun, Caught, Do, End}
 use Rattle.pl_code.specs.Words.{head_word}
 use Rattle.pl_code.specs.Instructions.{instruction_text, is_instruction}
-use Rattle.pl_code.specs.Listing.{first_line, ended, text_of, header_text, trap_text, function_lines, functions_lines, code_lines, written, is_trap, is_function, is_code}
+use Rattle.pl_code.specs.Listing.{text_of, header_text, trap_text, function_lines, functions_lines, code_lines, is_trap, is_function, is_code}
 use Rattle.pl_code.specs.Lines.{line_text, is_line}
 use Rattle.pl_code.specs.Reading.{is_newline, ended_of, before_ended, behind_of}
 use Rattle.pl_code.proofs.LineTexts.{line_unbroken}

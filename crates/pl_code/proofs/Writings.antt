@@ -1,8 +1,7 @@
 -- The lines of functions, one function after another.
-use Rattle.std.proofs.Common.{◌≡◌, ℕ, suc, ◌+◌, ◌<◌, ◌≤◌, List, [], ◌∷◌, ◌++◌, length, take, get_or, map, refl, sym, subst, ap, ◌∙◌, arith, append_assoc}
+use Rattle.std.proofs.Common.{◌≡◌, ℕ, suc, ◌+◌, ◌<◌, List, [], ◌∷◌, ◌++◌, length, take, get_or, map, sym, subst, ap, ◌∙◌, arith, append_assoc}
 use Rattle.std.specs.Prelude.{codes}
-use Rattle.std.specs.List.{flat_map}
-use Rattle.std.proofs.lemmas.List.{take_more, take_all, length-take, append-nil}
+use Rattle.std.proofs.lemmas.List.{take_more, length-take, append-nil}
 use Rattle.std.proofs.lemmas.List.Concat.{flat_map-append}
 use Rattle.pl_code.specs.declared.code.FunCode.{FunCode}
 use Rattle.pl_code.specs.declared.head.Head.TheVariants as head

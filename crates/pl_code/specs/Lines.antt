@@ -1,5 +1,5 @@
 -- Lines of a listing, and how one is read.
-use Rattle.std.specs.Prelude.{ℕ, ◌^◌, ◌==◌, nat_lt, Bool, true, false, List, [], ◌∷◌, Option, Some, None, if◌then◌else◌, codes, option_map, length}
+use Rattle.std.specs.Prelude.{ℕ, ◌^◌, ◌==◌, nat_lt, Bool, true, List, [], ◌∷◌, Option, Some, None, if◌then◌else◌, codes, option_map, length}
 use Rattle.std.specs.List.{find}
 use Rattle.std.specs.Str.{bytes_eq}
 use Rattle.listing_parts.specs.Split.{split_at_blank, both, ◌>>=◌}
@@ -14,10 +14,8 @@ use Rattle.pl_code.specs.declared.kinds.Numbered.{Numbered}
 use Rattle.pl_code.specs.declared.kinds.Typed.{Typed}
 use Rattle.pl_code.specs.declared.kinds.Sized.{Sized}
 use Rattle.pl_code.specs.declared.code.Instruction.TheVariants as code
-use Rattle.pl_code.specs.declared.code.Trap.{Trap}
 use Rattle.pl_code.specs.declared.head.Head.{Head}
 use Rattle.pl_code.specs.declared.head.Head.TheVariants as head
-use Rattle.pl_code.specs.declared.line.Header.{Header}
 use Rattle.pl_code.specs.declared.line.Line.{Line}
 use Rattle.pl_code.specs.declared.line.Line.TheVariants.{Fun, Caught, Do, End}
 use Rattle.pl_code.specs.declared.fields.TheConstants.{WAYS, PRIMITIVES, LOOPS, SLOTS}

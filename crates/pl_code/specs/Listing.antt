@@ -1,5 +1,5 @@
 -- Code and its listing.
-use Rattle.std.specs.Prelude.{ℕ, ◌+◌, ◌^◌, ◌&&◌, nat_le, Bool, true, false, List, [], ◌∷◌, ◌++◌, Option, Some, None, codes, decimal, map, length}
+use Rattle.std.specs.Prelude.{ℕ, ◌+◌, ◌^◌, ◌&&◌, nat_le, Bool, List, [], ◌∷◌, ◌++◌, Option, Some, None, codes, decimal, map, length}
 use Rattle.std.specs.List.{flat_map, list_all}
 use Rattle.listing_parts.specs.Split.{spaced}
 use Rattle.listing_parts.specs.Names.{is_class}

@@ -1,4 +1,4 @@
-use Rattle.std.proofs.Common.{◌≤◌, ◌^◌, Some, sym, ap, subst, ◌∙◌, arith, lit≤, w64, w32}
+use Rattle.std.proofs.Common.{◌^◌, Some, sym, ap, subst, ◌∙◌, lit≤, w64}
 use Rattle.std.specs.Prelude.{FitsSigned}
 use Rattle.std.proofs.lemmas.Int.{to_z-of_z}
 use Rattle.std.proofs.lemmas.Bool.{cond-true, cond-false}

@@ -1,4 +1,4 @@
-use Rattle.std.proofs.Common.{◌≤◌, ◌^◌, sym, ◌∙◌, arith, lit≤, refl}
+use Rattle.std.proofs.Common.{sym, ◌∙◌, lit≤}
 use Rattle.std.proofs.lemmas.Bool.{cond-true, cond-false}
 use Rattle.listing_parts.proofs.NumberForms.{natural_unread, natural_read}
 use Rattle.listing_parts.proofs.numbers.natural.Goals as goal

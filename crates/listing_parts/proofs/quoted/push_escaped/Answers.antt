@@ -1,4 +1,4 @@
-use Rattle.std.proofs.Common.{rules, arith}
+use Rattle.std.proofs.Common.{rules}
 use Rattle.listing_parts.proofs.Escapes.{letter_kept}
 use Rattle.listing_parts.proofs.quoted.push_escaped.Goals as goal
 

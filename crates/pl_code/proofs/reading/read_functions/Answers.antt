@@ -1,7 +1,7 @@
-use Rattle.std.proofs.Common.{◌≡◌, ℕ, ◌+◌, [], Some, None, Err, sym, ap, ◌∙◌, arith, min}
+use Rattle.std.proofs.Common.{◌≡◌, ◌+◌, Some, None, Err, sym, ap, ◌∙◌, min}
 use Rattle.std.proofs.lemmas.Bool.{cond-true, cond-false}
 use Rattle.pl_code.specs.declared.error.ListingErr.TheVariants.{Syntax}
-use Rattle.pl_code.specs.Reading.{next_line, told, finished, continued, read_bytes, reading_in, Gives}
+use Rattle.pl_code.specs.Reading.{next_line, told, continued, read_bytes, reading_in}
 use Rattle.pl_code.proofs.Steps.{one_line, no_more, shorter, told_more, gives}
 use Rattle.pl_code.proofs.reading.read_functions.Goals as goal
 

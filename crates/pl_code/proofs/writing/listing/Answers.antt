@@ -1,7 +1,6 @@
-use Rattle.std.proofs.Common.{◌≡◌, ℕ, ◌++◌, ◌+◌, ◌≤◌, List, length, take, sym, ap, ◌∙◌, arith, append_assoc}
-use Rattle.std.specs.String.{string_bytes}
+use Rattle.std.proofs.Common.{◌++◌, ◌+◌, ◌≤◌, length, take, sym, ap, ◌∙◌, arith, append_assoc}
 use Rattle.std.proofs.lemmas.List.{take_all}
-use Rattle.pl_code.specs.Listing.{first_line, ended, functions_lines, function_lines, text_of, code_lines, written}
+use Rattle.pl_code.specs.Listing.{first_line, ended, functions_lines, function_lines, text_of, code_lines}
 use Rattle.pl_code.proofs.Writings.{one_more}
 use Rattle.pl_code.proofs.writing.listing.Goals as goal
 

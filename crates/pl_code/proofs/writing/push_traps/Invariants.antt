@@ -1,6 +1,5 @@
 use Rattle.std.proofs.Common.{◌≡◌, ◌++◌, take, map}
 use Rattle.std.specs.String.{string_bytes}
-use Rattle.pl_code.specs.Instructions.{instruction_text}
 use Rattle.pl_code.specs.Listing.{trap_text, text_of}
 use Rattle.pl_code.proofs.writing.push_traps.Given as goal
 
