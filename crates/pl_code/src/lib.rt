@@ -1,0 +1,22 @@
+//! Code: functions of instructions, and its listing, which is written and read.
+#![tactic(auto)]
+
+mod code;
+mod error;
+mod fields;
+mod head;
+mod kinds;
+mod laws;
+mod line;
+mod reading;
+mod writing;
+
+pub use code::{Code, FunCode, Instruction, Trap};
+pub use error::ListingErr;
+pub use head::{HEADS, Head, head_of, head_word};
+pub use kinds::{
+    ArithmeticOp, DynamicOp, Numbered, Plain, Quoting, Sized, Slot, Typed, Way, Width,
+};
+pub use laws::listing_laws;
+pub use reading::read_listing;
+pub use writing::listing;
