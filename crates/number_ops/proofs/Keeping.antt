@@ -1,5 +1,5 @@
 -- What operators, casts and members come to fits the store.
-use Rattle.std.proofs.Common.{◌≡◌, ℕ, ◌+◌, ◌||◌, ◌==◌, Bool, true, false, Option, Some, None, List, [], ◌∷◌, length, ℤ, refl, slice_get, if◌then◌else◌}
+use Rattle.std.proofs.Common.{◌≡◌, ℕ, ◌+◌, ◌||◌, ◌==◌, Bool, true, false, Option, Some, None, List, length, ℤ, refl, slice_get, if◌then◌else◌}
 use Rattle.std.specs.Prelude.{pos, negsuc, int_lt, int_le, ◌&&◌, codes}
 use Rattle.std.specs.Ordering.{int_eq}
 use Rattle.pl_types.specs.declared.classes.TheConstants.{EXCEPTION, STRING}

@@ -1,5 +1,5 @@
 -- The order of texts, from one place to the next.
-use Rattle.std.proofs.Common.{◌≡◌, ℕ, zero, suc, ◌+◌, ◌-◌, ◌<◌, ◌==◌, Bool, true, false, if◌then◌else◌, Option, Some, None, List, [], ◌∷◌, ◌∙◌, length, drop, get_or, slice_get, refl, ap, sym, arith, add-one, drop-cons, ℤ}
+use Rattle.std.proofs.Common.{◌≡◌, ℕ, zero, suc, ◌+◌, ◌-◌, ◌<◌, ◌==◌, Bool, true, false, if◌then◌else◌, Option, Some, None, List, [], ◌∷◌, ◌∙◌, length, drop, get_or, slice_get, refl, ap, sym, add-one, drop-cons, ℤ}
 use Rattle.std.proofs.lemmas.List.{length-drop}
 use Rattle.std.proofs.lemmas.Option.{slice_get_within, get_or_from_slice_get, slice_get-get_or}
 use Rattle.number_ops.specs.Order.{text_order, differs, difference, length_as_int}
