@@ -1,6 +1,7 @@
 pub mod Arguments
 pub mod Casts
 pub mod Chars
+pub mod Laws
 pub mod Members
 pub mod Names
 pub mod Numbers

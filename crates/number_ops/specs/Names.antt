@@ -8,7 +8,7 @@ use Rattle.object_values.specs.declared.object.Object.{Object}
 use Rattle.object_values.specs.declared.value.Value.{Value}
 use Rattle.object_values.specs.declared.value.Value.TheVariants as v
 use Rattle.object_heap.specs.Fits.{class_of_kind}
-use Rattle.object_heap.specs.Objects.{Kind, AnArray, AFunction, kind_of}
+use Rattle.object_heap.specs.Objects.{Kind, AnArray, kind_of}
 use Rattle.object_heap.specs.Parts.{asked}
 use Rattle.arithmetic.specs.declared.operator.Op.{Op}
 use Rattle.arithmetic.specs.declared.operator.Op.TheVariants as op

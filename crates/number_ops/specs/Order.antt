@@ -20,24 +20,23 @@ use Rattle.number_ops.specs.Chars.{flag_order}
 abbrev pub length_as_int : ℕ → ℤ
 length_as_int n = if nat_le n 2147483647 then pos n else pos 2147483647
 
-abbrev pub unit_order : ℕ → ℕ → Option ℤ
-unit_order unit next = if unit == next then None else Some (pos unit -ℤ pos next)
+-- whether two texts differ at a place, by the units there, or one of them ends there
+abbrev pub differs : Option ℕ → Option ℕ → Bool
+differs None next = true
+differs (Some unit) None = true
+differs (Some unit) (Some next) = if unit == next then false else true
 
--- what two texts differ by at a place, by the units there, if any, and the lengths from there on
-abbrev pub order_at : Option ℕ → Option ℕ → ℕ → ℕ → Option ℤ
-order_at None next rest other = Some (neg_ℤ (length_as_int other))
-order_at (Some unit) None rest other = Some (length_as_int rest)
-order_at (Some unit) (Some next) rest other = unit_order unit next
-
-abbrev pub order_or : Option ℤ → ℤ → ℤ
-order_or None order = order
-order_or (Some order) other = order
+-- what they differ by there, by the units, if any, and the lengths from there on
+abbrev pub difference : Option ℕ → Option ℕ → ℕ → ℕ → ℤ
+difference None next rest other = neg_ℤ (length_as_int other)
+difference (Some unit) None rest other = length_as_int rest
+difference (Some unit) (Some next) rest other = pos unit -ℤ pos next
 
 -- the difference of the first units that differ, and else of the lengths
 abbrev pub text_order : List ℕ → List ℕ → ℤ
 text_order [] other = neg_ℤ (length_as_int (length other))
 text_order (unit ∷ text) [] = length_as_int (length (unit ∷ text))
-text_order (unit ∷ text) (next ∷ other) = order_or (unit_order unit next) (text_order text other)
+text_order (unit ∷ text) (next ∷ other) = if unit == next then text_order text other else pos unit -ℤ pos next
 
 -- Values of one class: ints, longs and truth values give -1, 0 or 1, and bytes, shorts, chars and texts a difference
 abbrev pub int_order : ℤ → Value → Option ℤ

@@ -1,8 +1,7 @@
 -- What operators, casts and members come to, before it is paid.
-use Rattle.std.specs.Prelude.{◌≡◌, ℕ, Bool, true, false, Option, Some, None, List, codes, length}
+use Rattle.std.specs.Prelude.{◌≡◌, ℕ, Some, None, List, codes}
 use Rattle.pl_units.specs.Utf16.{units}
 use Rattle.pl_types.specs.declared.classes.TheConstants.{ARITHMETIC_EXCEPTION, CLASS_CAST_EXCEPTION, ILLEGAL_STATE_EXCEPTION, NULL_POINTER_EXCEPTION, NUMBER_FORMAT_EXCEPTION}
-use Rattle.object_values.specs.declared.value.Value.{Value}
 use Rattle.object_values.specs.declared.value.Value.TheVariants as v
 use Rattle.object_heap.specs.Effects.{Effect, Gives, gives_text, throws}
 use Rattle.object_heap.specs.Store.{Store}

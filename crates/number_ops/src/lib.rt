@@ -5,6 +5,7 @@ mod arguments;
 mod casts;
 mod chars;
 mod errors;
+mod laws;
 mod member;
 mod names;
 mod numbers;
@@ -15,5 +16,6 @@ mod values;
 
 pub use arithmetic::{Num, Op, Zero, arith};
 pub use casts::to_type;
+pub use laws::operators_keep_fit;
 pub use member::call;
 pub use operators::{concatenate, def_op};

@@ -25,24 +25,25 @@ fn length_as_int(length: usize) -> i32
     }
 }
 
-// How the units at a place differ, if they do; at the end of a text, how the lengths do.
-fn order_at(a: &[u16], b: &[u16], at: usize) -> Option<i32>
-    ensures { result ≡ spec.order_at (slice_get a.now at) (slice_get b.now at) (length a.now - at) (length b.now - at) }
+// Whether two texts differ at a place, or one of them ends there.
+fn differs_at(a: &[u16], b: &[u16], at: usize) -> bool
+    ensures { result ≡ spec.differs (slice_get a.now at) (slice_get b.now at) }
 {
     match (a.get(at), b.get(at)) {
-        (None, _) => Some(-length_as_int(b.len().saturating_sub(at))),
-        (Some(_), None) => Some(length_as_int(a.len().saturating_sub(at))),
-        (Some(unit), Some(next)) => unit_order(*unit, *next),
+        (None, _) => true,
+        (Some(_), None) => true,
+        (Some(unit), Some(next)) => unit != next,
     }
 }
 
-fn unit_order(unit: u16, next: u16) -> Option<i32>
-    ensures { result ≡ spec.unit_order unit next }
+// The difference of the units at a place; where a text ends there, of the lengths.
+fn difference_at(a: &[u16], b: &[u16], at: usize) -> i32
+    ensures { result ≡ spec.difference (slice_get a.now at) (slice_get b.now at) (length a.now - at) (length b.now - at) }
 {
-    if unit == next {
-        None
-    } else {
-        Some(i32::from(unit) - i32::from(next))
+    match (a.get(at), b.get(at)) {
+        (None, _) => -length_as_int(b.len().saturating_sub(at)),
+        (Some(_), None) => length_as_int(a.len().saturating_sub(at)),
+        (Some(unit), Some(next)) => i32::from(*unit) - i32::from(*next),
     }
 }
 
@@ -51,8 +52,8 @@ fn text_order(a: &[u16], b: &[u16]) -> i32
     ensures { result ≡ text_order a.now b.now }
 {
     for at in 0..a.len() {
-        if let Some(order) = order_at(a, b, at) {
-            return order;
+        if differs_at(a, b, at) {
+            return difference_at(a, b, at);
         }
     }
     -length_as_int(b.len().saturating_sub(a.len()))

@@ -1,7 +1,7 @@
-use Rattle.std.proofs.Common.{◌≡◌, ◌<◌, ℕ, arith, sym, ap, ◌∙◌, length, Some}
+use Rattle.std.proofs.Common.{arith, sym, ◌∙◌}
 use Rattle.std.proofs.lemmas.Bool.Decides.{nat_tests}
 use Rattle.object_walks.specs.Equality as spec
-use Rattle.object_walks.proofs.Stepping.{got, visit_refs, pair_step}
+use Rattle.object_walks.proofs.Stepping.{visit_refs, pair_step}
 use Rattle.object_walks.proofs.equality.+equality.Goals as goal
 
 pub equal_at-returns-in-Ref-Ref : goal.equal_at-returns-in-Ref-Ref

@@ -1,4 +1,4 @@
-use Rattle.std.proofs.Common.{◌≡◌, ◌+◌, ◌*◌, drop, length}
+use Rattle.std.proofs.Common.{◌≡◌, ◌+◌, ◌*◌, drop}
 use Rattle.object_walks.specs.Texts as spec
 use Rattle.object_walks.proofs.Behind.{rest_text}
 use Rattle.object_walks.proofs.writing.+text.Given as goal
