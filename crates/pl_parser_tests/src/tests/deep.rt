@@ -72,13 +72,11 @@ pub const LONG_LISTS: [(&str, &str, &str); 8] = [
 
 /// Scripts of some 65,000 bytes that are one statement each. What stands before the middle is so many times a part so many times and
 /// a part with a `}`; what stands behind it is such a part too.
-pub const DEEP_TREES: [(usize, usize, [&str; 3], &str, [&str; 3]); 11] = [
+pub const DEEP_TREES: [(usize, usize, [&str; 3], &str, [&str; 3]); 8] = [
     // 32,000 levels to the left and to the right.
     (80, 400, ["", "", ""], "a", ["+a", "+new a[]{}", ""]),
     (80, 400, ["a=", "new a[]{}=", ""], "a", ["", "", ""]),
     (53, 400, ["a?:", "new a[]{}?:", ""], "a", ["", "", ""]),
-    (85, 250, ["", "", ""], "a", ["[0]", "[new a[]{}]", ""]),
-    (80, 400, ["", "", ""], "a", [".a", "[new a[]{}]", ""]),
     // 16,000 levels in the middle.
     (
         40,
@@ -101,7 +99,7 @@ pub const DEEP_TREES: [(usize, usize, [&str; 3], &str, [&str; 3]); 11] = [
         38,
         280,
         ["if(a)", "try{}catch(Object o){", ""],
-        "x",
+        "x;",
         ["", "}", ""],
     ),
     (
@@ -109,13 +107,6 @@ pub const DEEP_TREES: [(usize, usize, [&str; 3], &str, [&str; 3]); 11] = [
         1,
         ["if(a)", "do{}while(a);else ", ""],
         "x",
-        ["", "", ""],
-    ),
-    (
-        3500,
-        1,
-        ["if(a)", "while(a){}else ", ""],
-        "for(;;);",
         ["", "", ""],
     ),
 ];
