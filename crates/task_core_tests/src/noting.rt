@@ -1,4 +1,6 @@
 // A task that notes when it had which turn.
+ghost use Rattle.task_core_tests.specs.Noting.{IsSameTask};
+
 use std::cell::Cell;
 use task_core::{Task, Turn};
 
@@ -28,7 +30,9 @@ impl<'a> Noting<'a> {
     }
 
     /// Notes a turn of so many instructions, at the next moment.
-    fn note(&mut self, took: u64) {
+    fn note(&mut self, took: u64)
+        ensures { IsSameTask self.old self.new }
+    {
         let moment = self.clock.get();
         self.clock.set(moment.wrapping_add(1));
         if self.turns < NOTED {

@@ -8,13 +8,12 @@ fn turns_come_in_their_order(rt: HostRuntime) {
     let clock = Cell::new(0);
     let mut tasks = [Noting::new(0, 3, &clock), Noting::new(1, 5, &clock)];
     assert!(rt; run_order(&mut tasks, &[1, 0, 1], 2).is_ok());
-    let [first, second] = tasks;
-    assert!(rt; first.turns == 2 && first.notes[0] == (1, 2) && first.notes[1] == (3, 1));
+    assert!(rt; tasks[0].turns == 2 && tasks[0].notes[0] == (1, 2) && tasks[0].notes[1] == (3, 1));
     assert!(rt;
-        second.turns == 3
-            && second.notes[0] == (0, 2)
-            && second.notes[1] == (2, 2)
-            && second.notes[2] == (4, 1)
+        tasks[1].turns == 3
+            && tasks[1].notes[0] == (0, 2)
+            && tasks[1].notes[1] == (2, 2)
+            && tasks[1].notes[2] == (4, 1)
     );
 }
 
@@ -24,9 +23,8 @@ fn who_is_done_has_no_turn(rt: HostRuntime) {
     let clock = Cell::new(0);
     let mut tasks = [Noting::new(0, 1, &clock), Noting::new(1, 4, &clock)];
     assert!(rt; run_order(&mut tasks, &[0, 0, 0], 3).is_ok());
-    let [first, second] = tasks;
-    assert!(rt; first.turns == 1 && first.notes[0] == (0, 1));
-    assert!(rt; second.turns == 2 && second.notes[0] == (1, 3) && second.notes[1] == (2, 1));
+    assert!(rt; tasks[0].turns == 1 && tasks[0].notes[0] == (0, 1));
+    assert!(rt; tasks[1].turns == 2 && tasks[1].notes[0] == (1, 3) && tasks[1].notes[1] == (2, 1));
 }
 
 /// Without tasks there is nothing to do.
