@@ -74,9 +74,9 @@ fn separators_let_trees_be_deep(rt: HostRuntime) -> Result<(), TestFail> {
 #[test]
 fn long_scripts(rt: HostRuntime) -> Result<(), TestFail> {
     let alloc = rt.alloc();
-    let statements = nested(alloc, 20_000, ["x;", "", ""])?;
+    let statements = nested(alloc, 20_000, ("x;", "", ""))?;
     assert!(rt; has_parts(&rt, alloc, statements.as_str(), 0, 20_000));
-    let functions = nested(alloc, 7_000, ["int f(){}", "x", ""])?;
+    let functions = nested(alloc, 7_000, ("int f(){}", "x", ""))?;
     assert!(rt; has_parts(&rt, alloc, functions.as_str(), 7_000, 1));
     Ok(())
 }

@@ -124,8 +124,12 @@ pub fn are_refused(rt: &impl Abort, alloc: Global, rows: &[(&str, u32)]) {
 }
 
 /// The first part so many times, the second, and the third so many times.
-pub fn nested(alloc: Global, times: usize, parts: [&str; 3]) -> Result<String, AllocError> {
-    let [front, middle, back] = parts;
+pub fn nested(
+    alloc: Global,
+    times: usize,
+    parts: (&str, &str, &str),
+) -> Result<String, AllocError> {
+    let (front, middle, back) = parts;
     let mut text = String::new(alloc);
     for _ in 0..times {
         text.push_str(front)?;
@@ -142,8 +146,8 @@ fn nests(
     rt: &impl Abort,
     alloc: Global,
     times: usize,
-    script: [&str; 3],
-    shape: [&str; 3],
+    script: (&str, &str, &str),
+    shape: (&str, &str, &str),
 ) -> Result<bool, AllocError> {
     let text = nested(alloc, times, script)?;
     let expected = nested(alloc, times, shape)?;
@@ -154,7 +158,7 @@ fn nests(
 pub fn nest(
     rt: &impl Abort,
     alloc: Global,
-    rows: &[(usize, [&str; 3], [&str; 3])],
+    rows: &[(usize, (&str, &str, &str), (&str, &str, &str))],
 ) -> Result<(), AllocError> {
     for (times, script, shape) in rows {
         let holds = nests(rt, alloc, *times, *script, *shape)?;
@@ -167,7 +171,7 @@ pub fn nest(
 pub fn are_deep(
     rt: &impl Abort,
     alloc: Global,
-    rows: &[(usize, [&str; 3], u32)],
+    rows: &[(usize, (&str, &str, &str), u32)],
 ) -> Result<(), AllocError> {
     for (times, script, place) in rows {
         let text = nested(alloc, *times, *script)?;
@@ -182,17 +186,17 @@ fn blocks_of(
     alloc: Global,
     blocks: usize,
     times: usize,
-    parts: [&str; 3],
+    parts: (&str, &str, &str),
 ) -> Result<String, AllocError> {
     let block = nested(alloc, times, parts)?;
-    nested(alloc, blocks, [block.as_str(), "", ""])
+    nested(alloc, blocks, (block.as_str(), "", ""))
 }
 
 /// Each script is one statement, however deep it is.
 pub fn have_one_statement(
     rt: &impl Abort,
     alloc: Global,
-    rows: &[(usize, usize, [&str; 3], &str, [&str; 3])],
+    rows: &[(usize, usize, (&str, &str, &str), &str, (&str, &str, &str))],
 ) -> Result<(), AllocError> {
     for (blocks, times, before, middle, behind) in rows {
         let mut text = blocks_of(alloc, *blocks, *times, *before)?;
@@ -216,7 +220,7 @@ pub fn are_one_statement(
     for (opening, part, closing) in rows {
         let mut text = String::new(alloc);
         text.push_str(opening)?;
-        let rest = nested(alloc, 2_000, [part, closing, ""])?;
+        let rest = nested(alloc, 2_000, (part, closing, ""))?;
         text.push_str(rest.as_str())?;
         assert!(rt;
             has_parts(rt, alloc, text.as_str(), 0, 1),
