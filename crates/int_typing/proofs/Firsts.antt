@@ -2,7 +2,7 @@
 use Rattle.std.proofs.Common.{◌≡◌, ℕ, suc, ◌+◌, ◌<◌, ◌≤◌, List, [], ◌∷◌, map, length, get_or, drop, Option, None, Some, refl, sym, ap, ◌∙◌, drop-cons, add-one, arith}
 use Rattle.std.proofs.lemmas.List.{drop_all}
 use Rattle.pl_types.specs.declared.refusal.Refusal.{Refusal}
-use Rattle.int_typing.specs.Typing.{first_or}
+use Rattle.int_literals.specs.Readings.{first_or}
 
 -- what is still to be decided, once i of the parts refuse nothing
 abbrev pub first_from : {X : Type 0} → (X → Option Refusal) → List X → ℕ → Refusal → Refusal

@@ -1,4 +1,3 @@
-pub mod Values
 pub mod Firsts
 pub mod Refusals
 pub mod Shapes

@@ -4,7 +4,7 @@ use Rattle.pl_types.specs.declared.refusal.Refusal.{Refusal}
 use Rattle.pl_types.specs.declared.refusal.Fail.{Fail}
 use Rattle.pl_types.specs.declared.refusal.Fail.TheVariants.{Refused, NoMemory}
 use Rattle.pl_tree.specs.declared.typed.Typed.{Typed}
-use Rattle.int_typing.specs.Typing.{Readings, no_expression, unbuilt, out_of_profile}
+use Rattle.int_literals.specs.Readings.{Readings, no_expression, unbuilt, out_of_profile}
 use Rattle.int_typing.specs.Visits.{Visits}
 use Rattle.int_typing.specs.Steps.{Goes}
 use Rattle.int_typing.proofs.Firsts.{AllPass, all_passed, one_stops}

@@ -11,7 +11,8 @@ use Rattle.pl_tree.specs.declared.tree.Entry.{Entry}
 use Rattle.pl_tree.specs.declared.tree.Argument.TheOpen.{Expr-F}
 use Rattle.pl_tree.specs.declared.tree.Argument.TheFolds.{fold-roll-Expr, fold_out-Declaration}
 use Rattle.int_typing.proofs.Firsts.{map-map}
-use Rattle.int_typing.specs.Typing.{Readings, no_expression, unbuilt, declaration_of, variable_of, refused, readings_of, argument_of, entry_of, argument_step, body_step, expression_step, first_step, lambda_step, statement_step, block_step, catch_step, declaration_step, entry_step, variable_step}
+use Rattle.int_literals.specs.Readings.{Readings, no_expression, unbuilt, refused}
+use Rattle.int_typing.specs.Typing.{declaration_of, variable_of, readings_of, argument_of, entry_of, argument_step, body_step, expression_step, first_step, lambda_step, statement_step, block_step, catch_step, declaration_step, entry_step, variable_step}
 
 pub list_readings : (at : ℕ) (items : List Expr) → readings_of (e.List at items) ≡ no_expression at (map (λ (e : Expr). refused (readings_of e)) items)
 list_readings at items = ap readings_of (sym (e.rolls-List at items)) ∙ fold-roll-Expr (Option Refusal) Refusal Readings (Option Refusal) (Option Refusal) Refusal Refusal Refusal Refusal (Option Refusal) (Option Refusal) argument_step body_step expression_step first_step lambda_step statement_step block_step catch_step declaration_step entry_step variable_step (Expr-F.List at items) ∙ ap (no_expression at) (map-map refused readings_of items)

@@ -1,4 +1,3 @@
-pub mod Literals
 pub mod Typing
 pub mod Visits
 pub mod Steps

@@ -2,8 +2,7 @@
 //! the profile, at its own place, in the order in which typing visits the nodes.
 #![tactic(auto)]
 
-mod literal;
 mod spine;
 mod typing;
 
-pub use typing::{negated_literal, plain_literal, typed, typed_script};
+pub use typing::{typed, typed_script};

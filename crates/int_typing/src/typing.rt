@@ -7,29 +7,20 @@ ghost use Rattle.pl_tree.specs.declared.tree.Expr.{Expr, size-Expr};
 ghost use Rattle.pl_tree.specs.declared.tree.Statement.{size-Statement, out-Statement};
 ghost use Rattle.pl_tree.specs.declared.tree.Block.{size-Block};
 ghost use Rattle.pl_tree.specs.declared.tree.Body.{size-Body};
-ghost use Rattle.int_typing.specs.Typing.{argument_of, block_of, body_of, both, declaration_of, entry_of, first_part_of, lambda_of, last_of, literal, no_expression, operator_of, out_of_profile, out_of_range, readings_of, refusal_of, refused, typed_of, unbuilt, variable_of};
+ghost use Rattle.int_literals.specs.Readings.{no_expression, refused, unbuilt};
+ghost use Rattle.int_typing.specs.Typing.{argument_of, block_of, body_of, both, declaration_of, entry_of, first_part_of, lambda_of, last_of, operator_of, readings_of, refusal_of, typed_of, variable_of};
 ghost use Rattle.int_typing.specs.Visits.{Visits};
 ghost use Rattle.int_typing.specs.Steps.{Goes, IsBelow};
 
-use crate::literal::{LEAST, is_long, literal_value};
 use crate::spine::{Join, spine_of};
+use int_literals::{negated_literal, out_of_profile, plain_literal};
 use pl_tree::{
     Argument, BinaryOperator, Block, Body, Declaration, Entry, Expr, First, LambdaBody, Operator,
     Statement, Tree, Typed, UnaryOperator, Variable,
 };
-use pl_types::{Fail, Refusal, rules};
+use pl_types::Fail;
 use plain_data::{Boxed, Subtree};
 use std::alloc::Global;
-
-/// The refusal of a node that is not built.
-fn out_of_profile(at: u32) -> Fail
-    ensures { result ≡ Fail.Refused (out_of_profile at) }
-{
-    Fail::Refused(Refusal {
-        number: rules::OUT_OF_PROFILE,
-        offset: at,
-    })
-}
 
 /// The operator of a typed tree, for one that is built.
 pub(crate) fn operator_of(operator: BinaryOperator) -> Option<Operator>
@@ -42,51 +33,6 @@ pub(crate) fn operator_of(operator: BinaryOperator) -> Option<Operator>
         BinaryOperator::Divide => Some(Operator::Divide),
         BinaryOperator::Remainder => Some(Operator::Remainder),
         _ => None,
-    }
-}
-
-fn out_of_range(at: u32) -> Fail
-    ensures { result ≡ Fail.Refused (out_of_range at) }
-{
-    Fail::Refused(Refusal {
-        number: rules::LITERAL_RANGE,
-        offset: at,
-    })
-}
-
-/// The typed literal that is spelled so.
-///
-/// LiteralRange (18): it is 2,147,483,648 or more. OutOfProfile (19): it is a long.
-pub fn plain_literal(at: u32, spelling: &str) -> Result<Typed, Fail>
-    ensures { Answers (λ t. t) result (λ a. a ≡ (literal at spelling.now).plain) }
-{
-    if is_long(spelling.as_bytes()) {
-        return Err(out_of_profile(at));
-    }
-    match literal_value(spelling.as_bytes()) {
-        Some(value) => {
-            if value < LEAST {
-                Ok(Typed::Int(value as i32))
-            } else {
-                Err(out_of_range(at))
-            }
-        }
-        None => Err(out_of_range(at)),
-    }
-}
-
-/// The typed literal that is spelled so, with the minus before it.
-///
-/// LiteralRange (18): it is more than 2,147,483,648. OutOfProfile (19): it is a long.
-pub fn negated_literal(at: u32, spelling: &str) -> Result<Typed, Fail>
-    ensures { Answers (λ t. t) result (λ a. a ≡ (literal at spelling.now).negated) }
-{
-    if is_long(spelling.as_bytes()) {
-        return Err(out_of_profile(at));
-    }
-    match literal_value(spelling.as_bytes()) {
-        Some(value) => Ok(Typed::Int(-(value as i64) as i32)),
-        None => Err(out_of_range(at)),
     }
 }
 

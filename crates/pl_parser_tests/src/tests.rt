@@ -1,13 +1,16 @@
 mod deep;
+mod pieces;
 mod places;
 mod printer;
 mod reading;
 mod refused;
 mod shapes;
+mod words;
 
 use printer::Detail;
 use reading::{
-    are_deep, are_read, are_refused, have_one_statement, have_shapes, nest, nested, tree_of,
+    are_deep, are_one_statement, are_read, are_refused, has_parts, have_one_statement, have_shapes,
+    nest, nested,
 };
 use std::test::Fail as TestFail;
 
@@ -44,10 +47,10 @@ fn nodes_have_their_places(rt: HostRuntime) -> Result<(), TestFail> {
 #[test]
 fn scripts_are_refused(rt: HostRuntime) -> Result<(), TestFail> {
     let alloc = rt.alloc();
-    are_refused(&rt, alloc, &refused::REFUSED_STATEMENTS)?;
-    are_refused(&rt, alloc, &refused::REFUSED_DECLARATIONS)?;
-    are_refused(&rt, alloc, &refused::REFUSED_EXPRESSIONS)?;
-    are_refused(&rt, alloc, &refused::REFUSED_CREATIONS_AND_ARGUMENTS)?;
+    are_refused(&rt, alloc, &refused::REFUSED_STATEMENTS);
+    are_refused(&rt, alloc, &refused::REFUSED_DECLARATIONS);
+    are_refused(&rt, alloc, &refused::REFUSED_EXPRESSIONS);
+    are_refused(&rt, alloc, &refused::REFUSED_CREATIONS_AND_ARGUMENTS);
     Ok(())
 }
 
@@ -71,25 +74,15 @@ fn separators_let_trees_be_deep(rt: HostRuntime) -> Result<(), TestFail> {
 #[test]
 fn long_scripts(rt: HostRuntime) -> Result<(), TestFail> {
     let alloc = rt.alloc();
-    let text = nested(alloc, 20_000, ["x;", "", ""])?;
-    let tree = tree_of(&rt, alloc, text.as_str())?;
-    assert!(rt; tree.functions.len() == 0);
-    assert!(rt; tree.statements.len() == 20_000);
-    let text = nested(alloc, 7_000, ["int f(){}", "x", ""])?;
-    let tree = tree_of(&rt, alloc, text.as_str())?;
-    assert!(rt; tree.functions.len() == 7_000);
-    assert!(rt; tree.statements.len() == 1);
+    let statements = nested(alloc, 20_000, ("x;", "", ""))?;
+    assert!(rt; has_parts(&rt, alloc, statements.as_str(), 0, 20_000));
+    let functions = nested(alloc, 7_000, ("int f(){}", "x", ""))?;
+    assert!(rt; has_parts(&rt, alloc, functions.as_str(), 7_000, 1));
     Ok(())
 }
 
 #[test]
 fn long_lists(rt: HostRuntime) -> Result<(), TestFail> {
-    let alloc = rt.alloc();
-    for (opening, part, closing) in deep::LONG_LISTS {
-        let rest = nested(alloc, 2_000, [part, closing, ""])?;
-        let text = format!(in alloc; "{opening}{rest}")?;
-        let tree = tree_of(&rt, alloc, text.as_str())?;
-        assert!(rt; tree.statements.len() == 1, "in many {part:?}");
-    }
+    are_one_statement(&rt, rt.alloc(), &deep::LONG_LISTS)?;
     Ok(())
 }

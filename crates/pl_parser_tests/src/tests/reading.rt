@@ -7,7 +7,7 @@ use super::printer::{Detail, printed};
 use pl_lexer::{MOST_BYTES, Token, lex};
 use pl_parser::parse;
 use pl_tree::Tree;
-use pl_types::{Fail, TypeNames};
+use pl_types::{Fail, TypeNames, rules};
 use std::alloc::{AllocError, Global};
 use std::process::Abort;
 
@@ -52,21 +52,43 @@ pub fn tree_of(rt: &impl Abort, alloc: Global, text: &str) -> Result<Tree, Fail>
     parse(alloc, text, tokens.as_slice())
 }
 
-/// The tree of a script as the printer writes it, or the script's refusal.
-fn reading_of(
+/// Whether the printer writes the tree of a script so.
+fn reads_as(
     rt: &impl Abort,
     alloc: Global,
     detail: Detail,
     text: &str,
-) -> Result<String, AllocError> {
+    expected: &str,
+) -> Result<bool, AllocError> {
     match tree_of(rt, alloc, text) {
-        Ok(tree) => printed(alloc, detail, &tree),
-        Err(Fail::Refused(refusal)) => {
-            let number = refusal.number;
-            let offset = refusal.offset;
-            format!(in alloc; "refused by {number} at {offset}")
+        Ok(tree) => {
+            let line = printed(alloc, detail, &tree)?;
+            Ok(line.as_str() == expected)
         }
-        Err(Fail::NoMemory) => Err(AllocError),
+        Err(_) => Ok(false),
+    }
+}
+
+/// Whether a script is refused by this rule at this place.
+fn is_refused(rt: &impl Abort, alloc: Global, text: &str, number: u8, place: u32) -> bool {
+    match tree_of(rt, alloc, text) {
+        Ok(_) => false,
+        Err(Fail::Refused(refusal)) => refusal.number == number && refusal.offset == place,
+        Err(Fail::NoMemory) => false,
+    }
+}
+
+/// Whether a script has so many functions and so many statements.
+pub fn has_parts(
+    rt: &impl Abort,
+    alloc: Global,
+    text: &str,
+    functions: usize,
+    statements: usize,
+) -> bool {
+    match tree_of(rt, alloc, text) {
+        Ok(tree) => tree.functions.len() == functions && tree.statements.len() == statements,
+        Err(_) => false,
     }
 }
 
@@ -78,8 +100,8 @@ pub fn are_read(
     rows: &[(&str, &str)],
 ) -> Result<(), AllocError> {
     for (text, expected) in rows {
-        let read = reading_of(rt, alloc, detail, text)?;
-        assert_eq!(rt; read.as_str(), *expected, "in {text:?}");
+        let holds = reads_as(rt, alloc, detail, text, expected)?;
+        assert!(rt; holds, "in {text:?}");
     }
     Ok(())
 }
@@ -94,19 +116,20 @@ pub fn have_shapes(
 }
 
 /// Each script is refused by Syntax at this place.
-pub fn are_refused(rt: &impl Abort, alloc: Global, rows: &[(&str, u32)]) -> Result<(), AllocError> {
+pub fn are_refused(rt: &impl Abort, alloc: Global, rows: &[(&str, u32)]) {
     for (text, place) in rows {
-        let read = reading_of(rt, alloc, Detail::Shape, text)?;
-        let place = *place;
-        let expected = format!(in alloc; "refused by 2 at {place}")?;
-        assert_eq!(rt; read.as_str(), expected.as_str(), "in {text:?}");
+        let holds = is_refused(rt, alloc, text, rules::SYNTAX, *place);
+        assert!(rt; holds, "in {text:?}");
     }
-    Ok(())
 }
 
 /// The first part so many times, the second, and the third so many times.
-pub fn nested(alloc: Global, times: usize, parts: [&str; 3]) -> Result<String, AllocError> {
-    let [front, middle, back] = parts;
+pub fn nested(
+    alloc: Global,
+    times: usize,
+    parts: (&str, &str, &str),
+) -> Result<String, AllocError> {
+    let (front, middle, back) = parts;
     let mut text = String::new(alloc);
     for _ in 0..times {
         text.push_str(front)?;
@@ -118,21 +141,28 @@ pub fn nested(alloc: Global, times: usize, parts: [&str; 3]) -> Result<String, A
     Ok(text)
 }
 
+/// Whether the printer writes a nested script as this nested text.
+fn nests(
+    rt: &impl Abort,
+    alloc: Global,
+    times: usize,
+    script: (&str, &str, &str),
+    shape: (&str, &str, &str),
+) -> Result<bool, AllocError> {
+    let text = nested(alloc, times, script)?;
+    let expected = nested(alloc, times, shape)?;
+    reads_as(rt, alloc, Detail::Shape, text.as_str(), expected.as_str())
+}
+
 /// Each nested script has a tree of this nested shape.
 pub fn nest(
     rt: &impl Abort,
     alloc: Global,
-    rows: &[(usize, [&str; 3], [&str; 3])],
+    rows: &[(usize, (&str, &str, &str), (&str, &str, &str))],
 ) -> Result<(), AllocError> {
     for (times, script, shape) in rows {
-        let text = nested(alloc, *times, *script)?;
-        let read = reading_of(rt, alloc, Detail::Shape, text.as_str())?;
-        let expected = nested(alloc, *times, *shape)?;
-        assert_eq!(rt;
-            read.as_str(),
-            expected.as_str(),
-            "in {times} of {script:?}"
-        );
+        let holds = nests(rt, alloc, *times, *script, *shape)?;
+        assert!(rt; holds, "in {times} levels");
     }
     Ok(())
 }
@@ -141,18 +171,12 @@ pub fn nest(
 pub fn are_deep(
     rt: &impl Abort,
     alloc: Global,
-    rows: &[(usize, [&str; 3], u32)],
+    rows: &[(usize, (&str, &str, &str), u32)],
 ) -> Result<(), AllocError> {
     for (times, script, place) in rows {
         let text = nested(alloc, *times, *script)?;
-        let read = reading_of(rt, alloc, Detail::Shape, text.as_str())?;
-        let place = *place;
-        let expected = format!(in alloc; "refused by 3 at {place}")?;
-        assert_eq!(rt;
-            read.as_str(),
-            expected.as_str(),
-            "in {times} of {script:?}"
-        );
+        let holds = is_refused(rt, alloc, text.as_str(), rules::NESTING_DEEP, *place);
+        assert!(rt; holds, "at {place}");
     }
     Ok(())
 }
@@ -162,26 +186,45 @@ fn blocks_of(
     alloc: Global,
     blocks: usize,
     times: usize,
-    parts: [&str; 3],
+    parts: (&str, &str, &str),
 ) -> Result<String, AllocError> {
     let block = nested(alloc, times, parts)?;
-    nested(alloc, blocks, [block.as_str(), "", ""])
+    nested(alloc, blocks, (block.as_str(), "", ""))
 }
 
 /// Each script is one statement, however deep it is.
 pub fn have_one_statement(
     rt: &impl Abort,
     alloc: Global,
-    rows: &[(usize, usize, [&str; 3], &str, [&str; 3])],
-) -> Result<(), Fail> {
+    rows: &[(usize, usize, (&str, &str, &str), &str, (&str, &str, &str))],
+) -> Result<(), AllocError> {
     for (blocks, times, before, middle, behind) in rows {
-        let front = blocks_of(alloc, *blocks, *times, *before)?;
+        let mut text = blocks_of(alloc, *blocks, *times, *before)?;
+        text.push_str(middle)?;
         let back = blocks_of(alloc, *blocks, *times, *behind)?;
-        let text = format!(in alloc; "{front}{middle}{back}")?;
-        let tree = tree_of(rt, alloc, text.as_str())?;
+        text.push_str(back.as_str())?;
         assert!(rt;
-            tree.statements.len() == 1,
-            "in {before:?} {middle:?} {behind:?}"
+            has_parts(rt, alloc, text.as_str(), 0, 1),
+            "in {blocks} blocks"
+        );
+    }
+    Ok(())
+}
+
+/// Each list is one statement, however long it is.
+pub fn are_one_statement(
+    rt: &impl Abort,
+    alloc: Global,
+    rows: &[(&str, &str, &str)],
+) -> Result<(), AllocError> {
+    for (opening, part, closing) in rows {
+        let mut text = String::new(alloc);
+        text.push_str(opening)?;
+        let rest = nested(alloc, 2_000, (part, closing, ""))?;
+        text.push_str(rest.as_str())?;
+        assert!(rt;
+            has_parts(rt, alloc, text.as_str(), 0, 1),
+            "in many {part:?}"
         );
     }
     Ok(())

@@ -10,7 +10,8 @@ use Rattle.pl_tree.specs.declared.tree.LambdaBody.{size-LambdaBody}
 use Rattle.pl_tree.specs.declared.tree.Statement.{size-Statement}
 use Rattle.pl_tree.specs.declared.tree.Variable.{Variable}
 use Rattle.int_typing.specs.Spines.{applied}
-use Rattle.int_typing.specs.Typing.{no_expression, unbuilt, refused, readings_of, variable_of, declaration_of}
+use Rattle.int_literals.specs.Readings.{no_expression, unbuilt, refused}
+use Rattle.int_typing.specs.Typing.{readings_of, variable_of, declaration_of}
 use Rattle.int_typing.proofs.Joins.{one_join, one_below, below_pop, joined_refused, pop_refused, pop_joined}
 use Rattle.int_typing.proofs.Refusals.{node_goes, visited_refuses, visited_ends}
 use Rattle.int_typing.proofs.Shapes.{declaration_refusal, list_readings, new_array_readings, new_items_readings}

@@ -3,7 +3,8 @@ use Rattle.pl_tree.specs.declared.tree.Expr.{size-Expr}
 use Rattle.pl_tree.specs.declared.tree.Statement.{size-Statement}
 use Rattle.pl_tree.specs.declared.tree.LambdaBody.{size-LambdaBody}
 use Rattle.int_typing.specs.Spines.{applied, AreBelow}
-use Rattle.int_typing.specs.Typing.{both, refused, readings_of, refusal_of, argument_of, entry_of, variable_of}
+use Rattle.int_literals.specs.Readings.{refused}
+use Rattle.int_typing.specs.Typing.{both, readings_of, refusal_of, argument_of, entry_of, variable_of}
 use Rattle.int_typing.proofs.Firsts.{AllPass}
 use Rattle.int_typing.proofs.typing.+typing.Given as goal
 

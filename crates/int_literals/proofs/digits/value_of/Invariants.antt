@@ -1,6 +1,6 @@
 use Rattle.std.proofs.Common.{◌≡◌, ◌≤◌, ◌^◌, drop}
-use Rattle.int_typing.specs.Literals.{value_after}
-use Rattle.int_typing.proofs.literal.value_of.Given as goal
+use Rattle.int_literals.specs.Literals.{value_after}
+use Rattle.int_literals.proofs.digits.value_of.Given as goal
 
 -- the digits so far are worth the value, and the rest of them complete it
 abbrev pub invariant-loop-digit : goal.invariant-loop-digit

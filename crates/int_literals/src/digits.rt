@@ -1,7 +1,7 @@
 //! Integer literals.
 
 ghost use Rattle.std.specs.Prelude.{◌≡◌, ℕ, ◌≤◌, ◌<◌, ◌^◌, List, MatchOption};
-ghost use Rattle.int_typing.specs.Literals.{digit_of, is_long, is_long_mark, literal_value, value_after};
+ghost use Rattle.int_literals.specs.Literals.{digit_of, is_long, is_long_mark, literal_value, value_after};
 
 /// The magnitude of the least int.
 pub const LEAST: u64 = 2_147_483_648;

@@ -1,7 +1,7 @@
 -- A value past the least int's magnitude stays past it.
 use Rattle.std.proofs.Common.{arith}
-use Rattle.int_typing.proofs.Values.{value_after-next}
-use Rattle.int_typing.proofs.literal.value_of.Goals as goal
+use Rattle.int_literals.proofs.Values.{value_after-next}
+use Rattle.int_literals.proofs.digits.value_of.Goals as goal
 
 pub returns-then-value-gt-LEAST : goal.returns-then-value-gt-LEAST
 returns-then-value-gt-LEAST c =

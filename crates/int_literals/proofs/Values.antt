@@ -1,6 +1,6 @@
 -- Numbers in digits.
 use Rattle.std.proofs.Common.{ℕ, suc, ◌+◌, ◌*◌, ◌≤◌, ◌<◌, List, [], ◌∷◌, length, get_or, drop, drop-cons, arith}
-use Rattle.int_typing.specs.Literals.{digit_of, value_after}
+use Rattle.int_literals.specs.Literals.{digit_of, value_after}
 
 times-ge : (base n : ℕ) → 1 ≤ base → n ≤ base * n
 times-ge base n h = grind arith
