@@ -1,0 +1,64 @@
+-- Where there is no room for what is made.
+use Rattle.std.proofs.Common.{◌≡◌, ℕ, suc, ◌+◌, ◌-◌, ◌<◌, ◌≤◌, nat_le, min, Some, None, List, [], ◌∷◌, ◌++◌, length, take, slice_get, refl, ap, sym, ◌∙◌, arith, length-append}
+use Rattle.std.proofs.lemmas.Bool.Decides.{nat_tests}
+use Rattle.std.specs.Prelude.{map, replicate}
+use Rattle.std.proofs.lemmas.List.{length-map, length-replicate, length-take}
+use Rattle.pl_types.specs.declared.classes.TheConstants.{STRING}
+use Rattle.pl_types.specs.declared.primitive.Primitive.TheVariants as prim
+use Rattle.pl_types.specs.declared.ty.Ty.TheVariants as ty
+use Rattle.object_values.specs.declared.value.Value.{Value}
+use Rattle.object_values.specs.declared.value.Value.TheVariants as v
+use Rattle.object_values.specs.declared.object.Object.{Object}
+use Rattle.object_values.specs.declared.object.Object.TheVariants as o
+use Rattle.object_heap.specs.Effects.{Effect, NoRoom, after_paying, gives_text}
+use Rattle.object_heap.specs.Objects.{weight_of, renewed_by, renewal_growth}
+use Rattle.object_heap.specs.Parts.{asked, object_units, units_of}
+use Rattle.object_heap.specs.Store.{Store, paid, charge, weight, with_change}
+use Rattle.object_heap.proofs.Growth.{add_grows, renewal_grows}
+use Rattle.object_heap.proofs.Paying.{not_charged, paid_not}
+use Rattle.api_text.specs.declared.outcome.Outcome.TheVariants.{Makes}
+use Rattle.api_text.specs.Builders.{set_there, units_resized}
+use Rattle.api_text.specs.Making.{array_of, chars_of, cost_of}
+use Rattle.api_text.specs.Outcomes.{effect, gives_new}
+
+-- a text costs its units and 1
+pub no_room_for_text : (store : Store) (text : List ℕ) → store.room ≤ length text → effect store (Makes text) ≡ NoRoom
+no_room_for_text store text h = rw (not_charged store (length text + 1) (omega arith)) refl
+
+-- a new object costs its weight and what is made for it
+pub no_room_for_new : (store : Store) (object : Object) (made : ℕ) → store.room < weight_of object + made → gives_new store object made ≡ NoRoom
+unfolding paid charge
+no_room_for_new store object made h =
+    let c : (weight (store.objects ++ object ∷ []) - weight store.objects) + made ≡ weight_of object + made = ap (λ (n : ℕ). n + made) (add_grows store.objects object) in
+    rw c (grind (arith, nat_tests))
+
+pub no_room_for_chars : (store : Store) (text : List ℕ) → store.room ≤ length text → effect store (chars_of text) ≡ NoRoom
+unfolding weight_of
+no_room_for_chars store text h =
+    let f : ℕ → Value = v.Char in
+    no_room_for_new store (o.Array (ty.Prim prim.Char) (map f text)) 0 (omega (arith, length-map text f))
+
+-- a builder that grows costs what it grows by
+builder_grows : (after units : List ℕ) → renewal_growth (o.Builder after) (o.Builder units) ≡ length after - length units
+unfolding weight_of
+builder_grows after units = omega arith
+
+pub no_room_for_length : (store : Store) (builder count : ℕ) (units : List ℕ) → Some (o.Builder units) ≡ slice_get store.objects builder → store.room < count - length units
+    → effect store (set_there builder (units_of store.objects builder) count) ≡ NoRoom
+no_room_for_length store builder count units found h =
+    let same : units_of store.objects builder ≡ units = ap (asked object_units []) (sym found) in
+    let after = units_resized count (units_of store.objects builder) in
+    let long : length after ≡ length (take count units) + (count - length units) =
+    rw same (length-append (take count units) (replicate (count - length units) 0) ∙ ap (λ (n : ℕ). length (take count units) + n) (length-replicate (count - length units) 0)) in
+    let growth : asked (renewal_growth (o.Builder after)) 0 (slice_get store.objects builder) ≡ length after - length units =
+    ap (asked (renewal_growth (o.Builder after)) 0) (sym found) ∙ builder_grows after units in
+    let kept : length (take count units) ≡ min count (length units) = length-take count units in
+    let more : store.room < length after - length units = omega arith in
+    rw (paid_not store (with_change store.objects builder (renewed_by (o.Builder after))) (length after - length units) (renewal_grows store.objects builder (o.Builder after) ∙ growth) more) refl
+
+-- an array of texts costs its weight and what the texts cost
+pub no_room_for_texts : (store : Store) (texts : List (List ℕ)) → store.room ≤ cost_of texts + length texts → effect store (array_of texts) ≡ NoRoom
+unfolding weight_of
+no_room_for_texts store texts h =
+    let f : List ℕ → Value = v.Str in
+    no_room_for_new store (o.Array (ty.Class STRING) (map f texts)) (cost_of texts) (omega (arith, length-map texts f))

@@ -1,0 +1,5 @@
+use Rattle.api_text.proofs.OfText.{inserted_is}
+use Rattle.api_text.proofs.builders.inserted.Goals as goal
+
+pub returns-in-Str : goal.returns-in-Str
+returns-in-Str c = rw (c.in-Str.is, inserted_is c.args.heap.now.objects c.args.builder c.args.at c.in-Str.text) c.put_at.ensures

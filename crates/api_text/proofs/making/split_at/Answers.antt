@@ -1,0 +1,4 @@
+use Rattle.api_text.proofs.making.split_at.Goals as goal
+
+pub returns : goal.returns
+returns c = c.array_made.ensures _ (rw c.room_left.ensures at c.pieces.ensures)
