@@ -7,6 +7,6 @@ mod quoted;
 mod split;
 
 pub use names::{ClassName, ConstructorName, FieldName, MethodName, TypeName, Word, place_of};
-pub use numbers::{count, int, long, natural, push_count, push_long};
+pub use numbers::{count, int, long, natural};
 pub use quoted::{push_quoted, unquoted};
 pub use split::split_at_blank;

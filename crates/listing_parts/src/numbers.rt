@@ -1,13 +1,11 @@
 //! Numbers in decimal.
 
-ghost use Rattle.std.specs.Prelude.{◌≡◌, ◌++◌, ◌^◌, OnOk, decimal};
+ghost use Rattle.std.specs.Prelude.{◌≡◌, ◌^◌, decimal};
 ghost use Rattle.std.specs.Fmt.{signed_decimal};
 ghost use Rattle.std.specs.Str.{bytes_eq};
-ghost use Rattle.std.specs.String.{string_bytes};
 ghost use Rattle.listing_parts.specs.Numbers.{natural_of, integer_of};
 
 use itoa::Buffer;
-use std::alloc::AllocError;
 
 /// Whether this is the decimal text of a number.
 fn is_count(text: &str, number: u64) -> bool
@@ -79,20 +77,4 @@ pub fn long(text: &str) -> Option<i64>
     } else {
         None
     }
-}
-
-/// Adds the decimal text of a number.
-pub fn push_count(out: &mut String, number: u64) -> Result<(), AllocError>
-    ensures { OnOk result (string_bytes out.new ≡ string_bytes out.old ++ decimal number) }
-{
-    let mut buffer = Buffer::new();
-    out.push_str(buffer.format(number))
-}
-
-/// Adds the decimal text of a signed number.
-pub fn push_long(out: &mut String, number: i64) -> Result<(), AllocError>
-    ensures { OnOk result (string_bytes out.new ≡ string_bytes out.old ++ signed_decimal number) }
-{
-    let mut buffer = Buffer::new();
-    out.push_str(buffer.format(number))
 }

@@ -1,5 +1,5 @@
 -- What is paid, and what is answered, keeps the fit of the store.
-use Rattle.std.proofs.Common.{◌≡◌, ℕ, ◌-◌, nat_le, Bool, true, false, Option, Some, None, List, [], ◌∷◌, ap, sym, subst, arith, length-append, if◌then◌else◌, Result, Ok, Err}
+use Rattle.std.proofs.Common.{◌≡◌, ℕ, ◌-◌, nat_le, Bool, true, false, Option, Some, None, List, [], ◌∷◌, ◌++◌, length, slice_get, ap, sym, subst, arith, length-append, if◌then◌else◌, Result, Ok, Err}
 use Rattle.pl_types.specs.declared.classes.TheConstants.{EXCEPTION}
 use Rattle.pl_types.specs.Classes.{class_is_below}
 use Rattle.object_values.specs.declared.object.Object.{Object}
@@ -9,7 +9,7 @@ use Rattle.object_heap.specs.declared.answer.Answer.TheVariants as a
 use Rattle.object_heap.specs.declared.error.HeapErr.{HeapErr}
 use Rattle.object_heap.specs.declared.error.HeapErr.TheVariants.{Room, NoMemory}
 use Rattle.object_heap.specs.Effects.{Effect, Answers, after_paying, throws}
-use Rattle.object_heap.specs.Fits.{Rules, Fits, EffectFits, AnswerFits}
+use Rattle.object_heap.specs.Fits.{kinds, passes, is_exception, Rules, Fits, EffectFits, AnswerFits}
 use Rattle.object_heap.specs.Paying.{Pays, PaysSurely}
 use Rattle.object_heap.specs.Store.{Store, charge, paid}
 use Rattle.object_heap.proofs.Fitting.{added_fits}
@@ -42,9 +42,18 @@ after_fits rules store objects made next h =
     elim (nat_le (charge store objects made) store.room) as (λ b. EffectFits rules (after_paying (if b then Some (record { objects = objects; room = store.room - charge store objects made }) else None) next))
     [ true ↦ h (store.room - charge store objects made) | false ↦ tt ]
 
+-- what is added last is what is thrown
+thrown_fits : (objects : List Object) (class : ℕ) (message : Option (List ℕ)) → class_is_below class EXCEPTION ≡ true
+    → passes is_exception (slice_get (kinds (objects ++ o.Exc class message ∷ [])) (length objects)) ≡ true
+thrown_fits [] class message h = h
+thrown_fits (x ∷ objects) class message h = thrown_fits objects class message h
+
 pub throws_fits : (rules : Rules) (store : Store) (class : ℕ) (message : Option (List ℕ)) → Fits rules store.objects → class_is_below class EXCEPTION ≡ true → EffectFits rules (throws store class message)
 throws_fits rules store class message f h =
-    after_fits rules store _ 0 _ (λ room. (added_fits rules store.objects (o.Exc class message) f h, omega (arith, length-append store.objects (o.Exc class message ∷ []))))
+    after_fits rules store _ 0 _ (λ room. (
+      added_fits rules store.objects (o.Exc class message) f h,
+      (omega (arith, length-append store.objects (o.Exc class message ∷ [])), thrown_fits store.objects class message h),
+    ))
 
 -- what is answered fits
 pub answers_fit : (rules : Rules) (effect : Effect) (old new : Store) (answer : Answer) → Answers effect old new answer → Fits rules old.objects → EffectFits rules effect → AnswerFits rules new answer

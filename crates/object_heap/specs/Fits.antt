@@ -48,6 +48,11 @@ can_iterate (AnArray elem) = true
 can_iterate (AView part) = true
 can_iterate kind = false
 
+-- what may be thrown
+abbrev pub is_exception : Kind → Bool
+is_exception (AnException class) = class_is_below class EXCEPTION
+is_exception kind = false
+
 -- the number of parameters of a functional interface's method
 abbrev pub arity_of : ℕ → Option ℕ
 arity_of class =
@@ -247,15 +252,19 @@ ItemFits typed ks value None = Unit {0}
 ItemFits typed ks value (Some (o.Array elem items)) = is_element typed ks elem value ≡ true
 ItemFits typed ks value (Some object) = Unit {0}
 
+-- what is thrown is an exception that is there
+abbrev pub ThrownFits : List Object → ℕ → Type 0
+ThrownFits objects id = (id < length objects) × (passes is_exception (slice_get (kinds objects) id) ≡ true)
+
 -- an effect leaves a store that fits, and a value or an exception of it
 abbrev pub EffectFits : Rules → Effect → Type 0
 EffectFits rules (Gives value store) = Fits rules store.objects × ValueFits (length store.objects) value
-EffectFits rules (Throws id store) = Fits rules store.objects × (id < length store.objects)
+EffectFits rules (Throws id store) = Fits rules store.objects × ThrownFits store.objects id
 EffectFits rules NoRoom = Unit {0}
 
 -- what a call answers fits the store that it leaves
 abbrev pub AnswerFits : Rules → Store → Answer → Type 0
 AnswerFits rules store (a.Value value) = Fits rules store.objects × ValueFits (length store.objects) value
-AnswerFits rules store (a.Thrown id) = Fits rules store.objects × (id < length store.objects)
+AnswerFits rules store (a.Thrown id) = Fits rules store.objects × ThrownFits store.objects id
 AnswerFits rules store a.Room = Fits rules store.objects
 AnswerFits rules store a.NoMemory = Fits rules store.objects

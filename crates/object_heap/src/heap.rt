@@ -1,4 +1,4 @@
-ghost use Rattle.std.specs.Prelude.{◌≡◌, Some, None, [], ◌∷◌, ◌++◌, length, map, IfOk, OnOk, OnErr, slice_get};
+ghost use Rattle.std.specs.Prelude.{◌≡◌, Some, None, [], ◌∷◌, ◌++◌, length, map, IfErr, IfOk, OnOk, OnErr, slice_get};
 ghost use Rattle.std.specs.Option.{option_copied};
 
 use crate::changes::{
@@ -52,6 +52,7 @@ impl Heap {
     ghost use Rattle.object_heap.specs.Parts.{items_of, list_items_of, map_of, pairs_of, size_of, class_of, guard_of, frozen_of, changes_of, units_of, elem_of, message_of, iface_of, target_of, captures_of};
     ghost use Rattle.object_heap.specs.Store.{with_change};
     ghost use Rattle.object_heap.specs.Paying.{Pays, PaysSurely};
+    ghost use Rattle.object_heap.specs.declared.error.HeapErr.TheVariants.{Room};
 
     /// No objects, and this much room. It takes no memory.
     pub fn new(alloc: Global, room: u64) -> Heap
@@ -97,10 +98,11 @@ impl Heap {
         self.room = room;
     }
 
-    /// Takes a charge from the room.
+    /// Takes a charge from the room. This takes no memory, so Room is its only error.
     #[tactic(auto, using(crate::proofs::Paying::charged, crate::proofs::Paying::not_charged))]
     pub fn charge(&mut self, units: u64) -> Result<(), HeapErr>
-        ensures { Pays self.old self.new self.old.objects units result }
+        ensures paid { Pays self.old self.new self.old.objects units result }
+        ensures surely { IfErr result (λ e. e ≡ Room) }
     {
         if units > self.room {
             return Err(HeapErr::Room);

@@ -372,3 +372,10 @@ only_syntax bytes r g n v f = subst (Gives r) (syntax_once bytes n (listing_of b
 
 pub only_version : (bytes : List ℕ) (r : Result Code ListingErr) → Gives r (listing_of bytes) → is_other_version (first_of bytes) ≡ true → Gives r (Err Version)
 only_version bytes r g v = subst (Gives r) (version_once bytes (listing_of bytes) (listing_exact bytes) v) g
+
+-- the listing of a code is read as this code
+pub read_is_code : (c : Code) → is_code c ≡ true → (read : Result Code ListingErr) → IsReading (written c) read → Gives read (Ok c)
+read_is_code c is (Ok d) h = ap Ok (codes_same d c h.0 is h.1)
+read_is_code c is (Err (Syntax n)) h = absurd (listing_has_none (written c) n (record { code = c; is = is; text = refl }) h.1)
+read_is_code c is (Err Version) h = let one = listing_is_one (written c) (record { code = c; is = is; text = refl }) in cc
+read_is_code c is (Err NoMemory) h = tt

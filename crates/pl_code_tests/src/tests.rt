@@ -1,5 +1,5 @@
 use listing_parts::TypeName;
-use pl_code::{Code, ListingErr, listing, read_listing};
+use pl_code::{Code, ListingErr, code_is_formed, listing, read_back, read_listing};
 use std::alloc::{AllocError, Global};
 use std::test::Fail;
 
@@ -148,7 +148,7 @@ end
 ";
 
 /// Bad listings, and the line at which each is refused.
-const BAD: [(&str, u32); 50] = [
+const BAD: [(&str, u32); 52] = [
     ("", 1),
     ("painless", 1),
     ("painless 1", 1),
@@ -174,6 +174,14 @@ const BAD: [(&str, u32); 50] = [
     ("painless 1\nfun 0 loop I - -\nret", 3),
     ("painless 1\nfun 0 loop I - -\nret\n", 4),
     ("painless 1\nfun 0 loop I - -\nret\nend", 4),
+    (
+        "painless 1\nfun 0 loop R - -\ni 6\ni 7\nmul.i\nbox int\nret\nen\n",
+        8,
+    ),
+    (
+        "painless 1\nfun 0 loop I I -\ni 06\nload 0\nifz 4\ni 2\nret\nend\n",
+        3,
+    ),
     ("painless 1\nfun 0 loop I - -\nret\nen\n", 4),
     ("painless 1\nfun 0 loop I - -\nend\nfun 0 loop I - -\n", 4),
     ("painless 1\nfun 0 loop I - -\nend\nx", 4),
@@ -229,6 +237,18 @@ fn is_kept(alloc: Global, text: &str) -> Result<bool, AllocError> {
     }
 }
 
+/// The same by way of the code that comes back from its listing.
+fn is_back(alloc: Global, text: &str) -> Result<bool, AllocError> {
+    let Ok(code) = read_listing(alloc, text.as_bytes()) else {
+        return Ok(false);
+    };
+    code_is_formed(&code);
+    match read_back(alloc, &code) {
+        Ok(back) => Ok(listing(alloc, &back)?.as_str() == text),
+        Err(_) => Ok(false),
+    }
+}
+
 fn with_line(alloc: Global, line: &str) -> Result<String, AllocError> {
     format!(in alloc; "painless 1\nfun 0 loop I - -\n{line}\nend\n")
 }
@@ -246,7 +266,9 @@ fn each_instruction_is_written_and_read(rt: HostRuntime) -> Result<(), Fail> {
 #[test]
 fn three_functions_are_written_and_read(rt: HostRuntime) -> Result<(), Fail> {
     let kept = is_kept(rt.alloc(), THREE)?;
+    let back = is_back(rt.alloc(), THREE)?;
     assert!(rt; kept);
+    assert!(rt; back);
     Ok(())
 }
 
