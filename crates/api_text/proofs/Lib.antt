@@ -1,5 +1,7 @@
 pub mod Cutting
 pub mod Joined
+pub mod Keeping
+pub mod KeepingMembers
 pub mod Needing
 pub mod OfText
 pub mod Places

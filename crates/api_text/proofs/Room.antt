@@ -1,5 +1,6 @@
 -- Where there is no room for what is made.
-use Rattle.std.proofs.Common.{◌≡◌, ℕ, suc, ◌+◌, ◌-◌, ◌<◌, ◌≤◌, nat_le, min, Some, None, List, [], ◌∷◌, ◌++◌, length, take, slice_get, refl, ap, sym, ◌∙◌, arith, length-append}
+use Rattle.std.proofs.Common.{◌≡◌, ℕ, suc, ◌+◌, ◌-◌, ◌<◌, ◌≤◌, nat_le, min, Some, None, List, [], ◌∷◌, ◌++◌, length, take, slice_get, inl, inr, refl, ap, sym, ◌∙◌, arith, length-append}
+use Rattle.std.proofs.lemmas.Bool.{cases_lt}
 use Rattle.std.proofs.lemmas.Bool.Decides.{nat_tests}
 use Rattle.std.specs.Prelude.{map, replicate}
 use Rattle.std.proofs.lemmas.List.{length-map, length-replicate, length-take}
@@ -10,12 +11,12 @@ use Rattle.object_values.specs.declared.value.Value.{Value}
 use Rattle.object_values.specs.declared.value.Value.TheVariants as v
 use Rattle.object_values.specs.declared.object.Object.{Object}
 use Rattle.object_values.specs.declared.object.Object.TheVariants as o
-use Rattle.object_heap.specs.Effects.{Effect, NoRoom, after_paying, gives_text}
+use Rattle.object_heap.specs.Effects.{Gives, NoRoom}
 use Rattle.object_heap.specs.Objects.{weight_of, renewed_by, renewal_growth}
 use Rattle.object_heap.specs.Parts.{asked, object_units, units_of}
 use Rattle.object_heap.specs.Store.{Store, paid, charge, weight, with_change}
 use Rattle.object_heap.proofs.Growth.{add_grows, renewal_grows}
-use Rattle.object_heap.proofs.Paying.{not_charged, paid_not}
+use Rattle.object_heap.proofs.Paying.{charged, not_charged, paid_if, paid_not}
 use Rattle.api_text.specs.declared.outcome.Outcome.TheVariants.{Makes}
 use Rattle.api_text.specs.Builders.{set_there, units_resized}
 use Rattle.api_text.specs.Making.{array_of, chars_of, cost_of}
@@ -62,3 +63,28 @@ unfolding weight_of
 no_room_for_texts store texts h =
     let f : List ℕ → Value = v.Str in
     no_room_for_new store (o.Array (ty.Class STRING) (map f texts)) (cost_of texts) (omega (arith, length-map texts f))
+
+-- a charge that there is room for is taken
+pub charged_surely : (old new : Store) (made : ℕ) → made ≤ old.room → paid old old.objects made ≡ Some new → new ≡ record old { room = old.room - made }
+charged_surely old new made h e = let p = charged old made h in cc
+
+pub never_refused : (old : Store) (made : ℕ) → made ≤ old.room → paid old old.objects made ≡ None → ⊥
+never_refused old made h e = let p = charged old made h in cc
+
+-- an object and what is made for it are paid one after the other
+pub added_room : (old mid : Store) (object : Object) → weight_of object ≤ old.room → paid old (old.objects ++ object ∷ []) 0 ≡ Some mid → mid ≡ record { objects = old.objects ++ object ∷ []; room = old.room - weight_of object }
+added_room old mid object h e = let p = paid_if old (old.objects ++ object ∷ []) (weight_of object) (add_grows old.objects object) h in cc
+
+pub paid_for_new : (store : Store) (object : Object) (made : ℕ) → weight_of object + made ≤ store.room
+    → gives_new store object made ≡ Gives (v.Ref (length store.objects)) (record { objects = store.objects ++ object ∷ []; room = store.room - (weight_of object + made) })
+unfolding paid charge
+paid_for_new store object made h =
+    let c : (weight (store.objects ++ object ∷ []) - weight store.objects) + made ≡ weight_of object + made = ap (λ (n : ℕ). n + made) (add_grows store.objects object) in
+    rw c (grind (arith, nat_tests))
+
+-- where the object alone is refused
+pub no_room_for_more : (store : Store) (object : Object) (made : ℕ) → paid store (store.objects ++ object ∷ []) 0 ≡ None → gives_new store object made ≡ NoRoom
+no_room_for_more store object made e = elim (cases_lt store.room (weight_of object + made)) [
+  | inl l ↦ no_room_for_new store object made l
+  | inr g ↦ let p = paid_if store (store.objects ++ object ∷ []) (weight_of object) (add_grows store.objects object) (omega arith) in cc
+]

@@ -1,8 +1,8 @@
 //! How what members come to is paid, and what it changes.
-ghost use Rattle.std.specs.Prelude.{◌≡◌};
-ghost use Rattle.object_heap.specs.Effects.{Answers, Gives, after_paying, gives_paid, gives_text};
+ghost use Rattle.std.specs.Prelude.{◌≡◌, ◌+◌, ◌-◌, ◌<◌, ◌≤◌, ◌↔◌, IsTrue};
+ghost use Rattle.object_heap.specs.Effects.{Answers, gives_paid, gives_text};
 ghost use Rattle.object_heap.specs.Objects.{with_units, renewed_by};
-ghost use Rattle.object_heap.specs.Store.{paid, with_change};
+ghost use Rattle.object_heap.specs.Store.{with_change};
 ghost use Rattle.pl_types.specs.declared.ty.Ty.TheVariants as ty;
 ghost use Rattle.object_values.specs.declared.value.Value.TheVariants as v;
 ghost use Rattle.object_values.specs.declared.object.Object.TheVariants as o;
@@ -42,14 +42,22 @@ pub fn add(heap: &mut Heap, object: Object) -> Answer
     }
 }
 
-// Takes what texts cost that were made for an object that was added.
-fn pay_made(heap: &mut Heap, id: u32, made: u64) -> Answer
-    ensures { Answers (after_paying (paid heap.old heap.old.objects made) (λ paid. Gives (v.Ref id) paid)) heap.old heap.new result }
+// Whether there is room for an array of so many texts, and for the texts.
+fn has_room(room: u64, made: u64, count: u64) -> bool
+    ensures { IsTrue result ↔ (count + made < room) }
+{
+    made < room && count < room - made
+}
+
+// Takes a charge that there is room for.
+#[tactic(auto, using(crate::proofs::Room::charged_surely, crate::proofs::Room::never_refused))]
+fn take_charge(heap: &mut Heap, made: u64)
+    requires { made ≤ heap.old.room }
+    ensures { heap.new ≡ record heap.old { room = heap.old.room - made } }
 {
     match heap.charge(made) {
-        Ok(()) => Answer::Value(Value::Ref(id)),
-        Err(HeapErr::Room) => Answer::Room,
-        Err(HeapErr::NoMemory) => Answer::NoMemory,
+        Ok(()) => {}
+        Err(_) => {}
     }
 }
 
@@ -57,9 +65,7 @@ fn pay_made(heap: &mut Heap, id: u32, made: u64) -> Answer
 pub fn pay_texts(heap: &mut Heap, items: Elements<Value>, made: u64) -> Answer
     ensures { Answers (gives_new heap.old (o.Array (ty.Class STRING) items) made) heap.old heap.new result }
 {
-    let room = heap.room_left();
-    let count = items.len() as u64;
-    if made >= room || count >= room - made {
+    if !has_room(heap.room_left(), made, items.len() as u64) {
         drop(items);
         return Answer::Room;
     }
@@ -67,7 +73,10 @@ pub fn pay_texts(heap: &mut Heap, items: Elements<Value>, made: u64) -> Answer
         elem: Ty::Class(STRING),
         items,
     }) {
-        Ok(id) => pay_made(heap, id, made),
+        Ok(id) => {
+            take_charge(heap, made);
+            Answer::Value(Value::Ref(id))
+        }
         Err(HeapErr::Room) => Answer::Room,
         Err(HeapErr::NoMemory) => Answer::NoMemory,
     }
