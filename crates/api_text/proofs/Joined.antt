@@ -8,8 +8,8 @@ use Rattle.object_walks.specs.declared.error.TextErr.TheVariants.{Deep, Large, N
 use Rattle.object_walks.specs.Texts.{Node, Text, Wrote, TooDeep, TooLarge, Writes}
 use Rattle.api_text.specs.declared.outcome.Outcome.{Outcome}
 use Rattle.api_text.specs.declared.outcome.Outcome.TheVariants.{Makes}
-use Rattle.api_text.specs.Joining.{Stopped, element_text, joined, joined_elements, more_joined, separator, with_texts}
-use Rattle.api_text.specs.Outcomes.{NeedsMemory, followed_by, too_deep, too_large}
+use Rattle.api_text.specs.Joining.{Stopped, element_text, joined, more_joined, separator, with_texts}
+use Rattle.api_text.specs.Outcomes.{NeedsMemory, followed_by}
 use Rattle.api_text.proofs.Needing.{walk_needs}
 
 -- texts from a place on

@@ -1,5 +1,5 @@
 -- What members come to fits the store.
-use Rattle.std.proofs.Common.{◌≡◌, ℕ, zero, suc, ◌+◌, ◌<◌, ◌&&◌, nat_le, Bool, true, false, Option, Some, None, List, [], ◌∷◌, ◌++◌, length, ℤ, refl, ap, sym, ◌∙◌, subst, arith, length-append, slice_get, slice_set, if◌then◌else◌}
+use Rattle.std.proofs.Common.{◌≡◌, ℕ, zero, suc, ◌+◌, ◌<◌, Bool, true, Option, Some, None, List, [], ◌∷◌, ◌++◌, length, ℤ, refl, ap, sym, ◌∙◌, subst, arith, length-append, slice_get, if◌then◌else◌}
 use Rattle.std.specs.Prelude.{map, pos, negsuc}
 use Rattle.std.proofs.Math.ListN.{length-set}
 use Rattle.pl_types.specs.declared.classes.TheConstants.{EXCEPTION, STRING}
@@ -18,24 +18,19 @@ use Rattle.object_values.specs.declared.value.Value.TheVariants as v
 use Rattle.object_heap.specs.Effects as e
 use Rattle.object_heap.specs.Fits.{Typed, Every, Primitives, Rules, Fits, ValueFits, AllFit, AreElements, ObjectFits, EffectFits, has_layer, is_element, is_type, kinds, layer_asked, layer_is_type}
 use Rattle.object_heap.specs.Objects.{Kind, with_units, renewed_by}
-use Rattle.object_heap.specs.Parts.{message_of, units_of}
 use Rattle.object_heap.specs.Store.{Store, changed_at, with_change}
 use Rattle.object_heap.proofs.Fitting.{added_fits, append_fits, renew_fits}
 use Rattle.object_heap.proofs.Keeping.{after_fits, throws_fits}
-use Rattle.object_walks.specs.declared.TheConstants.{VISITS}
-use Rattle.object_walks.specs.Texts.{Node, Text, Wrote, TooDeep, TooLarge, text_of}
+use Rattle.object_walks.specs.Texts.{Node, Text, Wrote, TooDeep, TooLarge}
 use Rattle.api_text.specs.declared.outcome.ExceptionClass.{ExceptionClass}
 use Rattle.api_text.specs.declared.outcome.ExceptionClass.TheVariants as class
 use Rattle.api_text.specs.declared.outcome.Outcome.{Outcome}
 use Rattle.api_text.specs.declared.outcome.Outcome.TheVariants as outcome
-use Rattle.api_text.specs.declared.member.Member.{Member}
-use Rattle.api_text.specs.declared.member.Member.TheVariants as m
-use Rattle.api_text.specs.Arguments.{int_at, object_at, object_in, sequence_at, text_at, with_one, with_two, with_three}
+use Rattle.api_text.specs.Arguments.{object_at, object_in, with_one, with_two, with_three}
 use Rattle.api_text.specs.Builders as builders
 use Rattle.api_text.specs.Exceptions as exceptions
 use Rattle.api_text.specs.Joining as joining
 use Rattle.api_text.specs.Making as making
-use Rattle.api_text.specs.Members as members
 use Rattle.api_text.specs.Pieces.{pieces}
 use Rattle.api_text.specs.Outcomes.{effect, followed_by, gives_new, number_of, says}
 use Rattle.api_text.specs.Sequences as sequences

@@ -1,5 +1,5 @@
 -- What each member comes to fits the store.
-use Rattle.std.proofs.Common.{◌≡◌, ℕ, ◌<◌, Option, Some, None, List, length, ℤ, slice_get}
+use Rattle.std.proofs.Common.{ℕ, Option, Some, None, List, length, ℤ, slice_get}
 use Rattle.std.specs.Prelude.{pos}
 use Rattle.object_values.specs.declared.object.Object.{Object}
 use Rattle.object_values.specs.declared.value.Value.{Value}

@@ -1,6 +1,6 @@
 -- Occurrences that are replaced, one after the other.
-use Rattle.std.proofs.Common.{◌≡◌, ℕ, zero, suc, ◌+◌, ◌≤◌, List, ◌++◌, length, refl, ap, sym, ◌∙◌, subst, arith, length-append}
-use Rattle.std.specs.Prelude.{Option, Some, None}
+use Rattle.std.proofs.Common.{◌≡◌, ℕ, zero, suc, ◌≤◌, List, ◌++◌, length, refl, ap, sym, ◌∙◌, arith, length-append}
+use Rattle.std.specs.Prelude.{Some, None}
 use Rattle.api_text.specs.declared.writing.Stop.{Stop}
 use Rattle.api_text.specs.declared.writing.Stop.TheVariants.{NoRoom, NoMemory}
 use Rattle.api_text.specs.Pieces.{around, replaced_around, replaced_times}

@@ -1,11 +1,12 @@
 -- Where there is no room for what is made.
-use Rattle.std.proofs.Common.{◌≡◌, ℕ, suc, ◌+◌, ◌-◌, ◌<◌, ◌≤◌, nat_le, min, Some, None, List, [], ◌∷◌, ◌++◌, length, take, slice_get, inl, inr, refl, ap, sym, ◌∙◌, arith, length-append}
+use Rattle.std.proofs.Common.{◌≡◌, ℕ, suc, ◌+◌, ◌-◌, ◌<◌, ◌≤◌, min, Some, None, List, [], ◌∷◌, ◌++◌, length, take, slice_get, inl, inr, refl, ap, sym, subst, ◌∙◌, arith, length-append}
 use Rattle.std.proofs.lemmas.Bool.{cases_lt}
 use Rattle.std.proofs.lemmas.Bool.Decides.{nat_tests}
 use Rattle.std.specs.Prelude.{map, replicate}
 use Rattle.std.proofs.lemmas.List.{length-map, length-replicate, length-take}
 use Rattle.pl_types.specs.declared.classes.TheConstants.{STRING}
 use Rattle.pl_types.specs.declared.primitive.Primitive.TheVariants as prim
+use Rattle.pl_types.specs.declared.ty.Ty.{Ty}
 use Rattle.pl_types.specs.declared.ty.Ty.TheVariants as ty
 use Rattle.object_values.specs.declared.value.Value.{Value}
 use Rattle.object_values.specs.declared.value.Value.TheVariants as v
@@ -88,3 +89,24 @@ no_room_for_more store object made e = elim (cases_lt store.room (weight_of obje
   | inl l ↦ no_room_for_new store object made l
   | inr g ↦ let p = paid_if store (store.objects ++ object ∷ []) (weight_of object) (add_grows store.objects object) (omega arith) in cc
 ]
+
+-- an array of so many items
+pub no_room_for_array : (store : Store) (elem : Ty) (items : List Value) (made : ℕ) → store.room ≤ length items + made → gives_new store (o.Array elem items) made ≡ NoRoom
+unfolding weight_of
+no_room_for_array store elem items made h = no_room_for_new store (o.Array elem items) made (omega arith)
+
+pub array_room : (old mid : Store) (elem : Ty) (items : List Value) (made : ℕ) → length items + made < old.room → paid old (old.objects ++ o.Array elem items ∷ []) 0 ≡ Some mid → made ≤ mid.room
+unfolding weight_of
+array_room old mid elem items made h e =
+    let same = added_room old mid (o.Array elem items) (omega arith) e in
+    subst (λ (s : Store). made ≤ s.room) (sym same) (omega arith)
+
+pub array_paid : (old mid : Store) (elem : Ty) (items : List Value) (made : ℕ) → length items + made < old.room → paid old (old.objects ++ o.Array elem items ∷ []) 0 ≡ Some mid
+    → gives_new old (o.Array elem items) made ≡ Gives (v.Ref (length old.objects)) (record mid { room = mid.room - made })
+unfolding weight_of
+array_paid old mid elem items made h e =
+    let same = added_room old mid (o.Array elem items) (omega arith) e in
+    let less : old.room - (suc (length items) + made) ≡ (old.room - suc (length items)) - made = omega arith in
+    paid_for_new old (o.Array elem items) made (omega arith)
+    ∙ (ap (λ (n : ℕ). Gives (v.Ref (length old.objects)) (record { objects = old.objects ++ o.Array elem items ∷ []; room = n })) less
+    ∙ ap (λ (s : Store). Gives (v.Ref (length old.objects)) (record s { room = s.room - made })) (sym same))

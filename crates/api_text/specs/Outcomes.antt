@@ -1,5 +1,5 @@
 -- What members come to, before it is paid, and what that does to the store.
-use Rattle.std.specs.Prelude.{◌≡◌, ℕ, Option, Some, None, List, [], ◌∷◌, ◌++◌, length, codes}
+use Rattle.std.specs.Prelude.{◌≡◌, ℕ, Some, None, List, [], ◌∷◌, ◌++◌, length, codes}
 use Rattle.pl_units.specs.Utf16.{units}
 use Rattle.pl_types.specs.declared.classes.TheConstants.{STRING, EXCEPTION, RUNTIME_EXCEPTION, ARITHMETIC_EXCEPTION, CLASS_CAST_EXCEPTION, CONCURRENT_MODIFICATION_EXCEPTION, ILLEGAL_ARGUMENT_EXCEPTION, ILLEGAL_STATE_EXCEPTION, INDEX_OUT_OF_BOUNDS_EXCEPTION, NEGATIVE_ARRAY_SIZE_EXCEPTION, NO_SUCH_ELEMENT_EXCEPTION, NULL_POINTER_EXCEPTION, UNSUPPORTED_OPERATION_EXCEPTION, NUMBER_FORMAT_EXCEPTION, ARRAY_INDEX_OUT_OF_BOUNDS_EXCEPTION, STRING_INDEX_OUT_OF_BOUNDS_EXCEPTION}
 use Rattle.pl_types.specs.declared.primitive.Primitive.TheVariants as prim

@@ -1,5 +1,5 @@
 -- A text cut at the occurrences of a token, from the left, and a text with occurrences of another replaced.
-use Rattle.std.specs.Prelude.{ℕ, zero, suc, ◌+◌, ◌-◌, Option, Some, None, List, [], ◌∷◌, ◌++◌, length, take, drop, map, ℤ, pos, negsuc}
+use Rattle.std.specs.Prelude.{ℕ, zero, suc, ◌+◌, Option, Some, None, List, [], ◌∷◌, ◌++◌, length, take, drop, ℤ, pos, negsuc}
 use Rattle.std.specs.Option.{option_map}
 use Rattle.pl_units.specs.Places.{first_place}
 

@@ -197,7 +197,14 @@ fn exceeds(heap: &Heap, builder: u32, count: usize) -> bool
 fn units_resized(alloc: Global, units: &[u16], count: usize) -> Result<Vec<u16>, AllocError>
     ensures { IfOk result (λ made. made.items ≡ spec.units_resized count units.now) }
 {
-    let mut made = Vec::with_capacity(alloc, if count < units.len() { units.len() } else { count })?;
+    let mut made = Vec::with_capacity(
+        alloc,
+        if count < units.len() {
+            units.len()
+        } else {
+            count
+        },
+    )?;
     made.extend_from_slice(units)?;
     made.resize(count, 0)?;
     Ok(made)

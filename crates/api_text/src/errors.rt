@@ -64,11 +64,19 @@ pub fn index_error(heap: &Heap, at: i32, count: usize) -> Outcome
 pub fn too_deep(heap: &Heap) -> Outcome
     ensures { Tells heap.now too_deep result }
 {
-    says(heap, ExceptionClass::IllegalState, "value nested too deeply")
+    says(
+        heap,
+        ExceptionClass::IllegalState,
+        "value nested too deeply",
+    )
 }
 
 pub fn too_large(heap: &Heap) -> Outcome
     ensures { Tells heap.now too_large result }
 {
-    says(heap, ExceptionClass::IllegalState, "value too large to walk")
+    says(
+        heap,
+        ExceptionClass::IllegalState,
+        "value too large to walk",
+    )
 }

@@ -1,5 +1,5 @@
 //! How what members come to is paid, and what it changes.
-ghost use Rattle.std.specs.Prelude.{◌≡◌, ◌+◌, ◌-◌, ◌<◌, ◌≤◌, ◌↔◌, IsTrue};
+ghost use Rattle.std.specs.Prelude.{◌≡◌, ◌+◌, ◌-◌, ◌<◌, ◌≤◌, ◌↔◌, IsTrue, length};
 ghost use Rattle.object_heap.specs.Effects.{Answers, gives_paid, gives_text};
 ghost use Rattle.object_heap.specs.Objects.{with_units, renewed_by};
 ghost use Rattle.object_heap.specs.Store.{with_change};
@@ -61,14 +61,12 @@ fn take_charge(heap: &mut Heap, made: u64)
     }
 }
 
-// Adds an array of texts that are made, which costs its weight and what they cost.
-pub fn pay_texts(heap: &mut Heap, items: Elements<Value>, made: u64) -> Answer
+// Adds an array of texts for which there is room, and takes what the texts cost.
+#[tactic(auto, using(crate::proofs::Room::no_room_for_more))]
+fn add_texts(heap: &mut Heap, items: Elements<Value>, made: u64) -> Answer
+    requires { length items + made < heap.old.room }
     ensures { Answers (gives_new heap.old (o.Array (ty.Class STRING) items) made) heap.old heap.new result }
 {
-    if !has_room(heap.room_left(), made, items.len() as u64) {
-        drop(items);
-        return Answer::Room;
-    }
     match heap.add(Object::Array {
         elem: Ty::Class(STRING),
         items,
@@ -79,6 +77,19 @@ pub fn pay_texts(heap: &mut Heap, items: Elements<Value>, made: u64) -> Answer
         }
         Err(HeapErr::Room) => Answer::Room,
         Err(HeapErr::NoMemory) => Answer::NoMemory,
+    }
+}
+
+// Adds an array of texts that are made, which costs its weight and what they cost.
+#[tactic(auto, using(crate::proofs::Room::no_room_for_array))]
+pub fn pay_texts(heap: &mut Heap, items: Elements<Value>, made: u64) -> Answer
+    ensures { Answers (gives_new heap.old (o.Array (ty.Class STRING) items) made) heap.old heap.new result }
+{
+    if has_room(heap.room_left(), made, items.len() as u64) {
+        add_texts(heap, items, made)
+    } else {
+        drop(items);
+        Answer::Room
     }
 }
 

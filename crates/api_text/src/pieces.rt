@@ -105,13 +105,7 @@ fn last_piece(
 }
 
 // The pieces of a text that is cut at most so many times.
-fn cut(
-    alloc: Global,
-    room: u64,
-    text: &[u16],
-    token: &[u16],
-    times: usize,
-) -> Result<Texts, Stop>
+fn cut(alloc: Global, room: u64, text: &[u16], token: &[u16], times: usize) -> Result<Texts, Stop>
     ensures { MadeTexts room (spec.cut times token.now text.now) result }
 {
     let mut items = Vec::new(alloc);

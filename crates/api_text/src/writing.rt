@@ -61,12 +61,7 @@ pub fn write(out: &mut Vec<u16>, units: &[u16], room: u64) -> Result<(), Stop>
 }
 
 // Writes units and then others.
-pub fn write_both(
-    out: &mut Vec<u16>,
-    units: &[u16],
-    others: &[u16],
-    room: u64,
-) -> Result<(), Stop>
+pub fn write_both(out: &mut Vec<u16>, units: &[u16], others: &[u16], room: u64) -> Result<(), Stop>
     ensures ok { OnOk result (out.new.items ≡ out.old.items ++ units.now ++ others.now) }
     ensures stop { IfErr result (λ stop. Stops room (length out.old.items + length units.now + length others.now) stop) }
 {

@@ -1,7 +1,6 @@
 use Rattle.std.proofs.Common.{sym, subst}
 use Rattle.object_heap.specs.Effects.{Answers}
 use Rattle.api_text.specs.declared.outcome.Outcome.TheVariants.{Extends}
-use Rattle.api_text.specs.Builders.{append}
 use Rattle.api_text.specs.Outcomes.{WantsMemory, effect}
 use Rattle.api_text.proofs.Needing.{wants}
 use Rattle.api_text.proofs.OfText.{append_is}

@@ -1,4 +1,4 @@
-use Rattle.std.proofs.Common.{◌≡◌, ◌+◌, ◌∷◌, ◌++◌, ◌∙◌, ap, sym, subst, drop}
+use Rattle.std.proofs.Common.{◌+◌, ◌++◌, ◌∙◌, ap, sym, subst, drop}
 use Rattle.std.specs.Prelude.{map}
 use Rattle.object_walks.proofs.Stepping.{got}
 use Rattle.api_text.proofs.Joined.{behind, next, stops}

@@ -1,4 +1,3 @@
-use Rattle.std.proofs.Common.{length}
 use Rattle.api_text.specs.Members.{does_numbered, numbered}
 use Rattle.api_text.proofs.Keeping.{settled}
 use Rattle.api_text.proofs.KeepingMembers.{found_fits}

@@ -1,4 +1,4 @@
-use Rattle.std.proofs.Common.{◌≡◌, ◌-◌, ◌∷◌, [], suc, subst, refl, arith}
+use Rattle.std.proofs.Common.{◌≡◌, ◌-◌, ◌∷◌, [], suc, subst, arith}
 use Rattle.std.specs.Prelude.{Some, None}
 use Rattle.api_text.specs.Pieces.{around, cut}
 use Rattle.api_text.proofs.Cutting.{Making, all_made, cut_more, cut_none, none_made, one_more}

@@ -1,8 +1,7 @@
-use Rattle.std.proofs.Common.{◌≡◌, ℕ, ◌++◌, ◌+◌, ◌-◌, ◌≤◌, suc, length, ap, sym, subst, ◌∙◌, arith, append_assoc, length-append}
+use Rattle.std.proofs.Common.{◌≡◌, ℕ, ◌++◌, ◌-◌, suc, length, ap, ◌∙◌, arith, append_assoc, length-append}
 use Rattle.std.specs.Prelude.{Some, None}
 use Rattle.api_text.specs.Pieces.{around, replaced_times}
-use Rattle.api_text.specs.Writing.{Made}
-use Rattle.api_text.proofs.Replacing.{stopped, replaced_more, replaced_none, front_fits}
+use Rattle.api_text.proofs.Replacing.{stopped, replaced_more, replaced_none}
 use Rattle.api_text.proofs.pieces.replaced_in.Goals as goal
 
 pub returns-in_default : goal.returns-in_default
