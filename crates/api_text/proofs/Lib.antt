@@ -4,6 +4,7 @@ pub mod Keeping
 pub mod KeepingMembers
 pub mod Needing
 pub mod OfText
+pub mod PieceLaws
 pub mod Places
 pub mod Replacing
 pub mod Room

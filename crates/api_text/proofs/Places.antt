@@ -1,8 +1,9 @@
 -- Where a first place is.
-use Rattle.std.proofs.Common.{◌≡◌, ℕ, zero, suc, ◌+◌, ◌≤◌, Bool, true, false, ◌&&◌, List, length, refl, if◌then◌else◌}
+use Rattle.std.proofs.Common.{◌≡◌, ℕ, zero, suc, ◌+◌, ◌≤◌, Bool, true, false, ◌&&◌, List, length, take, drop, refl, if◌then◌else◌}
 use Rattle.std.specs.Prelude.{Option, Some, nat_le}
 use Rattle.std.specs.List.{find, range_with_len}
 use Rattle.std.proofs.lemmas.Bool.{leb-true, and_parts}
+use Rattle.std.proofs.lemmas.Slice.Eq.{bytes_eq-Decides}
 use Rattle.pl_units.specs.Places.{first_place, stands_at}
 
 first_passes : (p : ℕ → Bool) (a k : ℕ) (rest : Option ℕ) (test : Bool) → p a ≡ test → (Some k ≡ rest → p k ≡ true) → Some k ≡ (if test then Some a else rest) → p k ≡ true
@@ -20,3 +21,10 @@ unfolding first_place
 first_place_within text part start place h =
     let passes = found_passes (λ place. nat_le start place && stands_at text part place) (suc (length text)) 0 place h in
     leb-true _ _ (and_parts _ _ (and_parts _ _ passes).1).0
+
+-- the part stands there
+pub first_place_stands : (text part : List ℕ) (start place : ℕ) → Some place ≡ first_place text part start → take (length part) (drop place text) ≡ part
+unfolding first_place
+first_place_stands text part start place h =
+    let passes = found_passes (λ place. nat_le start place && stands_at text part place) (suc (length text)) 0 place h in
+    (bytes_eq-Decides (take (length part) (drop place text)) part).0 (and_parts _ _ (and_parts _ _ passes).1).1

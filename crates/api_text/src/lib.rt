@@ -16,5 +16,5 @@ mod sequences;
 mod texts;
 mod writing;
 
-pub use laws::members_keep_fit;
+pub use laws::{members_keep_fit, piece_laws};
 pub use member::call;
