@@ -171,3 +171,7 @@ node_at (suc levels) objects node visits = with_visit (node_text (node_at levels
 -- the text of a value: at most 100 levels, and so many visits
 unfoldable pub text_of : List Object → Value → ℕ → Text
 text_of objects value visits = node_at 100 objects (AValue value) visits
+
+-- the text of an entry of a view, which is no value: of its key, and of the value that this has now
+unfoldable pub entry_text_of : List Object → Value → Value → ℕ → Text
+entry_text_of objects key value visits = node_at 100 objects (AnEntry key value) visits

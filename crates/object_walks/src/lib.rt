@@ -10,7 +10,7 @@ mod writing;
 
 pub use equality::{Walked, equal};
 pub use error::TextErr;
-pub use writing::{push_text, text};
+pub use writing::{push_entry, push_text, text};
 
 /// How many levels deep a walk goes at most.
 pub const LEVELS: u32 = 100;

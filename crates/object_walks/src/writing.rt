@@ -3,7 +3,7 @@ ghost use Rattle.std.specs.Prelude.{◌≡◌, ◌++◌, OnOk, IfErr, Option, sl
 ghost use Rattle.std.specs.Option.{option_copied};
 ghost use Rattle.object_heap.specs.Parts.{pairs_in};
 ghost use Rattle.object_walks.specs.Texts as spec;
-ghost use Rattle.object_walks.specs.Texts.{AValue, AnEntry, Writes, Gives, text_of};
+ghost use Rattle.object_walks.specs.Texts.{AValue, AnEntry, Writes, Gives, text_of, entry_text_of};
 
 use crate::LEVELS;
 use crate::equality::value_now;
@@ -48,6 +48,21 @@ pub fn push_text(
     ensures { Writes (text_of heap.now.objects value.now budget) out.old.items out.new.items result }
 {
     value_at(heap, LEVELS, value, budget, out)
+}
+
+/// Writes the text of an entry of a view, a key and the value that it has now, behind what is there: a visit at level 1, and the key
+/// and the value at level 2. The answers are those of [`push_text`].
+#[tactic(auto, unfolding(crate::specs::Texts::entry_text_of))]
+pub fn push_entry(
+    heap: &Heap,
+    key: &Value,
+    value: &Value,
+    budget: u64,
+    out: &mut Vec<u16>,
+) -> Result<u64, TextErr>
+    ensures { Writes (entry_text_of heap.now.objects key.now value.now budget) out.old.items out.new.items result }
+{
+    entry_at(heap, LEVELS, key, value, budget, out)
 }
 
 // Visits a value, at so many levels and so many visits.

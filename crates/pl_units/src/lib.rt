@@ -9,4 +9,5 @@ mod text;
 
 pub use laws::{order_is_total, utf8_is_kept};
 pub use number::{decimal, parse_int, parse_long};
+pub use search::find_units;
 pub use text::UText;

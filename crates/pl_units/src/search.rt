@@ -1,6 +1,14 @@
 ghost use Rattle.std.specs.Prelude.{◌≡◌, ◌+◌, ◌<◌, ◌≤◌, ◌↔◌, ℕ, IsTrue, IfNone, IfSome, length};
 ghost use Rattle.pl_units.specs.Places.{StandsAt, IsFirstPlace, IsLastPlace, first_place, last_place};
 
+/// The least place at or after `from` at which the part stands in these units, or `None` if there is none; as
+/// [`UText::find`](crate::UText::find), for units that no text owns. It takes no memory.
+pub fn find_units(text: &[u16], part: &[u16], from: usize) -> Option<usize>
+    ensures { result ≡ first_place text.now part.now from }
+{
+    find_in(text, part, from)
+}
+
 // The least place at or after `from` at which the part stands.
 pub fn find_in(text: &[u16], part: &[u16], from: usize) -> Option<usize>
     ensures found { IfSome result (IsFirstPlace text.now part.now from) }

@@ -1,0 +1,10 @@
+pub mod Cutting
+pub mod Joined
+pub mod Keeping
+pub mod KeepingMembers
+pub mod Needing
+pub mod OfText
+pub mod PieceLaws
+pub mod Places
+pub mod Replacing
+pub mod Room

@@ -1,0 +1,112 @@
+-- Where there is no room for what is made.
+use Rattle.std.proofs.Common.{◌≡◌, ℕ, suc, ◌+◌, ◌-◌, ◌<◌, ◌≤◌, min, Some, None, List, [], ◌∷◌, ◌++◌, length, take, slice_get, inl, inr, refl, ap, sym, subst, ◌∙◌, arith, length-append}
+use Rattle.std.proofs.lemmas.Bool.{cases_lt}
+use Rattle.std.proofs.lemmas.Bool.Decides.{nat_tests}
+use Rattle.std.specs.Prelude.{map, replicate}
+use Rattle.std.proofs.lemmas.List.{length-map, length-replicate, length-take}
+use Rattle.pl_types.specs.declared.classes.TheConstants.{STRING}
+use Rattle.pl_types.specs.declared.primitive.Primitive.TheVariants as prim
+use Rattle.pl_types.specs.declared.ty.Ty.{Ty}
+use Rattle.pl_types.specs.declared.ty.Ty.TheVariants as ty
+use Rattle.object_values.specs.declared.value.Value.{Value}
+use Rattle.object_values.specs.declared.value.Value.TheVariants as v
+use Rattle.object_values.specs.declared.object.Object.{Object}
+use Rattle.object_values.specs.declared.object.Object.TheVariants as o
+use Rattle.object_heap.specs.Effects.{Gives, NoRoom}
+use Rattle.object_heap.specs.Objects.{weight_of, renewed_by, renewal_growth}
+use Rattle.object_heap.specs.Parts.{asked, object_units, units_of}
+use Rattle.object_heap.specs.Store.{Store, paid, charge, weight, with_change}
+use Rattle.object_heap.proofs.Growth.{add_grows, renewal_grows}
+use Rattle.object_heap.proofs.Paying.{charged, not_charged, paid_if, paid_not}
+use Rattle.api_text.specs.declared.outcome.Outcome.TheVariants.{Makes}
+use Rattle.api_text.specs.Builders.{set_there, units_resized}
+use Rattle.api_text.specs.Making.{array_of, chars_of, cost_of}
+use Rattle.api_text.specs.Outcomes.{effect, gives_new}
+
+-- a text costs its units and 1
+pub no_room_for_text : (store : Store) (text : List ℕ) → store.room ≤ length text → effect store (Makes text) ≡ NoRoom
+no_room_for_text store text h = rw (not_charged store (length text + 1) (omega arith)) refl
+
+-- a new object costs its weight and what is made for it
+pub no_room_for_new : (store : Store) (object : Object) (made : ℕ) → store.room < weight_of object + made → gives_new store object made ≡ NoRoom
+unfolding paid charge
+no_room_for_new store object made h =
+    let c : (weight (store.objects ++ object ∷ []) - weight store.objects) + made ≡ weight_of object + made = ap (λ (n : ℕ). n + made) (add_grows store.objects object) in
+    rw c (grind (arith, nat_tests))
+
+pub no_room_for_chars : (store : Store) (text : List ℕ) → store.room ≤ length text → effect store (chars_of text) ≡ NoRoom
+unfolding weight_of
+no_room_for_chars store text h =
+    let f : ℕ → Value = v.Char in
+    no_room_for_new store (o.Array (ty.Prim prim.Char) (map f text)) 0 (omega (arith, length-map text f))
+
+-- a builder that grows costs what it grows by
+builder_grows : (after units : List ℕ) → renewal_growth (o.Builder after) (o.Builder units) ≡ length after - length units
+unfolding weight_of
+builder_grows after units = omega arith
+
+pub no_room_for_length : (store : Store) (builder count : ℕ) (units : List ℕ) → Some (o.Builder units) ≡ slice_get store.objects builder → store.room < count - length units
+    → effect store (set_there builder (units_of store.objects builder) count) ≡ NoRoom
+no_room_for_length store builder count units found h =
+    let same : units_of store.objects builder ≡ units = ap (asked object_units []) (sym found) in
+    let after = units_resized count (units_of store.objects builder) in
+    let long : length after ≡ length (take count units) + (count - length units) =
+    rw same (length-append (take count units) (replicate (count - length units) 0) ∙ ap (λ (n : ℕ). length (take count units) + n) (length-replicate (count - length units) 0)) in
+    let growth : asked (renewal_growth (o.Builder after)) 0 (slice_get store.objects builder) ≡ length after - length units =
+    ap (asked (renewal_growth (o.Builder after)) 0) (sym found) ∙ builder_grows after units in
+    let kept : length (take count units) ≡ min count (length units) = length-take count units in
+    let more : store.room < length after - length units = omega arith in
+    rw (paid_not store (with_change store.objects builder (renewed_by (o.Builder after))) (length after - length units) (renewal_grows store.objects builder (o.Builder after) ∙ growth) more) refl
+
+-- an array of texts costs its weight and what the texts cost
+pub no_room_for_texts : (store : Store) (texts : List (List ℕ)) → store.room ≤ cost_of texts + length texts → effect store (array_of texts) ≡ NoRoom
+unfolding weight_of
+no_room_for_texts store texts h =
+    let f : List ℕ → Value = v.Str in
+    no_room_for_new store (o.Array (ty.Class STRING) (map f texts)) (cost_of texts) (omega (arith, length-map texts f))
+
+-- a charge that there is room for is taken
+pub charged_surely : (old new : Store) (made : ℕ) → made ≤ old.room → paid old old.objects made ≡ Some new → new ≡ record old { room = old.room - made }
+charged_surely old new made h e = let p = charged old made h in cc
+
+pub never_refused : (old : Store) (made : ℕ) → made ≤ old.room → paid old old.objects made ≡ None → ⊥
+never_refused old made h e = let p = charged old made h in cc
+
+-- an object and what is made for it are paid one after the other
+pub added_room : (old mid : Store) (object : Object) → weight_of object ≤ old.room → paid old (old.objects ++ object ∷ []) 0 ≡ Some mid → mid ≡ record { objects = old.objects ++ object ∷ []; room = old.room - weight_of object }
+added_room old mid object h e = let p = paid_if old (old.objects ++ object ∷ []) (weight_of object) (add_grows old.objects object) h in cc
+
+pub paid_for_new : (store : Store) (object : Object) (made : ℕ) → weight_of object + made ≤ store.room
+    → gives_new store object made ≡ Gives (v.Ref (length store.objects)) (record { objects = store.objects ++ object ∷ []; room = store.room - (weight_of object + made) })
+unfolding paid charge
+paid_for_new store object made h =
+    let c : (weight (store.objects ++ object ∷ []) - weight store.objects) + made ≡ weight_of object + made = ap (λ (n : ℕ). n + made) (add_grows store.objects object) in
+    rw c (grind (arith, nat_tests))
+
+-- where the object alone is refused
+pub no_room_for_more : (store : Store) (object : Object) (made : ℕ) → paid store (store.objects ++ object ∷ []) 0 ≡ None → gives_new store object made ≡ NoRoom
+no_room_for_more store object made e = elim (cases_lt store.room (weight_of object + made)) [
+  | inl l ↦ no_room_for_new store object made l
+  | inr g ↦ let p = paid_if store (store.objects ++ object ∷ []) (weight_of object) (add_grows store.objects object) (omega arith) in cc
+]
+
+-- an array of so many items
+pub no_room_for_array : (store : Store) (elem : Ty) (items : List Value) (made : ℕ) → store.room ≤ length items + made → gives_new store (o.Array elem items) made ≡ NoRoom
+unfolding weight_of
+no_room_for_array store elem items made h = no_room_for_new store (o.Array elem items) made (omega arith)
+
+pub array_room : (old mid : Store) (elem : Ty) (items : List Value) (made : ℕ) → length items + made < old.room → paid old (old.objects ++ o.Array elem items ∷ []) 0 ≡ Some mid → made ≤ mid.room
+unfolding weight_of
+array_room old mid elem items made h e =
+    let same = added_room old mid (o.Array elem items) (omega arith) e in
+    subst (λ (s : Store). made ≤ s.room) (sym same) (omega arith)
+
+pub array_paid : (old mid : Store) (elem : Ty) (items : List Value) (made : ℕ) → length items + made < old.room → paid old (old.objects ++ o.Array elem items ∷ []) 0 ≡ Some mid
+    → gives_new old (o.Array elem items) made ≡ Gives (v.Ref (length old.objects)) (record mid { room = mid.room - made })
+unfolding weight_of
+array_paid old mid elem items made h e =
+    let same = added_room old mid (o.Array elem items) (omega arith) e in
+    let less : old.room - (suc (length items) + made) ≡ (old.room - suc (length items)) - made = omega arith in
+    paid_for_new old (o.Array elem items) made (omega arith)
+    ∙ (ap (λ (n : ℕ). Gives (v.Ref (length old.objects)) (record { objects = old.objects ++ o.Array elem items ∷ []; room = n })) less
+    ∙ ap (λ (s : Store). Gives (v.Ref (length old.objects)) (record s { room = s.room - made })) (sym same))

@@ -1,0 +1,22 @@
+use Rattle.std.proofs.Common.{◌+◌, ◌++◌, ◌∙◌, ap, sym, subst, drop}
+use Rattle.std.specs.Prelude.{map}
+use Rattle.object_walks.specs.Texts.{AValue}
+use Rattle.object_walks.proofs.Stepping.{got}
+use Rattle.api_text.proofs.Joined.{behind, next, stops}
+use Rattle.api_text.specs.Joining.{Stopped, separator}
+use Rattle.api_text.proofs.joining.join_values.Goals as goal
+
+pub loop-at-preserved : goal.loop-at-preserved
+loop-at-preserved c =
+    c.loop-at.invariant
+    ∙ (ap (λ values. behind c.args.heap.now.objects c.args.between.now c.loop-at.at c.loop-at.out.items (map AValue values)) (got c.args.values.now c.loop-at.at c.in-Some.value.now (sym c.in-Some.ensures))
+    ∙ next c.args.heap.now.objects c.args.between.now c.loop-at.at c.loop-at.out.items _ (AValue c.in-Some.value.now) (map AValue (drop (c.loop-at.at + 1) c.args.values.now)) _ c.in-Ok.ensures)
+
+pub returns-in-Err : goal.returns-in-Err
+returns-in-Err c =
+    let whole =
+    c.loop-at.invariant
+    ∙ ap (λ values. behind c.args.heap.now.objects c.args.between.now c.loop-at.at c.loop-at.out.items (map AValue values)) (got c.args.values.now c.loop-at.at c.in-Some.value.now (sym c.in-Some.ensures)) in
+    c.stopped.ensures _
+    (subst (λ told. Stopped told c.in-Err.cause) (sym whole)
+    (stops c.args.heap.now.objects c.args.between.now c.loop-at.at c.loop-at.out.items (c.loop-at.out.items ++ separator c.args.between.now c.loop-at.at) c.push_value.new.out.items (AValue c.in-Some.value.now) (map AValue (drop (c.loop-at.at + 1) c.args.values.now)) c.in-Err.cause c.in-Err.ensures))

@@ -1,0 +1,4 @@
+use Rattle.api_text.proofs.making.raised.Goals as goal
+
+pub returns : goal.returns
+returns c = c.of_units.ensures c.args.heap.now _ c.upper_units.ensures

@@ -1,0 +1,12 @@
+pub mod Arguments
+pub mod Builders
+pub mod Exceptions
+pub mod Joining
+pub mod Laws
+pub mod Making
+pub mod Members
+pub mod Outcomes
+pub mod Pieces
+pub mod Sequences
+pub mod Texts
+pub mod Writing
