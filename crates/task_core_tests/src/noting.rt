@@ -1,0 +1,66 @@
+// A task that notes when it had which turn.
+ghost use Rattle.task_core_tests.specs.Noting.{IsSameTask};
+
+use std::cell::Cell;
+use task_core::{Task, Turn};
+
+/// So many turns are noted; later ones are not.
+pub const NOTED: usize = 4;
+
+/// A task that only counts its instructions down.
+#[derive(Drop)]
+pub struct Noting<'a> {
+    pub place: u32,
+    pub left: u64,
+    pub clock: &'a Cell<u64>,
+    pub turns: usize,
+    /// When each turn was, and how many instructions it took.
+    pub notes: [(u64, u64); NOTED],
+}
+
+impl<'a> Noting<'a> {
+    pub fn new(place: u32, left: u64, clock: &'a Cell<u64>) -> Noting<'a> {
+        Noting {
+            place,
+            left,
+            clock,
+            turns: 0,
+            notes: [(0, 0); NOTED],
+        }
+    }
+
+    /// Notes a turn of so many instructions, at the next moment.
+    fn note(&mut self, took: u64)
+        ensures { IsSameTask self.old self.new }
+    {
+        let moment = self.clock.get();
+        self.clock.set(moment.wrapping_add(1));
+        if self.turns < NOTED {
+            self.notes[self.turns] = (moment, took);
+            self.turns += 1;
+        }
+    }
+}
+
+impl<'a> Task for Noting<'a> {
+    type Ending = u32;
+
+    ghost rest = { λ task. task.left };
+
+    ghost ending = { λ task. task.place };
+
+    fn is_done(&self) -> bool {
+        self.left == 0
+    }
+
+    fn turn(&mut self, q: u64) -> Turn {
+        let took = q.min(self.left);
+        self.left -= took;
+        self.note(took);
+        if self.left == 0 {
+            Turn::Done
+        } else {
+            Turn::More
+        }
+    }
+}
