@@ -1,10 +1,12 @@
-//! Prints what the calls of the heap take, in nanoseconds, over a map of few and of many keys. It measures where it is given
-//! an argument, and else prints nothing: `rt run -- times`.
+//! Prints what the calls of the heap take, in nanoseconds, over a map of few and of many keys, and what a sum of two Integers
+//! takes whose types are found at run time. It measures where it is given an argument, and else prints nothing:
+//! `rt run -- times`.
 #![tactic(auto)]
 
 ghost use Rattle.std.specs.Prelude.{◌<◌};
 
-use object_heap::Heap;
+use number_ops::{Op, def_op};
+use object_heap::{Answer, Heap};
 use object_values::{Elements, Guard, Object, Pairs, Value};
 use pl_types::classes::{ARRAY_LIST, HASH_MAP};
 use std::alloc::Global;
@@ -20,6 +22,7 @@ enum Call {
     Put,
     Grow,
     Add,
+    DefAdd,
 }
 
 fn name(call: Call) -> &'static str {
@@ -30,6 +33,7 @@ fn name(call: Call) -> &'static str {
         Call::Put => "put",
         Call::Grow => "grow at the end",
         Call::Add => "add",
+        Call::DefAdd => "def_op add of two Integers",
     }
 }
 
@@ -51,6 +55,16 @@ fn call_once(heap: &mut Heap, call: Call, turn: u32) -> bool {
             heap.grow(1, end, Value::Null).is_ok()
         }
         Call::Add => heap.add(empty_list(heap.alloc())).is_ok(),
+        Call::DefAdd => gives_sum(heap, i32::try_from(turn).unwrap_or(0)),
+    }
+}
+
+fn gives_sum(heap: &mut Heap, turn: i32) -> bool {
+    match def_op(heap, Op::Add, &Value::Int(turn), &Value::Int(7)) {
+        Answer::Value(_) => true,
+        Answer::Thrown(_) => false,
+        Answer::Room => false,
+        Answer::NoMemory => false,
     }
 }
 
@@ -75,7 +89,7 @@ fn call_often(heap: &mut Heap, call: Call, keys: u32) -> u32
     done
 }
 
-// A map of so many keys, and a list of one item.
+// A map of so many keys, and a list of as many items.
 fn filled(alloc: Global, keys: u32) -> Heap {
     let mut heap = Heap::new(alloc, u64::MAX);
     let _ = heap.add(Object::Map {
@@ -85,9 +99,10 @@ fn filled(alloc: Global, keys: u32) -> Heap {
         changes: 0,
     });
     let _ = heap.add(empty_list(alloc));
-    let _ = heap.grow(1, 0, Value::Null);
     for key in 0..keys {
         let _ = heap.map_put(0, number(key), Value::Null);
+        let end = heap.size(1);
+        let _ = heap.grow(1, end, Value::Null);
     }
     heap
 }
@@ -115,6 +130,7 @@ fn main(rt: HostRuntime) -> io::Result<()> {
             Call::Put,
             Call::Grow,
             Call::Add,
+            Call::DefAdd,
         ] {
             measure(&rt, &mut heap, call, keys)?;
         }
