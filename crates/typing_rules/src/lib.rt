@@ -2,6 +2,7 @@
 //! typed; the definition puts them together over the tree.
 #![tactic(auto)]
 
+mod digits;
 mod header;
 mod lineage;
 mod part;

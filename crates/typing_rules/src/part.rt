@@ -1,5 +1,8 @@
 //! What typing knows of the parts of a node.
 
+ghost use Rattle.std.specs.Prelude.{◌≡◌};
+ghost use Rattle.typing_rules.specs.Rules.Nodes as spec;
+
 use pl_types::Ty;
 use plain_data::{Subtree, Text};
 use typed_tree::{Typed, TypedStatement};
@@ -31,6 +34,39 @@ impl Drop for Part {
             form: _,
             typed: _typed,
         } = self;
+    }
+}
+
+impl Part {
+    /// The expression.
+    pub fn into_typed(self) -> Subtree<Typed>
+        ensures { result ≡ self.typed }
+    {
+        let Part {
+            at: _,
+            form: _,
+            typed,
+        } = self;
+        typed
+    }
+
+    /// The type of the expression.
+    pub fn of(&self) -> &Ty
+        ensures { result.now ≡ spec.type_of_part self.now }
+    {
+        &self.typed.get().of
+    }
+
+    /// The same in brackets that stand at a place.
+    pub fn bracketed(self, at: u32) -> Part
+        ensures { result ≡ spec.bracketed at self }
+    {
+        let typed = self.into_typed();
+        Part {
+            at,
+            form: Form::Other,
+            typed,
+        }
     }
 }
 

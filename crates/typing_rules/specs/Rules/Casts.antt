@@ -28,30 +28,42 @@ unit_of value = 0
 abbrev pub within : ℤ → ℤ → ℤ → Bool
 within low high value = int_le low value && int_le value high
 
+abbrev pub as_byte : ℤ → Option Constant
+as_byte value = if within (neg_ℤ (pos 128)) (pos 127) value then Some (k.Byte value) else None
+
+abbrev pub as_short : ℤ → Option Constant
+as_short value = if within (neg_ℤ (pos 32768)) (pos 32767) value then Some (k.Short value) else None
+
+abbrev pub as_char : ℤ → Option Constant
+as_char value = if within (pos 0) (pos 65535) value then Some (k.Char (unit_of value)) else None
+
 -- An int literal, or the `-` directly before one with it, stands for a byte, a short or a char where its value is in that type's range.
 abbrev pub standing_layer : Form → Ty-F Ty → Option Constant
-standing_layer (f.Number value) (Ty-F.Prim p.Byte) = if within (neg_ℤ (pos 128)) (pos 127) value then Some (k.Byte value) else None
-standing_layer (f.Number value) (Ty-F.Prim p.Short) = if within (neg_ℤ (pos 32768)) (pos 32767) value then Some (k.Short value) else None
-standing_layer (f.Number value) (Ty-F.Prim p.Char) = if within (pos 0) (pos 65535) value then Some (k.Char (unit_of value)) else None
+standing_layer (f.Number value) (Ty-F.Prim p.Byte) = as_byte value
+standing_layer (f.Number value) (Ty-F.Prim p.Short) = as_short value
+standing_layer (f.Number value) (Ty-F.Prim p.Char) = as_char value
 standing_layer form to = None
+
+abbrev pub standing : Form → Ty → Option Constant
+standing form to = standing_layer form (out-Ty to)
 
 -- What a cast from the table gives: nothing of it is left where the type is the same. Without one, the expression that is cast is refused.
 abbrev pub cast_by : Option Cast → ℕ → ℕ → Ty → Typed → Out Typed
 cast_by None broken at to x = refuse BAD_CAST broken
 cast_by (Some cast) broken at to x = if same_types (type_in x) to then Ok x else Ok (applied at to (o.Cast cast) (x ∷ []))
 
+-- a cast of the table, written or added, at a place
+abbrev pub cast_at : ℕ → Ty → Part → Bool → Out Typed
+cast_at at to x written = cast_by (cast_of class_is_below (type_of_part x) to written) x.at at to x.typed
+
 abbrev pub literal_or : Option Constant → ℕ → Ty → Out Typed → Out Typed
 literal_or None at to other = other
 literal_or (Some constant) at to other = Ok (typed at to (n.Constant constant))
 
--- a cast that typing adds, at a place
-abbrev pub added : ℕ → Ty → Part → Out Typed
-added at to x = literal_or (standing_layer x.form (out-Ty to)) x.at to (cast_by (cast_of class_is_below (type_of_part x) to false) x.at at to x.typed)
-
--- the same, where the expression stands that is cast
+-- a cast that typing adds, where the expression stands that is cast
 abbrev pub cast_to : Ty → Part → Out Typed
-cast_to to x = added x.at to x
+cast_to to x = literal_or (standing x.form to) x.at to (cast_at x.at to x false)
 
 -- a cast that is written
 abbrev pub asked : ℕ → Ty → Part → Out Part
-asked at to x = bind (cast_by (cast_of class_is_below (type_of_part x) to true) x.at at to x.typed) (λ y. Ok (plain at y))
+asked at to x = bind (cast_at at to x true) (λ y. Ok (plain at y))

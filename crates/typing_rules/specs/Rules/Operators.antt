@@ -9,8 +9,6 @@ use Rattle.pl_types.specs.declared.primitive.Primitive.{Primitive}
 use Rattle.pl_types.specs.declared.primitive.Primitive.TheVariants as p
 use Rattle.pl_types.specs.declared.rules.TheConstants.{BAD_OPERAND, OUT_OF_PROFILE}
 use Rattle.pl_types.specs.Types.{same_types}
-use Rattle.pl_types.specs.Casts.{cast_of}
-use Rattle.pl_types.specs.Classes.{class_is_below}
 use Rattle.pl_types.specs.Promotions.{promote_of}
 use Rattle.pl_tree.specs.declared.operator.BinaryOperator.{BinaryOperator}
 use Rattle.pl_tree.specs.declared.operator.BinaryOperator.TheVariants as b
@@ -27,7 +25,7 @@ use Rattle.typing_rules.specs.declared.part.Part.{Part}
 use Rattle.typing_rules.specs.declared.rules.plans.Plan.{Plan}
 use Rattle.typing_rules.specs.Outcomes.{Out, refuse, bind}
 use Rattle.typing_rules.specs.Rules.Nodes.{boolean, typed, applied, plain, type_of_part, is_void}
-use Rattle.typing_rules.specs.Rules.Casts.{cast_by, cast_to}
+use Rattle.typing_rules.specs.Rules.Casts.{cast_at, cast_to}
 
 abbrev pub primitive_layer : Ty-F Ty → Option Primitive
 primitive_layer (Ty-F.Prim q) = Some q
@@ -108,7 +106,7 @@ plan_between operator x y = plan_if operator (primitive_of x) (primitive_of y)
 
 -- a side as an operator takes it, the cast standing at a place
 abbrev pub operand : ℕ → Primitive → Part → Out Typed
-operand at to x = cast_by (cast_of class_is_below (type_of_part x) (t.Prim to) true) x.at at (t.Prim to) x.typed
+operand at to x = cast_at at (t.Prim to) x true
 
 abbrev pub strict : Option Plan → ℕ → Part → Part → Out Part
 strict None at x y = refuse BAD_OPERAND at
@@ -169,9 +167,13 @@ abbrev pub choice_layer : Ty-F Ty → ℕ → Ty → Typed → Typed → Typed �
 choice_layer Ty-F.Def at to z x y = refuse OUT_OF_PROFILE at
 choice_layer _ at to z x y = Ok (plain at (typed at to (n.Conditional z x y)))
 
+-- one whose type is def is not built
+abbrev pub choice_typed : ℕ → Ty → Typed → Typed → Typed → Out Part
+choice_typed at to z x y = choice_layer (out-Ty to) at to z x y
+
 -- a conditional whose sides have different types
 abbrev pub choice_to : ℕ → Ty → Typed → Part → Part → Out Part
-choice_to at to z x y = bind (cast_to to x) (λ x. bind (cast_to to y) (λ y. choice_layer (out-Ty to) at to z x y))
+choice_to at to z x y = bind (cast_to to x) (λ x. bind (cast_to to y) (λ y. choice_typed at to z x y))
 
 abbrev pub choice_as : Bool → ℕ → Typed → Part → Part → Out Part
 choice_as true at z x y = Ok (plain at (typed at (type_of_part x) (n.Conditional z x.typed y.typed)))

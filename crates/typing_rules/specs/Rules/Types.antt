@@ -1,5 +1,5 @@
 -- Types as they are written. Only the primitive types are built.
-use Rattle.std.specs.Prelude.{ℕ, Bool, List, [], ◌∷◌, codes, bytes_eq, if◌then◌else◌, Ok}
+use Rattle.std.specs.Prelude.{ℕ, Bool, true, false, ◌&&◌, List, [], ◌∷◌, codes, bytes_eq, if◌then◌else◌, Ok}
 use Rattle.pl_types.specs.declared.ty.Ty.{Ty}
 use Rattle.pl_types.specs.declared.ty.Ty.TheVariants as t
 use Rattle.pl_types.specs.declared.rules.TheConstants.{UNKNOWN_TYPE, OUT_OF_PROFILE}
@@ -23,13 +23,18 @@ bracketed at (b ∷ brackets) of = refuse OUT_OF_PROFILE at
 abbrev pub type_of : TypeName → Out Ty
 type_of of = bind (base_of of.at of.base) (bracketed of.at of.brackets)
 
-abbrev pub void_or : Bool → TypeName → Out Ty
-void_or is of = if is then Ok t.Void else type_of of
+abbrev pub is_empty : List ℕ → Bool
+is_empty [] = true
+is_empty (b ∷ brackets) = false
 
-abbrev pub result_if : TypeName → TypeBase → List ℕ → Out Ty
-result_if of (b.Name name) [] = void_or (bytes_eq name (codes "void")) of
-result_if of base brackets = type_of of
+abbrev pub void_base : TypeBase → Bool
+void_base (b.Name name) = bytes_eq name (codes "void")
+void_base base = false
+
+-- whether a type is the name `void`
+abbrev pub names_void : TypeName → Bool
+names_void of = void_base of.base && is_empty of.brackets
 
 -- the result of a function may be the name `void`
 abbrev pub result_of : TypeName → Out Ty
-result_of of = result_if of of.base of.brackets
+result_of of = if names_void of then Ok t.Void else type_of of
