@@ -2,6 +2,7 @@
 
 ghost use Rattle.std.specs.Prelude.{◌≡◌};
 ghost use Rattle.typing_rules.specs.Rules.Nodes as spec;
+ghost use Rattle.typing_rules.specs.Rules.Places as places;
 
 use pl_types::Ty;
 use plain_data::{Subtree, Text};
@@ -90,6 +91,18 @@ impl Drop for Place {
     }
 }
 
+impl Place {
+    /// The variable that is written to, if it is one.
+    pub fn into_local(self) -> Option<(Text, Ty)>
+        ensures { result ≡ places.local_in self }
+    {
+        match self {
+            Place::Local { name, of } => Some((name, of)),
+            Place::Fixed => None,
+        }
+    }
+}
+
 /// A statement that is typed: whether it escapes, so that nothing behind it is reached, and whether it leaves the loop around it by a
 /// `break`.
 pub struct Step {
@@ -105,5 +118,19 @@ impl Drop for Step {
             breaks: _,
             statement: _statement,
         } = self;
+    }
+}
+
+impl Step {
+    /// The statement.
+    pub fn into_statement(self) -> Subtree<TypedStatement>
+        ensures { result ≡ self.statement }
+    {
+        let Step {
+            escapes: _,
+            breaks: _,
+            statement,
+        } = self;
+        statement
     }
 }

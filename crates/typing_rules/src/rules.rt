@@ -1,8 +1,12 @@
 //! The rules, by kind of node.
 
+pub mod calls;
 pub mod casts;
+pub mod functions;
 pub mod literals;
 mod nodes;
 pub mod operators;
+pub mod places;
 pub mod plans;
+pub mod statements;
 pub mod types;

@@ -33,11 +33,15 @@ is_named name names = list_any (λ (n : Named). bytes_eq n.name name) names
 abbrev pub named : List ℕ → Ty → Named
 named name of = record { name = name; of = of }
 
--- a function's parameters, from the left to the right, behind those before them: no two have one name
+-- one parameter, behind others: no two have one name
+abbrev pub parameter : Parameter → List Named → Out Named
+parameter p before = bind (parameter_type p.name.at p.of) (λ of.
+    if is_named p.name.spelling before then refuse ALREADY_DEFINED p.name.at else Ok (named p.name.spelling of))
+
+-- a function's parameters, from the left to the right, behind those before them
 abbrev pub parameters : List Parameter → List Named → Out (List Named)
 parameters [] before = Ok before
-parameters (p ∷ ps) before = bind (parameter_type p.name.at p.of) (λ of.
-    if is_named p.name.spelling before then refuse ALREADY_DEFINED p.name.at else parameters ps (before ++ named p.name.spelling of ∷ []))
+parameters (p ∷ ps) before = bind (parameter p before) (λ n. parameters ps (before ++ n ∷ []))
 
 abbrev pub header : List ℕ → List Named → Ty → Header
 header name parameters result = record { name = name; parameters = parameters; result = result }

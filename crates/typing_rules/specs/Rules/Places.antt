@@ -41,29 +41,38 @@ abbrev pub entry_if : Option ℕ → List Entry → Option Entry
 entry_if None scopes = None
 entry_if (Some i) scopes = slice_get scopes i
 
+abbrev pub entry_of : List ℕ → List Entry → Option Entry
+entry_of name scopes = entry_if (find name scopes) scopes
+
 abbrev pub local_layer : Ty-F Ty → ℕ → Entry → Out Part
-local_layer (Ty-F.Prim q) at e = Ok (plain at (typed at e.of (n.Local e.name)))
+local_layer (Ty-F.Prim q) at e = Ok (plain at (typed at (t.Prim q) (n.Local e.name)))
 local_layer _ at e = refuse OUT_OF_PROFILE at
+
+abbrev pub local_of : ℕ → Entry → Out Part
+local_of at e = local_layer (out-Ty e.of) at e
 
 abbrev pub local_if : Option Entry → ℕ → Out Part
 local_if None at = refuse UNKNOWN_VARIABLE at
-local_if (Some e) at = local_layer (out-Ty e.of) at e
+local_if (Some e) at = local_of at e
 
 -- A name's value. One of a type that is not built is not built.
 abbrev pub local : ℕ → List ℕ → State → Out Part
-local at name s = local_if (entry_if (find name s.scopes) s.scopes) at
+local at name s = local_if (entry_of name s.scopes) at
 
 abbrev pub is_fixed : Standing → Bool
 is_fixed standing.Variable = false
 is_fixed standing.Fixed = true
 
 abbrev pub written_layer : Ty-F Ty → ℕ → Bool → Entry → Out Place
-written_layer (Ty-F.Prim q) at fixed e = if fixed then Ok place.Fixed else Ok (place.Local e.name e.of)
+written_layer (Ty-F.Prim q) at fixed e = if fixed then Ok place.Fixed else Ok (place.Local e.name (t.Prim q))
 written_layer _ at fixed e = refuse OUT_OF_PROFILE at
+
+abbrev pub written_of : ℕ → Bool → Entry → Out Place
+written_of at fixed e = written_layer (out-Ty e.of) at fixed e
 
 abbrev pub written_if : ℕ → ℕ → ℕ → Option Entry → Out Place
 written_if at base i None = refuse UNKNOWN_VARIABLE at
-written_if at base i (Some e) = written_layer (out-Ty e.of) at (is_fixed e.standing || nat_lt i base) e
+written_if at base i (Some e) = written_of at (is_fixed e.standing || nat_lt i base) e
 
 abbrev pub written_at : Option ℕ → ℕ → State → Out Place
 written_at None at s = refuse UNKNOWN_VARIABLE at
@@ -80,24 +89,48 @@ set at name of x = bind (cast_to of x) (λ y. Ok (part at f.Deed (typed at of (n
 abbrev pub change : Cast → Plan → Cast → Change
 change before plan after = record { before = before; operator = plan.operator; after = after }
 
-abbrev pub changed_by : Option Cast → Option Cast → ℕ → List ℕ → Ty → Plan → Typed → Gives → Out Part
-changed_by (Some before) (Some after) at name of plan y gives = Ok (part at f.Deed (typed at of (n.Change (target.Local name) [] (change before plan after) y gives)))
-changed_by _ _ at name of plan y gives = refuse BAD_CAST at
+abbrev pub change_by : Option Cast → Option Cast → Plan → Option Change
+change_by (Some before) (Some after) plan = Some (change before plan after)
+change_by _ _ plan = None
 
--- what is read is cast to the operator's left side, and what comes out to the variable's type
+-- what is read is cast to the operator's left side
+abbrev pub cast_before : Plan → Ty → Option Cast
+cast_before plan of = cast_of class_is_below of (t.Prim plan.left) true
+
+-- and what comes out to the variable's type
+abbrev pub cast_after : Plan → Ty → Option Cast
+cast_after plan of = cast_of class_is_below (t.Prim plan.result) of true
+
+abbrev pub change_of : Plan → Ty → Option Change
+change_of plan of = change_by (cast_before plan of) (cast_after plan of) plan
+
+abbrev pub changed_by : Option Change → ℕ → List ℕ → Ty → Typed → Gives → Out Part
+changed_by None at name of y gives = refuse BAD_CAST at
+changed_by (Some change) at name of y gives = Ok (part at f.Deed (typed at of (n.Change (target.Local name) [] change y gives)))
+
 abbrev pub changed : ℕ → List ℕ → Ty → Plan → Typed → Gives → Out Part
-changed at name of plan y gives =
-    changed_by (cast_of class_is_below of (t.Prim plan.left) true) (cast_of class_is_below (t.Prim plan.result) of true) at name of plan y gives
+changed at name of plan y gives = changed_by (change_of plan of) at name of y gives
 
 abbrev pub compound : Option Plan → ℕ → List ℕ → Ty → Part → Out Part
 compound None at name of x = refuse BAD_OPERAND at
 compound (Some plan) at name of x = bind (operand at plan.right x) (λ y. changed at name of plan y g.New)
 
+-- the variable that a place is
+abbrev pub local_in : Place → Option (List ℕ × Ty)
+local_in (place.Local name of) = Some (name, of)
+local_in place.Fixed = None
+
+abbrev pub assigned : Option BinaryOperator → ℕ → List ℕ → Ty → Part → Out Part
+assigned None at name of x = set at name of x
+assigned (Some operator) at name of x = compound (plan_between operator of (type_of_part x)) at name of x
+
+abbrev pub assign_if : Option (List ℕ × Ty) → ℕ → Option BinaryOperator → Part → Out Part
+assign_if None at operator x = refuse NOT_ASSIGNABLE at
+assign_if (Some v) at operator x = assigned operator at v.0 v.1 x
+
 -- An assignment, plain or with an operator. What is not written to is told before a cast.
 abbrev pub assign_of : ℕ → Option BinaryOperator → Place → Part → Out Part
-assign_of at operator place.Fixed x = refuse NOT_ASSIGNABLE at
-assign_of at None (place.Local name of) x = set at name of x
-assign_of at (Some operator) (place.Local name of) x = compound (plan_between operator of (type_of_part x)) at name of x
+assign_of at operator p x = assign_if (local_in p) at operator x
 
 -- one of a number type
 abbrev pub one : ℕ → Primitive → Typed
@@ -112,7 +145,10 @@ abbrev pub operator_of : Step → BinaryOperator
 operator_of step.Increment = b.Add
 operator_of step.Decrement = b.Subtract
 
+abbrev pub step_if : Option (List ℕ × Ty) → ℕ → Step → Gives → Out Part
+step_if None at step gives = refuse NOT_ASSIGNABLE at
+step_if (Some v) at step gives = counted (plan_between (operator_of step) v.1 (t.Prim p.Int)) at v.0 v.1 gives
+
 -- `++` and `--`
 abbrev pub step_of : ℕ → Step → Gives → Place → Out Part
-step_of at step gives place.Fixed = refuse NOT_ASSIGNABLE at
-step_of at step gives (place.Local name of) = counted (plan_between (operator_of step) of (t.Prim p.Int)) at name of gives
+step_of at step gives p = step_if (local_in p) at step gives

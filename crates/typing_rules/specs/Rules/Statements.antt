@@ -37,9 +37,13 @@ deed at x = if is_deed x.form then Ok (step false false at (node.Expression x.ty
 abbrev pub give_back : ℕ → Ty → Part → Out Step
 give_back at to x = bind (cast_to to x) (λ y. Ok (step true false at (node.Return (Some y))))
 
+-- whether an expression statement is the result of the script
+abbrev pub is_result : Bool → Part → State → Bool
+is_result last x s = last && (not (is_void s.result) && not (is_void (type_of_part x)))
+
 -- an expression statement; the last of the main script is its result, where it has one
 abbrev pub expression_of : ℕ → Bool → Part → State → Out Step
-expression_of at last x s = if last && (not (is_void s.result) && not (is_void (type_of_part x))) then give_back at s.result x else deed at x
+expression_of at last x s = if is_result last x s then give_back at s.result x else deed at x
 
 abbrev pub variable : Spelled → Ty → Option Typed → TypedVariable
 variable name of value = record { at = name.at; name = name.spelling; of = of; value = value }
