@@ -1,5 +1,5 @@
 -- Typing in steps: each has what is known so far, and goes on or tells the first broken rule.
-use Rattle.std.specs.Prelude.{List, Option, Some, None, Ok, Err}
+use Rattle.std.specs.Prelude.{List, Ok, Err}
 use Rattle.typing_rules.specs.declared.part.Step.{Step}
 use Rattle.typing_rules.specs.declared.state.State.{State}
 use Rattle.typing_rules.specs.Outcomes.{Out}

@@ -4,8 +4,6 @@ use Rattle.std.specs.Prelude.{ℕ, Bool, true, false, ◌&&◌, List, [], ◌∷
 use Rattle.pl_types.specs.declared.ty.Ty.{Ty}
 use Rattle.pl_types.specs.declared.ty.Ty.TheVariants as t
 use Rattle.pl_types.specs.declared.rules.TheConstants.{OUT_OF_PROFILE}
-use Rattle.pl_tree.specs.declared.operator.BinaryOperator.{BinaryOperator}
-use Rattle.pl_tree.specs.declared.operator.Step as tree
 use Rattle.pl_tree.specs.declared.operator.UnaryOperator.{UnaryOperator}
 use Rattle.pl_tree.specs.declared.operator.UnaryOperator.TheVariants as sign
 use Rattle.pl_tree.specs.declared.tree.TypeName.{TypeName}
@@ -15,16 +13,10 @@ use Rattle.pl_tree.specs.declared.tree.Tree.{Tree}
 use Rattle.pl_tree.specs.declared.tree.Argument.{Argument}
 use Rattle.pl_tree.specs.declared.tree.Body.{Body}
 use Rattle.pl_tree.specs.declared.tree.Expr.{Expr}
-use Rattle.pl_tree.specs.declared.tree.First.{First}
-use Rattle.pl_tree.specs.declared.tree.LambdaBody.{LambdaBody}
 use Rattle.pl_tree.specs.declared.tree.Statement.{Statement}
 use Rattle.pl_tree.specs.declared.tree.Block.{Block}
-use Rattle.pl_tree.specs.declared.tree.Catch.{Catch}
-use Rattle.pl_tree.specs.declared.tree.Declaration.{Declaration}
-use Rattle.pl_tree.specs.declared.tree.Entry.{Entry}
-use Rattle.pl_tree.specs.declared.tree.Variable.{Variable}
 use Rattle.pl_tree.specs.declared.tree.Argument.TheOpen.{Argument-F, Body-F, Expr-F, First-F, LambdaBody-F, Statement-F, Block-F, Catch-F, Declaration-F, Entry-F, Variable-F}
-use Rattle.pl_tree.specs.declared.tree.Argument.TheFolds.{fold-Argument, fold-Body, fold-Expr, fold-First, fold-LambdaBody, fold-Statement, fold-Block, fold-Catch, fold-Declaration, fold-Entry, fold-Variable}
+use Rattle.pl_tree.specs.declared.tree.Argument.TheFolds.{fold-Argument, fold-Body, fold-Expr, fold-Statement, fold-Block}
 use Rattle.typed_tree.specs.declared.operation.Gives.TheVariants as g
 use Rattle.typed_tree.specs.declared.program.Program.{Program}
 use Rattle.typed_tree.specs.declared.program.TypedFunction.{TypedFunction}
@@ -235,13 +227,19 @@ module _ (hs : List Header) where
   abbrev pub statement_step : Open Statement-F → Doer
   statement_step (Statement-F.If at condition chosen otherwise) = record { at = at; typed = λ last. (do x ← condition.value; x ← by_rule (test x); y ← chosen; n ← perhaps otherwise; pure (if_of at x y n)) }
   statement_step (Statement-F.While at condition body) = record { at = at; typed = λ last. (do c ← loop_condition (Some condition); y ← looping (perhaps body); pure (loop_of at None c None y)) }
-  statement_step (Statement-F.For at first condition update body) = record { at = at; typed = λ last.
-    scoped (do f ← perhaps first; c ← loop_condition condition; u ← loop_update update; y ← looping (perhaps body); pure (loop_of at f c u y)) }
+  statement_step (Statement-F.For at first condition update body) = record {
+    at = at;
+    typed = λ last.
+        scoped (do f ← perhaps first; c ← loop_condition condition; u ← loop_update update; y ← looping (perhaps body); pure (loop_of at f c u y));
+  }
   statement_step (Statement-F.ForEach at of name over body) = record { at = at; typed = λ last. for_each at (by_rule (type_of of)) name.spelling over body }
   statement_step (Statement-F.ForIn at name over body) = record { at = at; typed = λ last. for_each at (pure t.Def) name.spelling over body }
   statement_step (Statement-F.Try at block catches) = record { at = at; typed = λ last. (do seen (scoped block.steps); all_seen catches; unbuilt at) }
-  statement_step (Statement-F.Do at block condition) = record { at = at; typed = λ last.
-    (do ys ← looping (scoped block.steps); c ← loop_condition (Some condition); pure (do_of at (block_of block.at ys) c)) }
+  statement_step (Statement-F.Do at block condition) = record {
+    at = at;
+    typed = λ last.
+        (do ys ← looping (scoped block.steps); c ← loop_condition (Some condition); pure (do_of at (block_of block.at ys) c));
+  }
   statement_step (Statement-F.«Statement::Declare» declaration) = record { at = declaration.at; typed = λ last. declaration.typed false }
   statement_step (Statement-F.Continue at) = record { at = at; typed = λ last. looking (continue_of at) }
   statement_step (Statement-F.Break at) = record { at = at; typed = λ last. looking (break_of at) }

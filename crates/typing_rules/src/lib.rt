@@ -7,10 +7,9 @@ mod header;
 mod lineage;
 mod part;
 mod refuse;
+pub mod rules;
 mod scopes;
 mod state;
-
-pub mod rules;
 
 pub use header::{ContextTypes, Header};
 pub use part::{Form, Part, Place, Step};

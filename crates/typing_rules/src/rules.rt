@@ -1,5 +1,6 @@
 //! The rules, by kind of node.
 
+pub mod bodies;
 pub mod calls;
 pub mod casts;
 pub mod functions;

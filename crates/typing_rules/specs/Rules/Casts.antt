@@ -1,7 +1,6 @@
 -- Casts.
 use Rattle.std.specs.Prelude.{ℕ, ℤ, pos, neg_ℤ, int_le, Bool, true, false, ◌&&◌, [], ◌∷◌, Option, Some, None, Ok, if◌then◌else◌}
 use Rattle.pl_types.specs.declared.ty.Ty.{Ty, out-Ty}
-use Rattle.pl_types.specs.declared.ty.Ty.TheVariants as t
 use Rattle.pl_types.specs.declared.ty.Ty.TheOpen.{Ty-F}
 use Rattle.pl_types.specs.declared.primitive.Primitive.TheVariants as p
 use Rattle.pl_types.specs.declared.conversion.Cast.{Cast}

@@ -65,8 +65,11 @@ headers (f ∷ fs) before = bind (header_of f before) (λ h. headers fs (before 
 abbrev pub entry : Standing → Named → Entry
 entry standing n = record { name = n.name; of = n.of; standing = standing }
 
+abbrev pub entries : Standing → List Named → List Entry
+entries standing names = map (entry standing) names
+
 abbrev pub start : Standing → List Named → Ty → State
-start standing names result = record { scopes = map (entry standing) names; base = 0; result = result; looped = false }
+start standing names result = record { scopes = entries standing names; base = 0; result = result; looped = false }
 
 -- functions see their parameters alone, and the main script the variables of its context
 abbrev pub function_start : Header → State

@@ -1,5 +1,5 @@
 -- Literals.
-use Rattle.std.specs.Prelude.{ℕ, Bool, true, false, ◌^◌, List, nat_lt, nat_le, ℤ, pos, neg_ℤ, Ok, if◌then◌else◌}
+use Rattle.std.specs.Prelude.{ℕ, true, false, ◌^◌, List, nat_lt, nat_le, ℤ, pos, neg_ℤ, Ok, if◌then◌else◌}
 use Rattle.pl_types.specs.declared.ty.Ty.TheVariants as t
 use Rattle.pl_types.specs.declared.primitive.Primitive.TheVariants.{Int, Long}
 use Rattle.pl_types.specs.declared.rules.TheConstants.{LITERAL_RANGE, OUT_OF_PROFILE}

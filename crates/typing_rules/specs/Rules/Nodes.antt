@@ -1,9 +1,8 @@
 -- Typed nodes.
-use Rattle.std.specs.Prelude.{ℕ, List, [], ◌∷◌, Bool, true, false}
+use Rattle.std.specs.Prelude.{ℕ, List, Bool, true, false}
 use Rattle.pl_types.specs.declared.ty.Ty.{Ty, out-Ty}
 use Rattle.pl_types.specs.declared.ty.Ty.TheVariants as t
 use Rattle.pl_types.specs.declared.ty.Ty.TheOpen.{Ty-F}
-use Rattle.pl_types.specs.declared.primitive.Primitive.{Primitive}
 use Rattle.pl_types.specs.declared.primitive.Primitive.TheVariants as p
 use Rattle.typed_tree.specs.declared.operation.Operation.{Operation}
 use Rattle.typed_tree.specs.declared.typed.Typed.{Typed, roll-Typed, out-Typed}

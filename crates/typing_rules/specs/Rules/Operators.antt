@@ -1,5 +1,5 @@
 -- Operators and the conditional.
-use Rattle.std.specs.Prelude.{ℕ, Bool, true, false, List, [], ◌∷◌, Option, Some, None, Ok, option_map, if◌then◌else◌}
+use Rattle.std.specs.Prelude.{ℕ, Bool, true, false, [], ◌∷◌, Option, Some, None, Ok, option_map, if◌then◌else◌}
 use Rattle.arithmetic.specs.declared.operator.Op.{Op}
 use Rattle.arithmetic.specs.declared.operator.Op.TheVariants as op
 use Rattle.pl_types.specs.declared.ty.Ty.{Ty, out-Ty}

@@ -1,6 +1,5 @@
 -- Names, and what is written to them.
-use Rattle.std.specs.Prelude.{ℕ, pos, Bool, true, false, ◌||◌, nat_lt, List, [], ◌∷◌, Option, Some, None, Ok, slice_get, if◌then◌else◌}
-use Rattle.arithmetic.specs.declared.operator.Op.TheVariants as op
+use Rattle.std.specs.Prelude.{ℕ, pos, Bool, true, false, ◌||◌, nat_lt, List, [], Option, Some, None, Ok, slice_get, if◌then◌else◌}
 use Rattle.pl_types.specs.declared.ty.Ty.{Ty, out-Ty}
 use Rattle.pl_types.specs.declared.ty.Ty.TheVariants as t
 use Rattle.pl_types.specs.declared.ty.Ty.TheOpen.{Ty-F}
@@ -34,7 +33,7 @@ use Rattle.typing_rules.specs.Outcomes.{Out, refuse, bind}
 use Rattle.typing_rules.specs.Scopes.{find}
 use Rattle.typing_rules.specs.Rules.Nodes.{typed, part, plain, type_of_part}
 use Rattle.typing_rules.specs.Rules.Casts.{cast_to}
-use Rattle.typing_rules.specs.Rules.Operators.{operand, plan_between, arithmetic, primitive_of}
+use Rattle.typing_rules.specs.Rules.Operators.{operand, plan_between}
 
 -- the entry of a name in sight, with its place among the names
 abbrev pub entry_if : Option ℕ → List Entry → Option Entry

@@ -18,9 +18,7 @@ use typed_tree::{Named, Node, Operation, Typed};
 pub fn function_of(headers: &[Header], name: &Text, arity: usize) -> Option<usize>
     ensures { result ≡ spec.function_of headers.now name.now arity }
 {
-    headers
-        .iter()
-        .position(|h| h.name.as_str() == name.as_str() && h.parameters.len() == arity)
+    headers.iter().position(|h| h.name.as_str() == name.as_str() && h.parameters.len() == arity)
 }
 
 /// Each argument cast to its parameter's type.

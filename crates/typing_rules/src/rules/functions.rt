@@ -31,11 +31,7 @@ fn is_named(name: &Text, names: &[Named]) -> bool
 }
 
 /// One parameter, behind others.
-fn parameter(
-    alloc: Global,
-    parameter: &Parameter,
-    before: &[Named],
-) -> Result<Named, Fail>
+fn parameter(alloc: Global, parameter: &Parameter, before: &[Named]) -> Result<Named, Fail>
     ensures { Keeps (spec.parameter parameter.now before.now) result }
 {
     let of = parameter_type(parameter.name.at, &parameter.of)?;

@@ -54,13 +54,7 @@ fn side(alloc: Global, at: u32, x: Part) -> Result<Subtree<Typed>, Fail>
     cast_to(alloc, &boolean(), x)
 }
 
-fn logical(
-    alloc: Global,
-    operator: Logical,
-    at: u32,
-    x: Part,
-    y: Part,
-) -> Result<Part, Fail>
+fn logical(alloc: Global, operator: Logical, at: u32, x: Part, y: Part) -> Result<Part, Fail>
     ensures { Keeps (spec.logical operator at x y) result }
 {
     let left = side(alloc, at, x)?;
@@ -141,10 +135,7 @@ fn not_of(alloc: Global, at: u32, x: Part) -> Result<Part, Fail>
 {
     let x = side(alloc, at, x)?;
     let operation = Operation::Operator(Operator::Boolean(Op::Not));
-    Ok(plain(
-        at,
-        applied_to_one(alloc, at, boolean(), operation, x)?,
-    ))
+    Ok(plain(at, applied_to_one(alloc, at, boolean(), operation, x)?))
 }
 
 /// An operator before its operand.
@@ -210,13 +201,7 @@ fn choice_to(
 /// `condition ? yes : no`, at the `?`.
 ///
 /// BadCast (9): the condition is no boolean, or one side alone is void. OutOfProfile (19): the sides have no common type that is built.
-pub fn choice_of(
-    alloc: Global,
-    at: u32,
-    condition: Part,
-    yes: Part,
-    no: Part,
-) -> Result<Part, Fail>
+pub fn choice_of(alloc: Global, at: u32, condition: Part, yes: Part, no: Part) -> Result<Part, Fail>
     ensures { Keeps (spec.choice_of at condition yes no) result }
 {
     let condition = cast_to(alloc, &boolean(), condition)?;

@@ -231,13 +231,7 @@ fn operator_of(step: Step) -> BinaryOperator
 /// `++` or `--`, at its first token.
 ///
 /// NotAssignable (15): its operand is not written to. BadOperand (10): it is no number.
-pub fn step_of(
-    alloc: Global,
-    at: u32,
-    step: Step,
-    gives: Gives,
-    place: Place,
-) -> Result<Part, Fail>
+pub fn step_of(alloc: Global, at: u32, step: Step, gives: Gives, place: Place) -> Result<Part, Fail>
     ensures { Keeps (spec.step_of at step gives place) result }
 {
     let Some((name, of)) = place.into_local() else {

@@ -81,13 +81,7 @@ fn give_back(alloc: Global, at: u32, to: &Ty, x: Part) -> Result<Step, Fail>
     ensures { Keeps (spec.give_back at to.now x) result }
 {
     let value = cast_to(alloc, to, x)?;
-    Ok(step(
-        alloc,
-        true,
-        false,
-        at,
-        StatementNode::Return(Some(value)),
-    )?)
+    Ok(step(alloc, true, false, at, StatementNode::Return(Some(value)))?)
 }
 
 fn is_result(last: bool, x: &Part, state: &State) -> bool
@@ -311,7 +305,7 @@ pub fn nothing_returned(alloc: Global, at: u32, state: &State) -> Result<Step, F
     Ok(step(alloc, true, false, at, StatementNode::Return(None))?)
 }
 
-fn last_escapes(steps: &[Step]) -> bool
+pub(crate) fn last_escapes(steps: &[Step]) -> bool
     ensures { result ≡ spec.last_escapes steps.now }
 {
     match steps.last() {
