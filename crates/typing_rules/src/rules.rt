@@ -1,0 +1,13 @@
+//! The rules, by kind of node.
+
+pub mod bodies;
+pub mod calls;
+pub mod casts;
+pub mod functions;
+pub mod literals;
+mod nodes;
+pub mod operators;
+pub mod places;
+pub mod plans;
+pub mod statements;
+pub mod types;

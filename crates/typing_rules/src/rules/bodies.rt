@@ -1,0 +1,162 @@
+//! What a body begins with, and what it comes to.
+
+ghost use Rattle.std.specs.Prelude.{◌≡◌, IfOk};
+ghost use Rattle.typing_rules.specs.Outcomes.{Keeps};
+ghost use Rattle.typing_rules.specs.Rules.Functions as spec;
+
+use crate::header::{ContextTypes, Header};
+use crate::part::Step;
+use crate::refuse::refuse;
+use crate::rules::nodes::is_void;
+use crate::rules::places::copy;
+use crate::rules::statements::{last_escapes, statements_of};
+use crate::scopes::{Entry, Scopes, Standing};
+use crate::state::State;
+use pl_tree::Function;
+use pl_types::{Fail, Ty, rules};
+use plain_data::{Items, Text};
+use std::alloc::{AllocError, Global};
+use typed_tree::{FunctionKind, Named, TypedFunction};
+
+fn entry(alloc: Global, standing: Standing, n: &Named) -> Result<Entry, AllocError>
+    ensures { IfOk result (λ e. e ≡ spec.entry standing n.now) }
+{
+    let name = copy(alloc, &n.name)?;
+    let of = n.of.share(alloc)?;
+    Ok(Entry { name, of, standing })
+}
+
+fn entries(alloc: Global, standing: Standing, names: &[Named]) -> Result<Scopes, AllocError>
+    ensures { IfOk result (λ s. s ≡ spec.entries standing names.now) }
+{
+    let mut scopes = Scopes::new(alloc);
+    for n in names {
+        let entry = entry(alloc, standing, n)?;
+        scopes.push(entry)?;
+    }
+    Ok(scopes)
+}
+
+fn start(
+    alloc: Global,
+    standing: Standing,
+    names: &[Named],
+    wanted: &Ty,
+) -> Result<State, AllocError>
+    ensures { IfOk result (λ s. s ≡ spec.start standing names.now wanted.now) }
+{
+    let scopes = entries(alloc, standing, names)?;
+    let result = wanted.share(alloc)?;
+    Ok(State {
+        scopes,
+        base: 0,
+        result,
+        looped: false,
+    })
+}
+
+/// What is known where a function's body begins: its parameters alone.
+pub fn function_start(alloc: Global, header: &Header) -> Result<State, AllocError>
+    ensures { IfOk result (λ s. s ≡ spec.function_start header.now) }
+{
+    start(
+        alloc,
+        Standing::Variable,
+        header.parameters.as_slice(),
+        &header.result,
+    )
+}
+
+/// What is known where the main script begins: the variables of its context.
+pub fn main_start(alloc: Global, context: &ContextTypes) -> Result<State, AllocError>
+    ensures { IfOk result (λ s. s ≡ spec.main_start context.now) }
+{
+    start(
+        alloc,
+        Standing::Fixed,
+        context.variables.as_slice(),
+        &context.result,
+    )
+}
+
+fn named(alloc: Global, n: &Named) -> Result<Named, AllocError>
+    ensures { IfOk result (λ c. c ≡ n.now) }
+{
+    let name = copy(alloc, &n.name)?;
+    let of = n.of.share(alloc)?;
+    Ok(Named { name, of })
+}
+
+fn copies(alloc: Global, names: &[Named]) -> Result<Items<Named>, AllocError>
+    ensures { IfOk result (λ c. c ≡ names.now) }
+{
+    let mut all = Items::new(alloc);
+    for n in names {
+        let copy = named(alloc, n)?;
+        all.push(copy)?;
+    }
+    Ok(all)
+}
+
+fn function(
+    alloc: Global,
+    f: &Function,
+    header: &Header,
+    steps: Vec<Step>,
+) -> Result<TypedFunction, AllocError>
+    ensures { IfOk result (λ x. x ≡ spec.function f.now header.now steps.items) }
+{
+    let name = copy(alloc, &f.name.spelling)?;
+    let parameters = copies(alloc, header.parameters.as_slice())?;
+    let result = header.result.share(alloc)?;
+    let body = statements_of(alloc, steps)?;
+    Ok(TypedFunction {
+        kind: FunctionKind::Named,
+        at: f.name.at,
+        name,
+        captured: Items::new(alloc),
+        parameters,
+        result,
+        body,
+    })
+}
+
+/// A function with its body, whose statements are typed.
+///
+/// MissingReturn (13): it wants a value, and its body does not escape.
+pub fn finished(
+    alloc: Global,
+    f: &Function,
+    header: &Header,
+    steps: Vec<Step>,
+) -> Result<TypedFunction, Fail>
+    ensures { Keeps (spec.finished f.now header.now steps.items) result }
+{
+    if !is_void(&header.result) && !last_escapes(&steps) {
+        return Err(refuse(rules::MISSING_RETURN, f.name.at));
+    }
+    Ok(function(alloc, f, header, steps)?)
+}
+
+/// The main script with its statements, which are typed.
+pub fn main_of(
+    alloc: Global,
+    context: &ContextTypes,
+    steps: Vec<Step>,
+) -> Result<TypedFunction, AllocError>
+    ensures { IfOk result (λ x. x ≡ spec.main context.now steps.items) }
+{
+    let name = Text::new(alloc, "")?;
+    let parameters = copies(alloc, context.variables.as_slice())?;
+    let result = context.result.share(alloc)?;
+    let body = statements_of(alloc, steps)?;
+    Ok(TypedFunction {
+        kind: FunctionKind::Main,
+        at: 0,
+        name,
+        captured: Items::new(alloc),
+        parameters,
+        result,
+        body,
+    })
+}

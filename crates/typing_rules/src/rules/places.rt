@@ -1,0 +1,246 @@
+//! Names, and what is written to them.
+
+ghost use Rattle.std.specs.Prelude.{◌≡◌, IfOk};
+ghost use Rattle.std.specs.Option.{option_copied};
+ghost use Rattle.typing_rules.specs.Outcomes.{Keeps};
+ghost use Rattle.typing_rules.specs.Rules.Places as spec;
+
+use crate::lineage::Classes;
+use crate::part::{Part, Place};
+use crate::refuse::refuse;
+use crate::rules::casts::cast_to;
+use crate::rules::nodes::{deed, plain, typed};
+use crate::rules::operators::operand;
+use crate::rules::plans::{Plan, plan_between};
+use crate::scopes::{Entry, Scopes, Standing};
+use crate::state::State;
+use pl_tree::{BinaryOperator, Step};
+use pl_types::{Cast, Fail, Primitive, Ty, cast, rules};
+use plain_data::{Items, Subtree, Text};
+use std::alloc::{AllocError, Global};
+use typed_tree::{Change, Constant, Gives, Node, Target, Typed};
+
+/// A copy of a name.
+pub(crate) fn copy(alloc: Global, name: &Text) -> Result<Text, AllocError>
+    ensures { IfOk result (λ c. c ≡ name.now) }
+{
+    Text::new(alloc, name.as_str())
+}
+
+fn local_of(alloc: Global, at: u32, e: &Entry) -> Result<Part, Fail>
+    ensures { Keeps (spec.local_of at e.now) result }
+{
+    let Ty::Prim(primitive) = &e.of else {
+        return Err(refuse(rules::OUT_OF_PROFILE, at));
+    };
+    let node = Node::Local(copy(alloc, &e.name)?);
+    Ok(plain(at, typed(alloc, at, Ty::Prim(*primitive), node)?))
+}
+
+fn entry_of<'a>(scopes: &'a Scopes, name: &Text) -> Option<&'a Entry>
+    ensures { option_copied result ≡ spec.entry_of name.now scopes.now }
+{
+    match scopes.find(name) {
+        Some(at) => scopes.get(at),
+        None => None,
+    }
+}
+
+/// A name's value.
+///
+/// UnknownVariable (4): the name is not in sight. OutOfProfile (19): it is of a type that is not built.
+pub fn local(alloc: Global, at: u32, name: &Text, state: &State) -> Result<Part, Fail>
+    ensures { Keeps (spec.local at name.now state.now) result }
+{
+    match entry_of(&state.scopes, name) {
+        Some(e) => local_of(alloc, at, e),
+        None => Err(refuse(rules::UNKNOWN_VARIABLE, at)),
+    }
+}
+
+fn is_fixed(standing: Standing) -> bool
+    ensures { result ≡ spec.is_fixed standing }
+{
+    match standing {
+        Standing::Variable => false,
+        Standing::Fixed => true,
+    }
+}
+
+fn written_of(alloc: Global, at: u32, fixed: bool, e: &Entry) -> Result<Place, Fail>
+    ensures { Keeps (spec.written_of at fixed e.now) result }
+{
+    let Ty::Prim(primitive) = &e.of else {
+        return Err(refuse(rules::OUT_OF_PROFILE, at));
+    };
+    if fixed {
+        return Ok(Place::Fixed);
+    }
+    Ok(Place::Local {
+        name: copy(alloc, &e.name)?,
+        of: Ty::Prim(*primitive),
+    })
+}
+
+/// A name as what is written to. The refusals are those of [`local`].
+pub fn written(alloc: Global, at: u32, name: &Text, state: &State) -> Result<Place, Fail>
+    ensures { Keeps (spec.written at name.now state.now) result }
+{
+    let Some(i) = state.scopes.find(name) else {
+        return Err(refuse(rules::UNKNOWN_VARIABLE, at));
+    };
+    match state.scopes.get(i) {
+        Some(e) => written_of(alloc, at, is_fixed(e.standing) || i < state.base, e),
+        None => Err(refuse(rules::UNKNOWN_VARIABLE, at)),
+    }
+}
+
+fn set(alloc: Global, at: u32, name: Text, of: Ty, x: Part) -> Result<Part, Fail>
+    ensures { Keeps (spec.set at name of x) result }
+{
+    let value = cast_to(alloc, &of, x)?;
+    let node = Node::Assign {
+        target: Target::Local(name),
+        parts: Items::new(alloc),
+        value,
+    };
+    Ok(deed(at, typed(alloc, at, of, node)?))
+}
+
+fn cast_before(plan: Plan, of: &Ty) -> Option<Cast>
+    ensures { result ≡ spec.cast_before plan of.now }
+{
+    cast(&Classes, of, &Ty::Prim(plan.left), true)
+}
+
+fn cast_after(plan: Plan, of: &Ty) -> Option<Cast>
+    ensures { result ≡ spec.cast_after plan of.now }
+{
+    cast(&Classes, &Ty::Prim(plan.result), of, true)
+}
+
+/// The change of a variable: the casts of what is read, and of what comes out.
+fn change_of(plan: Plan, of: &Ty) -> Option<Change>
+    ensures { result ≡ spec.change_of plan of.now }
+{
+    match (cast_before(plan, of), cast_after(plan, of)) {
+        (Some(before), Some(after)) => Some(Change {
+            before,
+            operator: plan.operator,
+            after,
+        }),
+        _ => None,
+    }
+}
+
+fn changed(
+    alloc: Global,
+    at: u32,
+    name: Text,
+    of: Ty,
+    plan: Plan,
+    right: Subtree<Typed>,
+    gives: Gives,
+) -> Result<Part, Fail>
+    ensures { Keeps (spec.changed at name of plan right gives) result }
+{
+    let Some(change) = change_of(plan, &of) else {
+        return Err(refuse(rules::BAD_CAST, at));
+    };
+    let node = Node::Change {
+        target: Target::Local(name),
+        parts: Items::new(alloc),
+        change,
+        right,
+        gives,
+    };
+    Ok(deed(at, typed(alloc, at, of, node)?))
+}
+
+fn compound(
+    alloc: Global,
+    plan: Option<Plan>,
+    at: u32,
+    name: Text,
+    of: Ty,
+    x: Part,
+) -> Result<Part, Fail>
+    ensures { Keeps (spec.compound plan at name of x) result }
+{
+    let Some(plan) = plan else {
+        return Err(refuse(rules::BAD_OPERAND, at));
+    };
+    let right = operand(alloc, at, plan.right, x)?;
+    changed(alloc, at, name, of, plan, right, Gives::New)
+}
+
+/// An assignment, plain or with an operator, at its operator.
+///
+/// NotAssignable (15): its left side is not written to. BadCast (9): its right side has another type. BadOperand (10): the operator does
+/// not take the two sides.
+pub fn assign_of(
+    alloc: Global,
+    at: u32,
+    operator: Option<BinaryOperator>,
+    place: Place,
+    x: Part,
+) -> Result<Part, Fail>
+    ensures { Keeps (spec.assign_of at operator place x) result }
+{
+    let Some((name, of)) = place.into_local() else {
+        return Err(refuse(rules::NOT_ASSIGNABLE, at));
+    };
+    match operator {
+        None => set(alloc, at, name, of, x),
+        Some(operator) => {
+            let plan = plan_between(operator, &of, x.of());
+            compound(alloc, plan, at, name, of, x)
+        }
+    }
+}
+
+/// 1 of a number type.
+fn one(alloc: Global, at: u32, primitive: Primitive) -> Result<Subtree<Typed>, AllocError>
+    ensures { IfOk result (λ x. x ≡ spec.one at primitive) }
+{
+    match primitive {
+        Primitive::Long => typed(
+            alloc,
+            at,
+            Ty::Prim(Primitive::Long),
+            Node::Constant(Constant::Long(1)),
+        ),
+        _ => typed(
+            alloc,
+            at,
+            Ty::Prim(Primitive::Int),
+            Node::Constant(Constant::Int(1)),
+        ),
+    }
+}
+
+fn operator_of(step: Step) -> BinaryOperator
+    ensures { result ≡ spec.operator_of step }
+{
+    match step {
+        Step::Increment => BinaryOperator::Add,
+        Step::Decrement => BinaryOperator::Subtract,
+    }
+}
+
+/// `++` or `--`, at its first token.
+///
+/// NotAssignable (15): its operand is not written to. BadOperand (10): it is no number.
+pub fn step_of(alloc: Global, at: u32, step: Step, gives: Gives, place: Place) -> Result<Part, Fail>
+    ensures { Keeps (spec.step_of at step gives place) result }
+{
+    let Some((name, of)) = place.into_local() else {
+        return Err(refuse(rules::NOT_ASSIGNABLE, at));
+    };
+    let int = Ty::Prim(Primitive::Int);
+    let Some(plan) = plan_between(operator_of(step), &of, &int) else {
+        return Err(refuse(rules::BAD_OPERAND, at));
+    };
+    let right = one(alloc, at, plan.right)?;
+    changed(alloc, at, name, of, plan, right, gives)
+}
