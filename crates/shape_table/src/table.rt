@@ -54,7 +54,7 @@ impl ShapeTable {
 
     /// Takes the top off. `None` where nothing lies there.
     pub fn take(&mut self) -> Option<Slot>
-        ensures stack { MatchOption result (self.old.stack ≡ []) (λ kind. self.old.stack ≡ kind ∷ self.new.stack) }
+        ensures stack { MatchOption result ((self.old.stack ≡ []) × (self.new.stack ≡ [])) (λ kind. self.old.stack ≡ kind ∷ self.new.stack) }
         ensures lines { self.new.lines ≡ self.old.lines }
     {
         let (kind, below) = self.stacks.top(self.top)?;

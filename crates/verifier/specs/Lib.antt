@@ -1,0 +1,4 @@
+pub mod Acts
+pub mod Meets
+pub mod Faults
+pub mod Verified

@@ -1,0 +1,14 @@
+//! Which code may run.
+#![tactic(auto)]
+
+mod act;
+mod fault;
+mod functions;
+mod lead;
+mod line;
+mod pass;
+mod take;
+mod verified;
+
+pub use fault::{FaultKind, VerifyErr};
+pub use verified::{Verified, verify};
