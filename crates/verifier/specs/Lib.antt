@@ -1,4 +1,5 @@
 pub mod Acts
 pub mod Meets
 pub mod Faults
+pub mod Shaped
 pub mod Verified
