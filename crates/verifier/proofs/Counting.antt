@@ -79,7 +79,7 @@ pub first_function : (allow : AllowList) (functions : List FunCode) → ¬ (func
 first_function allow [] n = absurd (n refl)
 first_function allow (f ∷ fs) n = record { line = 2; is = refl; left = refl }
 
-untold : (o : Option (ℕ × FaultKind)) → None ≡ option_map told_fault o → o ≡ None
+pub untold : (o : Option (ℕ × FaultKind)) → None ≡ option_map told_fault o → o ≡ None
 untold None e = refl
 untold (Some p) e = cc
 

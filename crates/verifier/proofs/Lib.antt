@@ -6,3 +6,5 @@ pub mod Counting
 pub mod Meeting
 pub mod Shaping
 pub mod Standing
+pub mod Whole
+pub mod Steps

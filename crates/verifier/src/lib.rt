@@ -4,6 +4,7 @@
 mod act;
 mod fault;
 mod functions;
+mod laws;
 mod lead;
 mod line;
 mod pass;
@@ -11,4 +12,5 @@ mod take;
 mod verified;
 
 pub use fault::{FaultKind, VerifyErr};
+pub use laws::shape_laws;
 pub use verified::{Verified, verify};
