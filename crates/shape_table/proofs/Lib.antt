@@ -1,0 +1,4 @@
+pub mod SameKinds
+pub mod Unwound
+pub mod Linked
+pub mod Places

@@ -1,0 +1,10 @@
+//! The kinds that stand at the lines of a function, in a table in which equal stacks are one.
+#![tactic(auto)]
+
+mod node;
+mod slots;
+mod stacks;
+mod table;
+
+pub use slots::is_same_slot;
+pub use table::ShapeTable;

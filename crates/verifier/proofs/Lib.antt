@@ -1,0 +1,10 @@
+pub mod Led
+pub mod Takings
+pub mod Lines
+pub mod Passing
+pub mod Counting
+pub mod Meeting
+pub mod Shaping
+pub mod Standing
+pub mod Whole
+pub mod Steps

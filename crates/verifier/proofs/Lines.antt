@@ -1,0 +1,70 @@
+-- A line that leads on, or breaks.
+use Rattle.std.proofs.Common.{◌≡◌, ℕ, ◌+◌, ◌<◌, Bool, true, false, ◌&&◌, ◌||◌, ltb, List, Option, Some, None, length, refl, sym, ap, ◌∙◌, arith}
+use Rattle.std.specs.Prelude.{not, slice_index_or}
+use Rattle.std.proofs.lemmas.Bool.{false≢true}
+use Rattle.pl_code.specs.declared.kinds.Slot.{Slot}
+use Rattle.pl_code.specs.declared.code.FunCode.{FunCode}
+use Rattle.pl_code.specs.declared.code.Instruction.{Instruction}
+use Rattle.allowlist.specs.Allow.{AllowList}
+use Rattle.code_shapes.specs.Effects.{flow_of}
+use Rattle.code_shapes.specs.Faults.{is_bad_target, is_bad_member, is_bad_jump}
+use Rattle.shape_table.specs.Shapes.{Table, Nowhere}
+use Rattle.verifier.specs.declared.fault.FaultKind.{FaultKind}
+use Rattle.verifier.specs.declared.fault.FaultKind.TheVariants.{BadShape}
+use Rattle.verifier.specs.Meets.{goes_to, left_at, led_to, passed, met_if}
+use Rattle.verifier.specs.Faults.{fault_of, falls, has_shape, instruction_fault}
+use Rattle.verifier.specs.Acts.{Does, LeadsOn, PassesOn, at_line}
+
+module _ (allow : AllowList) (functions : List FunCode) (f : FunCode) (line : ℕ) (i : Instruction) where
+  -- what the instruction leaves leads on
+  pub passes_on : (old mid new : Table) → Does old mid true (left_at allow functions f i (at_line old line)) → LeadsOn mid new (goes_to (flow_of i) line) → PassesOn allow functions f line (Some i) old new
+  unfolding passed
+  passes_on old mid new d l =
+      record {
+        same = l.same ∙ ap length d.lines;
+        each = λ to h.
+            let e : length mid.lines ≡ length old.lines = ap length d.lines in
+            let within : to < length mid.lines = omega (arith, e) in
+            l.each to within ∙ ap (λ ms. met_if (goes_to (flow_of i) line to) mid.stack (slice_index_or ms to Nowhere)) d.lines ∙ ap (λ left. led_to (flow_of i) line to left (at_line old to)) d.stack;
+      }
+
+  stands : (left : Option (List Slot)) (stack : List Slot) → Some stack ≡ left → (falls (flow_of i) && not (ltb (line + 1) (length f.lines))) ≡ false → not (has_shape (length f.lines) line (flow_of i) left) ≡ false
+  stands left stack e h = ap (λ left. not (has_shape (length f.lines) line (flow_of i) left)) (sym e) ∙ goes (falls (flow_of i)) (ltb (line + 1) (length f.lines)) h
+    where
+      goes : (s t : Bool) → (s && not t) ≡ false → not (not s || t) ≡ false
+      goes true true h = refl
+      goes true false h = h
+      goes false t h = refl
+
+  -- nothing breaks
+  pub no_fault : (old : Table) (stack : List Slot) → is_bad_target functions f i ≡ false → is_bad_member allow i ≡ false → is_bad_jump line i ≡ false
+      → Some stack ≡ left_at allow functions f i (at_line old line) → (falls (flow_of i) && not (ltb (line + 1) (length f.lines))) ≡ false → None ≡ instruction_fault allow functions f line i (at_line old line)
+  unfolding instruction_fault
+  no_fault old stack t m j e h =
+      let s = stands (left_at allow functions f i (at_line old line)) stack e h in
+      sym (λ k. fault_of (t k) (m k) (j k) (s k))
+
+  -- it goes on, and has no next line
+  breaks_last : (left : Option (List Slot)) → (falls (flow_of i) && not (ltb (line + 1) (length f.lines))) ≡ true → not (has_shape (length f.lines) line (flow_of i) left) ≡ true
+  breaks_last None h = refl
+  breaks_last (Some left) h = ends (falls (flow_of i)) (ltb (line + 1) (length f.lines)) h
+    where
+      ends : (s t : Bool) → (s && not t) ≡ true → not (not s || t) ≡ true
+      ends true true h = h
+      ends true false h = refl
+      ends false t h = absurd (false≢true h)
+
+  pub last_fault : (old : Table) → is_bad_target functions f i ≡ false → is_bad_member allow i ≡ false → is_bad_jump line i ≡ false
+      → (falls (flow_of i) && not (ltb (line + 1) (length f.lines))) ≡ true → Some BadShape ≡ instruction_fault allow functions f line i (at_line old line)
+  unfolding instruction_fault
+  last_fault old t m j h =
+      let s = breaks_last (left_at allow functions f i (at_line old line)) h in
+      sym (λ k. fault_of (t k) (m k) (j k) (s k))
+
+  -- it leaves nothing
+  pub unfit_fault : (old : Table) → is_bad_target functions f i ≡ false → is_bad_member allow i ≡ false → is_bad_jump line i ≡ false
+      → None ≡ left_at allow functions f i (at_line old line) → Some BadShape ≡ instruction_fault allow functions f line i (at_line old line)
+  unfolding instruction_fault
+  unfit_fault old t m j e =
+      let s = ap (λ left. not (has_shape (length f.lines) line (flow_of i) left)) (sym e) in
+      sym (λ k. fault_of (t k) (m k) (j k) (s k))

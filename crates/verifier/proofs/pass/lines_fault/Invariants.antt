@@ -1,0 +1,5 @@
+use Rattle.verifier.proofs.Passing.{PassedTo}
+use Rattle.verifier.proofs.pass.lines_fault.Given as goal
+
+abbrev pub invariant-loop-line : goal.invariant-loop-line
+invariant-loop-line l = PassedTo l.allow l.functions l.function l.line l.table

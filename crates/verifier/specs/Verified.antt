@@ -1,0 +1,26 @@
+-- What is answered of code.
+use Rattle.std.specs.Prelude.{◌≡◌, ℕ, Option, Some, None, Result, Ok, Err}
+use Rattle.pl_code.specs.declared.code.Code.{Code}
+use Rattle.allowlist.specs.Allow.{AllowList}
+use Rattle.verifier.specs.declared.fault.FaultKind.{FaultKind}
+use Rattle.verifier.specs.declared.fault.FaultKind.TheVariants as kind
+use Rattle.verifier.specs.declared.fault.VerifyErr.{VerifyErr}
+use Rattle.verifier.specs.declared.fault.VerifyErr.TheVariants.{BadShape, BadTarget, BadMember, BackJump, NoMemory}
+use Rattle.verifier.specs.Faults.{shape_fault}
+
+-- code that was verified, and the list by which it was
+pub record CodeUnder : Type 0 where
+  pub code : Code
+  pub allow : AllowList
+
+-- code breaks nowhere under a list
+pub record IsSound (c : CodeUnder) : Type 0 where
+  pub none : shape_fault c.allow c.code ≡ None
+
+-- a refusal is the fault that there is; want of memory is free
+abbrev pub Refuses : VerifyErr → Option (ℕ × FaultKind) → Type 0
+Refuses (BadShape line) fault = fault ≡ Some (line, kind.BadShape)
+Refuses (BadTarget line) fault = fault ≡ Some (line, kind.BadTarget)
+Refuses (BadMember line) fault = fault ≡ Some (line, kind.BadMember)
+Refuses (BackJump line) fault = fault ≡ Some (line, kind.BackJump)
+Refuses NoMemory fault = Unit {0}

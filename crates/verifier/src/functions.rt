@@ -1,0 +1,112 @@
+//! The functions of code.
+
+ghost use Rattle.std.specs.Prelude.{◌≡◌, ◌+◌, ◌<◌, ℕ, length, option_map, IfOk};
+ghost use Rattle.pl_code.specs.Reading.{told};
+ghost use Rattle.verifier.specs.Faults.{trap_fault, traps_fault, function_fault, code_fault, behind, told_fault, line_count};
+
+use crate::fault::FaultKind;
+use crate::pass::lines_fault;
+use allowlist::Allow;
+use code_shapes::{is_bad_trap_class, is_bad_trap_order, is_bad_trap_target};
+use pl_code::{FunCode, Trap};
+use std::alloc::{AllocError, Global};
+
+/// What breaks at a trap of a function with so many instructions.
+#[tactic(auto, unfolding(crate::specs::Faults::trap_fault))]
+fn trap_fault(count: usize, trap: &Trap) -> Option<FaultKind>
+    ensures { result ≡ trap_fault count trap.now }
+{
+    if is_bad_trap_target(count, trap) {
+        return Some(FaultKind::BadTarget);
+    }
+    if is_bad_trap_class(trap) {
+        return Some(FaultKind::BadMember);
+    }
+    if is_bad_trap_order(trap) {
+        return Some(FaultKind::BackJump);
+    }
+    None
+}
+
+/// The first trap that breaks, counted from 0.
+fn traps_fault(count: usize, traps: &[Trap]) -> Option<(usize, FaultKind)>
+    ensures { result ≡ traps_fault count 0 traps.now }
+{
+    for at in 0..traps.len() {
+        match trap_fault(count, &traps[at]) {
+            None => {}
+            Some(kind) => return Some((at, kind)),
+        }
+    }
+    None
+}
+
+/// A line so many lines behind another. Numbers past 32 bits stand still.
+fn behind(line: u32, more: usize) -> u32
+    ensures { (n : ℕ) → line ≡ told n → result ≡ told (n + more) }
+{
+    if more >= u32::MAX as usize {
+        u32::MAX
+    } else {
+        line.saturating_add(more as u32)
+    }
+}
+
+/// The first fault of a function whose line `fun` is this one.
+fn function_fault(
+    alloc: Global,
+    allow: &Allow,
+    functions: &[FunCode],
+    function: &FunCode,
+    first: u32,
+) -> Result<Option<(u32, FaultKind)>, AllocError>
+    ensures { IfOk result (λ found. (n : ℕ) → first ≡ told n → found ≡ option_map told_fault (behind n (function_fault allow.now functions.now function.now))) }
+{
+    if function.lines.is_empty() {
+        return Ok(Some((first, FaultKind::BadShape)));
+    }
+    let next = behind(first, 1);
+    let traps = function.traps.as_slice();
+    match traps_fault(function.lines.len(), traps) {
+        Some((at, kind)) => Ok(Some((behind(next, at), kind))),
+        None => match lines_fault(alloc, allow, functions, function)? {
+            Some((at, kind)) => {
+                let later = behind(next, traps.len());
+                Ok(Some((behind(later, at), kind)))
+            }
+            None => Ok(None),
+        },
+    }
+}
+
+/// The line behind a function whose line `fun` is this one.
+fn behind_function(first: u32, function: &FunCode) -> u32
+    ensures { (n : ℕ) → first ≡ told n → result ≡ told (n + line_count function.now) }
+{
+    behind(
+        behind(behind(first, 2), function.traps.len()),
+        function.lines.len(),
+    )
+}
+
+/// The first line of the listing of functions, counted from 1, at which they break, and what breaks there.
+pub(crate) fn code_fault(
+    alloc: Global,
+    allow: &Allow,
+    functions: &[FunCode],
+) -> Result<Option<(u32, FaultKind)>, AllocError>
+    ensures { IfOk result (λ found. found ≡ option_map told_fault (code_fault allow.now functions.now)) }
+{
+    if functions.is_empty() {
+        return Ok(Some((1, FaultKind::BadTarget)));
+    }
+    let mut first = 2;
+    for function in functions {
+        match function_fault(alloc, allow, functions, function, first)? {
+            None => {}
+            Some(found) => return Ok(Some(found)),
+        }
+        first = behind_function(first, function);
+    }
+    Ok(None)
+}

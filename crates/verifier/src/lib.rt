@@ -1,0 +1,16 @@
+//! Which code may run.
+#![tactic(auto)]
+
+mod act;
+mod fault;
+mod functions;
+mod laws;
+mod lead;
+mod line;
+mod pass;
+mod take;
+mod verified;
+
+pub use fault::{FaultKind, VerifyErr};
+pub use laws::shape_laws;
+pub use verified::{Verified, verify};

@@ -1,0 +1,92 @@
+//! One line of a function.
+
+ghost use Rattle.std.specs.Prelude.{◌≡◌, ◌+◌, ◌<◌, ◌&&◌, not, nat_lt, length, IfOk, Some, None};
+ghost use Rattle.verifier.specs.Acts.{Does, at_line, PassesOn};
+ghost use Rattle.verifier.specs.Meets.{left_at};
+ghost use Rattle.verifier.specs.Faults.{falls, instruction_fault};
+
+use crate::act::act;
+use crate::fault::FaultKind;
+use crate::lead::lead;
+use allowlist::Allow;
+use code_shapes::{Flow, action_of, flow_of, is_bad_jump, is_bad_member, is_bad_target};
+use pl_code::{FunCode, Instruction};
+use shape_table::ShapeTable;
+use std::alloc::AllocError;
+
+/// Whether an instruction may go on at the next line.
+fn falls(flow: Flow) -> bool
+    ensures { result ≡ falls flow }
+{
+    match flow {
+        Flow::GoesOn => true,
+        Flow::Jumps(_) => false,
+        Flow::Branches(_) => true,
+        Flow::Turns(_) => true,
+        Flow::Ends => false,
+    }
+}
+
+/// Puts on the stack what an instruction leaves of what stands at its line. `false` where it leaves nothing.
+#[tactic(auto, unfolding(crate::specs::Meets::left_at))]
+fn leave(
+    table: &mut ShapeTable,
+    allow: &Allow,
+    functions: &[FunCode],
+    function: &FunCode,
+    line: usize,
+    instruction: &Instruction,
+) -> Result<bool, AllocError>
+    ensures { IfOk result (λ fits. Does table.old table.new fits (left_at allow.now functions.now function.now instruction.now (at_line table.old line))) }
+{
+    if !table.stand(line) {
+        return Ok(false);
+    }
+    match action_of(allow, functions, function, instruction) {
+        None => Ok(false),
+        Some(action) => act(table, action),
+    }
+}
+
+/// The fault of an instruction at a line. Where there is none, the line leads to where its instruction goes on.
+#[tactic(auto, unfolding(crate::specs::Faults::instruction_fault))]
+pub(crate) fn instruction_fault(
+    table: &mut ShapeTable,
+    allow: &Allow,
+    functions: &[FunCode],
+    function: &FunCode,
+    line: usize,
+    instruction: &Instruction,
+) -> Result<Option<FaultKind>, AllocError>
+    requires { line < length function.now.lines }
+    ensures { IfOk result (λ found. (found ≡ instruction_fault allow.now functions.now function.now line instruction.now (at_line table.old line))
+        × (found ≡ None → PassesOn allow.now functions.now function.now line (Some instruction.now) table.old table.new)) }
+{
+    if is_bad_target(allow, functions, function, instruction) {
+        return Ok(Some(FaultKind::BadTarget));
+    }
+    if is_bad_member(allow, instruction) {
+        return Ok(Some(FaultKind::BadMember));
+    }
+    if is_bad_jump(line, instruction) {
+        return Ok(Some(FaultKind::BackJump));
+    }
+    if !leave(table, allow, functions, function, line, instruction)? {
+        return Ok(Some(FaultKind::BadShape));
+    }
+    let count = function.lines.len();
+    let flow = flow_of(instruction);
+    if is_last(line, count, flow) {
+        return Ok(Some(FaultKind::BadShape));
+    }
+    lead(table, flow, line);
+    Ok(None)
+}
+
+/// Whether an instruction goes on, and has no next line.
+fn is_last(line: usize, count: usize, flow: Flow) -> bool
+    requires { line < count }
+    ensures { result ≡ (falls flow && not (nat_lt (line + 1) count)) }
+{
+    falls(flow) && line + 1 >= count
+}

@@ -1,0 +1,109 @@
+//! What is taken from the stack.
+
+ghost use Rattle.std.specs.Prelude.{◌≡◌, [], ◌∷◌, ◌++◌, Some, None, if◌then◌else◌, replicate, reverse};
+ghost use Rattle.pl_code.specs.declared.kinds.Slot.TheVariants.{R};
+ghost use Rattle.code_shapes.specs.Effects.{taken};
+ghost use Rattle.code_shapes.specs.Members.{argument_kinds};
+ghost use Rattle.code_shapes.specs.Seen.{seen_takes};
+
+use code_shapes::{Takes, kind_of_type};
+use pl_code::Slot;
+use pl_types::Ty;
+use shape_table::{ShapeTable, is_same_slot};
+
+fn one(table: &mut ShapeTable, kind: Slot) -> bool
+    ensures stack { (if result then Some table.new.stack else None) ≡ taken (kind ∷ []) table.old.stack }
+    ensures lines { table.new.lines ≡ table.old.lines }
+{
+    match table.take() {
+        None => false,
+        Some(top) => is_same_slot(kind, top),
+    }
+}
+
+fn two(table: &mut ShapeTable, first: Slot, second: Slot) -> bool
+    ensures stack { (if result then Some table.new.stack else None) ≡ taken (first ∷ second ∷ []) table.old.stack }
+    ensures lines { table.new.lines ≡ table.old.lines }
+{
+    if !one(table, first) {
+        return false;
+    }
+    one(table, second)
+}
+
+fn three(table: &mut ShapeTable, first: Slot, second: Slot, third: Slot) -> bool
+    ensures stack { (if result then Some table.new.stack else None) ≡ taken (first ∷ second ∷ third ∷ []) table.old.stack }
+    ensures lines { table.new.lines ≡ table.old.lines }
+{
+    if !one(table, first) {
+        return false;
+    }
+    two(table, second, third)
+}
+
+fn copies(table: &mut ShapeTable, number: u64, kind: Slot) -> bool
+    ensures stack { (if result then Some table.new.stack else None) ≡ taken (replicate number kind) table.old.stack }
+    ensures lines { table.new.lines ≡ table.old.lines }
+{
+    for done in 0..number {
+        if !one(table, kind) {
+            return false;
+        }
+    }
+    true
+}
+
+fn params(table: &mut ShapeTable, params: &[Slot]) -> bool
+    ensures stack { (if result then Some table.new.stack else None) ≡ taken (reverse params.now) table.old.stack }
+    ensures lines { table.new.lines ≡ table.old.lines }
+{
+    let mut rest = params;
+    while let [front @ .., last] = rest {
+        if !one(table, *last) {
+            return false;
+        }
+        rest = front;
+    }
+    true
+}
+
+fn arguments(table: &mut ShapeTable, params: &[Ty]) -> bool
+    ensures stack { (if result then Some table.new.stack else None) ≡ taken (argument_kinds params.now) table.old.stack }
+    ensures lines { table.new.lines ≡ table.old.lines }
+{
+    for done in 0..params.len() {
+        let kind = kind_of_type(&params[params.len() - 1 - done]);
+        if !one(table, kind) {
+            return false;
+        }
+    }
+    true
+}
+
+fn received(table: &mut ShapeTable, params: &[Ty]) -> bool
+    ensures stack { (if result then Some table.new.stack else None) ≡ taken (argument_kinds params.now ++ R ∷ []) table.old.stack }
+    ensures lines { table.new.lines ≡ table.old.lines }
+{
+    if !arguments(table, params) {
+        return false;
+    }
+    one(table, Slot::R)
+}
+
+/// Takes off what an instruction takes. `false` where other kinds lie there.
+#[tactic(auto, unfolding(code_shapes::specs::Seen::seen_takes))]
+pub(crate) fn take(table: &mut ShapeTable, takes: Takes<'_>) -> bool
+    ensures stack { (if result then Some table.new.stack else None) ≡ taken (seen_takes takes.entry) table.old.stack }
+    ensures lines { table.new.lines ≡ table.old.lines }
+{
+    match takes {
+        Takes::Nothing => true,
+        Takes::One(kind) => one(table, kind),
+        Takes::Two(first, second) => two(table, first, second),
+        Takes::Three(first, second, third) => three(table, first, second, third),
+        Takes::Copies(number, kind) => copies(table, number, kind),
+        Takes::Params(kinds) => params(table, kinds),
+        Takes::Arguments(types) => arguments(table, types),
+        Takes::Received(types) => received(table, types),
+    }
+}

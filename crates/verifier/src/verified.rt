@@ -1,0 +1,68 @@
+//! Code that may run.
+
+ghost use Rattle.std.specs.Prelude.{◌≡◌, None, MatchResult};
+ghost use Rattle.verifier.specs.Faults.{shape_fault};
+ghost use Rattle.verifier.specs.Verified.{IsSound, Refuses};
+
+use crate::fault::VerifyErr;
+use crate::functions::code_fault;
+use allowlist::Allow;
+use pl_code::Code;
+use std::alloc::Global;
+use std::marker::Model;
+
+/// Code that breaks nowhere, with its share of the list under which it was verified.
+#[derive(Drop)]
+pub struct Verified {
+    kept: Code,
+    under: Allow,
+}
+
+impl Model for Verified {
+    ghost use Rattle.verifier.specs.Verified.{CodeUnder, IsSound};
+
+    ghost Value = { CodeUnder };
+
+    ghost view = { λ v. record { code = v.kept; allow = v.under } };
+
+    ghost invariant = { λ v. IsSound (record { code = v.kept; allow = v.under }) };
+}
+
+impl Verified {
+    /// The code.
+    pub fn code(&self) -> &Code
+        ensures code { result.now ≡ self.now.code }
+        ensures sound { IsSound self.now }
+    {
+        &self.kept
+    }
+
+    /// The list.
+    pub fn allow(&self) -> &Allow
+        ensures allow { result.now ≡ self.now.allow }
+        ensures sound { IsSound self.now }
+    {
+        &self.under
+    }
+}
+
+/// Code that may run under a list: it breaks nowhere. Else the code is handed back, with the first line of its listing, counted
+/// from 1, at which it breaks. At one line BadTarget is tried first, then BadMember, BackJump and BadShape.
+///
+/// # Errors
+///
+/// The first fault, or `NoMemory` where memory is wanting.
+#[tactic(auto, unfolding(crate::specs::Faults::shape_fault))]
+pub fn verify(alloc: Global, allow: &Allow, code: Code) -> Result<Verified, (Code, VerifyErr)>
+    ensures same { MatchResult result (λ verified. verified ≡ record { code = code; allow = allow.now }) (λ refused. refused.0 ≡ code) }
+    ensures exact { MatchResult result (λ verified. shape_fault allow.now code ≡ None) (λ refused. Refuses refused.1 (shape_fault allow.now code)) }
+{
+    match code_fault(alloc, allow, code.functions.as_slice()) {
+        Err(_) => Err((code, VerifyErr::NoMemory)),
+        Ok(Some((line, kind))) => Err((code, kind.at(line))),
+        Ok(None) => match allow.share(alloc) {
+            Err(_) => Err((code, VerifyErr::NoMemory)),
+            Ok(under) => Ok(Verified { kept: code, under }),
+        },
+    }
+}
