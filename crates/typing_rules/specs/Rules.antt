@@ -1,0 +1,10 @@
+pub mod Types
+pub mod Digits
+pub mod Nodes
+pub mod Literals
+pub mod Casts
+pub mod Operators
+pub mod Places
+pub mod Calls
+pub mod Statements
+pub mod Functions

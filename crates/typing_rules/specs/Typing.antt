@@ -1,0 +1,308 @@
+-- The typing of each node, by that of its parts: the parts from the left to the right, and then the node. What is not built is refused
+-- as OutOfProfile at its place, once its parts refused nothing.
+use Rattle.std.specs.Prelude.{ℕ, Bool, true, false, ◌&&◌, List, [], ◌∷◌, length, map, Option, Some, None, Ok}
+use Rattle.pl_types.specs.declared.ty.Ty.{Ty}
+use Rattle.pl_types.specs.declared.ty.Ty.TheVariants as t
+use Rattle.pl_types.specs.declared.rules.TheConstants.{OUT_OF_PROFILE}
+use Rattle.pl_tree.specs.declared.operator.BinaryOperator.{BinaryOperator}
+use Rattle.pl_tree.specs.declared.operator.Step as tree
+use Rattle.pl_tree.specs.declared.operator.UnaryOperator.{UnaryOperator}
+use Rattle.pl_tree.specs.declared.operator.UnaryOperator.TheVariants as sign
+use Rattle.pl_tree.specs.declared.tree.TypeName.{TypeName}
+use Rattle.pl_tree.specs.declared.tree.Parameter.{Parameter}
+use Rattle.pl_tree.specs.declared.tree.Function.{Function}
+use Rattle.pl_tree.specs.declared.tree.Tree.{Tree}
+use Rattle.pl_tree.specs.declared.tree.Argument.{Argument}
+use Rattle.pl_tree.specs.declared.tree.Body.{Body}
+use Rattle.pl_tree.specs.declared.tree.Expr.{Expr}
+use Rattle.pl_tree.specs.declared.tree.First.{First}
+use Rattle.pl_tree.specs.declared.tree.LambdaBody.{LambdaBody}
+use Rattle.pl_tree.specs.declared.tree.Statement.{Statement}
+use Rattle.pl_tree.specs.declared.tree.Block.{Block}
+use Rattle.pl_tree.specs.declared.tree.Catch.{Catch}
+use Rattle.pl_tree.specs.declared.tree.Declaration.{Declaration}
+use Rattle.pl_tree.specs.declared.tree.Entry.{Entry}
+use Rattle.pl_tree.specs.declared.tree.Variable.{Variable}
+use Rattle.pl_tree.specs.declared.tree.Argument.TheOpen.{Argument-F, Body-F, Expr-F, First-F, LambdaBody-F, Statement-F, Block-F, Catch-F, Declaration-F, Entry-F, Variable-F}
+use Rattle.pl_tree.specs.declared.tree.Argument.TheFolds.{fold-Argument, fold-Body, fold-Expr, fold-First, fold-LambdaBody, fold-Statement, fold-Block, fold-Catch, fold-Declaration, fold-Entry, fold-Variable}
+use Rattle.typed_tree.specs.declared.operation.Gives.TheVariants as g
+use Rattle.typed_tree.specs.declared.program.Program.{Program}
+use Rattle.typed_tree.specs.declared.program.TypedFunction.{TypedFunction}
+use Rattle.typed_tree.specs.declared.statement.TypedVariable.{TypedVariable}
+use Rattle.typed_tree.specs.declared.typed.Typed.{Typed}
+use Rattle.typing_rules.specs.declared.header.ContextTypes.{ContextTypes}
+use Rattle.typing_rules.specs.declared.header.Header.{Header}
+use Rattle.typing_rules.specs.declared.part.Part.{Part}
+use Rattle.typing_rules.specs.declared.part.Place.{Place}
+use Rattle.typing_rules.specs.declared.part.Place.TheVariants as place
+use Rattle.typing_rules.specs.declared.part.Step.{Step}
+use Rattle.typing_rules.specs.declared.state.State.{State}
+use Rattle.typing_rules.specs.Outcomes.{Out, refuse, bind}
+use Rattle.typing_rules.specs.State.{closed, noted}
+use Rattle.typing_rules.specs.Doing.{Answer, Doing, ◌>>=◌, ◌>>◌, pure, by_rule, looking, setting, stating, known}
+use Rattle.typing_rules.specs.Rules.Types.{type_of}
+use Rattle.typing_rules.specs.Rules.Nodes.{bracketed}
+use Rattle.typing_rules.specs.Rules.Literals.{integer, negated_integer, constant}
+use Rattle.typing_rules.specs.Rules.Casts.{cast_to, asked}
+use Rattle.typing_rules.specs.Rules.Operators.{binary_of, unary_of, choice_of}
+use Rattle.typing_rules.specs.Rules.Places.{local, written, assign_of, step_of}
+use Rattle.typing_rules.specs.Rules.Calls.{call_of}
+use Rattle.typing_rules.specs.Rules.Statements.{reached, deed, expression_of, variable_of, declaration_of, test, loop_test, if_of, loop_of, do_of, break_of, continue_of, return_of, nothing_returned, block_of}
+use Rattle.typing_rules.specs.Rules.Functions.{headers, function_start, main_start, finished, main}
+
+-- An expression: its first token, its value, its value directly behind a minus that stands at a place, and what it is to be written to.
+pub record Reading : Type 0 where
+  pub first : ℕ
+  pub value : Doing Part
+  pub negated : ℕ → Doing Part
+  pub place : Doing Place
+
+-- a statement at its first token; it may be the last of the main script
+pub record Doer : Type 0 where
+  pub at : ℕ
+  pub typed : Bool → Doing Step
+
+-- a block at its `{`
+pub record Braces : Type 0 where
+  pub at : ℕ
+  pub steps : Doing (List Step)
+
+abbrev pub Seen : Type 0
+Seen = Doing (Unit {0})
+
+-- what is no literal and no name
+abbrev pub plain : ℕ → Doing Part → Reading
+plain first value = record {
+  first = first;
+  value = value;
+  negated = λ minus. (do x ← value; by_rule (unary_of sign.Minus minus x));
+  place = (do x ← value; pure place.Fixed);
+}
+
+-- what is not built
+abbrev pub unbuilt : {A : Type 0} → ℕ → Doing A
+unbuilt at = by_rule (refuse OUT_OF_PROFILE at)
+
+-- a part that is only looked through
+abbrev pub seen : {A : Type 0} → Doing A → Seen
+seen m = do x ← m; pure tt
+
+abbrev pub all_seen : List Seen → Seen
+all_seen [] = pure tt
+all_seen (m ∷ rest) = do m; all_seen rest
+
+-- the names that a part declares are gone behind it
+abbrev pub scoped : {A : Type 0} → Doing A → Doing A
+scoped m = do s ← known; x ← m; setting (closed (length s.scopes)); pure x
+
+-- a loop is around a part
+abbrev pub looping : {A : Type 0} → Doing A → Doing A
+looping m = do s ← known; setting (λ t. record t { looped = true }); x ← m; setting (λ t. record t { looped = s.looped }); pure x
+
+abbrev pub perhaps : {A : Type 0} → Option (Doing A) → Doing (Option A)
+perhaps None = pure None
+perhaps (Some m) = do x ← m; pure (Some x)
+
+abbrev pub is_empty : List Doer → Bool
+is_empty [] = true
+is_empty (m ∷ rest) = false
+
+-- parts, from the left to the right
+abbrev pub parts : List (Doing Part) → Doing (List Part)
+parts [] = pure []
+parts (m ∷ rest) = do x ← m; xs ← parts rest; pure (x ∷ xs)
+
+-- Statements; behind one that escapes stands none. The last of the main script may be its result.
+abbrev pub statements : Bool → Bool → List Doer → Doing (List Step)
+statements in_main after [] = pure []
+statements in_main after (m ∷ rest) =
+    do x ← m.typed (in_main && is_empty rest); y ← by_rule (reached after m.at x); ys ← statements in_main y.escapes rest; pure (y ∷ ys)
+
+abbrev pub variables : Ty → List (Ty → Doing TypedVariable) → Doing (List TypedVariable)
+variables of [] = pure []
+variables of (m ∷ rest) = do x ← m of; xs ← variables of rest; pure (x ∷ xs)
+
+-- what a variable begins with, cast to its type
+abbrev pub initial : Ty → Option (Doing Part) → Doing (Option Typed)
+initial of None = pure None
+initial of (Some m) = do x ← m; y ← by_rule (cast_to of x); pure (Some y)
+
+abbrev pub returned : ℕ → Option (Doing Part) → Doing Step
+returned at None = looking (nothing_returned at)
+returned at (Some m) = do x ← m; looking (return_of at x)
+
+-- the test of a loop, which may be missing
+abbrev pub loop_condition : Option Reading → Doing (Option Typed)
+loop_condition None = pure None
+loop_condition (Some c) = do x ← c.value; by_rule (loop_test x)
+
+-- what a `for` begins and goes on with
+abbrev pub loop_step : Reading → Doing Step
+loop_step e = do x ← e.value; by_rule (deed e.first x)
+
+abbrev pub loop_update : Option Reading → Doing (Option Typed)
+loop_update None = pure None
+loop_update (Some e) = do x ← e.value; y ← by_rule (deed e.first x); pure (Some x.typed)
+
+-- A function value is not built: its parameters' types and its body are looked through. It copies the names around it, and no loop is
+-- around its body. A parameter without a type, and its result, are of type def.
+abbrev pub alone : State → State
+alone s = record s { base = length s.scopes; result = t.Def; looped = false }
+
+abbrev pub parameter_type : Option TypeName → Out Ty
+parameter_type None = Ok t.Def
+parameter_type (Some of) = type_of of
+
+abbrev pub lambda_parameters : List Parameter → Seen
+lambda_parameters [] = pure tt
+lambda_parameters (p ∷ ps) = do of ← by_rule (parameter_type p.of); setting (noted p.name.spelling of); lambda_parameters ps
+
+abbrev pub lambda : ℕ → List Parameter → Seen → Doing Part
+lambda at ps body = do setting alone; lambda_parameters ps; body; unbuilt at
+
+-- loops over elements are not built, nor is `try`
+abbrev pub for_each : ℕ → Doing Ty → List ℕ → Reading → Doing Step → Doing Step
+for_each at type name over body = do of ← type; x ← over.value; setting (noted name of); y ← looping body; unbuilt at
+
+module _ (hs : List Header) where
+  abbrev pub call : ℕ → List ℕ → List (Doing Part) → Doing Part
+  call at name given = do xs ← parts given; by_rule (call_of hs at name xs)
+
+  abbrev pub Open : (Type 0 → Type 0 → Type 0 → Type 0 → Type 0 → Type 0 → Type 0 → Type 0 → Type 0 → Type 0 → Type 0 → Type 0) → Type 0
+  Open F = F (Doing Part) (Doing Step) Reading (Doing Step) Seen Doer Braces Seen Doer Seen (Ty → Doing TypedVariable)
+
+  abbrev pub argument_step : Open Argument-F → Doing Part
+  argument_step (Argument-F.Value value) = value.value
+  argument_step (Argument-F.Lambda at parameters body) = lambda at parameters body
+  argument_step (Argument-F.Reference of spelling) = do t ← by_rule (type_of of); unbuilt of.at
+  argument_step (Argument-F.NewReference of) = do t ← by_rule (type_of of); unbuilt of.at
+  argument_step (Argument-F.ThisReference at spelling) = unbuilt at
+
+  -- the body of an `if` or a loop
+  abbrev pub body_step : Open Body-F → Doing Step
+  body_step (Body-F.«Body::Block» block) = do ys ← scoped block.steps; pure (block_of block.at ys)
+  body_step (Body-F.Statement statement) = scoped (statement.typed false)
+
+  abbrev pub unary : UnaryOperator → ℕ → Reading → Reading
+  unary sign.Minus at operand = plain at (operand.negated at)
+  unary operator at operand = plain at (do x ← operand.value; by_rule (unary_of operator at x))
+
+  abbrev pub expression_step : Open Expr-F → Reading
+  expression_step (Expr-F.Assign operator at target value) = plain target.first (do p ← target.place; x ← value.value; by_rule (assign_of at operator p x))
+  expression_step (Expr-F.Conditional at condition left right) = plain condition.first (do z ← condition.value; x ← left.value; y ← right.value; by_rule (choice_of at z x y))
+  expression_step (Expr-F.Elvis at left right) = plain left.first (do x ← left.value; y ← right.value; unbuilt at)
+  expression_step (Expr-F.Binary operator at left right) = plain left.first (do x ← left.value; y ← right.value; by_rule (binary_of operator at x y))
+  expression_step (Expr-F.Instanceof at operand of) = plain operand.first (do x ← operand.value; t ← by_rule (type_of of); unbuilt at)
+  expression_step (Expr-F.Unary operator at operand) = unary operator at operand
+  expression_step (Expr-F.Prefix step at target) = plain at (do p ← target.place; by_rule (step_of at step g.New p))
+  expression_step (Expr-F.Postfix step at target) = plain at (do p ← target.place; by_rule (step_of at step g.Old p))
+  expression_step (Expr-F.Cast at of operand) = plain at (do to ← by_rule (type_of of); x ← operand.value; by_rule (asked at to x))
+  expression_step (Expr-F.Bracketed at inner) = plain at (do x ← inner.value; pure (bracketed at x))
+  expression_step (Expr-F.Integer at spelling) = record {
+    first = at;
+    value = by_rule (integer at spelling);
+    negated = (λ minus. by_rule (negated_integer minus at spelling));
+    place = (do x ← by_rule (integer at spelling); pure place.Fixed);
+  }
+  expression_step (Expr-F.Text at spelling) = plain at (unbuilt at)
+  expression_step (Expr-F.Constant constant_ at) = plain at (by_rule (constant at constant_))
+  expression_step (Expr-F.List at items) = plain at (do all_seen (map (λ (e : Reading). seen e.value) items); unbuilt at)
+  expression_step (Expr-F.Map at entries) = plain at (do all_seen entries; unbuilt at)
+  expression_step (Expr-F.Name at spelling) = record {
+    first = at;
+    value = looking (local at spelling);
+    negated = (λ minus. (do x ← looking (local at spelling); by_rule (unary_of sign.Minus minus x)));
+    place = looking (written at spelling);
+  }
+  expression_step (Expr-F.Call at spelling given) = plain at (call at spelling given)
+  expression_step (Expr-F.New at of given) = plain at (do t ← by_rule (type_of of); all_seen (map (λ (m : Doing Part). seen m) given); unbuilt at)
+  expression_step (Expr-F.NewArray at of sizes) = plain at (do t ← by_rule (type_of of); all_seen (map (λ (e : Reading). seen e.value) sizes); unbuilt at)
+  expression_step (Expr-F.NewItems at of items) = plain at (do t ← by_rule (type_of of); all_seen (map (λ (e : Reading). seen e.value) items); unbuilt at)
+  expression_step (Expr-F.Type of) = plain of.at (do t ← by_rule (type_of of); unbuilt of.at)
+  expression_step (Expr-F.Member access at receiver spelling) = plain receiver.first (do x ← receiver.value; unbuilt at)
+  expression_step (Expr-F.Method access at receiver spelling given) = plain receiver.first (do x ← receiver.value; all_seen (map (λ (m : Doing Part). seen m) given); unbuilt at)
+  expression_step (Expr-F.Element access at receiver spelling) = plain receiver.first (do x ← receiver.value; unbuilt at)
+  expression_step (Expr-F.Index at receiver index) = plain receiver.first (do x ← receiver.value; y ← index.value; unbuilt at)
+
+  abbrev pub first_step : Open First-F → Doing Step
+  first_step (First-F.«First::Declare» declaration) = declaration.typed false
+  first_step (First-F.«First::Expression» value) = loop_step value
+
+  abbrev pub lambda_step : Open LambdaBody-F → Seen
+  lambda_step (LambdaBody-F.«LambdaBody::Block» block) = seen block.steps
+  lambda_step (LambdaBody-F.«LambdaBody::Expression» value) = seen value.value
+
+  abbrev pub statement_step : Open Statement-F → Doer
+  statement_step (Statement-F.If at condition chosen otherwise) = record { at = at; typed = λ last. (do x ← condition.value; x ← by_rule (test x); y ← chosen; n ← perhaps otherwise; pure (if_of at x y n)) }
+  statement_step (Statement-F.While at condition body) = record { at = at; typed = λ last. (do c ← loop_condition (Some condition); y ← looping (perhaps body); pure (loop_of at None c None y)) }
+  statement_step (Statement-F.For at first condition update body) = record { at = at; typed = λ last.
+    scoped (do f ← perhaps first; c ← loop_condition condition; u ← loop_update update; y ← looping (perhaps body); pure (loop_of at f c u y)) }
+  statement_step (Statement-F.ForEach at of name over body) = record { at = at; typed = λ last. for_each at (by_rule (type_of of)) name.spelling over body }
+  statement_step (Statement-F.ForIn at name over body) = record { at = at; typed = λ last. for_each at (pure t.Def) name.spelling over body }
+  statement_step (Statement-F.Try at block catches) = record { at = at; typed = λ last. (do seen (scoped block.steps); all_seen catches; unbuilt at) }
+  statement_step (Statement-F.Do at block condition) = record { at = at; typed = λ last.
+    (do ys ← looping (scoped block.steps); c ← loop_condition (Some condition); pure (do_of at (block_of block.at ys) c)) }
+  statement_step (Statement-F.«Statement::Declare» declaration) = record { at = declaration.at; typed = λ last. declaration.typed false }
+  statement_step (Statement-F.Continue at) = record { at = at; typed = λ last. looking (continue_of at) }
+  statement_step (Statement-F.Break at) = record { at = at; typed = λ last. looking (break_of at) }
+  statement_step (Statement-F.Return at value) = record { at = at; typed = λ last. returned at value }
+  statement_step (Statement-F.Throw at value) = record { at = at; typed = λ last. (do x ← value.value; unbuilt at) }
+  statement_step (Statement-F.«Statement::Expression» at value) = record { at = at; typed = λ last. (do x ← value.value; looking (expression_of at last x)) }
+
+  abbrev pub block_step : Open Block-F → Braces
+  block_step block = record { at = block.at; steps = statements false false block.statements }
+
+  abbrev pub catch_step : Open Catch-F → Seen
+  catch_step handler = do of ← by_rule (type_of handler.of); scoped (do setting (noted handler.name.spelling of); seen handler.block.steps)
+
+  abbrev pub declaration_step : Open Declaration-F → Doer
+  declaration_step d = record { at = d.of.at; typed = λ last. (do of ← by_rule (type_of d.of); vs ← variables of d.variables; pure (declaration_of d.of.at vs)) }
+
+  abbrev pub entry_step : Open Entry-F → Seen
+  entry_step entry = do seen entry.key.value; seen entry.value.value
+
+  abbrev pub variable_step : Open Variable-F → Ty → Doing TypedVariable
+  variable_step v of = do x ← initial of v.value; stating (variable_of v.name of x)
+
+  abbrev pub reading : Expr → Reading
+  reading = fold-Expr (Doing Part) (Doing Step) Reading (Doing Step) Seen Doer Braces Seen Doer Seen (Ty → Doing TypedVariable)
+      argument_step body_step expression_step first_step lambda_step statement_step block_step catch_step declaration_step entry_step variable_step
+
+  abbrev pub argument : Argument → Doing Part
+  argument = fold-Argument (Doing Part) (Doing Step) Reading (Doing Step) Seen Doer Braces Seen Doer Seen (Ty → Doing TypedVariable)
+      argument_step body_step expression_step first_step lambda_step statement_step block_step catch_step declaration_step entry_step variable_step
+
+  abbrev pub body : Body → Doing Step
+  body = fold-Body (Doing Part) (Doing Step) Reading (Doing Step) Seen Doer Braces Seen Doer Seen (Ty → Doing TypedVariable)
+      argument_step body_step expression_step first_step lambda_step statement_step block_step catch_step declaration_step entry_step variable_step
+
+  abbrev pub doer : Statement → Doer
+  doer = fold-Statement (Doing Part) (Doing Step) Reading (Doing Step) Seen Doer Braces Seen Doer Seen (Ty → Doing TypedVariable)
+      argument_step body_step expression_step first_step lambda_step statement_step block_step catch_step declaration_step entry_step variable_step
+
+  abbrev pub braces : Block → Braces
+  braces = fold-Block (Doing Part) (Doing Step) Reading (Doing Step) Seen Doer Braces Seen Doer Seen (Ty → Doing TypedVariable)
+      argument_step body_step expression_step first_step lambda_step statement_step block_step catch_step declaration_step entry_step variable_step
+
+-- a body from its first step
+abbrev pub ran : Doing (List Step) → State → Answer
+ran m s = m s (λ ys t. Ok (ys, t))
+
+abbrev pub function_of : List Header → Function → Header → Out TypedFunction
+function_of hs f h = bind (ran (braces hs f.body).steps (function_start h)) (λ whole. finished f h whole.0)
+
+-- the bodies, each with its header
+abbrev pub functions : List Header → List Function → List Header → Out (List TypedFunction)
+functions hs (f ∷ fs) (h ∷ rest) = bind (function_of hs f h) (λ x. bind (functions hs fs rest) (λ xs. Ok (x ∷ xs)))
+functions hs _ _ = Ok []
+
+abbrev pub main_of : ContextTypes → List Header → List Statement → Out TypedFunction
+main_of context hs all = bind (ran (statements true false (map (doer hs) all)) (main_start context)) (λ whole. Ok (main context whole.0))
+
+abbrev pub program : List TypedFunction → TypedFunction → Program
+program functions main = record { functions = functions; main = main }
+
+-- The program of a script, or the first rule that it breaks: headers in their order, then bodies, then the main script.
+abbrev pub typing_of : ContextTypes → Tree → Out Program
+typing_of context tree = bind (headers tree.functions []) (λ hs. bind (functions hs tree.functions hs) (λ fs.
+    bind (main_of context hs tree.statements) (λ m. Ok (program fs m))))

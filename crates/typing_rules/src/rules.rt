@@ -1,0 +1,3 @@
+//! The rules, by kind of node.
+
+pub mod plans;
