@@ -1,7 +1,6 @@
 -- What code does, instruction by instruction. A configuration has frames, the newest apart from those below it, and the world.
 use Rattle.std.specs.Prelude.{ℕ, zero, suc, ◌&&◌, Bool, true, false, List, [], ◌∷◌, ◌++◌, map, length, Option, Some, None, slice_get, slice_set, nat_le, nat_lt, pos, negsuc, ℤ, if◌then◌else◌}
 use Rattle.std.specs.Int.{w8, w16, w32}
-use Rattle.pl_types.specs.declared.primitive.Primitive.{Primitive}
 use Rattle.pl_types.specs.declared.ty.Ty.{Ty}
 use Rattle.pl_types.specs.declared.ty.Ty.TheVariants as ty
 use Rattle.pl_types.specs.Classes.{class_is_below}
@@ -11,7 +10,6 @@ use Rattle.object_values.specs.declared.value.Value.TheVariants as v
 use Rattle.object_values.specs.declared.object.Object.{Object}
 use Rattle.object_values.specs.declared.object.Object.TheVariants as o
 use Rattle.object_values.specs.declared.object.Owner.{Owner}
-use Rattle.arithmetic.specs.declared.operator.Num.{Num}
 use Rattle.arithmetic.specs.Arithmetic.{wrapped, low_bits}
 use Rattle.number_ops.specs.Outcomes.{effect, zero_divisor}
 use Rattle.number_ops.specs.Casts.{cast_at_run_time}
@@ -26,7 +24,7 @@ use Rattle.pl_code.specs.declared.code.Trap.{Trap}
 use Rattle.pl_code.specs.declared.code.FunCode.{FunCode}
 use Rattle.pl_code.specs.declared.code.Instruction.{Instruction}
 use Rattle.pl_code.specs.declared.code.Instruction.TheVariants as i
-use Rattle.run_world.specs.World.{World, Limits, Limit, Room, End, Result, Uncaught, Limited, Outcome, Given, Raised, Full, acts_in, Counted, Counts, Passes, take_turn, enter}
+use Rattle.run_world.specs.World.{World, Limits, Room, End, Result, Uncaught, Limited, Outcome, Given, Raised, Full, acts_in, Counted, Counts, Passes, take_turn, enter}
 use Rattle.code_meaning.specs.Words.{Word, I, J, R, start_of, word_of, Calculation, NoRow, Calculates, calculation, boxed, unboxed}
 
 pub record Frame : Type 0 where
@@ -173,7 +171,7 @@ module _ (code : List FunCode) (limits : Limits) where
 
   abbrev pub on_calculation : Calculation → Frame → List Frame → World → Next
   on_calculation NoRow f below w = Stuck
-  on_calculation (Calculates None stack) f below w = on_outcome (acts_in w (effect w.store zero_divisor)) R f below w stack
+  on_calculation (Calculates None stack) f below w = on_outcome (acts_in w (effect w.store zero_divisor)) unboxed f below w stack
   on_calculation (Calculates (Some number) stack) f below w = to_line f below w (suc f.line) (word_of number ∷ stack)
 
   -- the casts that are due, one after the other, and then the word goes on the caller's stack

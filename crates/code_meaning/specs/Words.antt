@@ -1,5 +1,5 @@
 -- What lies on the operand stack and in locals: an I holds a boolean, byte, short, char or int, a J a long, and an R every other value.
-use Rattle.std.specs.Prelude.{ℕ, Bool, true, false, not, Option, Some, None, List, [], ◌∷◌, pos, ℤ}
+use Rattle.std.specs.Prelude.{Bool, true, false, not, Option, Some, None, List, ◌∷◌, pos, ℤ}
 use Rattle.std.specs.Int.{w8, w16, w32, w64}
 use Rattle.std.specs.Ordering.{int_eq}
 use Rattle.pl_types.specs.declared.primitive.Primitive.{Primitive}

@@ -1,10 +1,9 @@
 -- A greater bound gives the same, where it is not More.
-use Rattle.std.proofs.Common.{◌≡◌, ℕ, zero, suc, ◌≤◌, List, [], ◌∷◌, Option, Some, None, refl, sym, ap, subst, arith}
-use Rattle.std.specs.Prelude.{slice_get, Bool, true, false}
+use Rattle.std.proofs.Common.{ℕ, zero, suc, ◌≤◌, List, [], ◌∷◌, Option, Some, None, refl, sym, ap, subst, arith}
+use Rattle.std.specs.Prelude.{slice_get, true, false}
 use Rattle.pl_types.specs.declared.ty.Ty.{Ty}
 use Rattle.object_values.specs.declared.value.Value.{Value}
 use Rattle.object_values.specs.declared.value.Value.TheVariants as v
-use Rattle.object_heap.specs.Effects.{Effect}
 use Rattle.typed_tree.specs.declared.operation.Operation.{Operation}
 use Rattle.typed_tree.specs.declared.operation.Operation.TheVariants as operation
 use Rattle.typed_tree.specs.declared.operation.Logical.{Logical}
@@ -15,8 +14,8 @@ use Rattle.typed_tree.specs.declared.operation.Change.{Change}
 use Rattle.typed_tree.specs.declared.operation.Gives.{Gives}
 use Rattle.run_world.specs.World.{Limits, Counted, Counts, Passes, take_turn, enter}
 use Rattle.program_meaning.specs.Tree.{Name, Expr, Literal, Quoted, Local, Apply, Guarded, Logic, Conditional, Elvis, Assign, Modify, Lambda, Reference, NewReference, Exprs, None', One, Maybe, Missing, Given as Present, Stmt, Do, If, While, DoWhile, ForEach, Try, Block, Break, Continue, Return, Throw, Stmts, Finish, Then, Declare, Fun, Program}
-use Rattle.program_meaning.specs.Operating.{operates, static_cast}
-use Rattle.program_meaning.specs.Meaning.{State, Env, Place, Out, Done, Thrown, Over, More, Flow, Normal, Broke, Continued, Returned, Binding, bind, leave, assigned, entry, found, choose, given_by, goes_next, goes_again, back, lookup, Meaning, entered, called, applied, logic, modified, expr_of, exprs_of, value_if, turned, done_turn, stmt_of, value_or, stmts_of, layer, meaning}
+use Rattle.program_meaning.specs.Operating.{static_cast}
+use Rattle.program_meaning.specs.Meaning.{State, Env, Place, Out, Done, Thrown, Over, More, Flow, Normal, Broke, Continued, Returned, bind, leave, entry, found, choose, goes_next, goes_again, back, lookup, Meaning, entered, called, applied, logic, modified, expr_of, exprs_of, value_if, turned, done_turn, stmt_of, value_or, stmts_of, layer, meaning}
 use Rattle.program_meaning.specs.Laws.{Stays, Extends}
 
 -- the same as a record, so that what stands on either side is found

@@ -1,9 +1,8 @@
 -- What holds of all meanings.
-use Rattle.std.specs.Prelude.{◌≡◌, ℕ, ◌≤◌, List}
-use Rattle.object_values.specs.declared.value.Value.{Value}
+use Rattle.std.specs.Prelude.{◌≡◌, ℕ, ◌≤◌}
 use Rattle.run_world.specs.World.{Limits}
 use Rattle.program_meaning.specs.Tree.{Expr, Exprs, Stmt, Stmts, Program}
-use Rattle.program_meaning.specs.Meaning.{State, Env, Place, Out, Done, Thrown, Over, More, Flow, Meaning, meaning}
+use Rattle.program_meaning.specs.Meaning.{State, Env, Place, Out, Done, Thrown, Over, More, Meaning, meaning}
 
 -- The first is More, or the second is the first.
 abbrev pub Stays : {A : Type 0} → Out A → Out A → Type 0

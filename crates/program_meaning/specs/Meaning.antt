@@ -1,7 +1,7 @@
 -- What a typed program means, at a bound on the depth of the recursion: a meaning is a record of functions, and each is made of the
 -- one that is one less. At 0, and where something is meaningless (a name that is not bound, a value that is not of its type), it is
 -- More, which claims nothing.
-use Rattle.std.specs.Prelude.{ℕ, zero, suc, Bool, true, false, List, [], ◌∷◌, ◌++◌, length, Option, Some, None, slice_get, pos, if◌then◌else◌}
+use Rattle.std.specs.Prelude.{ℕ, zero, suc, true, false, List, [], ◌∷◌, Option, Some, None, slice_get, pos, if◌then◌else◌}
 use Rattle.std.specs.Str.{bytes_eq}
 use Rattle.pl_types.specs.declared.primitive.Primitive.{Primitive}
 use Rattle.pl_types.specs.declared.primitive.Primitive.TheVariants as prim
@@ -14,13 +14,12 @@ use Rattle.typed_tree.specs.declared.operation.Operation.{Operation}
 use Rattle.typed_tree.specs.declared.operation.Operation.TheVariants as operation
 use Rattle.typed_tree.specs.declared.operation.Logical.{Logical}
 use Rattle.typed_tree.specs.declared.operation.Logical.TheVariants.{And, Or}
-use Rattle.typed_tree.specs.declared.operation.Target.{Target}
 use Rattle.typed_tree.specs.declared.operation.Target.TheVariants as target
 use Rattle.typed_tree.specs.declared.operation.Change.{Change}
 use Rattle.typed_tree.specs.declared.operation.Gives.{Gives as Given_by}
 use Rattle.typed_tree.specs.declared.operation.Gives.TheVariants as gives
-use Rattle.run_world.specs.World.{World, Limits, Limit, Room, End, Result, Uncaught, Limited, Outcome, Given, Raised, Full, acts_in, Counted, Counts, Passes, take_turn, enter}
-use Rattle.program_meaning.specs.Tree.{Name, Expr, Literal, Quoted, Local, Apply, Guarded, Logic, Conditional, Elvis, Assign, Modify, Lambda, Reference, NewReference, Exprs, None', One, Maybe, Missing, Given as Present, Stmt, Do, If, While, DoWhile, ForEach, Try, Block, Break, Continue, Return, Throw, Stmts, Finish, Then, Declare, Catches, Variable, Fun, Program}
+use Rattle.run_world.specs.World.{World, Limits, Limit, Room, Outcome, Given, Raised, Full, acts_in, Counted, Counts, Passes, take_turn, enter}
+use Rattle.program_meaning.specs.Tree.{Name, Expr, Literal, Quoted, Local, Apply, Guarded, Logic, Conditional, Elvis, Assign, Modify, Lambda, Reference, NewReference, Exprs, None', One, Maybe, Missing, Given as Present, Stmt, Do, If, While, DoWhile, ForEach, Try, Block, Break, Continue, Return, Throw, Stmts, Finish, Then, Declare, Variable, Fun, Program}
 use Rattle.program_meaning.specs.Operating.{Operated, Meaningless, Gives, Acts, value_of, operates, static_cast}
 
 -- the world, and how many turns this frame has had

@@ -1,6 +1,6 @@
 -- What operators and casts come to where the types of their operands are known before the script runs. Nothing, where an operand is not
 -- of its type, which no typed program meets, or the operation is not built.
-use Rattle.std.specs.Prelude.{ℕ, Bool, true, false, not, Option, Some, None, List, [], ◌∷◌, pos, ℤ, if◌then◌else◌}
+use Rattle.std.specs.Prelude.{ℕ, Bool, not, Option, Some, None, List, [], ◌∷◌, pos, ℤ}
 use Rattle.std.specs.Int.{w8, w16, w32, w64}
 use Rattle.pl_types.specs.declared.primitive.Primitive.{Primitive}
 use Rattle.pl_types.specs.declared.primitive.Primitive.TheVariants as prim
@@ -32,12 +32,69 @@ value_of (constant.Char unit) = v.Char unit
 value_of (constant.Int number) = v.Int number
 value_of (constant.Long number) = v.Long number
 
--- ---- numbers: what an operator of one or two operands gives, or a zero divisor
+-- ---- operands
 
-abbrev pub of_one : (ℤ → Option Num) → Op → ℤ → Option (Option Num)
-of_one given op.Neg a = Some (given a)
-of_one given op.Not a = Some (given a)
-of_one given o a = None
+-- a value as an operator's operand: an int, a long or a truth value
+pub data Operand : Type 0 where
+  AnInt : (number : ℤ) → Operand
+  ALong : (number : ℤ) → Operand
+  AFlag : (flag : Bool) → Operand
+  NoOperand : Operand
+
+abbrev pub operand_of : Value → Operand
+operand_of (v.Int a) = AnInt a
+operand_of (v.Long a) = ALong a
+operand_of (v.Bool a) = AFlag a
+operand_of v.Null = NoOperand
+operand_of (v.Byte a) = NoOperand
+operand_of (v.Short a) = NoOperand
+operand_of (v.Char a) = NoOperand
+operand_of (v.Str a) = NoOperand
+operand_of (v.Ref a) = NoOperand
+
+pub data Operands : Type 0 where
+  OneInt : (a : ℤ) → Operands
+  TwoInts : (a b : ℤ) → Operands
+  OneLong : (a : ℤ) → Operands
+  TwoLongs : (a b : ℤ) → Operands
+  LongAndInt : (a b : ℤ) → Operands
+  OneFlag : (a : Bool) → Operands
+  TwoFlags : (a b : Bool) → Operands
+  NoOperands : Operands
+
+abbrev pub one_operand : Operand → Operands
+one_operand (AnInt a) = OneInt a
+one_operand (ALong a) = OneLong a
+one_operand (AFlag a) = OneFlag a
+one_operand NoOperand = NoOperands
+
+abbrev pub two_operands : Operand → Operand → Operands
+two_operands (AnInt a) (AnInt b) = TwoInts a b
+two_operands (AnInt a) (ALong b) = NoOperands
+two_operands (AnInt a) (AFlag b) = NoOperands
+two_operands (AnInt a) NoOperand = NoOperands
+two_operands (ALong a) (AnInt b) = LongAndInt a b
+two_operands (ALong a) (ALong b) = TwoLongs a b
+two_operands (ALong a) (AFlag b) = NoOperands
+two_operands (ALong a) NoOperand = NoOperands
+two_operands (AFlag a) (AnInt b) = NoOperands
+two_operands (AFlag a) (ALong b) = NoOperands
+two_operands (AFlag a) (AFlag b) = TwoFlags a b
+two_operands (AFlag a) NoOperand = NoOperands
+two_operands NoOperand b = NoOperands
+
+abbrev pub operands_of : List Value → Operands
+operands_of [] = NoOperands
+operands_of (a ∷ []) = one_operand (operand_of a)
+operands_of (a ∷ b ∷ []) = two_operands (operand_of a) (operand_of b)
+operands_of (a ∷ b ∷ c ∷ others) = NoOperands
+
+-- ---- numbers: what an operator gives, or a zero divisor; nothing where it does not take so many operands
+
+abbrev pub of_one : Option Num → Op → Option (Option Num)
+of_one given op.Neg = Some given
+of_one given op.Not = Some given
+of_one given o = None
 
 abbrev pub of_two : Option Num → Op → Option (Option Num)
 of_two given op.Neg = None
@@ -45,10 +102,10 @@ of_two given op.Not = None
 of_two given op.Pos = None
 of_two given o = Some given
 
-abbrev pub of_ints : Op → List Value → Option (Option Num)
-of_ints o (v.Int a ∷ []) = of_one (λ a. of_type n.Int w32 o a a) o a
-of_ints o (v.Int a ∷ v.Int b ∷ []) = of_two (of_type n.Int w32 o a b) o
-of_ints o values = None
+abbrev pub of_ints : Op → Operands → Option (Option Num)
+of_ints o (OneInt a) = of_one (of_type n.Int w32 o a a) o
+of_ints o (TwoInts a b) = of_two (of_type n.Int w32 o a b) o
+of_ints o others = None
 
 -- the right side of a shift of a long is an int
 abbrev pub of_shift : Option Num → Op → Option (Option Num)
@@ -63,11 +120,11 @@ of_no_shift given op.Shr = None
 of_no_shift given op.Ushr = None
 of_no_shift given o = of_two given o
 
-abbrev pub of_longs : Op → List Value → Option (Option Num)
-of_longs o (v.Long a ∷ []) = of_one (λ a. of_type n.Long w64 o a a) o a
-of_longs o (v.Long a ∷ v.Long b ∷ []) = of_no_shift (of_type n.Long w64 o a b) o
-of_longs o (v.Long a ∷ v.Int b ∷ []) = of_shift (of_type n.Long w64 o a b) o
-of_longs o values = None
+abbrev pub of_longs : Op → Operands → Option (Option Num)
+of_longs o (OneLong a) = of_one (of_type n.Long w64 o a a) o
+of_longs o (TwoLongs a b) = of_no_shift (of_type n.Long w64 o a b) o
+of_longs o (LongAndInt a b) = of_shift (of_type n.Long w64 o a b) o
+of_longs o others = None
 
 -- what an operator comes to: nothing, a value, or an effect on the store
 pub data Operated : Type 0 where
@@ -85,14 +142,22 @@ number_operated o (Some given) store = number_given o given store
 
 -- ---- truth values
 
-abbrev pub of_flags : Op → List Value → Option Bool
-of_flags op.Not (v.Bool a ∷ []) = Some (not a)
-of_flags op.And (v.Bool a ∷ v.Bool b ∷ []) = Some (and_flags a b)
-of_flags op.Or (v.Bool a ∷ v.Bool b ∷ []) = Some (or_flags a b)
-of_flags op.Xor (v.Bool a ∷ v.Bool b ∷ []) = Some (xor_flags a b)
-of_flags op.Eq (v.Bool a ∷ v.Bool b ∷ []) = Some (not (xor_flags a b))
-of_flags op.Ne (v.Bool a ∷ v.Bool b ∷ []) = Some (xor_flags a b)
-of_flags o values = None
+abbrev pub of_two_flags : Op → Bool → Bool → Option Bool
+of_two_flags op.And a b = Some (and_flags a b)
+of_two_flags op.Or a b = Some (or_flags a b)
+of_two_flags op.Xor a b = Some (xor_flags a b)
+of_two_flags op.Eq a b = Some (not (xor_flags a b))
+of_two_flags op.Ne a b = Some (xor_flags a b)
+of_two_flags o a b = None
+
+abbrev pub of_one_flag : Op → Bool → Option Bool
+of_one_flag op.Not a = Some (not a)
+of_one_flag o a = None
+
+abbrev pub of_flags : Op → Operands → Option Bool
+of_flags o (OneFlag a) = of_one_flag o a
+of_flags o (TwoFlags a b) = of_two_flags o a b
+of_flags o others = None
 
 abbrev pub flag_operated : Option Bool → Operated
 flag_operated None = Meaningless
@@ -100,10 +165,10 @@ flag_operated (Some flag) = Gives (v.Bool flag)
 
 -- ---- all operators
 
-unfoldable pub operates : Operator → List Value → Store → Operated
-operates (operator.Int o) values store = number_operated o (of_ints o values) store
-operates (operator.Long o) values store = number_operated o (of_longs o values) store
-operates (operator.Boolean o) values store = flag_operated (of_flags o values)
+abbrev pub operates : Operator → List Value → Store → Operated
+operates (operator.Int o) values store = number_operated o (of_ints o (operands_of values)) store
+operates (operator.Long o) values store = number_operated o (of_longs o (operands_of values)) store
+operates (operator.Boolean o) values store = flag_operated (of_flags o (operands_of values))
 operates other values store = Meaningless
 
 -- ---- casts between the number types (Java Language Specification, 5.1.2 and 5.1.3): what widens keeps its number, and what narrows its
@@ -141,7 +206,7 @@ abbrev pub from_flag_to : Primitive → Bool → Option Value
 from_flag_to prim.Boolean flag = Some (v.Bool flag)
 from_flag_to p flag = None
 
-unfoldable pub number_cast : Primitive → Primitive → Value → Option Value
+abbrev pub number_cast : Primitive → Primitive → Value → Option Value
 number_cast prim.Boolean to (v.Bool flag) = from_flag_to to flag
 number_cast prim.Byte to (v.Byte a) = from_byte_to to a
 number_cast prim.Short to (v.Short a) = from_short_to to a
@@ -151,7 +216,7 @@ number_cast prim.Long to (v.Long a) = from_long_to to a
 number_cast from to value = None
 
 -- A value of a primitive type in its box. (A box holds a number of its type.)
-unfoldable pub in_box : Primitive → Value → Option Value
+abbrev pub in_box : Primitive → Value → Option Value
 in_box prim.Boolean (v.Bool flag) = Some (v.Bool flag)
 in_box prim.Byte (v.Byte a) = Some (v.Byte (wrapped w8 a))
 in_box prim.Short (v.Short a) = Some (v.Short (wrapped w16 a))
@@ -164,7 +229,7 @@ abbrev pub box_if : Primitive → Option Value → Option Value
 box_if p None = None
 box_if p (Some value) = in_box p value
 
-unfoldable pub static_cast : Cast → Value → Option Value
+abbrev pub static_cast : Cast → Value → Option Value
 static_cast cast.Keep value = Some value
 static_cast (cast.Number from to) value = number_cast from to value
 static_cast (cast.Wrap from to) value = box_if to (number_cast from to value)

@@ -1,6 +1,6 @@
 -- What is changed by a run: the store with its room, the ticks that are left, and the members that were reached. The meaning of a
 -- script and the meaning of its code share this page and nothing else but what operators, casts and members come to.
-use Rattle.std.specs.Prelude.{ℕ, ◌+◌, ◌-◌, ◌==◌, Bool, List, [], ◌∷◌, ◌++◌, Option, Some, None, nat_lt, if◌then◌else◌}
+use Rattle.std.specs.Prelude.{ℕ, ◌-◌, List, nat_lt, if◌then◌else◌}
 use Rattle.object_values.specs.declared.value.Value.{Value}
 use Rattle.object_heap.specs.Store.{Store}
 use Rattle.object_heap.specs.Effects.{Effect, Gives, Throws, NoRoom}
