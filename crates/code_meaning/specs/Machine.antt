@@ -1,0 +1,268 @@
+-- What code does, instruction by instruction. A configuration has frames, the newest apart from those below it, and the world.
+use Rattle.std.specs.Prelude.{ℕ, zero, suc, ◌&&◌, Bool, true, false, List, [], ◌∷◌, ◌++◌, map, length, Option, Some, None, slice_get, slice_set, nat_le, nat_lt, pos, negsuc, ℤ, if◌then◌else◌}
+use Rattle.std.specs.Int.{w8, w16, w32}
+use Rattle.pl_types.specs.declared.ty.Ty.{Ty}
+use Rattle.pl_types.specs.declared.ty.Ty.TheVariants as ty
+use Rattle.pl_types.specs.Classes.{class_is_below}
+use Rattle.pl_types.specs.Names.{class_of_full}
+use Rattle.object_values.specs.declared.value.Value.{Value}
+use Rattle.object_values.specs.declared.value.Value.TheVariants as v
+use Rattle.object_values.specs.declared.object.Object.{Object}
+use Rattle.object_values.specs.declared.object.Object.TheVariants as o
+use Rattle.object_values.specs.declared.object.Owner.{Owner}
+use Rattle.arithmetic.specs.Arithmetic.{wrapped, low_bits}
+use Rattle.number_ops.specs.Outcomes.{effect, zero_divisor}
+use Rattle.number_ops.specs.Casts.{cast_at_run_time}
+use Rattle.pl_code.specs.declared.kinds.Plain.{Plain}
+use Rattle.pl_code.specs.declared.kinds.Plain.TheVariants as plain
+use Rattle.pl_code.specs.declared.kinds.Numbered.{Numbered}
+use Rattle.pl_code.specs.declared.kinds.Numbered.TheVariants as numbered
+use Rattle.pl_code.specs.declared.kinds.Way.{Way}
+use Rattle.pl_code.specs.declared.kinds.Way.TheVariants as way
+use Rattle.pl_code.specs.declared.kinds.Slot.{Slot}
+use Rattle.pl_code.specs.declared.code.Trap.{Trap}
+use Rattle.pl_code.specs.declared.code.FunCode.{FunCode}
+use Rattle.pl_code.specs.declared.code.Instruction.{Instruction}
+use Rattle.pl_code.specs.declared.code.Instruction.TheVariants as i
+use Rattle.run_world.specs.World.{World, Limits, Room, End, Result, Uncaught, Limited, Outcome, Given, Raised, Full, acts_in, Counted, Counts, Passes, take_turn, enter}
+use Rattle.code_meaning.specs.Words.{Word, I, J, R, start_of, word_of, Calculation, NoRow, Calculates, calculation, boxed, unboxed}
+
+pub record Frame : Type 0 where
+  -- the script's code, or the prelude's
+  pub text : Owner
+  pub fun : ℕ
+  pub line : ℕ
+  pub locals : List Word
+  pub stack : List Word
+  pub turns : ℕ
+  -- the types to which what it gives is cast when it returns, the first of them first
+  pub due : List Ty
+
+pub record Config : Type 0 where
+  pub top : Frame
+  pub below : List Frame
+  pub world : World
+
+-- what comes of a step; Stuck where no row fits
+pub data Next : Type 0 where
+  Goes : (c : Config) → Next
+  Ends : (r : End (Option Word)) → Next
+  Stuck : Next
+
+-- ---- what is thrown
+
+-- a class, and the line that catches its exceptions
+pub record Handler : Type 0 where
+  pub class : Option ℕ
+  pub at : ℕ
+
+abbrev pub Handlers : Type 0
+Handlers = List Handler
+
+-- the traps over a line, in order
+abbrev pub traps_at : List Trap → ℕ → Handlers
+traps_at [] line = []
+traps_at (t ∷ ts) line =
+    if nat_le t.from line && nat_lt line t.to then record { class = class_of_full t.class; at = t.at } ∷ traps_at ts line else traps_at ts line
+
+abbrev pub traps_of : Option FunCode → ℕ → Handlers
+traps_of None line = []
+traps_of (Some f) line = traps_at f.traps line
+
+unfoldable pub exception_is : ℕ → Option Object → Bool
+exception_is class (Some (o.Exc raised message)) = class_is_below raised class
+exception_is class other = false
+
+unfoldable pub is_instance : Option ℕ → ℕ → World → Bool
+is_instance None id w = false
+is_instance (Some class) id w = exception_is class (slice_get w.store.objects id)
+
+-- An exception in this frame: to the first handler of its class, or on to the frames below.
+abbrev pub lands : Handlers → Owner → ℕ → List Word → ℕ → List Ty → List Frame → ℕ → World → Next → Next
+lands [] text fun locals turns due below id w further = further
+lands (h ∷ hs) text fun locals turns due below id w further =
+    if is_instance h.class id w
+    then Goes (record { top = record { text = text; fun = fun; line = h.at; locals = locals; stack = R (v.Ref id) ∷ []; turns = turns; due = due }; below = below; world = w })
+    else lands hs text fun locals turns due below id w further
+
+abbrev pub unwind : List FunCode → List Frame → ℕ → World → Next
+unwind code [] id w = Ends (Uncaught id w)
+unwind code (f ∷ fs) id w = lands (traps_of (slice_get code f.fun) f.line) f.text f.fun f.locals f.turns f.due fs id w (unwind code fs id w)
+
+-- ---- one frame
+
+-- to a line with this stack
+abbrev pub to_line : Frame → List Frame → World → ℕ → List Word → Next
+to_line f below w line stack =
+    Goes (record { top = record { text = f.text; fun = f.fun; line = line; locals = f.locals; stack = stack; turns = f.turns; due = f.due }; below = below; world = w })
+
+abbrev pub on_top : List Word → (Word → List Word → Next) → Next
+on_top [] next = Stuck
+on_top (word ∷ stack) next = next word stack
+
+abbrev pub on_int : Word → (ℤ → Next) → Next
+on_int (I a) next = next a
+on_int other next = Stuck
+
+abbrev pub on_long : Word → (ℤ → Next) → Next
+on_long (J a) next = next a
+on_long other next = Stuck
+
+abbrev pub on_reference : Word → (Value → Next) → Next
+on_reference (R value) next = next value
+on_reference other next = Stuck
+
+abbrev pub on_value : Option Value → (Value → Next) → Next
+on_value None next = Stuck
+on_value (Some value) next = next value
+
+-- the first where the number is not 0
+abbrev pub unless_zero : ℤ → Next → Next → Next
+unless_zero (pos zero) first second = second
+unless_zero (pos (suc a)) first second = first
+unless_zero (negsuc a) first second = first
+
+-- so many words off the stack, the deepest first
+abbrev pub take_words : ℕ → List Word → List Word → Option (List Word × List Word)
+take_words zero stack taken = Some (taken, stack)
+take_words (suc n) [] taken = None
+take_words (suc n) (word ∷ stack) taken = take_words n stack (word ∷ taken)
+
+abbrev pub on_words : Option (List Word × List Word) → (List Word → List Word → Next) → Next
+on_words None next = Stuck
+on_words (Some p) next = next p.0 p.1
+
+abbrev pub on_local : Option Word → (Word → Next) → Next
+on_local None next = Stuck
+on_local (Some word) next = next word
+
+abbrev pub depth_of : List Frame → ℕ
+depth_of [] = zero
+depth_of (f ∷ fs) = suc (depth_of fs)
+
+-- a word more, or none
+abbrev pub pushed : Option Word → List Word → List Word
+pushed None stack = stack
+pushed (Some word) stack = word ∷ stack
+
+abbrev pub copied : Plain → List Word → Option (List Word)
+copied plain.Pop (z ∷ stack) = Some stack
+copied plain.Dup (z ∷ stack) = Some (z ∷ z ∷ stack)
+copied plain.Dup2 (z ∷ y ∷ stack) = Some (z ∷ y ∷ z ∷ y ∷ stack)
+copied plain.DupX1 (z ∷ y ∷ stack) = Some (z ∷ y ∷ z ∷ stack)
+copied plain.DupX2 (z ∷ y ∷ x ∷ stack) = Some (z ∷ y ∷ x ∷ z ∷ stack)
+copied other stack = None
+
+abbrev pub on_stack : Option (List Word) → (List Word → Next) → Next
+on_stack None next = Stuck
+on_stack (Some stack) next = next stack
+
+-- which way a cast goes: whether it is written in the script
+abbrev pub is_written : Way → Bool
+is_written way.Implicit = false
+is_written way.Explicit = true
+
+module _ (code : List FunCode) (limits : Limits) where
+  -- what an operation on the store gives goes on the stack
+  abbrev pub on_outcome : Outcome Value → (Value → Word) → Frame → List Frame → World → List Word → Next
+  on_outcome (Given value w') word f below w stack = to_line f below w' (suc f.line) (word value ∷ stack)
+  on_outcome (Raised id w') word f below w stack = unwind code (f ∷ below) id w'
+  on_outcome Full word f below w stack = Ends (Limited Room w)
+
+  abbrev pub on_calculation : Calculation → Frame → List Frame → World → Next
+  on_calculation NoRow f below w = Stuck
+  on_calculation (Calculates None stack) f below w = on_outcome (acts_in w (effect w.store zero_divisor)) unboxed f below w stack
+  on_calculation (Calculates (Some number) stack) f below w = to_line f below w (suc f.line) (word_of number ∷ stack)
+
+  -- the casts that are due, one after the other, and then the word goes on the caller's stack
+  abbrev pub cast_due : List Ty → Option Word → Frame → List Frame → World → Next
+  cast_due [] result f below w = to_line f below w (suc f.line) (pushed result f.stack)
+  cast_due (to ∷ more) result f below w = Stuck
+
+  abbrev pub gives_back : List Frame → List Ty → Option Word → World → Next
+  gives_back [] due result w = Ends (Result result w)
+  gives_back (f ∷ fs) due result w = cast_due due result f fs w
+
+  abbrev pub on_turn : Counted → ℕ → Frame → List Frame → World → List Word → Next
+  on_turn (Passes limit) to f below w stack = Ends (Limited limit w)
+  on_turn (Counts w') to f below w stack =
+      Goes (record { top = record { text = f.text; fun = f.fun; line = to; locals = f.locals; stack = stack; turns = suc f.turns; due = f.due }; below = below; world = w' })
+
+  abbrev pub on_enter : Counted → ℕ → FunCode → List Ty → Frame → List Frame → World → List Word → List Word → Next
+  on_enter (Passes limit) k g due f below w args stack = Ends (Limited limit w)
+  on_enter (Counts w') k g due f below w args stack =
+      Goes (record {
+        top = record { text = f.text; fun = k; line = 0; locals = args ++ map start_of g.locals; stack = []; turns = 0; due = due };
+        below = record { text = f.text; fun = f.fun; line = f.line; locals = f.locals; stack = stack; turns = f.turns; due = f.due } ∷ below;
+        world = w';
+      })
+
+  abbrev pub on_call : Option FunCode → ℕ → Frame → List Frame → World → Next
+  on_call None k f below w = Stuck
+  on_call (Some g) k f below w =
+      on_words (take_words (length g.params) f.stack []) (λ args stack. on_enter (enter limits (depth_of below) w) k g [] f below w args stack)
+
+  -- what is returned: a word, or none where the function has no result
+  abbrev pub returns_of : Option Slot → List Word → (Option Word → Next) → Next
+  returns_of None stack next = next None
+  returns_of (Some kind) stack next = on_top stack (λ word rest. next (Some word))
+
+  abbrev pub returns : Option FunCode → List Word → (Option Word → Next) → Next
+  returns None stack next = Stuck
+  returns (Some g) stack next = returns_of g.result stack next
+
+  abbrev pub plain_act : Plain → Frame → List Frame → World → Next
+  plain_act plain.Null f below w = to_line f below w (suc f.line) (R v.Null ∷ f.stack)
+  plain_act plain.IntToLong f below w = on_top f.stack (λ word stack. on_int word (λ a. to_line f below w (suc f.line) (J a ∷ stack)))
+  plain_act plain.LongToInt f below w = on_top f.stack (λ word stack. on_long word (λ a. to_line f below w (suc f.line) (I (wrapped w32 a) ∷ stack)))
+  plain_act plain.IntToByte f below w = on_top f.stack (λ word stack. on_int word (λ a. to_line f below w (suc f.line) (I (wrapped w8 a) ∷ stack)))
+  plain_act plain.IntToShort f below w = on_top f.stack (λ word stack. on_int word (λ a. to_line f below w (suc f.line) (I (wrapped w16 a) ∷ stack)))
+  plain_act plain.IntToChar f below w = on_top f.stack (λ word stack. on_int word (λ a. to_line f below w (suc f.line) (I (pos (low_bits 16 a)) ∷ stack)))
+  plain_act plain.Ret f below w = returns (slice_get code f.fun) f.stack (λ result. gives_back below f.due result w)
+  plain_act other f below w = on_stack (copied other f.stack) (λ stack. to_line f below w (suc f.line) stack)
+
+  abbrev pub numbered_act : Numbered → ℕ → Frame → List Frame → World → Next
+  numbered_act numbered.Load k f below w = on_local (slice_get f.locals k) (λ word. to_line f below w (suc f.line) (word ∷ f.stack))
+  numbered_act numbered.Store k f below w =
+      on_top f.stack (λ word stack.
+      Goes (record { top = record { text = f.text; fun = f.fun; line = suc f.line; locals = slice_set f.locals k word; stack = stack; turns = f.turns; due = f.due }; below = below; world = w }))
+  numbered_act numbered.Goto to f below w = to_line f below w to f.stack
+  numbered_act numbered.IfZero to f below w =
+      on_top f.stack (λ word stack. on_int word (λ a. unless_zero a (to_line f below w (suc f.line) stack) (to_line f below w to stack)))
+  numbered_act numbered.IfNotZero to f below w =
+      on_top f.stack (λ word stack. on_int word (λ a. unless_zero a (to_line f below w to stack) (to_line f below w (suc f.line) stack)))
+  numbered_act numbered.Loop to f below w =
+      on_top f.stack (λ word stack. on_int word (λ a. unless_zero a (on_turn (take_turn limits f.turns w) to f below w stack) (to_line f below w (suc f.line) stack)))
+  numbered_act numbered.Call k f below w = on_call (slice_get code k) k f below w
+  numbered_act other k f below w = Stuck
+
+  -- The rows that are built: constants, locals, copies, arithmetic, number casts, boxes, jumps, loops, calls and returns.
+  abbrev pub act : Instruction → Frame → List Frame → World → Next
+  act (i.Plain p) f below w = plain_act p f below w
+  act (i.Arithmetic o width) f below w = on_calculation (calculation o width f.stack) f below w
+  act (i.Int a) f below w = to_line f below w (suc f.line) (I a ∷ f.stack)
+  act (i.Long a) f below w = to_line f below w (suc f.line) (J a ∷ f.stack)
+  act (i.Numbered numbered k) f below w = numbered_act numbered k f below w
+  act (i.Boxing p) f below w = on_top f.stack (λ word stack. on_value (boxed p word) (λ value. to_line f below w (suc f.line) (R value ∷ stack)))
+  act (i.Unboxing p way) f below w =
+      on_top f.stack (λ word stack. on_reference word (λ value.
+      on_outcome (acts_in w (effect w.store (cast_at_run_time w.store.objects value (ty.Prim p) (is_written way)))) unboxed f below w stack))
+  act other f below w = Stuck
+
+  abbrev pub lines_of : Option FunCode → List Instruction
+  lines_of None = []
+  lines_of (Some g) = g.lines
+
+  abbrev pub acts : Option Instruction → Frame → List Frame → World → Next
+  acts None f below w = Stuck
+  acts (Some instruction) f below w = act instruction f below w
+
+  abbrev pub step : Config → Next
+  step c = acts (slice_get (lines_of (slice_get code c.top.fun)) c.top.line) c.top c.below c.world
+
+  -- so many steps
+  abbrev pub after : ℕ → Next → Next
+  after zero n = n
+  after (suc k) (Goes c) = after k (step c)
+  after (suc k) (Ends r) = Ends r
+  after (suc k) Stuck = Stuck

@@ -1,0 +1,6 @@
+pub mod Locals
+pub mod Follows
+pub mod Refines
+pub mod Nodes
+pub mod Simulates
+pub mod Correct

@@ -1,0 +1,7 @@
+pub mod Operands
+pub mod Casts
+pub mod Exprs
+pub mod Assigns
+pub mod Calls
+pub mod Statements
+pub mod Loops

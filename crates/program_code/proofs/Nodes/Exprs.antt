@@ -1,0 +1,184 @@
+-- Constants, variables, choices and assignments.
+use Rattle.std.proofs.Common.{◌≡◌, ◌≢◌, ℕ, suc, Bool, true, false, List, ◌∷◌, Option, Some, None, refl, sym, ap, ◌∙◌, subst}
+use Rattle.std.specs.Prelude.{slice_get, slice_set}
+use Rattle.pl_types.specs.declared.ty.Ty.{Ty}
+use Rattle.object_values.specs.declared.value.Value.{Value}
+use Rattle.object_values.specs.declared.value.Value.TheVariants as v
+use Rattle.pl_code.specs.declared.kinds.Plain.TheVariants as plain
+use Rattle.pl_code.specs.declared.kinds.Numbered.TheVariants as numbered
+use Rattle.pl_code.specs.declared.code.FunCode.{FunCode}
+use Rattle.pl_code.specs.declared.code.Instruction.TheVariants as i
+use Rattle.typed_tree.specs.declared.operation.Constant.{Constant}
+use Rattle.typed_tree.specs.declared.operation.Constant.TheVariants as constant
+use Rattle.typed_tree.specs.declared.operation.Logical.{Logical}
+use Rattle.typed_tree.specs.declared.operation.Logical.TheVariants.{And, Or}
+use Rattle.typed_tree.specs.declared.operation.Gives.{Gives}
+use Rattle.typed_tree.specs.declared.operation.Gives.TheVariants as gives
+use Rattle.run_world.specs.World.{Limits}
+use Rattle.program_meaning.specs.Tree.{Name, Expr, Literal, Local, Logic, Conditional, Exprs, None', One, Program, type_of}
+use Rattle.program_meaning.specs.Operating.{value_of}
+use Rattle.program_meaning.specs.Meaning.{State, Env, Out, Done, Meaning, found, lookup, assigned, given_by, expr_of, exprs_of}
+use Rattle.code_meaning.specs.Words.{Word, R, unboxed}
+use Rattle.code_meaning.specs.Machine.{Handlers, Next, on_local, pushed, act, to_line}
+use Rattle.program_code.specs.Lying.{Lying, Bare, Whole, Absent, lying_of, low}
+use Rattle.program_code.specs.Parts.{constant_code, kept_before, kept_behind}
+use Rattle.program_code.specs.Stands.{Entry, Scope, entry_of, At, AllAt, end_all, end_expr, settled, literal_lies}
+use Rattle.program_code.proofs.Locals.{Fits, reads, writes}
+use Rattle.program_code.proofs.Follows.{Ctx, Leads, frame, at, does_next, Sim, and_then, done, step_to, lands_on, tested}
+use Rattle.program_code.proofs.Refines.{Any, land_value, ExprRuns, ExprsRun, Refines}
+use Rattle.program_code.proofs.Nodes.Operands.{whole_bare, absent_bare}
+
+-- what lies below a change, and behind it
+abbrev pub kept_old : Gives → Value → List Word → List Word
+kept_old gives.Old value st = unboxed value ∷ st
+kept_old gives.New value st = st
+
+abbrev pub kept_new : Gives → Value → List Word → List Word
+kept_new gives.Old value st = st
+kept_new gives.New value st = unboxed value ∷ st
+
+-- the value that settles `&&` or `||`
+abbrev pub short : Logical → Bool
+short And = false
+short Or = true
+
+module _ (funs : Program) (code : List FunCode) (limits : Limits) (c : Ctx code) (h : Handlers) (g : Scope) where
+  literal_does : (x : Constant) (k : Lying) (q : ℕ) (s : State) (e : Env) (l st : List Word) → k ≡ literal_lies x → Fits c.body g e l
+      → Sim code limits c h g (land_value funs code limits c k (suc q) st) Any (act code limits (constant_code x) (frame code limits c q l st s) c.below s.world) (Done (value_of x) s e)
+  literal_does constant.Null Whole q s e l st is f = done code limits f tt
+  literal_does constant.Null Bare q s e l st is f = absurd (whole_bare (sym is))
+  literal_does constant.Null Absent q s e l st is f = cc
+  literal_does (constant.Boolean a) Bare q s e l st is f = done code limits f tt
+  literal_does (constant.Boolean a) Whole q s e l st is f = absurd (whole_bare is)
+  literal_does (constant.Boolean a) Absent q s e l st is f = absurd (absent_bare is)
+  literal_does (constant.Byte a) Bare q s e l st is f = done code limits f tt
+  literal_does (constant.Byte a) Whole q s e l st is f = absurd (whole_bare is)
+  literal_does (constant.Byte a) Absent q s e l st is f = absurd (absent_bare is)
+  literal_does (constant.Short a) Bare q s e l st is f = done code limits f tt
+  literal_does (constant.Short a) Whole q s e l st is f = absurd (whole_bare is)
+  literal_does (constant.Short a) Absent q s e l st is f = absurd (absent_bare is)
+  literal_does (constant.Char a) Bare q s e l st is f = done code limits f tt
+  literal_does (constant.Char a) Whole q s e l st is f = absurd (whole_bare is)
+  literal_does (constant.Char a) Absent q s e l st is f = absurd (absent_bare is)
+  literal_does (constant.Int a) Bare q s e l st is f = done code limits f tt
+  literal_does (constant.Int a) Whole q s e l st is f = absurd (whole_bare is)
+  literal_does (constant.Int a) Absent q s e l st is f = absurd (absent_bare is)
+  literal_does (constant.Long a) Bare q s e l st is f = done code limits f tt
+  literal_does (constant.Long a) Whole q s e l st is f = absurd (whole_bare is)
+  literal_does (constant.Long a) Absent q s e l st is f = absurd (absent_bare is)
+
+  -- a word is loaded
+  load_word : (k k' : Lying) (value : Value) (word : Option Word) (q : ℕ) (s : State) (e : Env) (l st st' : List Word) → k ≡ k' → word ≡ low k' value → k' ≢ Absent → Fits c.body g e l
+      → Sim code limits c h g (land_value funs code limits c k (suc q) st) Any (on_local word (λ word. to_line (frame code limits c q l st' s) c.below s.world (suc q) (word ∷ st))) (Done value s e)
+  load_word Bare Bare value word q s e l st st' same is some f =
+      subst (λ o. Sim code limits c h g (land_value funs code limits c Bare (suc q) st) Any (on_local o (λ word. to_line (frame code limits c q l st' s) c.below s.world (suc q) (word ∷ st))) (Done value s e)) (sym is) (done code limits f tt)
+  load_word Whole Whole value word q s e l st st' same is some f =
+      subst (λ o. Sim code limits c h g (land_value funs code limits c Whole (suc q) st) Any (on_local o (λ word. to_line (frame code limits c q l st' s) c.below s.world (suc q) (word ∷ st))) (Done value s e)) (sym is) (done code limits f tt)
+  load_word k Absent value word q s e l st st' same is some f = absurd (some refl)
+  load_word Bare Whole value word q s e l st st' same is some f = absurd (whole_bare (sym same))
+  load_word Whole Bare value word q s e l st st' same is some f = absurd (whole_bare same)
+  load_word Absent Bare value word q s e l st st' same is some f = absurd (absent_bare same)
+  load_word Absent Whole value word q s e l st st' same is some f = absurd (some (sym same))
+
+  pub load_does : (k k' : Lying) (o : Option Value) (word : Option Word) (q : ℕ) (s : State) (e : Env) (l st st' : List Word) → k ≡ k' → ((value : Value) → o ≡ Some value → (word ≡ low k' value) × (k' ≢ Absent)) → Fits c.body g e l
+      → Sim code limits c h g (land_value funs code limits c k (suc q) st) Any (on_local word (λ word. to_line (frame code limits c q l st' s) c.below s.world (suc q) (word ∷ st))) (found o s e)
+  load_does k k' None word q s e l st st' same has f = record { by = tt }
+  load_does k k' (Some value) word q s e l st st' same has f = let r = has value refl in load_word k k' value word q s e l st st' same r.0 r.1 f
+
+  -- a word is stored, as the entry's type has it
+  pub store_runs : (x : Name) (y : Entry) (k : Lying) (value : Value) (q : ℕ) (s : State) (e : Env) (l st : List Word) → entry_of g x ≡ Some y → k ≡ lying_of y.of → k ≢ Absent → At c.body h q (i.Numbered numbered.Store y.local) → Fits c.body g e l
+      → {A : Type 0} {land : A → State → List Word → Next} {good : A → Type 0} {o : Out A}
+      → ((l : List Word) → Fits c.body g (assigned e x value) l → Sim code limits c h g land good (at code limits c (suc q) l st s) o)
+      → Sim code limits c h g land good (at code limits c q l (pushed (low k value) st) s) o
+  store_runs x y Bare value q s e l st is same some a f next =
+      step_to code limits l (unboxed value ∷ st) s a (next (slice_set l y.local (unboxed value)) (writes c.body g e l x y value (unboxed value) is (ap (λ k. low k value) (sym same)) f))
+  store_runs x y Whole value q s e l st is same some a f next =
+      step_to code limits l (R value ∷ st) s a (next (slice_set l y.local (R value)) (writes c.body g e l x y value (R value) is (ap (λ k. low k value) (sym same)) f))
+  store_runs x y Absent value q s e l st is same some a f next = absurd (some refl)
+
+  -- a word is doubled
+  pub double_runs : (k : Lying) (value : Value) (q : ℕ) (s : State) (l st : List Word) → k ≢ Absent → At c.body h q (i.Plain plain.Dup)
+      → {A : Type 0} {land : A → State → List Word → Next} {good : A → Type 0} {o : Out A}
+      → Sim code limits c h g land good (at code limits c (suc q) l (pushed (low k value) (pushed (low k value) st)) s) o
+      → Sim code limits c h g land good (at code limits c q l (pushed (low k value) st) s) o
+  double_runs Bare value q s l st some a next = step_to code limits l (unboxed value ∷ st) s a next
+  double_runs Whole value q s l st some a next = step_to code limits l (R value ∷ st) s a next
+  double_runs Absent value q s l st some a next = absurd (some refl)
+
+  -- the same where an assignment gives the old or the new value
+  pub keeps_before : (x : Gives) (value : Value) (q : ℕ) (s : State) (l st : List Word) → AllAt c.body h q (kept_before x)
+      → {A : Type 0} {land : A → State → List Word → Next} {good : A → Type 0} {o : Out A}
+      → Sim code limits c h g land good (at code limits c (end_all q (kept_before x)) l (unboxed value ∷ kept_old x value st) s) o
+      → Sim code limits c h g land good (at code limits c q l (unboxed value ∷ st) s) o
+  keeps_before gives.Old value q s l st a next = step_to code limits l (unboxed value ∷ st) s a.0 next
+  keeps_before gives.New value q s l st a next = next
+
+  pub keeps_behind : (x : Gives) (value : Value) (q : ℕ) (s : State) (l st : List Word) → AllAt c.body h q (kept_behind x)
+      → {A : Type 0} {land : A → State → List Word → Next} {good : A → Type 0} {o : Out A}
+      → Sim code limits c h g land good (at code limits c (end_all q (kept_behind x)) l (unboxed value ∷ kept_new x value st) s) o
+      → Sim code limits c h g land good (at code limits c q l (unboxed value ∷ st) s) o
+  keeps_behind gives.Old value q s l st a next = next
+  keeps_behind gives.New value q s l st a next = step_to code limits l (unboxed value ∷ st) s a.0 next
+
+  pub old_and_new : (x : Gives) (old new : Value) (st : List Word) → kept_new x new (kept_old x old st) ≡ unboxed (given_by x old new) ∷ st
+  old_and_new gives.Old old new st = refl
+  old_and_new gives.New old new st = refl
+
+module _ (funs : Program) (code : List FunCode) (limits : Limits) (m : Meaning) (ih : Refines funs code limits m) where
+  pub literal_runs : (at' : ℕ) (of : Ty) (x : Constant) → ExprRuns funs code limits (λ d s e. expr_of funs limits m d s e (Literal at' of x)) (Literal at' of x)
+  literal_runs at' of x c h g p s e l st stands f = step_to code limits l st s stands.0 (literal_does funs code limits c h g x (lying_of of) p s e l st stands.1 f)
+
+  pub local_runs : (at' : ℕ) (of : Ty) (x : Name) → ExprRuns funs code limits (λ d s e. expr_of funs limits m d s e (Local at' of x)) (Local at' of x)
+  local_runs at' of x c h g p s e l st stands f =
+      step_to code limits l st s stands.3
+      (load_does funs code limits c h g (lying_of of) (lying_of stands.0.of) (lookup e x) (slice_get l stands.0.local) p s e l st st stands.2 (reads g e l x stands.0 stands.1.is f.names) f)
+
+  pub none_runs : ExprsRun funs code limits (λ d s e. exprs_of funs limits m d s e None') None'
+  none_runs c h g p s e l st stands f = done code limits f (record { is = refl })
+
+  pub one_runs : (a : Expr) (others : Exprs) → ExprsRun funs code limits (λ d s e. exprs_of funs limits m d s e (One a others)) (One a others)
+  one_runs a others c h g p s e l st stands f =
+      and_then code limits (ih.expr a c h g p s e l st stands.0 f) (λ value s e l f _.
+      and_then code limits (ih.exprs others c h g _ s e l (pushed (low (lying_of (type_of a)) value) st) stands.1 f) (λ values s e l f y.
+      done code limits f (record { is = ap suc y.is })))
+
+  pub conditional_runs : (at' : ℕ) (of : Ty) (t a b : Expr) → ExprRuns funs code limits (λ d s e. expr_of funs limits m d s e (Conditional at' of t a b)) (Conditional at' of t a b)
+  conditional_runs at' of t a b c h g p s e l st stands f =
+      and_then code limits (ih.expr t c h g p s e l st stands.0 f) (λ value s e l f _.
+      step_to code limits l (pushed (low (lying_of (type_of t)) value) st) s stands.1
+      (tested code limits value (lying_of (type_of t)) st (λ st. at code limits c (suc (end_expr p t)) l st s) (λ st. at code limits c (suc (end_expr (suc (end_expr p t)) a)) l st s) stands.5
+      (lands_on code limits (λ value s l r _ k. does_next code limits c h _ _ l (pushed (low (lying_of (type_of a)) value) st) s r stands.3
+      (subst (λ k'. Leads code limits (at code limits c (end_expr p (Conditional at' of t a b)) l (pushed (low k' value) st) s) r) (sym stands.6) k)) (λ value y. y)
+      (ih.expr a c h g _ s e l st stands.2 f))
+      (lands_on code limits (λ value s l r _ k. subst (λ k'. Leads code limits (at code limits c (end_expr p (Conditional at' of t a b)) l (pushed (low k' value) st) s) r) (sym stands.7) k) (λ value y. y)
+      (ih.expr b c h g _ s e l st stands.4 f))))
+
+  -- the value that settles `&&` or `||`
+  settled_does : (x : Logical) (k : Lying) (c : Ctx code) (h : Handlers) (g : Scope) (q : ℕ) (s : State) (e : Env) (l st : List Word) → k ≡ Bare → Fits c.body g e l
+      → Sim code limits c h g (land_value funs code limits c k (suc q) st) Any (act code limits (settled x) (frame code limits c q l st s) c.below s.world) (Done (v.Bool (short x)) s e)
+  settled_does And Bare c h g q s e l st is f = done code limits f tt
+  settled_does Or Bare c h g q s e l st is f = done code limits f tt
+  settled_does x Whole c h g q s e l st is f = absurd (whole_bare is)
+  settled_does x Absent c h g q s e l st is f = absurd (absent_bare is)
+
+  pub logic_runs : (at' : ℕ) (of : Ty) (x : Logical) (left right : Expr) → ExprRuns funs code limits (λ d s e. expr_of funs limits m d s e (Logic at' of x left right)) (Logic at' of x left right)
+  logic_runs at' of And left right c h g p s e l st stands f =
+      let from = suc (end_expr p left) in
+      let here = end_expr from right in
+      and_then code limits (ih.expr left c h g p s e l st stands.0 f) (λ value s e l f _.
+      step_to code limits l (pushed (low (lying_of (type_of left)) value) st) s stands.1
+      (tested code limits value (lying_of (type_of left)) st (λ st. at code limits c from l st s) (λ st. at code limits c (suc here) l st s) stands.5
+      (lands_on code limits (λ value s l r _ k. does_next code limits c h _ _ l (pushed (low (lying_of (type_of right)) value) st) s r stands.3
+      (subst (λ k'. Leads code limits (at code limits c (suc (suc here)) l (pushed (low k' value) st) s) r) (stands.7 ∙ sym stands.6) k)) (λ value y. y)
+      (ih.expr right c h g _ s e l st stands.2 f))
+      (step_to code limits l st s stands.4 (settled_does And (lying_of of) c h g (suc here) s e l st stands.7 f))))
+  logic_runs at' of Or left right c h g p s e l st stands f =
+      let from = suc (end_expr p left) in
+      let here = end_expr from right in
+      and_then code limits (ih.expr left c h g p s e l st stands.0 f) (λ value s e l f _.
+      step_to code limits l (pushed (low (lying_of (type_of left)) value) st) s stands.1
+      (tested code limits value (lying_of (type_of left)) st (λ st. at code limits c (suc here) l st s) (λ st. at code limits c from l st s) stands.5
+      (step_to code limits l st s stands.4 (settled_does Or (lying_of of) c h g (suc here) s e l st stands.7 f))
+      (lands_on code limits (λ value s l r _ k. does_next code limits c h _ _ l (pushed (low (lying_of (type_of right)) value) st) s r stands.3
+      (subst (λ k'. Leads code limits (at code limits c (suc (suc here)) l (pushed (low k' value) st) s) r) (stands.7 ∙ sym stands.6) k)) (λ value y. y)
+      (ih.expr right c h g _ s e l st stands.2 f))))

@@ -1,0 +1,71 @@
+-- The compiler theorem.
+use Rattle.std.specs.Prelude.{◌≡◌, ℕ, ◌<◌, ◌++◌, List, [], ◌∷◌, map, Option, Some, None, slice_get}
+use Rattle.object_values.specs.declared.value.Value.{Value}
+use Rattle.object_values.specs.declared.object.Owner.TheVariants.{Script}
+use Rattle.pl_types.specs.declared.ty.Ty.{Ty}
+use Rattle.pl_code.specs.declared.code.FunCode.{FunCode}
+use Rattle.run_world.specs.World.{World, Limits, End, Result, Uncaught, Limited}
+use Rattle.program_meaning.specs.Tree.{Variable, Fun, Program}
+use Rattle.program_meaning.specs.Meaning.{Env, Out, Done, Thrown, Over, More, Flow, entry, returned, meaning}
+use Rattle.code_meaning.specs.Words.{Word, start_of}
+use Rattle.code_meaning.specs.Machine.{Config, Next, Goes, Ends, Stuck, after}
+use Rattle.program_code.specs.Lying.{lying_of, low}
+use Rattle.program_code.specs.Stands.{Compiled}
+
+-- ---- how a program ends at a bound
+
+abbrev pub end_with : Ty → Option Value → World → Option (End (Option Word))
+end_with of None w = None
+end_with of (Some value) w = Some (Result (low (lying_of of) value) w)
+
+abbrev pub end_of : Ty → Out Flow → Option (End (Option Word))
+end_of of (Done flow s e) = end_with of (returned of flow) s.world
+end_of of (Thrown id s e) = Some (Uncaught id s.world)
+end_of of (Over limit w) = Some (Limited limit w)
+end_of of More = None
+
+abbrev pub source_in : Program → Limits → ℕ → Fun → Option Env → World → Option (End (Option Word))
+source_in funs limits bound main None w = None
+source_in funs limits bound main (Some e) w =
+    end_of main.result ((meaning funs limits bound).stmts (record { text = Script; depth = 0 }) (record { world = w; turns = 0 }) e main.body)
+
+abbrev pub source_of : Program → Limits → ℕ → Option Fun → List Value → World → Option (End (Option Word))
+source_of funs limits bound None args w = None
+source_of funs limits bound (Some main) args w = source_in funs limits bound main (entry main.params args []) w
+
+-- How the main script's run on these arguments ends, with its result as it lies in code; nothing where that is More.
+abbrev pub source : Program → Limits → ℕ → List Value → World → Option (End (Option Word))
+source funs limits bound args w = source_of funs limits bound (slice_get funs 0) args w
+
+-- ---- how code starts
+
+abbrev pub words_of : List Variable → List Value → List (Option Word)
+words_of [] values = []
+words_of (x ∷ xs) [] = []
+words_of (x ∷ xs) (value ∷ values) = low (lying_of x.of) value ∷ words_of xs values
+
+-- the words of arguments, where each has one
+pub record Words (xs : List Variable) (values : List Value) (words : List Word) : Type 0 where
+  pub are : map Some words ≡ words_of xs values
+
+abbrev pub start_at : Option FunCode → List Word → World → Next
+start_at None words w = Stuck
+start_at (Some f) words w =
+    Goes (record { top = record { text = Script; fun = 0; line = 0; locals = words ++ map start_of f.locals; stack = []; turns = 0; due = [] }; below = []; world = w })
+
+-- the first configuration of code
+abbrev pub start : List FunCode → List Word → World → Next
+start code words w = start_at (slice_get code 0) words w
+
+-- Code ends so after some number of steps, and has a next step at each moment before.
+pub record EndsAs (code : List FunCode) (limits : Limits) (from : Next) (end : End (Option Word)) : Type 0 where
+  pub steps : ℕ
+  pub ends : after code limits steps from ≡ Ends end
+  pub before : (j : ℕ) → j < steps → (c : Config) × (after code limits j from ≡ Goes c)
+
+-- Where the program ends at some bound, its code ends alike, from every start.
+abbrev pub EndsAlike : Type 0
+EndsAlike =
+    (funs : Program) (code : List FunCode) → Compiled funs code → (limits : Limits) (main : Fun) → slice_get funs 0 ≡ Some main
+    → (args : List Value) (words : List Word) → Words main.params args words → (w : World) (bound : ℕ) (end : End (Option Word))
+    → source funs limits bound args w ≡ Some end → EndsAs code limits (start code words w) end

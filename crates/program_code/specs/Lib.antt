@@ -1,0 +1,4 @@
+pub mod Lying
+pub mod Parts
+pub mod Stands
+pub mod Correct

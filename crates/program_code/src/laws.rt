@@ -1,0 +1,7 @@
+//! The compiler theorem.
+ghost use Rattle.program_code.specs.Correct.{EndsAlike};
+
+/// Where a program comes to an end at some bound, code of the program comes to the same end, and has a next step at each moment before.
+pub fn compiler_laws()
+    ensures { EndsAlike }
+{}

@@ -1,0 +1,6 @@
+//! The code of a program, and that it does what the program means.
+#![tactic(auto)]
+
+mod laws;
+
+pub use laws::compiler_laws;

@@ -1,0 +1,4 @@
+pub mod Tree
+pub mod Operating
+pub mod Meaning
+pub mod Laws

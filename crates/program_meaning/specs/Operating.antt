@@ -1,0 +1,236 @@
+-- What operators and casts come to where the types of their operands are known before the script runs. Nothing, where an operand is not
+-- of its type, which no typed program meets, or the operation is not built.
+use Rattle.std.specs.Prelude.{ℕ, Bool, not, Option, Some, None, List, [], ◌∷◌, pos, ℤ}
+use Rattle.std.specs.Int.{w8, w16, w32, w64}
+use Rattle.pl_types.specs.declared.primitive.Primitive.{Primitive}
+use Rattle.pl_types.specs.declared.primitive.Primitive.TheVariants as prim
+use Rattle.pl_types.specs.declared.conversion.Cast.{Cast}
+use Rattle.pl_types.specs.declared.conversion.Cast.TheVariants as cast
+use Rattle.object_values.specs.declared.value.Value.{Value}
+use Rattle.object_values.specs.declared.value.Value.TheVariants as v
+use Rattle.object_heap.specs.Effects.{Effect}
+use Rattle.object_heap.specs.Store.{Store}
+use Rattle.arithmetic.specs.declared.operator.Op.{Op}
+use Rattle.arithmetic.specs.declared.operator.Op.TheVariants as op
+use Rattle.arithmetic.specs.declared.operator.Num.{Num}
+use Rattle.arithmetic.specs.declared.operator.Num.TheVariants as n
+use Rattle.arithmetic.specs.Arithmetic.{wrapped, low_bits}
+use Rattle.arithmetic.specs.Operators.{of_type}
+use Rattle.number_ops.specs.Operators.{of_result, and_flags, or_flags, xor_flags}
+use Rattle.number_ops.specs.Outcomes.{effect, zero_divisor}
+use Rattle.typed_tree.specs.declared.operation.Constant.{Constant}
+use Rattle.typed_tree.specs.declared.operation.Constant.TheVariants as constant
+use Rattle.typed_tree.specs.declared.operation.Operator.{Operator}
+use Rattle.typed_tree.specs.declared.operation.Operator.TheVariants as operator
+
+abbrev pub value_of : Constant → Value
+value_of constant.Null = v.Null
+value_of (constant.Boolean flag) = v.Bool flag
+value_of (constant.Byte number) = v.Byte number
+value_of (constant.Short number) = v.Short number
+value_of (constant.Char unit) = v.Char unit
+value_of (constant.Int number) = v.Int number
+value_of (constant.Long number) = v.Long number
+
+-- ---- operands
+
+-- a value as an operator's operand: an int, a long or a truth value
+pub data Operand : Type 0 where
+  AnInt : (number : ℤ) → Operand
+  ALong : (number : ℤ) → Operand
+  AFlag : (flag : Bool) → Operand
+  NoOperand : Operand
+
+abbrev pub operand_of : Value → Operand
+operand_of (v.Int a) = AnInt a
+operand_of (v.Long a) = ALong a
+operand_of (v.Bool a) = AFlag a
+operand_of v.Null = NoOperand
+operand_of (v.Byte a) = NoOperand
+operand_of (v.Short a) = NoOperand
+operand_of (v.Char a) = NoOperand
+operand_of (v.Str a) = NoOperand
+operand_of (v.Ref a) = NoOperand
+
+pub data Operands : Type 0 where
+  OneInt : (a : ℤ) → Operands
+  TwoInts : (a b : ℤ) → Operands
+  OneLong : (a : ℤ) → Operands
+  TwoLongs : (a b : ℤ) → Operands
+  LongAndInt : (a b : ℤ) → Operands
+  OneFlag : (a : Bool) → Operands
+  TwoFlags : (a b : Bool) → Operands
+  NoOperands : Operands
+
+abbrev pub one_operand : Operand → Operands
+one_operand (AnInt a) = OneInt a
+one_operand (ALong a) = OneLong a
+one_operand (AFlag a) = OneFlag a
+one_operand NoOperand = NoOperands
+
+abbrev pub two_operands : Operand → Operand → Operands
+two_operands (AnInt a) (AnInt b) = TwoInts a b
+two_operands (AnInt a) (ALong b) = NoOperands
+two_operands (AnInt a) (AFlag b) = NoOperands
+two_operands (AnInt a) NoOperand = NoOperands
+two_operands (ALong a) (AnInt b) = LongAndInt a b
+two_operands (ALong a) (ALong b) = TwoLongs a b
+two_operands (ALong a) (AFlag b) = NoOperands
+two_operands (ALong a) NoOperand = NoOperands
+two_operands (AFlag a) (AnInt b) = NoOperands
+two_operands (AFlag a) (ALong b) = NoOperands
+two_operands (AFlag a) (AFlag b) = TwoFlags a b
+two_operands (AFlag a) NoOperand = NoOperands
+two_operands NoOperand b = NoOperands
+
+abbrev pub operands_of : List Value → Operands
+operands_of [] = NoOperands
+operands_of (a ∷ []) = one_operand (operand_of a)
+operands_of (a ∷ b ∷ []) = two_operands (operand_of a) (operand_of b)
+operands_of (a ∷ b ∷ c ∷ others) = NoOperands
+
+-- ---- numbers: what an operator gives, or a zero divisor; nothing where it does not take so many operands
+
+abbrev pub of_one : Option Num → Op → Option (Option Num)
+of_one given op.Neg = Some given
+of_one given op.Not = Some given
+of_one given o = None
+
+abbrev pub of_two : Option Num → Op → Option (Option Num)
+of_two given op.Neg = None
+of_two given op.Not = None
+of_two given op.Pos = None
+of_two given o = Some given
+
+abbrev pub of_ints : Op → Operands → Option (Option Num)
+of_ints o (OneInt a) = of_one (of_type n.Int w32 o a a) o
+of_ints o (TwoInts a b) = of_two (of_type n.Int w32 o a b) o
+of_ints o others = None
+
+-- the right side of a shift of a long is an int
+abbrev pub of_shift : Option Num → Op → Option (Option Num)
+of_shift given op.Shl = Some given
+of_shift given op.Shr = Some given
+of_shift given op.Ushr = Some given
+of_shift given o = None
+
+abbrev pub of_no_shift : Option Num → Op → Option (Option Num)
+of_no_shift given op.Shl = None
+of_no_shift given op.Shr = None
+of_no_shift given op.Ushr = None
+of_no_shift given o = of_two given o
+
+abbrev pub of_longs : Op → Operands → Option (Option Num)
+of_longs o (OneLong a) = of_one (of_type n.Long w64 o a a) o
+of_longs o (TwoLongs a b) = of_no_shift (of_type n.Long w64 o a b) o
+of_longs o (LongAndInt a b) = of_shift (of_type n.Long w64 o a b) o
+of_longs o others = None
+
+-- what an operator comes to: nothing, a value, or an effect on the store
+pub data Operated : Type 0 where
+  Meaningless : Operated
+  Gives : (value : Value) → Operated
+  Acts : (effect : Effect) → Operated
+
+abbrev pub number_given : Op → Option Num → Store → Operated
+number_given o None store = Acts (effect store zero_divisor)
+number_given o (Some number) store = Gives (of_result o number)
+
+abbrev pub number_operated : Op → Option (Option Num) → Store → Operated
+number_operated o None store = Meaningless
+number_operated o (Some given) store = number_given o given store
+
+-- ---- truth values
+
+abbrev pub of_two_flags : Op → Bool → Bool → Option Bool
+of_two_flags op.And a b = Some (and_flags a b)
+of_two_flags op.Or a b = Some (or_flags a b)
+of_two_flags op.Xor a b = Some (xor_flags a b)
+of_two_flags op.Eq a b = Some (not (xor_flags a b))
+of_two_flags op.Ne a b = Some (xor_flags a b)
+of_two_flags o a b = None
+
+abbrev pub of_one_flag : Op → Bool → Option Bool
+of_one_flag op.Not a = Some (not a)
+of_one_flag o a = None
+
+abbrev pub of_flags : Op → Operands → Option Bool
+of_flags o (OneFlag a) = of_one_flag o a
+of_flags o (TwoFlags a b) = of_two_flags o a b
+of_flags o others = None
+
+abbrev pub flag_operated : Option Bool → Operated
+flag_operated None = Meaningless
+flag_operated (Some flag) = Gives (v.Bool flag)
+
+-- ---- all operators
+
+abbrev pub operates : Operator → List Value → Store → Operated
+operates (operator.Int o) values store = number_operated o (of_ints o (operands_of values)) store
+operates (operator.Long o) values store = number_operated o (of_longs o (operands_of values)) store
+operates (operator.Boolean o) values store = flag_operated (of_flags o (operands_of values))
+operates other values store = Meaningless
+
+-- ---- casts between the number types (Java Language Specification, 5.1.2 and 5.1.3): what widens keeps its number, and what narrows its
+-- low bits
+
+abbrev pub from_int_to : Primitive → ℤ → Option Value
+from_int_to prim.Boolean a = None
+from_int_to prim.Byte a = Some (v.Byte (wrapped w8 a))
+from_int_to prim.Short a = Some (v.Short (wrapped w16 a))
+from_int_to prim.Char a = Some (v.Char (low_bits 16 a))
+from_int_to prim.Int a = Some (v.Int a)
+from_int_to prim.Long a = Some (v.Long a)
+
+-- a long goes to what is narrower than int by way of int
+abbrev pub from_long_to : Primitive → ℤ → Option Value
+from_long_to prim.Boolean a = None
+from_long_to prim.Long a = Some (v.Long a)
+from_long_to p a = from_int_to p (wrapped w32 a)
+
+-- a byte is a short as it is
+abbrev pub from_byte_to : Primitive → ℤ → Option Value
+from_byte_to prim.Byte a = Some (v.Byte a)
+from_byte_to prim.Short a = Some (v.Short a)
+from_byte_to p a = from_int_to p a
+
+abbrev pub from_short_to : Primitive → ℤ → Option Value
+from_short_to prim.Short a = Some (v.Short a)
+from_short_to p a = from_int_to p a
+
+abbrev pub from_char_to : Primitive → ℕ → Option Value
+from_char_to prim.Char unit = Some (v.Char unit)
+from_char_to p unit = from_int_to p (pos unit)
+
+abbrev pub from_flag_to : Primitive → Bool → Option Value
+from_flag_to prim.Boolean flag = Some (v.Bool flag)
+from_flag_to p flag = None
+
+abbrev pub number_cast : Primitive → Primitive → Value → Option Value
+number_cast prim.Boolean to (v.Bool flag) = from_flag_to to flag
+number_cast prim.Byte to (v.Byte a) = from_byte_to to a
+number_cast prim.Short to (v.Short a) = from_short_to to a
+number_cast prim.Char to (v.Char unit) = from_char_to to unit
+number_cast prim.Int to (v.Int a) = from_int_to to a
+number_cast prim.Long to (v.Long a) = from_long_to to a
+number_cast from to value = None
+
+-- A value of a primitive type in its box. (A box holds a number of its type.)
+abbrev pub in_box : Primitive → Value → Option Value
+in_box prim.Boolean (v.Bool flag) = Some (v.Bool flag)
+in_box prim.Byte (v.Byte a) = Some (v.Byte (wrapped w8 a))
+in_box prim.Short (v.Short a) = Some (v.Short (wrapped w16 a))
+in_box prim.Char (v.Char unit) = Some (v.Char (low_bits 16 (pos unit)))
+in_box prim.Int (v.Int a) = Some (v.Int a)
+in_box prim.Long (v.Long a) = Some (v.Long a)
+in_box p value = None
+
+abbrev pub box_if : Primitive → Option Value → Option Value
+box_if p None = None
+box_if p (Some value) = in_box p value
+
+abbrev pub static_cast : Cast → Value → Option Value
+static_cast cast.Keep value = Some value
+static_cast (cast.Number from to) value = number_cast from to value
+static_cast (cast.Wrap from to) value = box_if to (number_cast from to value)
+static_cast other value = None
