@@ -1,5 +1,5 @@
 -- What stands behind the last dot of a text, and behind its `/`.
-use Rattle.std.proofs.Common.{◌≡◌, ℕ, suc, ◌+◌, ◌-◌, ◌<◌, Bool, true, false, cond, ◌||◌, List, [], ◌∷◌, Option, Some, None, length, drop, refl, sym, ap, ◌∙◌, lit<, arith}
+use Rattle.std.proofs.Common.{◌≡◌, ℕ, suc, ◌+◌, ◌-◌, ◌<◌, Bool, true, false, cond, ◌||◌, List, [], ◌∷◌, Some, None, length, drop, refl, sym, ap, ◌∙◌, lit<, arith}
 use Rattle.std.specs.List.{position_or_len, list_any}
 use Rattle.std.specs.Prelude.{◌^◌, ◌&&◌, not, nat_lt, option_map}
 use Rattle.std.specs.Str.{bytes_eq, IsUtf8}

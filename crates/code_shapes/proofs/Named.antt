@@ -2,7 +2,6 @@
 use Rattle.std.proofs.Common.{◌≡◌, ℕ, zero, suc, ◌-◌, ◌<◌, ◌≤◌, List, [], ◌∷◌, ◌++◌, Option, Some, None, length, refl, sym, ap, ◌∙◌, arith}
 use Rattle.std.specs.Prelude.{IfSome, slice_get, if◌then◌else◌}
 use Rattle.std.proofs.lemmas.Option.{slice_get_within, get_or_from_slice_get}
-use Rattle.pl_types.specs.declared.ty.Ty.{Ty}
 use Rattle.allowlist.specs.declared.member.MemberType.{MemberType}
 use Rattle.allowlist.specs.Catalogue.{catalogue, constructor}
 use Rattle.allowlist.specs.Index.{member_at}
@@ -11,7 +10,7 @@ use Rattle.pl_code.specs.declared.kinds.Slot.{Slot}
 use Rattle.pl_code.specs.declared.kinds.Slot.TheVariants.{R}
 use Rattle.code_shapes.specs.Types.{kind_of_type}
 use Rattle.code_shapes.specs.Members.{argument_kinds, has_receiver, member_takes}
-use Rattle.code_shapes.specs.Effects.{Effect, Exchanges, one, invokes, makes, reads}
+use Rattle.code_shapes.specs.Effects.{Exchanges, one, invokes, makes, reads}
 
 pub in_catalogue : (number : ℕ) (m : MemberType) → slice_get catalogue number ≡ Some m → number < 228
 in_catalogue number m h = omega (arith, slice_get_within catalogue number m h, length-catalogue)

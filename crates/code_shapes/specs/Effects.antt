@@ -1,6 +1,5 @@
 -- What instructions take from the stack and put on it, and where they go on. The stack is a list of kinds, its top first.
-use Rattle.std.specs.Prelude.{ℕ, ◌+◌, ◌==◌, ◌*◌, ◌&&◌, ◌||◌, Bool, true, false, List, [], ◌∷◌, ◌++◌, Option, Some, None, if◌then◌else◌, length, reverse, replicate, slice_get, option_map, option_and_then}
-use Rattle.std.specs.List.{list_all}
+use Rattle.std.specs.Prelude.{ℕ, ◌+◌, ◌*◌, Bool, true, false, List, [], ◌∷◌, ◌++◌, Option, Some, None, if◌then◌else◌, reverse, replicate, slice_get, option_map}
 use Rattle.pl_code.specs.declared.kinds.Plain.{Plain}
 use Rattle.pl_code.specs.declared.kinds.Plain.TheVariants as plain
 use Rattle.pl_code.specs.declared.kinds.ArithmeticOp.{ArithmeticOp}
@@ -22,7 +21,6 @@ use Rattle.pl_code.specs.declared.kinds.Slot.TheVariants.{I, J, R}
 use Rattle.pl_code.specs.declared.code.FunCode.{FunCode}
 use Rattle.pl_code.specs.declared.code.Instruction.{Instruction}
 use Rattle.pl_code.specs.declared.code.Instruction.TheVariants as code
-use Rattle.pl_code.specs.declared.code.Code.{Code}
 use Rattle.allowlist.specs.Allow.{AllowList}
 use Rattle.allowlist.specs.Index.{member_at}
 use Rattle.code_shapes.specs.declared.copying.Copying.{Copying}

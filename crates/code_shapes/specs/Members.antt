@@ -1,5 +1,5 @@
 -- Which members code names.
-use Rattle.std.specs.Prelude.{ℕ, ◌==◌, ◌-◌, ◌^◌, ◌&&◌, ◌||◌, Bool, true, false, List, [], ◌∷◌, ◌++◌, Option, Some, None, if◌then◌else◌, length, map, reverse, take, option_map, option_and_then}
+use Rattle.std.specs.Prelude.{ℕ, ◌==◌, ◌-◌, ◌^◌, ◌&&◌, ◌||◌, Bool, true, false, List, [], ◌∷◌, ◌++◌, Option, Some, None, if◌then◌else◌, length, map, reverse, take, option_and_then}
 use Rattle.std.specs.List.{before_first, after_first, list_any}
 use Rattle.listing_parts.specs.Names.{is_slash}
 use Rattle.listing_parts.specs.Numbers.{natural_of}

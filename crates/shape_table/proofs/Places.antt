@@ -1,5 +1,5 @@
 -- What stands at lines, as places.
-use Rattle.std.proofs.Common.{◌≡◌, ℕ, zero, suc, ◌<◌, ◌≤◌, Bool, true, false, ◌&&◌, cond, ltb, List, [], ◌∷◌, length, map, get_or, refl, sym, ap, ◌∙◌, arith}
+use Rattle.std.proofs.Common.{◌≡◌, ℕ, zero, suc, ◌<◌, ◌≤◌, Bool, true, false, ◌&&◌, List, [], ◌∷◌, length, map, get_or, refl, sym, ap, ◌∙◌, arith}
 use Rattle.std.specs.Prelude.{replicate}
 use Rattle.std.specs.List.{list_all}
 use Rattle.std.proofs.Math.ListN.{set, get_or-map}
@@ -8,7 +8,7 @@ use borrow.Author.Tests.{ltb-true, lt-ltb}
 use Rattle.pl_code.specs.declared.kinds.Slot.{Slot}
 use Rattle.shape_table.specs.declared.node.Place.{Place}
 use Rattle.shape_table.specs.declared.node.Place.TheVariants as place
-use Rattle.shape_table.specs.Shapes.{Meeting, Nowhere, Known, Torn, meets}
+use Rattle.shape_table.specs.Shapes.{Nowhere, Known, meets}
 use Rattle.shape_table.specs.Nodes.{stack_at, seen_place, is_within, AreWithin}
 use Rattle.shape_table.specs.Grows.{Grows}
 

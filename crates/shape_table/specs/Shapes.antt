@@ -1,5 +1,5 @@
 -- The kinds that stand at lines.
-use Rattle.std.specs.Prelude.{ℕ, ◌&&◌, Bool, true, false, List, [], ◌∷◌, Option, Some, None, if◌then◌else◌}
+use Rattle.std.specs.Prelude.{◌&&◌, Bool, true, false, List, [], ◌∷◌, Option, Some, None, if◌then◌else◌}
 use Rattle.pl_code.specs.declared.kinds.Slot.{Slot}
 use Rattle.code_shapes.specs.Effects.{same_slots}
 

@@ -1,11 +1,10 @@
 -- Where the stack of a table leads.
-use Rattle.std.proofs.Common.{◌≡◌, ℕ, ◌<◌, Bool, true, false, ◌&&◌, ◌||◌, cond, eqb, List, [], ◌∷◌, length, get_or, refl, sym, ap, ◌∙◌, inl, inr, arith}
+use Rattle.std.proofs.Common.{◌≡◌, ℕ, ◌<◌, Bool, true, false, ◌||◌, cond, eqb, List, length, get_or, refl, sym, ap, ◌∙◌, inl, inr, arith}
 use Rattle.std.proofs.Math.ListN.{set}
-use Rattle.std.proofs.lemmas.List.{length-set, get_or-set_same, get_or-set_other}
+use Rattle.std.proofs.lemmas.List.{length-set, get_or-set_other}
 use Rattle.std.proofs.lemmas.Grind.{get_or-set_at}
 use Rattle.std.proofs.lemmas.Bool.Decides.{eqb_tells}
 use Rattle.pl_code.specs.declared.kinds.Slot.{Slot}
-use Rattle.code_shapes.specs.Effects.{same_slots}
 use Rattle.shape_table.specs.Shapes.{Meeting, Nowhere, Known, Torn, Table, meets, same_kinds}
 use Rattle.shape_table.proofs.SameKinds.{kinds_themselves}
 use Rattle.verifier.specs.Meets.{met_if}

@@ -1,5 +1,5 @@
 -- What `met` is of what leads to a line.
-use Rattle.std.proofs.Common.{◌≡◌, ℕ, zero, suc, ◌+◌, ◌<◌, ◌≤◌, Bool, true, false, eqb, cond, List, [], ◌∷◌, Option, Some, None, ◌⊎◌, inl, inr, refl, sym, ap, ◌∙◌, subst, arith}
+use Rattle.std.proofs.Common.{◌≡◌, ℕ, zero, suc, Bool, true, false, eqb, cond, List, [], ◌∷◌, Option, Some, None, ◌⊎◌, inl, inr, refl, sym, ap, ◌∙◌}
 use Rattle.std.specs.Prelude.{slice_get}
 use Rattle.pl_code.specs.declared.kinds.Slot.{Slot}
 use Rattle.pl_code.specs.declared.kinds.Slot.TheVariants.{R}
@@ -89,7 +89,7 @@ is_start f to =
     let none : Is Nowhere (λ (k : List Slot). ⊥) = λ k e. e in
     let first = is_met_if (eqb to 0) [] Nowhere (λ k. ⊥) none in
     let first_is : Is (met_if (eqb to 0) [] Nowhere) (λ k. (eqb to 0 ≡ true) × (k ≡ [])) =
-        is_as (met_if (eqb to 0) [] Nowhere) (Or (λ k. ⊥) (eqb to 0) []) (λ k. (eqb to 0 ≡ true) × (k ≡ [])) (λ k q. elim q [ inl e ↦ absurd e | inr x ↦ x ]) (λ k x. inr x) first in
+    is_as (met_if (eqb to 0) [] Nowhere) (Or (λ k. ⊥) (eqb to 0) []) (λ k. (eqb to 0 ≡ true) × (k ≡ [])) (λ k q. elim q [ inl e ↦ absurd e | inr x ↦ x ]) (λ k x. inr x) first in
     is_turned to (caught_at to (met_if (eqb to 0) [] Nowhere) f.traps) f.lines (λ k. ((eqb to 0 ≡ true) × (k ≡ [])) ⊎ CaughtBy to k f.traps)
     (is_caught to (met_if (eqb to 0) [] Nowhere) f.traps (λ k. (eqb to 0 ≡ true) × (k ≡ [])) first_is)
 
@@ -116,16 +116,23 @@ module _ (allow : AllowList) (functions : List FunCode) (f : FunCode) where
       → Is m P → Is (led_to (flow_of i) line to left m) (λ k. P k ⊎ PassedBy line to k)
   is_led line to i m P None e l h =
       is_as m P (λ k. P k ⊎ PassedBy line to k) (λ k p. inl p)
-      (λ k q. elim q [ inl p ↦ p | inr b ↦ absurd (let same : b.instruction ≡ i = one_instruction _ _ _ e b.is in
-        let wrong : None ≡ Some k = sym l ∙ sym (ap (λ i. left_at allow functions f i (stands_at allow functions f line)) same) ∙ b.leaves in cc) ]) h
+      (λ k q. elim q [
+        | inl p ↦ p
+        | inr b ↦ absurd (let same : b.instruction ≡ i = one_instruction _ _ _ e b.is in
+            let wrong : None ≡ Some k = sym l ∙ sym (ap (λ i. left_at allow functions f i (stands_at allow functions f line)) same) ∙ b.leaves in cc)
+      ]) h
   is_led line to i m P (Some left) e l h =
       let test = goes_to (flow_of i) line to in
       is_as (met_if test left m) (Or P test left) (λ k. P k ⊎ PassedBy line to k)
       (λ k q. elim q [ inl p ↦ inl p | inr x ↦ inr (record { instruction = i; is = e; leaves = l ∙ ap Some (sym x.1); goes = x.0 }) ])
-      (λ k q. elim q [ inl p ↦ inl p
-      | inr b ↦ let same : b.instruction ≡ i = one_instruction _ _ _ e b.is in
-        inr (ap (λ i. goes_to (flow_of i) line to) (sym same) ∙ b.goes,
-             same_left (left_at allow functions f i (stands_at allow functions f line)) left k l (ap (λ i. left_at allow functions f i (stands_at allow functions f line)) (sym same) ∙ b.leaves)) ])
+      (λ k q. elim q [
+        | inl p ↦ inl p
+        | inr b ↦ let same : b.instruction ≡ i = one_instruction _ _ _ e b.is in
+            inr (
+              ap (λ i. goes_to (flow_of i) line to) (sym same) ∙ b.goes,
+              same_left (left_at allow functions f i (stands_at allow functions f line)) left k l (ap (λ i. left_at allow functions f i (stands_at allow functions f line)) (sym same) ∙ b.leaves),
+            )
+      ])
       (is_met_if test left m P h)
 
   is_passed : (line to : ℕ) (m : Meeting) (P : List Slot → Type 0) (o : Option Instruction) → slice_get f.lines line ≡ o → Is m P

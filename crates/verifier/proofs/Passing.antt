@@ -1,8 +1,7 @@
 -- The pass over the lines of a function.
-use Rattle.std.proofs.Common.{◌≡◌, ℕ, zero, suc, ◌+◌, ◌-◌, ◌<◌, ◌≤◌, Bool, true, false, eqb, List, [], ◌∷◌, Option, Some, None, length, drop, get_or, refl, sym, ap, ◌∙◌, subst, add-one, drop-cons, arith}
+use Rattle.std.proofs.Common.{◌≡◌, ℕ, suc, ◌+◌, ◌-◌, ◌<◌, ◌≤◌, eqb, List, [], ◌∷◌, Option, Some, None, length, drop, get_or, refl, sym, ap, ◌∙◌, add-one, drop-cons, arith}
 use Rattle.std.specs.Prelude.{slice_get}
 use Rattle.std.proofs.lemmas.Option.{slice_get-get_or}
-use Rattle.pl_code.specs.declared.kinds.Slot.{Slot}
 use Rattle.pl_code.specs.declared.kinds.Slot.TheVariants.{R}
 use Rattle.pl_code.specs.declared.code.FunCode.{FunCode}
 use Rattle.pl_code.specs.declared.code.Trap.{Trap}
@@ -12,9 +11,9 @@ use Rattle.code_shapes.specs.Effects.{flow_of}
 use Rattle.std.specs.Prelude.{replicate}
 use Rattle.std.proofs.lemmas.List.{get_or-replicate, length-replicate}
 use Rattle.std.proofs.Math.ListN.{drop_of_length-le}
-use Rattle.shape_table.specs.Shapes.{Meeting, Nowhere, Table}
+use Rattle.shape_table.specs.Shapes.{Nowhere, Table}
 use Rattle.verifier.specs.declared.fault.FaultKind.{FaultKind}
-use Rattle.verifier.specs.Meets.{met_if, caught_at, turned_at, turns_to, starts, passed, met, stands_at}
+use Rattle.verifier.specs.Meets.{met_if, caught_at, turned_at, turns_to, starts, passed, met}
 use Rattle.verifier.specs.Faults.{instruction_fault, fault_in, line_fault, found, first_from}
 use Rattle.verifier.specs.Acts.{at_line, LeadsOn, Caught, Turned, Begins, PassesOn}
 

@@ -1,10 +1,9 @@
 -- Shapes of lines, as a relation, are what stands at the lines.
-use Rattle.std.proofs.Common.{◌≡◌, ℕ, zero, suc, ◌+◌, ◌<◌, ◌≤◌, Bool, ◌||◌, true, false, eqb, ltb, leb, List, [], ◌∷◌, Option, Some, None, ◌⊎◌, inl, inr, length, map, refl, sym, ap, ◌∙◌, subst, arith}
+use Rattle.std.proofs.Common.{◌≡◌, ℕ, zero, suc, ◌+◌, ◌<◌, ◌≤◌, Bool, ◌||◌, true, false, eqb, List, [], ◌∷◌, Some, None, inl, inr, refl, sym, ap, ◌∙◌, subst, arith}
 use Rattle.std.specs.Prelude.{slice_get}
-use Rattle.std.proofs.lemmas.Option.{slice_get_within}
 use Rattle.std.proofs.lemmas.Bool.Decides.{eqb_tells}
-use Rattle.std.proofs.lemmas.Bool.{eqb-true, eq-eqb, true≢false, false≢true}
-use borrow.Author.Tests.{leb-false, ltb-false, ltb-true}
+use Rattle.std.proofs.lemmas.Bool.{eqb-true, eq-eqb, false≢true}
+use borrow.Author.Tests.{leb-false}
 use Rattle.pl_code.specs.declared.kinds.Slot.{Slot}
 use Rattle.pl_code.specs.declared.kinds.Slot.TheVariants.{R}
 use Rattle.pl_code.specs.declared.code.FunCode.{FunCode}
@@ -14,12 +13,11 @@ use Rattle.allowlist.specs.Allow.{AllowList}
 use Rattle.code_shapes.specs.declared.flow.Flow.{Flow}
 use Rattle.code_shapes.specs.declared.flow.Flow.TheVariants as flow
 use Rattle.code_shapes.specs.Effects.{effect_of, flow_of}
-use Rattle.code_shapes.specs.Faults.{is_bad_target, is_bad_member, is_bad_jump, goes_wrong}
-use Rattle.shape_table.specs.Shapes.{Meeting, Nowhere, Known, Torn}
-use Rattle.verifier.specs.Meets.{goes_to, turns_to, left_in, left_at, met, stands_at}
-use Rattle.verifier.specs.Faults.{has_shape, instruction_fault, fault_of}
-use Rattle.verifier.specs.Shaped.{Leads, begins, catches, turns, passes, InstructionFits, LineStands, Shaped, HasShapes}
-use Rattle.verifier.proofs.Meeting.{Is, CaughtBy, TurnedBy, StartsBy, PassedBy, By, is_what_leads}
+use Rattle.code_shapes.specs.Faults.{goes_wrong}
+use Rattle.shape_table.specs.Shapes.{Meeting, Known}
+use Rattle.verifier.specs.Meets.{goes_to, turns_to, left_in, left_at, stands_at}
+use Rattle.verifier.specs.Shaped.{Leads, begins, catches, turns, passes}
+use Rattle.verifier.proofs.Meeting.{CaughtBy, TurnedBy, StartsBy, PassedBy, By}
 
 -- ---- traps and loops, in their lists and by their places
 
@@ -27,8 +25,8 @@ caught_in : (to : ℕ) (k : List Slot) (traps : List Trap) → CaughtBy to k tra
 caught_in to k [] h = absurd h
 caught_in to k (t ∷ traps) h =
     elim h [
-      inl e ↦ (0, (t, refl, eqb-true to t.at e.0, e.1))
-    | inr more ↦ let x = caught_in to k traps more in (suc x.0, (x.1.0, x.1.1, x.1.2, x.1.3))
+      | inl e ↦ (0, (t, refl, eqb-true to t.at e.0, e.1))
+      | inr more ↦ let x = caught_in to k traps more in (suc x.0, (x.1.0, x.1.1, x.1.2, x.1.3))
     ]
 
 caught_at_place : (to : ℕ) (k : List Slot) (traps : List Trap) (n : ℕ) (t : Trap) → slice_get traps n ≡ Some t → to ≡ t.at → k ≡ R ∷ [] → CaughtBy to k traps
@@ -40,8 +38,8 @@ turned_in : (to : ℕ) (k : List Slot) (lines : List Instruction) → TurnedBy t
 turned_in to k [] h = absurd h
 turned_in to k (i ∷ lines) h =
     elim h [
-      inl e ↦ (0, (i, refl, e.0, e.1))
-    | inr more ↦ let x = turned_in to k lines more in (suc x.0, (x.1.0, x.1.1, x.1.2, x.1.3))
+      | inl e ↦ (0, (i, refl, e.0, e.1))
+      | inr more ↦ let x = turned_in to k lines more in (suc x.0, (x.1.0, x.1.1, x.1.2, x.1.3))
     ]
 
 turned_at_place : (to : ℕ) (k : List Slot) (lines : List Instruction) (n : ℕ) (i : Instruction) → slice_get lines n ≡ Some i → turns_to (flow_of i) to ≡ true → k ≡ [] → TurnedBy to k lines
@@ -67,8 +65,8 @@ module _ (allow : AllowList) (functions : List FunCode) (f : FunCode) where
   by_more a zero to k h p = let z : a ≡ 0 = omega arith in subst (λ n. By allow functions f n to k) z p
   by_more a (suc b) to k h p =
       elim (eqb_tells a (suc b)) [
-        inl e ↦ subst (λ n. By allow functions f n to k) e.1 p
-      | inr n ↦ let ne : ¬ (a ≡ suc b) = n.1 in inl (by_more a b to k (omega (arith, ne)) p)
+        | inl e ↦ subst (λ n. By allow functions f n to k) e.1 p
+        | inr n ↦ let ne : ¬ (a ≡ suc b) = n.1 in inl (by_more a b to k (omega (arith, ne)) p)
       ]
 
   starts_more : (b to : ℕ) (k : List Slot) → StartsBy f to k → By allow functions f b to k
@@ -89,12 +87,12 @@ module _ (allow : AllowList) (functions : List FunCode) (f : FunCode) where
   start_leads : (shapes : List (List Slot)) (to : ℕ) (k : List Slot) → StartsBy f to k → Leads allow functions f shapes to k
   start_leads shapes to k s =
       elim s [
-        inl x ↦ elim x [
-          inl e ↦ subst (λ to. Leads allow functions f shapes to k) (sym (eqb-true to 0 e.0)) (subst (Leads allow functions f shapes 0) (sym e.1) begins)
-        | inr c ↦ let y = caught_in to k f.traps c in
-            subst (λ to. Leads allow functions f shapes to k) (sym y.1.2) (subst (Leads allow functions f shapes y.1.0.at) (sym y.1.3) (catches y.0 y.1.0 y.1.1))
+        | inl x ↦ elim x [
+          | inl e ↦ subst (λ to. Leads allow functions f shapes to k) (sym (eqb-true to 0 e.0)) (subst (Leads allow functions f shapes 0) (sym e.1) begins)
+          | inr c ↦ let y = caught_in to k f.traps c in
+              subst (λ to. Leads allow functions f shapes to k) (sym y.1.2) (subst (Leads allow functions f shapes y.1.0.at) (sym y.1.3) (catches y.0 y.1.0 y.1.1))
         ]
-      | inr t ↦ let y = turned_in to k f.lines t in subst (Leads allow functions f shapes to) (sym y.1.3) (turns y.0 y.1.0 to y.1.1 y.1.2)
+        | inr t ↦ let y = turned_in to k f.lines t in subst (Leads allow functions f shapes to) (sym y.1.3) (turns y.0 y.1.0 to y.1.1 y.1.2)
       ]
 
   -- what leads there by the lines is what leads there by the relation
@@ -102,15 +100,15 @@ module _ (allow : AllowList) (functions : List FunCode) (f : FunCode) where
   by_leads shapes most zero to k a h p = start_leads shapes to k p
   by_leads shapes most (suc line) to k a h p =
       elim p [
-        inl q ↦ by_leads shapes most line to k a (omega arith) q
-      | inr b ↦ let x = a.has line (omega arith) in
-          passes line b.instruction x.0 k to b.is x.1 (sym (known_left b.instruction _ x.0 (a.stands line x.0 (omega arith) x.1)) ∙ b.leaves) b.goes
+        | inl q ↦ by_leads shapes most line to k a (omega arith) q
+        | inr b ↦ let x = a.has line (omega arith) in
+            passes line b.instruction x.0 k to b.is x.1 (sym (known_left b.instruction _ x.0 (a.stands line x.0 (omega arith) x.1)) ∙ b.leaves) b.goes
       ]
 
   -- and the other way round, by lines that come before
   pub leads_by : (shapes : List (List Slot)) (count to : ℕ) (k : List Slot)
       → ((line : ℕ) (i : Instruction) (kinds left : List Slot) → slice_get f.lines line ≡ Some i → slice_get shapes line ≡ Some kinds → left_in (effect_of allow functions f i) kinds ≡ Some left → goes_to (flow_of i) line to ≡ true
-          → (line < count) × (stands_at allow functions f line ≡ Known kinds))
+      → (line < count) × (stands_at allow functions f line ≡ Known kinds))
       → Leads allow functions f shapes to k → By allow functions f count to k
   leads_by shapes count to k before begins = starts_more count 0 [] (inl (inl (refl, refl)))
   leads_by shapes count to k before (catches n t e) = starts_more count t.at (R ∷ []) (inl (inr (caught_at_place t.at (R ∷ []) f.traps n t e refl refl)))

@@ -1,20 +1,19 @@
 -- A function whose lines have shapes has no fault at them, and the other way round.
-use Rattle.std.proofs.Common.{◌≡◌, ℕ, zero, suc, ◌+◌, ◌<◌, ◌≤◌, Bool, true, false, cond, List, [], ◌∷◌, Option, Some, None, length, map, get_or, refl, sym, ap, ◌∙◌, subst, arith}
+use Rattle.std.proofs.Common.{◌≡◌, ℕ, zero, suc, ◌<◌, ◌≤◌, Bool, true, false, List, [], ◌∷◌, Option, Some, None, length, map, get_or, refl, sym, ap, ◌∙◌, subst, arith}
 use Rattle.std.specs.Prelude.{not, slice_get, unwrap_or}
 use Rattle.std.specs.List.{range_with_len}
-use Rattle.std.proofs.lemmas.Option.{slice_get_within, slice_get-get_or, slice_get_past, get_or_from_slice_get}
+use Rattle.std.proofs.lemmas.Option.{slice_get_within, slice_get-get_or}
 use Rattle.std.proofs.lemmas.List.FromFn.{get_or-map-range_with_len, length-map-range_with_len}
 use Rattle.pl_code.specs.declared.kinds.Slot.{Slot}
 use Rattle.pl_code.specs.declared.code.FunCode.{FunCode}
 use Rattle.pl_code.specs.declared.code.Instruction.{Instruction}
 use Rattle.allowlist.specs.Allow.{AllowList}
-use Rattle.code_shapes.specs.Effects.{effect_of, flow_of}
-use Rattle.code_shapes.specs.Faults.{is_bad_target, is_bad_member, is_bad_jump, goes_wrong}
+use Rattle.code_shapes.specs.Effects.{flow_of}
+use Rattle.code_shapes.specs.Faults.{is_bad_target, is_bad_member, is_bad_jump}
 use Rattle.shape_table.specs.Shapes.{Meeting, Nowhere, Known, Torn, known_of}
-use Rattle.verifier.specs.declared.fault.FaultKind.{FaultKind}
-use Rattle.verifier.specs.Meets.{goes_to, left_in, left_at, met, stands_at}
+use Rattle.verifier.specs.Meets.{goes_to, left_at, stands_at}
 use Rattle.verifier.specs.Faults.{has_shape, instruction_fault, fault_of, fault_in, line_fault}
-use Rattle.verifier.specs.Shaped.{Leads, InstructionFits, LineStands, Shaped, HasShapes}
+use Rattle.verifier.specs.Shaped.{InstructionFits, LineStands, Shaped, HasShapes}
 use Rattle.verifier.proofs.Meeting.{Is, By, is_what_leads}
 use Rattle.verifier.proofs.Shaping.{Agrees, by_leads, leads_by, known_left, later}
 
@@ -44,13 +43,13 @@ module _ (allow : AllowList) (functions : List FunCode) (f : FunCode) where
       let agrees : Agrees allow functions f shapes line = record { stands = λ l ks h g. ih l ks h g; has = λ l h. shape_there shapes l (omega (arith, within, h)) } in
       by_meeting (stands_at allow functions f line) kinds (By allow functions f line line)
       (leads_by allow functions f shapes line line kinds
-        (λ l i ks left is g le go.
-          let sl = s.each l ks g in
-          let same : sl.instruction ≡ i = one_of _ _ _ sl.is is in
-          let jump : is_bad_jump l i ≡ false = ap (is_bad_jump l) (sym same) ∙ sl.instruction_fits.jump in
-          let before : l < line = goes_later l line i jump go in
-          (before, ih l ks before g))
-        st.led)
+      (λ l i ks left is g le go.
+      let sl = s.each l ks g in
+      let same : sl.instruction ≡ i = one_of _ _ _ sl.is is in
+      let jump : is_bad_jump l i ≡ false = ap (is_bad_jump l) (sym same) ∙ sl.instruction_fits.jump in
+      let before : l < line = goes_later l line i jump go in
+      (before, ih l ks before g))
+      st.led)
       (λ k b. st.only k (by_leads allow functions f shapes line line line k agrees (omega arith) b))
       (is_what_leads allow functions f line line)
 
@@ -66,7 +65,7 @@ module _ (allow : AllowList) (functions : List FunCode) (f : FunCode) where
   unfolding instruction_fault
   no_fault_where line i m kinds e fits =
       let shape : not (has_shape (length f.lines) line (flow_of i) (left_at allow functions f i m)) ≡ false =
-            ap (λ left. not (has_shape (length f.lines) line (flow_of i) left)) (known_left allow functions f i m kinds e) ∙ ap not fits.fits in
+      ap (λ left. not (has_shape (length f.lines) line (flow_of i) left)) (known_left allow functions f i m kinds e) ∙ ap not fits.fits in
       (λ k. fault_of (fits.target k) (fits.member k) (fits.jump k) (shape k))
 
   pub shaped_line : (shapes : List (List Slot)) → Shaped allow functions f shapes → (line : ℕ) → line < length shapes → line_fault allow functions f line ≡ None
@@ -178,13 +177,13 @@ module _ (allow : AllowList) (functions : List FunCode) (f : FunCode) where
         record {
           led = by_leads allow functions f (shapes_to count) count line line (kinds_at line) agrees (omega arith) is.0;
           only = λ others l. is.1 others (leads_by allow functions f (shapes_to count) line line others
-            (λ j i ks left e g le go.
+              (λ j i ks left e g le go.
               let within = shape_within j ks g in
               let b = at j within in
               let same : b.instruction ≡ i = one_of _ _ _ b.is e in
               let jump : is_bad_jump j i ≡ false = ap (is_bad_jump j) (sym same) ∙ b.fits.jump in
               (goes_later j line i jump go, b.known ∙ ap Known (kinds_are j ks g)))
-            l);
+              l);
           instruction = a.instruction;
           is = a.is;
           instruction_fits = a.fits;

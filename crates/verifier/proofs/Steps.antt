@@ -1,5 +1,5 @@
 -- In well-shaped code what fits a line goes on.
-use Rattle.std.proofs.Common.{◌≡◌, ℕ, zero, suc, ◌+◌, ◌<◌, ◌≤◌, Bool, true, false, ◌||◌, eqb, ltb, leb, List, [], ◌∷◌, Option, Some, None, length, get_or, refl, sym, ap, ◌∙◌, subst, arith}
+use Rattle.std.proofs.Common.{◌≡◌, ℕ, ◌+◌, ◌<◌, Bool, true, false, ◌||◌, eqb, ltb, List, [], Option, Some, None, length, get_or, refl, sym, ap, ◌∙◌, arith}
 use Rattle.std.specs.Prelude.{not, slice_get}
 use Rattle.std.proofs.lemmas.Bool.{eqb-true, leb-false, false≢true}
 use Rattle.std.proofs.lemmas.Option.{slice_get-get_or}
@@ -18,9 +18,9 @@ use Rattle.code_shapes.specs.declared.flow.Flow.TheVariants as flow
 use Rattle.code_shapes.specs.Effects.{effect_of, plain_flow, numbered_flow, flow_of}
 use Rattle.code_shapes.specs.Faults.{is_bad_target, numbered_out}
 use Rattle.shape_table.specs.Shapes.{Meeting, Known}
-use Rattle.verifier.specs.Meets.{goes_to, turns_to, left_in, stands_at}
+use Rattle.verifier.specs.Meets.{goes_to, turns_to, left_in}
 use Rattle.verifier.specs.Faults.{falls, has_shape}
-use Rattle.verifier.specs.Shaped.{Leads, turns, passes, LineStands, Shaped, HasShapes, IsWellShaped, IsWellShapedCode}
+use Rattle.verifier.specs.Shaped.{Leads, turns, passes, LineStands, IsWellShaped}
 use Rattle.verifier.specs.Fits.{FrameKinds, FitsLine, GoesOn, at_with}
 use Rattle.verifier.specs.Laws.{FittingGoesOn}
 use Rattle.verifier.proofs.Standing.{stands}

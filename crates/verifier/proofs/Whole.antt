@@ -1,17 +1,15 @@
 -- Code breaks nowhere exactly where it is well shaped.
-use Rattle.std.proofs.Common.{◌≡◌, ℕ, zero, suc, ◌+◌, ◌<◌, ◌≤◌, Bool, true, false, cond, eqb, List, [], ◌∷◌, Option, Some, None, inl, inr, ◌⊎◌, length, refl, sym, ap, ◌∙◌, subst, add-one, arith}
-use Rattle.std.specs.Prelude.{◌↔◌, slice_get, option_map}
+use Rattle.std.proofs.Common.{◌≡◌, ℕ, zero, suc, ◌+◌, ◌<◌, ◌≤◌, Bool, true, false, cond, eqb, List, [], ◌∷◌, Option, Some, None, inl, inr, length, refl, sym, ap, ◌∙◌, subst, arith}
+use Rattle.std.specs.Prelude.{slice_get, option_map}
 use Rattle.std.proofs.Math.Dec.{eqb-suc-zero}
 use Rattle.std.proofs.lemmas.Bool.Decides.{eqb_tells}
-use Rattle.pl_code.specs.declared.kinds.Slot.{Slot}
 use Rattle.pl_code.specs.declared.code.FunCode.{FunCode}
-use Rattle.pl_code.specs.declared.code.Code.{Code}
 use Rattle.pl_code.specs.declared.code.Trap.{Trap}
 use Rattle.allowlist.specs.Allow.{AllowList}
 use Rattle.verifier.specs.declared.fault.FaultKind.{FaultKind}
 use Rattle.verifier.specs.declared.fault.FaultKind.TheVariants.{BadShape}
 use Rattle.verifier.specs.Faults.{line_fault, trap_fault, found, first_from, lines_fault, traps_fault, behind, or_next, function_fault, functions_fault, code_fault, told_fault, line_count, shape_fault}
-use Rattle.verifier.specs.Shaped.{Shaped, HasShapes, IsWellShaped, IsWellShapedCode}
+use Rattle.verifier.specs.Shaped.{HasShapes, IsWellShaped, IsWellShapedCode}
 use Rattle.verifier.specs.Laws.{ShapesAreUnique, SoundIsWellShaped, BreaksWhereShapesEnd}
 use Rattle.verifier.proofs.Standing.{shaped_line, has_shapes, unique}
 use Rattle.verifier.proofs.Counting.{untold}
@@ -30,8 +28,8 @@ none_from fault n zero e line a b = absurd (omega arith)
 none_from fault n (suc count) e line a b =
     let x = found_none n (fault n) (first_from fault (suc n) count) e in
     elim (eqb_tells line n) [
-      inl q ↦ ap fault q.1 ∙ x.0
-    | inr q ↦ let ne : ¬ (line ≡ n) = q.1 in none_from fault (suc n) count x.1 line (omega (arith, ne)) (omega arith)
+      | inl q ↦ ap fault q.1 ∙ x.0
+      | inr q ↦ let ne : ¬ (line ≡ n) = q.1 in none_from fault (suc n) count x.1 line (omega (arith, ne)) (omega arith)
     ]
 
 from_none : (fault : ℕ → Option FaultKind) (n count : ℕ) → ((line : ℕ) → n ≤ line → line < n + count → fault line ≡ None) → first_from fault n count ≡ None
@@ -86,10 +84,11 @@ module _ (allow : AllowList) (functions : List FunCode) (f : FunCode) where
   unfolding lines_fault
   breaks_where line kind e =
       let x = first_is (line_fault allow functions f) 0 (length f.lines) line kind e in
-      let within : line < length f.lines = omega (arith, x.within) in
-      (within,
-       has_shapes allow functions f line (omega (arith, within)) (λ j h. x.before j (omega arith) h),
-       λ h. let m = h.many in let none = shaped_line allow functions f h.shapes h.shaped line (omega (arith, m)) in let some = x.breaks in cc)
+      let within : line < length f.lines = omega (arith, x.within) in (
+        within,
+        has_shapes allow functions f line (omega (arith, within)) (λ j h. x.before j (omega arith) h),
+        λ h. let m = h.many in let none = shaped_line allow functions f h.shapes h.shaped line (omega (arith, m)) in let some = x.breaks in cc,
+      )
 
 pub breaks_where_shapes_end : BreaksWhereShapesEnd
 breaks_where_shapes_end allow functions f line kind e = breaks_where allow functions f line kind e
@@ -146,7 +145,7 @@ module _ (allow : AllowList) (functions : List FunCode) (f : FunCode) where
   unfolding function_fault
   none_function w =
       (λ i. cond (no_lines (length f.lines) w.some i) (Some (0, BadShape))
-        (or_next (behind 1 (none_traps (length f.lines) 0 f.traps w.traps i)) (behind (1 + length f.traps) (none_lines allow functions f w.lines i))))
+      (or_next (behind 1 (none_traps (length f.lines) 0 f.traps w.traps i)) (behind (1 + length f.traps) (none_lines allow functions f w.lines i))))
 
 module _ (allow : AllowList) (functions : List FunCode) where
   functions_none : (n : ℕ) (fs : List FunCode) → functions_fault allow functions n fs ≡ None → (k : ℕ) (f : FunCode) → slice_get fs k ≡ Some f → IsWellShaped allow functions f
@@ -172,6 +171,7 @@ none_code allow (f ∷ fs) w = none_functions allow (f ∷ fs) 2 (f ∷ fs) w.ea
 
 pub sound_is_well_shaped : SoundIsWellShaped
 unfolding shape_fault
-sound_is_well_shaped allow code =
-    (λ e. code_none allow code.functions (untold (code_fault allow code.functions) (sym e)),
-     λ w. ap (option_map told_fault) (none_code allow code.functions w))
+sound_is_well_shaped allow code = (
+  λ e. code_none allow code.functions (untold (code_fault allow code.functions) (sym e)),
+  λ w. ap (option_map told_fault) (none_code allow code.functions w),
+)

@@ -1,10 +1,8 @@
 -- Which kinds lie on the stack where each line of a function begins: one list of kinds for each line.
-use Rattle.std.specs.Prelude.{◌≡◌, ℕ, ◌+◌, ◌<◌, ◌==◌, Bool, true, false, List, [], ◌∷◌, Option, Some, None, length, slice_get}
-use Rattle.std.specs.List.{list_all}
+use Rattle.std.specs.Prelude.{◌≡◌, ℕ, ◌<◌, true, false, List, [], ◌∷◌, Some, None, length, slice_get}
 use Rattle.pl_code.specs.declared.kinds.Slot.{Slot}
 use Rattle.pl_code.specs.declared.kinds.Slot.TheVariants.{R}
 use Rattle.pl_code.specs.declared.code.FunCode.{FunCode}
-use Rattle.pl_code.specs.declared.code.Code.{Code}
 use Rattle.pl_code.specs.declared.code.Trap.{Trap}
 use Rattle.pl_code.specs.declared.code.Instruction.{Instruction}
 use Rattle.allowlist.specs.Allow.{AllowList}

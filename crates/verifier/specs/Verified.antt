@@ -1,5 +1,5 @@
 -- What is answered of code.
-use Rattle.std.specs.Prelude.{◌≡◌, ℕ, Option, Some, None, Result, Ok, Err}
+use Rattle.std.specs.Prelude.{◌≡◌, ℕ, Option, Some, None}
 use Rattle.pl_code.specs.declared.code.Code.{Code}
 use Rattle.allowlist.specs.Allow.{AllowList}
 use Rattle.verifier.specs.declared.fault.FaultKind.{FaultKind}

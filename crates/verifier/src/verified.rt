@@ -1,11 +1,13 @@
 //! Code that may run.
 
-ghost use Rattle.std.specs.Prelude.{◌≡◌, None, MatchResult};
+ghost use Rattle.std.specs.Prelude.{◌≡◌, None, IfOk, MatchResult};
 ghost use Rattle.verifier.specs.Faults.{shape_fault};
+ghost use Rattle.verifier.specs.Shaped.{IsWellShapedCode};
 ghost use Rattle.verifier.specs.Verified.{IsSound, Refuses};
 
 use crate::fault::VerifyErr;
 use crate::functions::code_fault;
+use crate::laws::shape_laws;
 use allowlist::Allow;
 use pl_code::Code;
 use std::alloc::Global;
@@ -33,7 +35,9 @@ impl Verified {
     pub fn code(&self) -> &Code
         ensures code { result.now ≡ self.now.code }
         ensures sound { IsSound self.now }
+        ensures shaped { IsWellShapedCode self.now.allow self.now.code.functions }
     {
+        shape_laws();
         &self.kept
     }
 
@@ -55,8 +59,10 @@ impl Verified {
 #[tactic(auto, unfolding(crate::specs::Faults::shape_fault))]
 pub fn verify(alloc: Global, allow: &Allow, code: Code) -> Result<Verified, (Code, VerifyErr)>
     ensures same { MatchResult result (λ verified. verified ≡ record { code = code; allow = allow.now }) (λ refused. refused.0 ≡ code) }
+    ensures shaped { IfOk result (λ verified. IsWellShapedCode allow.now code.functions) }
     ensures exact { MatchResult result (λ verified. shape_fault allow.now code ≡ None) (λ refused. Refuses refused.1 (shape_fault allow.now code)) }
 {
+    shape_laws();
     match code_fault(alloc, allow, code.functions.as_slice()) {
         Err(_) => Err((code, VerifyErr::NoMemory)),
         Ok(Some((line, kind))) => Err((code, kind.at(line))),

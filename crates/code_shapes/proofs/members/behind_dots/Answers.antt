@@ -1,6 +1,6 @@
 use Rattle.std.proofs.Common.{refl, sym, ap, ◌∙◌, lit<, rules}
 use Rattle.code_shapes.specs.Members.{behind_dots}
-use Rattle.code_shapes.proofs.Dots.{Passed, behind_one, behind_none, shorter}
+use Rattle.code_shapes.proofs.Dots.{behind_one, behind_none, shorter}
 use Rattle.code_shapes.proofs.members.behind_dots.Goals as goal
 
 pub loop-after-init : goal.loop-after-init

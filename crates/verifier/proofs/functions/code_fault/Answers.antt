@@ -1,6 +1,4 @@
-use Rattle.std.proofs.Common.{◌≡◌, ◌∙◌, ap, sym, subst, Option, Some, None, ℕ}
-use Rattle.std.specs.Prelude.{option_map}
-use Rattle.verifier.specs.declared.fault.FaultKind.{FaultKind}
+use Rattle.std.proofs.Common.{◌∙◌, sym}
 use Rattle.verifier.proofs.Passing.{next_item, no_item}
 use Rattle.verifier.proofs.Counting.{some_functions, first_function, function_passes, function_breaks, all_functions}
 use Rattle.verifier.proofs.functions.code_fault.Goals as goal

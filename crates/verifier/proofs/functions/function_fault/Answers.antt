@@ -1,4 +1,4 @@
-use Rattle.std.proofs.Common.{◌≡◌, ap, sym, ◌∙◌, refl, length}
+use Rattle.std.proofs.Common.{ap, sym, ◌∙◌, refl, length}
 use Rattle.std.proofs.lemmas.Bool.{false≢true}
 use Rattle.verifier.specs.Faults.{traps_fault}
 use Rattle.verifier.proofs.Counting.{no_instruction, at_trap, at_instruction, nowhere}

@@ -1,8 +1,6 @@
-use Rattle.std.proofs.Common.{◌≡◌, ◌+◌, ◌&&◌, Bool, true, false, ltb, length, sym, ap, ◌∙◌, subst}
+use Rattle.std.proofs.Common.{◌≡◌, ◌+◌, ◌&&◌, true, false, ltb, length, sym, ◌∙◌, subst}
 use Rattle.std.specs.Prelude.{not}
-use Rattle.shape_table.specs.Shapes.{Table}
 use Rattle.code_shapes.specs.Effects.{flow_of}
-use Rattle.code_shapes.specs.declared.flow.Flow.{Flow}
 use Rattle.verifier.specs.Meets.{goes_to, left_at}
 use Rattle.verifier.specs.Faults.{falls}
 use Rattle.verifier.specs.Acts.{Does, LeadsOn, at_line}

@@ -2,7 +2,6 @@ use Rattle.std.proofs.Common.{List, ◌∷◌, ap, ◌∙◌, subst}
 use Rattle.pl_code.specs.declared.kinds.Slot.TheVariants.{R}
 use Rattle.pl_code.specs.declared.code.Trap.{Trap}
 use Rattle.pl_code.specs.declared.code.Instruction.{Instruction}
-use Rattle.shape_table.specs.Shapes.{Table}
 use Rattle.verifier.specs.Acts.{Caught, Turned}
 use Rattle.verifier.proofs.Passing.{begins, first_led}
 use Rattle.verifier.proofs.pass.begin.Goals as goal

@@ -1,4 +1,3 @@
-use Rattle.std.proofs.Common.{arith}
 use Rattle.verifier.proofs.Passing.{next_item, no_item, catches_first, catches_one, catches_all}
 use Rattle.verifier.proofs.pass.catch.Goals as goal
 

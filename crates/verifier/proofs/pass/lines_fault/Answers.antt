@@ -1,4 +1,4 @@
-use Rattle.std.proofs.Common.{◌≡◌, ◌<◌, ◌≤◌, length, get_or, ap, ◌∙◌, arith}
+use Rattle.std.proofs.Common.{◌≡◌, length, get_or, ap, ◌∙◌, arith}
 use Rattle.verifier.specs.Faults.{lines_fault}
 use Rattle.verifier.proofs.Passing.{passed_none, faulty, sound, all_sound}
 use Rattle.verifier.proofs.pass.lines_fault.Goals as goal

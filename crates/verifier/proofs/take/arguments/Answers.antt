@@ -1,5 +1,4 @@
-use Rattle.std.proofs.Common.{◌≡◌, ◌-◌, ◌+◌, length, take, get_or, ap, ◌∙◌, arith}
-use Rattle.code_shapes.specs.Members.{argument_kinds}
+use Rattle.std.proofs.Common.{arith}
 use Rattle.verifier.proofs.Takings.{arguments_yet, one_argument, no_arguments, one_goes, one_fails, all_gone}
 use Rattle.verifier.proofs.take.arguments.Goals as goal
 

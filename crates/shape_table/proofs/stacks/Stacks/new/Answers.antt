@@ -1,4 +1,4 @@
-use Rattle.std.proofs.Common.{◌≡◌, List, [], ◌∷◌, ◌++◌, ap, ◌∙◌}
+use Rattle.std.proofs.Common.{[], ◌∷◌, ◌++◌, ap, ◌∙◌}
 use Rattle.shape_table.specs.Nodes.{stacks_of, root}
 use Rattle.shape_table.proofs.stacks.Stacks.new.Goals as goal
 

@@ -1,6 +1,4 @@
-use Rattle.std.proofs.Common.{◌≡◌, length, sym, ◌∙◌, arith}
-use Rattle.std.specs.Vec.{vec_len}
-use Rattle.shape_table.specs.Nodes.{AreLinked}
+use Rattle.std.proofs.Common.{◌≡◌, length, arith}
 use Rattle.shape_table.proofs.Linked.{shown_length, shown_linked, shown_pushed}
 use Rattle.shape_table.proofs.stacks.Stacks.with.Goals as goal
 

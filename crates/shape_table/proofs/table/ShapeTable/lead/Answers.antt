@@ -1,4 +1,4 @@
-use Rattle.std.proofs.Common.{◌≡◌, ◌<◌, ◌∷◌, length, get_or, ltb, sym, ap, ◌∙◌, arith}
+use Rattle.std.proofs.Common.{◌≡◌, ◌<◌, length, get_or, ltb, sym, ap, ◌∙◌}
 use Rattle.std.proofs.Math.ListN.{set}
 use borrow.Author.Tests.{ltb-true}
 use Rattle.shape_table.specs.Shapes.{Table, Nowhere, meets}

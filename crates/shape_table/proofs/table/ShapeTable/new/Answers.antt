@@ -1,4 +1,4 @@
-use Rattle.std.proofs.Common.{◌≡◌, ◌<◌, List, [], ◌∷◌, length, ap, ◌∙◌, sym, arith, rules}
+use Rattle.std.proofs.Common.{◌≡◌, [], length, ap, arith}
 use Rattle.std.specs.Prelude.{replicate}
 use Rattle.shape_table.specs.declared.node.Place.TheVariants as place
 use Rattle.shape_table.specs.Nodes.{stack_at}

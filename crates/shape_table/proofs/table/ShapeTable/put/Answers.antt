@@ -1,6 +1,5 @@
-use Rattle.std.proofs.Common.{◌≡◌, ◌∷◌, ap, ◌∙◌}
+use Rattle.std.proofs.Common.{◌∷◌, ap, ◌∙◌}
 use Rattle.shape_table.specs.Shapes.{Table}
-use Rattle.shape_table.specs.Nodes.{stack_at}
 use Rattle.shape_table.proofs.Places.{within_grown, seen_grown}
 use Rattle.shape_table.proofs.table.ShapeTable.put.Goals as goal
 
