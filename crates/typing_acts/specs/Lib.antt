@@ -1,0 +1,5 @@
+pub mod Piles
+pub mod Expressions
+pub mod Places
+pub mod Statements
+pub mod Bodies

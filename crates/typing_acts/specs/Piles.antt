@@ -1,0 +1,71 @@
+-- Stacks, each a list that begins with its top.
+use Rattle.std.specs.declared.alloc.Global.{Global}
+use Rattle.std.specs.declared.vec.Vec.{Vec}
+use Rattle.std.specs.Prelude.{◌≡◌, Bool, true, false, ℕ, zero, suc, ◌-◌, length, List, [], ◌∷◌, Option, Some, None, Ok}
+use Rattle.typed_tree.specs.declared.typed.Typed.{Typed}
+use Rattle.typing_rules.specs.declared.part.Part.{Part}
+use Rattle.typing_rules.specs.declared.part.Place.{Place}
+use Rattle.typing_rules.specs.declared.part.Step.{Step}
+use Rattle.typing_rules.specs.Outcomes.{Out, refuse, bind}
+use Rattle.typing_acts.specs.declared.config.Config.{Config}
+
+-- a part that an act takes is not there: never so, where acts are done in their order
+abbrev pub stuck : {A : Type 0} → Out A
+stuck = refuse 0 0
+
+-- what is done with the top of a stack, and what is below it
+abbrev pub one : {A B : Type 0} → List A → (A → List A → Out B) → Out B
+one [] f = stuck
+one (x ∷ rest) f = f x rest
+
+-- the same with two, the upper one last
+abbrev pub two : {A B : Type 0} → List A → (A → A → List A → Out B) → Out B
+two xs f = one xs (λ y below. one below (λ x rest. f x y rest))
+
+abbrev pub three : {A B : Type 0} → List A → (A → A → A → List A → Out B) → Out B
+three xs f = one xs (λ z below. two below (λ x y rest. f x y z rest))
+
+-- so many from the top, the uppermost last, before some others
+abbrev pub gathered : {A : Type 0} → ℕ → List A → List A → Option (List A × List A)
+gathered zero xs others = Some (others, xs)
+gathered (suc n) [] others = None
+gathered (suc n) (x ∷ xs) others = gathered n xs (x ∷ others)
+
+-- what is taken, and what is left
+abbrev pub Takes : {A : Type 0} → ℕ → List A → List A → Option (Vec A Global) → Type 0
+Takes n old new None = gathered n old [] ≡ None
+Takes n old new (Some taken) = gathered n old [] ≡ Some (taken.items, new)
+
+abbrev pub some_gathered : {A B : Type 0} → Option (List A × List A) → (List A → List A → Out B) → Out B
+some_gathered None f = stuck
+some_gathered (Some p) f = f p.0 p.1
+
+-- what is done with so many from the top, and what is below them
+abbrev pub many : {A B : Type 0} → ℕ → List A → (List A → List A → Out B) → Out B
+many n xs f = some_gathered (gathered n xs []) f
+
+-- a step that is there or not is taken; nothing is said where it is missing
+abbrev pub PopsIf : Bool → List Step → List Step → Option (Option Step) → Type 0
+PopsIf there old new None = Unit {0}
+PopsIf false old new (Some y) = (y ≡ None) × (new ≡ old)
+PopsIf true old new (Some None) = ⊥
+PopsIf true old new (Some (Some y)) = old ≡ y ∷ new
+
+-- what is done with what stands above a height, and what is below
+abbrev pub above : {A B : Type 0} → ℕ → List A → (List A → List A → Out B) → Out B
+above height xs f = many (length xs - height) xs f
+
+abbrev pub put_part : Config → List Part → Part → Config
+put_part c rest x = record c { parts = x ∷ rest }
+
+abbrev pub with_part : Config → List Part → Out Part → Out Config
+with_part c rest o = bind o (λ x. Ok (put_part c rest x))
+
+abbrev pub with_place : Config → Out Place → Out Config
+with_place c o = bind o (λ p. Ok (record c { places = p ∷ c.places }))
+
+abbrev pub with_step : Config → Out Step → Out Config
+with_step c o = bind o (λ y. Ok (record c { steps = y ∷ c.steps }))
+
+abbrev pub with_test : Config → Out (Option Typed) → Out Config
+with_test c o = bind o (λ t. Ok (record c { tests = t ∷ c.tests }))

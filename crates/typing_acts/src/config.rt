@@ -1,0 +1,28 @@
+use crate::pile::Pile;
+use plain_data::Subtree;
+use typed_tree::{Typed, TypedVariable};
+use typing_rules::{Part, Place, State, Step};
+
+/// What typing has so far: what is known, and the parts that are typed and wait for their node.
+pub struct Config {
+    pub state: State,
+    pub parts: Pile<Part>,
+    pub places: Pile<Place>,
+    /// Tests, updates and first values, which are cast; some are missing.
+    pub tests: Pile<Option<Subtree<Typed>>>,
+    pub variables: Pile<TypedVariable>,
+    pub steps: Pile<Step>,
+}
+
+impl Drop for Config {
+    fn drop(self) {
+        let Config {
+            state: _state,
+            parts: _parts,
+            places: _places,
+            tests: _tests,
+            variables: _variables,
+            steps: _steps,
+        } = self;
+    }
+}

@@ -1,0 +1,163 @@
+//! Acts on expressions.
+
+ghost use Rattle.std.specs.Prelude.{◌≡◌};
+ghost use Rattle.typing_rules.specs.Outcomes.{KeepsIn};
+ghost use Rattle.typing_acts.specs.Expressions as spec;
+
+use crate::config::Config;
+use pl_tree::{BinaryOperator, Constant, TypeName, UnaryOperator};
+use pl_types::Fail;
+use plain_data::Text;
+use std::alloc::Global;
+use typing_rules::Header;
+use typing_rules::rules::{calls, casts, literals, operators, places, types};
+
+/// An integer literal.
+pub fn integer(alloc: Global, config: &mut Config, at: u32, spelling: &Text) -> Result<(), Fail>
+    ensures { KeepsIn (spec.integer at spelling.now config.old) result config.new }
+{
+    let x = literals::integer(alloc, at, spelling.as_str())?;
+    config.parts.push(x)?;
+    Ok(())
+}
+
+/// One directly behind a minus.
+pub fn negated_integer(
+    alloc: Global,
+    config: &mut Config,
+    minus: u32,
+    at: u32,
+    spelling: &Text,
+) -> Result<(), Fail>
+    ensures { KeepsIn (spec.negated_integer minus at spelling.now config.old) result config.new }
+{
+    let x = literals::negated_integer(alloc, minus, at, spelling.as_str())?;
+    config.parts.push(x)?;
+    Ok(())
+}
+
+/// A literal that is a keyword.
+pub fn constant(alloc: Global, config: &mut Config, at: u32, constant: Constant) -> Result<(), Fail>
+    ensures { KeepsIn (spec.constant at constant config.old) result config.new }
+{
+    let x = literals::constant(alloc, at, constant)?;
+    config.parts.push(x)?;
+    Ok(())
+}
+
+/// A name's value.
+pub fn local(alloc: Global, config: &mut Config, at: u32, name: &Text) -> Result<(), Fail>
+    ensures { KeepsIn (spec.local at name.now config.old) result config.new }
+{
+    let x = places::local(alloc, at, name, &config.state)?;
+    config.parts.push(x)?;
+    Ok(())
+}
+
+/// An operator between two operands.
+pub fn binary(
+    alloc: Global,
+    config: &mut Config,
+    operator: BinaryOperator,
+    at: u32,
+) -> Result<(), Fail>
+    ensures { KeepsIn (spec.binary operator at config.old) result config.new }
+{
+    let Some(y) = config.parts.pop() else {
+        return Err(Fail::NoMemory);
+    };
+    let Some(x) = config.parts.pop() else {
+        return Err(Fail::NoMemory);
+    };
+    let z = operators::binary_of(alloc, operator, at, x, y)?;
+    config.parts.push(z)?;
+    Ok(())
+}
+
+/// An operator before its operand.
+pub fn unary(
+    alloc: Global,
+    config: &mut Config,
+    operator: UnaryOperator,
+    at: u32,
+) -> Result<(), Fail>
+    ensures { KeepsIn (spec.unary operator at config.old) result config.new }
+{
+    let Some(x) = config.parts.pop() else {
+        return Err(Fail::NoMemory);
+    };
+    let y = operators::unary_of(alloc, operator, at, x)?;
+    config.parts.push(y)?;
+    Ok(())
+}
+
+/// A conditional.
+pub fn choice(alloc: Global, config: &mut Config, at: u32) -> Result<(), Fail>
+    ensures { KeepsIn (spec.choice at config.old) result config.new }
+{
+    let Some(no) = config.parts.pop() else {
+        return Err(Fail::NoMemory);
+    };
+    let Some(yes) = config.parts.pop() else {
+        return Err(Fail::NoMemory);
+    };
+    let Some(condition) = config.parts.pop() else {
+        return Err(Fail::NoMemory);
+    };
+    let x = operators::choice_of(alloc, at, condition, yes, no)?;
+    config.parts.push(x)?;
+    Ok(())
+}
+
+/// Brackets.
+pub fn bracketed(config: &mut Config, at: u32) -> Result<(), Fail>
+    ensures { KeepsIn (spec.bracketed at config.old) result config.new }
+{
+    let Some(x) = config.parts.pop() else {
+        return Err(Fail::NoMemory);
+    };
+    config.parts.push(x.bracketed(at))?;
+    Ok(())
+}
+
+/// A cast that is written.
+pub fn asked(alloc: Global, config: &mut Config, at: u32, of: &TypeName) -> Result<(), Fail>
+    ensures { KeepsIn (spec.asked at of.now config.old) result config.new }
+{
+    let Some(x) = config.parts.pop() else {
+        return Err(Fail::NoMemory);
+    };
+    let to = types::type_of(of)?;
+    let y = casts::asked(alloc, at, &to, x)?;
+    config.parts.push(y)?;
+    Ok(())
+}
+
+/// A part that was only looked through.
+pub fn drop_part(config: &mut Config) -> Result<(), Fail>
+    ensures { KeepsIn (spec.drop_part config.old) result config.new }
+{
+    match config.parts.pop() {
+        Some(_part) => Ok(()),
+        None => Err(Fail::NoMemory),
+    }
+}
+
+/// A call of a function of the script with the arguments above a height.
+pub fn call(
+    alloc: Global,
+    headers: &[Header],
+    config: &mut Config,
+    at: u32,
+    name: &Text,
+    height: usize,
+) -> Result<(), Fail>
+    ensures { KeepsIn (spec.call headers.now at name.now height config.old) result config.new }
+{
+    let Some(given) = config.parts.take_above(alloc, height)? else {
+        return Err(Fail::NoMemory);
+    };
+    let x = calls::call_of(alloc, headers, at, name, given)?;
+    config.parts.push(x)?;
+    Ok(())
+}

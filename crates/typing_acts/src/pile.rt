@@ -1,0 +1,96 @@
+//! A stack.
+
+ghost use Rattle.std.specs.Prelude.{◌≡◌, ◌-◌, [], ◌∷◌, length, MatchOption, OnOk, IfOk};
+ghost use Rattle.typing_acts.specs.Piles.{Takes};
+
+use std::alloc::{AllocError, Global};
+use std::marker::Model;
+
+/// A stack. Contracts see it as a list that begins with its top.
+pub struct Pile<T> {
+    items: Vec<T>,
+}
+
+impl<T: Drop> Drop for Pile<T> {
+    fn drop(self) {
+        let Pile { items: _items } = self;
+    }
+}
+
+impl<T> Model for Pile<T> {
+    ghost use Rattle.std.specs.Prelude.{List, reverse};
+    ghost use Rattle.std.specs.Coded.{coded_list};
+
+    ghost Value = { List T };
+
+    ghost coded = { coded_list T.code };
+
+    ghost view = { λ p. reverse p.items.items };
+}
+
+impl<T> Pile<T> {
+    /// An empty one.
+    pub fn new(alloc: Global) -> Pile<T>
+        ensures { result ≡ [] }
+    {
+        Pile {
+            items: Vec::new(alloc),
+        }
+    }
+
+    /// How high it is.
+    pub fn len(&self) -> usize
+        ensures { result ≡ length self.now }
+    {
+        self.items.len()
+    }
+
+    /// Takes the top off.
+    pub fn pop(&mut self) -> Option<T>
+        ensures { MatchOption result ((self.old ≡ []) × (self.new ≡ [])) (λ top. self.old ≡ top ∷ self.new) }
+    {
+        self.items.pop()
+    }
+}
+
+impl<T: Drop> Pile<T> {
+    /// Puts an item on the top.
+    pub fn push(&mut self, item: T) -> Result<(), AllocError>
+        ensures { OnOk result (self.new ≡ item ∷ self.old) }
+    {
+        self.items.push(item)?;
+        Ok(())
+    }
+}
+
+impl<T: Drop> Pile<T> {
+    /// Takes off what stands above a height, the uppermost last. `None` where there is less.
+    pub fn take_above(
+        &mut self,
+        alloc: Global,
+        height: usize,
+    ) -> Result<Option<Vec<T>>, AllocError>
+        ensures { IfOk result (λ taken. Takes (length self.old - height) self.old self.new taken) }
+    {
+        let count = self.len().saturating_sub(height);
+        self.take(alloc, count)
+    }
+
+    /// Takes so many off, the uppermost last. `None` where there are not so many.
+    #[tactic(auto, using(crate::proofs::Gathering::gathered_more, crate::proofs::Gathering::gathered_none, crate::proofs::Gathering::gathered_end, crate::proofs::Gathering::reverse_one))]
+    pub fn take(&mut self, alloc: Global, count: usize) -> Result<Option<Vec<T>>, AllocError>
+        ensures { IfOk result (λ taken. Takes count self.old self.new taken) }
+    {
+        let mut taken = Vec::new(alloc);
+        let mut left = count;
+        while left > 0 {
+            let Some(item) = self.pop() else {
+                return Ok(None);
+            };
+            taken.push(item)?;
+            left -= 1;
+        }
+        taken.reverse();
+        Ok(Some(taken))
+    }
+}

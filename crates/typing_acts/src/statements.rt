@@ -1,0 +1,286 @@
+//! Acts on statements.
+
+ghost use Rattle.std.specs.Prelude.{◌≡◌};
+ghost use Rattle.typing_rules.specs.Outcomes.{KeepsIn};
+ghost use Rattle.typing_acts.specs.Statements as spec;
+ghost use Rattle.typing_acts.specs.Piles.{PopsIf};
+
+use crate::config::Config;
+use crate::pile::Pile;
+use pl_tree::{Spelled, TypeName};
+use pl_types::{Fail, Refusal, rules};
+use plain_data::Items;
+use std::alloc::Global;
+use typing_rules::rules::{casts, statements, types};
+use typing_rules::{Form, Step};
+
+/// The test of an `if`.
+pub fn test(alloc: Global, config: &mut Config) -> Result<(), Fail>
+    ensures { KeepsIn (spec.test config.old) result config.new }
+{
+    let Some(x) = config.parts.pop() else {
+        return Err(Fail::NoMemory);
+    };
+    let test = statements::test(alloc, x)?;
+    config.tests.push(Some(test))?;
+    Ok(())
+}
+
+/// The test of a loop.
+pub fn loop_test(alloc: Global, config: &mut Config) -> Result<(), Fail>
+    ensures { KeepsIn (spec.loop_test config.old) result config.new }
+{
+    let Some(x) = config.parts.pop() else {
+        return Err(Fail::NoMemory);
+    };
+    let test = statements::loop_test(alloc, x)?;
+    config.tests.push(test)?;
+    Ok(())
+}
+
+/// A test, an update or a first value that is missing.
+pub fn no_test(config: &mut Config) -> Result<(), Fail>
+    ensures { KeepsIn (spec.no_test config.old) result config.new }
+{
+    config.tests.push(None)?;
+    Ok(())
+}
+
+/// What a `for` begins with.
+pub fn deed(alloc: Global, config: &mut Config, at: u32) -> Result<(), Fail>
+    ensures { KeepsIn (spec.deed at config.old) result config.new }
+{
+    let Some(x) = config.parts.pop() else {
+        return Err(Fail::NoMemory);
+    };
+    let step = statements::deed(alloc, at, x)?;
+    config.steps.push(step)?;
+    Ok(())
+}
+
+/// What a `for` goes on with.
+pub fn update(config: &mut Config, at: u32) -> Result<(), Fail>
+    ensures { KeepsIn (spec.update at config.old) result config.new }
+{
+    let Some(x) = config.parts.pop() else {
+        return Err(Fail::NoMemory);
+    };
+    let Form::Deed = x.form else {
+        return Err(Fail::Refused(Refusal {
+            number: rules::NOT_A_STATEMENT,
+            offset: at,
+        }));
+    };
+    config.tests.push(Some(x.into_typed()))?;
+    Ok(())
+}
+
+/// What a variable begins with.
+pub fn initial(alloc: Global, config: &mut Config, of: &TypeName) -> Result<(), Fail>
+    ensures { KeepsIn (spec.initial of.now config.old) result config.new }
+{
+    let Some(x) = config.parts.pop() else {
+        return Err(Fail::NoMemory);
+    };
+    let to = types::type_of(of)?;
+    let value = casts::cast_to(alloc, &to, x)?;
+    config.tests.push(Some(value))?;
+    Ok(())
+}
+
+/// A variable, whose value is typed.
+pub fn variable(
+    alloc: Global,
+    config: &mut Config,
+    name: &Spelled,
+    of: &TypeName,
+) -> Result<(), Fail>
+    ensures { KeepsIn (spec.variable name.now of.now config.old) result config.new }
+{
+    let Some(value) = config.tests.pop() else {
+        return Err(Fail::NoMemory);
+    };
+    let to = types::type_of(of)?;
+    let variable = statements::variable_of(alloc, name, &to, value, &mut config.state)?;
+    config.variables.push(variable)?;
+    Ok(())
+}
+
+/// An expression statement.
+pub fn expression(alloc: Global, config: &mut Config, at: u32, last: bool) -> Result<(), Fail>
+    ensures { KeepsIn (spec.expression at last config.old) result config.new }
+{
+    let Some(x) = config.parts.pop() else {
+        return Err(Fail::NoMemory);
+    };
+    let step = statements::expression_of(alloc, at, last, x, &config.state)?;
+    config.steps.push(step)?;
+    Ok(())
+}
+
+/// A `return` with a value.
+pub fn return_value(alloc: Global, config: &mut Config, at: u32) -> Result<(), Fail>
+    ensures { KeepsIn (spec.return_value at config.old) result config.new }
+{
+    let Some(x) = config.parts.pop() else {
+        return Err(Fail::NoMemory);
+    };
+    let step = statements::return_of(alloc, at, x, &config.state)?;
+    config.steps.push(step)?;
+    Ok(())
+}
+
+/// A `return` without a value.
+pub fn return_nothing(alloc: Global, config: &mut Config, at: u32) -> Result<(), Fail>
+    ensures { KeepsIn (spec.return_nothing at config.old) result config.new }
+{
+    let step = statements::nothing_returned(alloc, at, &config.state)?;
+    config.steps.push(step)?;
+    Ok(())
+}
+
+/// A `break`.
+pub fn break_loop(alloc: Global, config: &mut Config, at: u32) -> Result<(), Fail>
+    ensures { KeepsIn (spec.break_loop at config.old) result config.new }
+{
+    let step = statements::break_of(alloc, at, &config.state)?;
+    config.steps.push(step)?;
+    Ok(())
+}
+
+/// A `continue`.
+pub fn continue_loop(alloc: Global, config: &mut Config, at: u32) -> Result<(), Fail>
+    ensures { KeepsIn (spec.continue_loop at config.old) result config.new }
+{
+    let step = statements::continue_of(alloc, at, &config.state)?;
+    config.steps.push(step)?;
+    Ok(())
+}
+
+/// A statement that is behind another.
+pub fn reached_next(config: &mut Config, at: u32) -> Result<(), Fail>
+    ensures { KeepsIn (spec.reached_next at config.old) result config.new }
+{
+    let Some(y) = config.steps.pop() else {
+        return Err(Fail::NoMemory);
+    };
+    let Some(x) = config.steps.pop() else {
+        return Err(Fail::NoMemory);
+    };
+    let y = statements::reached(x.escapes, at, y)?;
+    config.steps.push(x)?;
+    config.steps.push(y)?;
+    Ok(())
+}
+
+/// A block of the statements above a height.
+pub fn block(alloc: Global, config: &mut Config, at: u32, height: usize) -> Result<(), Fail>
+    ensures { KeepsIn (spec.block at height config.old) result config.new }
+{
+    let Some(steps) = config.steps.take_above(alloc, height)? else {
+        return Err(Fail::NoMemory);
+    };
+    let step = statements::block_of(alloc, at, steps)?;
+    config.steps.push(step)?;
+    Ok(())
+}
+
+/// A declaration of the variables above a height.
+pub fn declaration(alloc: Global, config: &mut Config, at: u32, height: usize) -> Result<(), Fail>
+    ensures { KeepsIn (spec.declaration at height config.old) result config.new }
+{
+    let Some(variables) = config.variables.take_above(alloc, height)? else {
+        return Err(Fail::NoMemory);
+    };
+    let step = statements::declaration_of(alloc, at, Items::from_vec(variables))?;
+    config.steps.push(step)?;
+    Ok(())
+}
+
+/// An `if` without an `else`.
+pub fn if_alone(alloc: Global, config: &mut Config, at: u32) -> Result<(), Fail>
+    ensures { KeepsIn (spec.if_alone at config.old) result config.new }
+{
+    let Some(Some(condition)) = config.tests.pop() else {
+        return Err(Fail::NoMemory);
+    };
+    let Some(then) = config.steps.pop() else {
+        return Err(Fail::NoMemory);
+    };
+    let step = statements::if_of(alloc, at, condition, then, None)?;
+    config.steps.push(step)?;
+    Ok(())
+}
+
+/// An `if` with an `else`.
+pub fn if_else(alloc: Global, config: &mut Config, at: u32) -> Result<(), Fail>
+    ensures { KeepsIn (spec.if_else at config.old) result config.new }
+{
+    let Some(Some(condition)) = config.tests.pop() else {
+        return Err(Fail::NoMemory);
+    };
+    let Some(otherwise) = config.steps.pop() else {
+        return Err(Fail::NoMemory);
+    };
+    let Some(then) = config.steps.pop() else {
+        return Err(Fail::NoMemory);
+    };
+    let step = statements::if_of(alloc, at, condition, then, Some(otherwise))?;
+    config.steps.push(step)?;
+    Ok(())
+}
+
+/// A step, if one is there. `None` where it is missing.
+fn pop_if(steps: &mut Pile<Step>, there: bool) -> Option<Option<Step>>
+    ensures { PopsIf there steps.old steps.new result }
+{
+    if !there {
+        return Some(None);
+    }
+    match steps.pop() {
+        Some(step) => Some(Some(step)),
+        None => None,
+    }
+}
+
+/// A loop, with its test and its update, and with a first step and a body where there are some.
+pub fn whole_loop(
+    alloc: Global,
+    config: &mut Config,
+    at: u32,
+    has_first: bool,
+    has_body: bool,
+) -> Result<(), Fail>
+    ensures { KeepsIn (spec.whole_loop at has_first has_body config.old) result config.new }
+{
+    let Some(update) = config.tests.pop() else {
+        return Err(Fail::NoMemory);
+    };
+    let Some(test) = config.tests.pop() else {
+        return Err(Fail::NoMemory);
+    };
+    let Some(body) = pop_if(&mut config.steps, has_body) else {
+        return Err(Fail::NoMemory);
+    };
+    let Some(first) = pop_if(&mut config.steps, has_first) else {
+        return Err(Fail::NoMemory);
+    };
+    let step = statements::loop_of(alloc, at, first, test, update, body)?;
+    config.steps.push(step)?;
+    Ok(())
+}
+
+/// A `do`.
+pub fn do_loop(alloc: Global, config: &mut Config, at: u32) -> Result<(), Fail>
+    ensures { KeepsIn (spec.do_loop at config.old) result config.new }
+{
+    let Some(test) = config.tests.pop() else {
+        return Err(Fail::NoMemory);
+    };
+    let Some(body) = config.steps.pop() else {
+        return Err(Fail::NoMemory);
+    };
+    let step = statements::do_of(alloc, at, body, test)?;
+    config.steps.push(step)?;
+    Ok(())
+}
