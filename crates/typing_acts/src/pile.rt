@@ -65,11 +65,7 @@ impl<T: Drop> Pile<T> {
 
 impl<T: Drop> Pile<T> {
     /// Takes off what stands above a height, the uppermost last. `None` where there is less.
-    pub fn take_above(
-        &mut self,
-        alloc: Global,
-        height: usize,
-    ) -> Result<Option<Vec<T>>, AllocError>
+    pub fn take_above(&mut self, alloc: Global, height: usize) -> Result<Option<Vec<T>>, AllocError>
         ensures { IfOk result (λ taken. Takes (length self.old - height) self.old self.new taken) }
     {
         let count = self.len().saturating_sub(height);
