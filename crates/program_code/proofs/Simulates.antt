@@ -39,7 +39,7 @@ module _ (funs : Program) (code : List FunCode) (limits : Limits) (made : Compil
     stmt_runs (If t a b) = if_runs funs code limits m ih t a b
     stmt_runs (While test update body) = while_runs funs code limits m ih test update body
     stmt_runs (DoWhile body test) = do_while_runs funs code limits m ih body test
-    stmt_runs (ForEach at' x of over body) = λ c h g n j p s e l stands under f. record { by = tt }
+    stmt_runs (ForEach x of element over body) = λ c h g n j p s e l stands under f. record { by = tt }
     stmt_runs (Try body catches) = λ c h g n j p s e l stands under f. record { by = tt }
     stmt_runs (Block body) = block_runs funs code limits m ih body
     stmt_runs Break = break_runs funs code limits m ih

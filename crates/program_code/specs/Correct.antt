@@ -5,6 +5,8 @@ use Rattle.object_values.specs.declared.object.Owner.TheVariants.{Script}
 use Rattle.pl_types.specs.declared.ty.Ty.{Ty}
 use Rattle.pl_code.specs.declared.code.FunCode.{FunCode}
 use Rattle.run_world.specs.World.{World, Limits, End, Result, Uncaught, Limited}
+use Rattle.typed_tree.specs.declared.program.Program as typed
+use Rattle.program_meaning.specs.Programs.{fun_of, program_of}
 use Rattle.program_meaning.specs.Tree.{Variable, Fun, Program}
 use Rattle.program_meaning.specs.Meaning.{Env, Out, Done, Thrown, Over, More, Flow, entry, returned, meaning}
 use Rattle.code_meaning.specs.Words.{Word, start_of}
@@ -69,3 +71,18 @@ EndsAlike =
     (funs : Program) (code : List FunCode) → Compiled funs code → (limits : Limits) (main : Fun) → slice_get funs 0 ≡ Some main
     → (args : List Value) (words : List Word) → Words main.params args words → (w : World) (bound : ℕ) (end : End (Option Word))
     → source funs limits bound args w ≡ Some end → EndsAs code limits (start code words w) end
+
+-- ---- the same of the typed programs of the code
+
+-- these instructions are those of a typed program
+abbrev pub IsCodeOf : typed.Program → List FunCode → Type 0
+IsCodeOf p code = Compiled (program_of p) code
+
+-- how a typed program ends at a bound
+abbrev pub program_ends : typed.Program → Limits → ℕ → List Value → World → Option (End (Option Word))
+program_ends p limits bound args w = source (program_of p) limits bound args w
+
+abbrev pub ProgramsEndAlike : Type 0
+ProgramsEndAlike =
+    (p : typed.Program) (code : List FunCode) → IsCodeOf p code → (limits : Limits) (args : List Value) (words : List Word) → Words (fun_of p.main).params args words
+    → (w : World) (bound : ℕ) (end : End (Option Word)) → program_ends p limits bound args w ≡ Some end → EndsAs code limits (start code words w) end

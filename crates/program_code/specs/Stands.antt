@@ -172,7 +172,7 @@ abbrev mutual
   falls (If c a b) = all_fall a || all_fall b
   falls (While test update body) = true
   falls (DoWhile body test) = true
-  falls (ForEach at x of over body) = true
+  falls (ForEach x of element over body) = true
   falls (Try body catches) = true
   falls (Block body) = all_fall body
   falls Break = false
@@ -191,7 +191,7 @@ abbrev mutual
   continues (If c a b) = any_continues a || any_continues b
   continues (While test update body) = false
   continues (DoWhile body test) = false
-  continues (ForEach at x of over body) = false
+  continues (ForEach x of element over body) = false
   continues (Try body catches) = false
   continues (Block body) = any_continues body
   continues Break = false
@@ -249,7 +249,7 @@ abbrev mutual
   end_stmt p (If c a b) = end_stmts (end_skip (all_fall a) (end_stmts (suc (end_expr p c)) a)) b
   end_stmt p (While test update body) = suc (end_test (end_update (goes_on body) (end_stmts (suc p) body) update) test)
   end_stmt p (DoWhile body test) = suc (suc (end_last (goes_on body) (end_stmts (suc p) body) test))
-  end_stmt p (ForEach at x of over body) = p
+  end_stmt p (ForEach x of element over body) = p
   end_stmt p (Try body catches) = p
   end_stmt p (Block body) = end_stmts p body
   end_stmt p Break = suc p
@@ -269,7 +269,7 @@ abbrev mutual
   next_stmt n (If c a b) = next_stmts (next_stmts n a) b
   next_stmt n (While test update body) = next_stmts n body
   next_stmt n (DoWhile body test) = next_stmts n body
-  next_stmt n (ForEach at x of over body) = n
+  next_stmt n (ForEach x of element over body) = n
   next_stmt n (Try body catches) = n
   next_stmt n (Block body) = next_stmts n body
   next_stmt n Break = n
@@ -345,7 +345,7 @@ abbrev mutual
       × LastAt funs f h g (goes_on body) (end_stmts (suc p) body) test (end_stmt p (DoWhile body test))
       × At f h (end_last (goes_on body) (end_stmts (suc p) body) test) (i.Int (pos 1))
       × At f h (suc (end_last (goes_on body) (end_stmts (suc p) body) test)) (i.Numbered numbered.Loop (suc p))
-  StmtAt funs f h k g n j p (ForEach at x of over body) = Unit {0}
+  StmtAt funs f h k g n j p (ForEach x of element over body) = Unit {0}
   StmtAt funs f h k g n j p (Try body catches) = Unit {0}
   StmtAt funs f h k g n j p (Block body) = StmtsAt funs f h k g n j p body
   StmtAt funs f h k g n j p Break = At f h p (i.Numbered numbered.Goto j.out)

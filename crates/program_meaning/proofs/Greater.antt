@@ -184,7 +184,7 @@ module _ (funs : Program) (limits : Limits) where
     stmt_grows (While test update body) d s e =
         then' (value_grows test (v.Bool true) d s e) (λ value s e. chosen value (turns_grow (take_turn limits s.turns s.world) d s e test update body) same)
     stmt_grows (DoWhile body test) d s e = dones_grow (take_turn limits s.turns s.world) d s e body test
-    stmt_grows (ForEach at x of over body) d s e = same
+    stmt_grows (ForEach x of element over body) d s e = same
     stmt_grows (Try body catches) d s e = same
     stmt_grows (Block body) d s e = ih.stmts body d s e
     stmt_grows Break d s e = same

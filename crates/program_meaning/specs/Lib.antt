@@ -1,4 +1,5 @@
 pub mod Tree
 pub mod Operating
 pub mod Meaning
+pub mod Programs
 pub mod Laws

@@ -236,7 +236,7 @@ module _ (funs : Program) (limits : Limits) (m : Meaning) where
   stmt_of d s e (While test update body) =
       bind (value_if test (v.Bool true) d s e) (λ value s e. choose value (turned (take_turn limits s.turns s.world) d s e test update body) (Done Normal s e))
   stmt_of d s e (DoWhile body test) = done_turn (take_turn limits s.turns s.world) d s e body test
-  stmt_of d s e (ForEach at x of over body) = More
+  stmt_of d s e (ForEach x of element over body) = More
   stmt_of d s e (Try body catches) = More
   stmt_of d s e (Block body) = m.stmts d s e body
   stmt_of d s e Break = Done Broke s e

@@ -1,6 +1,7 @@
 -- Typed programs as meanings see them: what a declaration's names reach stands behind it, so that a scope is a part of the tree.
 use Rattle.std.specs.Prelude.{ℕ, List, Option}
 use Rattle.pl_types.specs.declared.ty.Ty.{Ty}
+use Rattle.pl_types.specs.declared.conversion.Cast.{Cast}
 use Rattle.typed_tree.specs.declared.operation.Constant.{Constant}
 use Rattle.typed_tree.specs.declared.operation.Operation.{Operation}
 use Rattle.typed_tree.specs.declared.operation.Logical.{Logical}
@@ -47,7 +48,7 @@ mutual
     -- the turn, and the test behind it
     DoWhile : (body : Stmts) (test : Maybe) → Stmt
     -- a variable over the elements of a value, each cast to its type
-    ForEach : (at : ℕ) (name : Name) (of : Ty) (over : Expr) (body : Stmts) → Stmt
+    ForEach : (name : Name) (of : Ty) (element : Cast) (over : Expr) (body : Stmts) → Stmt
     Try : (body : Stmts) (catches : Catches) → Stmt
     Block : (body : Stmts) → Stmt
     Break Continue : Stmt

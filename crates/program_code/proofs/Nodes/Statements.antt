@@ -55,7 +55,7 @@ mutual
   next_grows n m (If c a b) less = nexts_grow n (next_stmts m a) b (nexts_grow n m a less)
   next_grows n m (While test update body) less = nexts_grow n m body less
   next_grows n m (DoWhile body test) less = nexts_grow n m body less
-  next_grows n m (ForEach at' x of over body) less = less
+  next_grows n m (ForEach x of element over body) less = less
   next_grows n m (Try body catches) less = less
   next_grows n m (Block body) less = nexts_grow n m body less
   next_grows n m Break less = less
