@@ -1,5 +1,5 @@
 // A task that notes when it had which turn.
-ghost use Rattle.task_core_tests.specs.Noting.{IsSameTask};
+ghost use Rattle.std.specs.Prelude.{◌≡◌};
 
 use std::cell::Cell;
 use task_core::{Task, Turn};
@@ -31,7 +31,8 @@ impl<'a> Noting<'a> {
 
     /// Notes a turn of so many instructions, at the next moment.
     fn note(&mut self, took: u64)
-        ensures { IsSameTask self.old self.new }
+        ensures place { self.new.place ≡ self.old.place }
+        ensures left { self.new.left ≡ self.old.left }
     {
         let moment = self.clock.get();
         self.clock.set(moment.wrapping_add(1));
