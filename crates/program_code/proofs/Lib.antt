@@ -4,3 +4,4 @@ pub mod Refines
 pub mod Nodes
 pub mod Simulates
 pub mod Correct
+pub mod Example

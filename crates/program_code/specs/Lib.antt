@@ -2,3 +2,4 @@ pub mod Lying
 pub mod Parts
 pub mod Stands
 pub mod Correct
+pub mod Example

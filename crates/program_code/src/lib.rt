@@ -3,4 +3,4 @@
 
 mod laws;
 
-pub use laws::compiler_laws;
+pub use laws::{compiler_laws, small_program};

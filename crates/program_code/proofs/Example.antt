@@ -1,0 +1,52 @@
+-- The small program's code stands.
+use Rattle.std.proofs.Common.{◌≡◌, ◌≢◌, ℕ, zero, suc, [], ◌∷◌, Some, refl, subst, arith}
+use Rattle.std.specs.Prelude.{slice_get}
+use Rattle.pl_types.specs.declared.ty.Ty as ty
+use Rattle.pl_code.specs.declared.code.Instruction.{Instruction}
+use Rattle.program_meaning.specs.Tree.{Fun}
+use Rattle.program_code.specs.Lying.{Bare, Absent}
+use Rattle.program_code.specs.Stands.{Entry, At, FunAt}
+use Rattle.program_code.specs.Example.{int, x, main, code, IsExample}
+
+abbrev here : {line : ℕ} {instruction : Instruction} → slice_get code.lines line ≡ Some instruction → At code [] line instruction
+here is = record { here = is; traps = refl }
+
+abbrev entry : Entry
+entry = record { name = x; of = int; local = 0 }
+
+bare_some : Bare ≢ Absent
+bare_some e = cc
+
+main_stands : FunAt (main ∷ []) (code ∷ []) 0 main
+unfolding ty.out-Ty denote.Hole.Carrier.out
+main_stands = record {
+  body = code;
+  is = refl;
+  params = refl;
+  present = tt;
+  result = refl;
+  stands = (
+    ((here refl, refl), refl),
+    bare_some,
+    record { is = omega arith },
+    here refl,
+    (
+      (
+        here refl,
+        (((entry, record { is = refl }, refl, refl, here refl, tt, tt, (here refl, refl), (here refl, tt), tt, (here refl, tt), here refl, refl, refl, refl), (here refl, tt)), tt),
+        tt,
+        ((((entry, record { is = refl }, refl, here refl), ((here refl, refl), tt)), (here refl, tt), ((refl, (refl, tt)), refl)), refl),
+        here refl,
+      ),
+      ((((((entry, record { is = refl }, refl, here refl), ((here refl, refl), tt)), (here refl, tt), ((refl, (refl, tt)), refl)), refl), here refl), tt),
+    ),
+  );
+  ends = tt;
+}
+
+only_main : (number : ℕ) (fun : Fun) → slice_get (main ∷ []) number ≡ Some fun → FunAt (main ∷ []) (code ∷ []) number fun
+only_main zero fun is = let same : main ≡ fun = cc in subst (λ fun. FunAt (main ∷ []) (code ∷ []) 0 fun) same main_stands
+only_main (suc number) fun is = cc
+
+pub stands : IsExample
+stands = record { each = only_main }
