@@ -64,6 +64,21 @@ fn cut_at(heap: &mut Heap, id: u32, at: i32) -> i32 {
     }
 }
 
+fn put(heap: &mut Heap, id: u32, key: Plain, value: i32) -> Result<i32, HeapErr> {
+    match made(heap.alloc(), key) {
+        Ok(key) => Ok(taken(heap.map_put(id, key, Value::Int(value))?)),
+        Err(_) => Err(HeapErr::NoMemory),
+    }
+}
+
+fn looked_up(heap: &mut Heap, id: u32, step: Step, key: &Value, at: i32) -> i32 {
+    match step {
+        Step::Cut => taken(heap.map_cut(id, key)),
+        Step::CutAt => cut_at(heap, id, at),
+        _ => number(heap.map_get(id, key)),
+    }
+}
+
 fn taken_step(
     heap: &mut Heap,
     id: u32,
@@ -71,14 +86,12 @@ fn taken_step(
     key: Plain,
     value: i32,
 ) -> Result<i32, HeapErr> {
-    let Ok(key) = made(heap.alloc(), key) else {
-        return Err(HeapErr::NoMemory);
-    };
-    match step {
-        Step::Put => Ok(taken(heap.map_put(id, key, Value::Int(value))?)),
-        Step::Get => Ok(number(heap.map_get(id, &key))),
-        Step::Cut => Ok(taken(heap.map_cut(id, &key))),
-        Step::CutAt => Ok(cut_at(heap, id, value)),
+    if let Step::Put = step {
+        return put(heap, id, key, value);
+    }
+    match made(heap.alloc(), key) {
+        Ok(key) => Ok(looked_up(heap, id, step, &key, value)),
+        Err(_) => Err(HeapErr::NoMemory),
     }
 }
 
