@@ -1,0 +1,4 @@
+pub mod Values
+pub mod Scopes
+pub mod Never
+pub mod Enough

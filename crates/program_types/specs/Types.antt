@@ -1,0 +1,144 @@
+-- Which values are of a type, and between which types operators and casts go.
+use Rattle.std.specs.Prelude.{◌≡◌, ℕ, ℤ, Bool, List, [], ◌∷◌, Option, Some, None}
+use Rattle.pl_types.specs.declared.primitive.Primitive.{Primitive}
+use Rattle.pl_types.specs.declared.primitive.Primitive.TheVariants as prim
+use Rattle.pl_types.specs.declared.ty.Ty.{Ty, out-Ty}
+use Rattle.pl_types.specs.declared.ty.Ty.TheVariants as t
+use Rattle.pl_types.specs.declared.ty.Ty.TheOpen.{Ty-F}
+use Rattle.pl_types.specs.declared.conversion.Cast.{Cast}
+use Rattle.pl_types.specs.declared.conversion.Cast.TheVariants as cast
+use Rattle.object_values.specs.declared.value.Value.{Value}
+use Rattle.object_values.specs.declared.value.Value.TheVariants as v
+use Rattle.arithmetic.specs.declared.operator.Op.{Op}
+use Rattle.arithmetic.specs.declared.operator.Op.TheVariants as op
+use Rattle.typed_tree.specs.declared.operation.Constant.{Constant}
+use Rattle.typed_tree.specs.declared.operation.Constant.TheVariants as constant
+use Rattle.typed_tree.specs.declared.operation.Operator.{Operator}
+use Rattle.typed_tree.specs.declared.operation.Operator.TheVariants as operator
+
+-- ---- values
+
+abbrev pub HasPrimitive : Primitive → Value → Type 0
+HasPrimitive prim.Boolean value = (flag : Bool) × (value ≡ v.Bool flag)
+HasPrimitive prim.Byte value = (number : ℤ) × (value ≡ v.Byte number)
+HasPrimitive prim.Short value = (number : ℤ) × (value ≡ v.Short number)
+HasPrimitive prim.Char value = (unit : ℕ) × (value ≡ v.Char unit)
+HasPrimitive prim.Int value = (number : ℤ) × (value ≡ v.Int number)
+HasPrimitive prim.Long value = (number : ℤ) × (value ≡ v.Long number)
+
+abbrev pub HasLayer : Ty-F Ty → Value → Type 0
+HasLayer (Ty-F.Prim p) value = HasPrimitive p value
+HasLayer other value = Unit {0}
+
+-- A value is of a type. Of references nothing is asked yet, since no built construct looks into them.
+abbrev pub Has : Ty → Value → Type 0
+Has of value = HasLayer (out-Ty of) value
+
+abbrev pub HaveAll : List Ty → List Value → Type 0
+HaveAll [] [] = Unit {0}
+HaveAll (of ∷ ofs) (value ∷ values) = Has of value × HaveAll ofs values
+HaveAll [] (value ∷ values) = ⊥
+HaveAll (of ∷ ofs) [] = ⊥
+
+abbrev pub is_reference_layer : Ty-F Ty → Type 0
+is_reference_layer Ty-F.Void = ⊥
+is_reference_layer (Ty-F.Prim p) = ⊥
+is_reference_layer other = Unit {0}
+
+-- neither void nor a primitive type
+abbrev pub IsReference : Ty → Type 0
+IsReference of = is_reference_layer (out-Ty of)
+
+abbrev pub has_values_layer : Ty-F Ty → Type 0
+has_values_layer Ty-F.Void = ⊥
+has_values_layer other = Unit {0}
+
+-- not void
+abbrev pub HasValues : Ty → Type 0
+HasValues of = has_values_layer (out-Ty of)
+
+abbrev pub IsOf : Constant → Ty → Type 0
+IsOf constant.Null of = IsReference of
+IsOf (constant.Boolean flag) of = of ≡ t.Prim prim.Boolean
+IsOf (constant.Byte number) of = of ≡ t.Prim prim.Byte
+IsOf (constant.Short number) of = of ≡ t.Prim prim.Short
+IsOf (constant.Char unit) of = of ≡ t.Prim prim.Char
+IsOf (constant.Int number) of = of ≡ t.Prim prim.Int
+IsOf (constant.Long number) of = of ≡ t.Prim prim.Long
+
+-- ---- operators
+
+abbrev pub Gives : Option Primitive → Ty → Type 0
+Gives None of = ⊥
+Gives (Some p) of = of ≡ t.Prim p
+
+-- what an operator gives of one operand of a number type
+abbrev pub of_one : Primitive → Op → Option Primitive
+of_one p op.Neg = Some p
+of_one p op.Not = Some p
+of_one p o = None
+
+-- and of two
+abbrev pub of_two : Primitive → Op → Option Primitive
+of_two p op.Neg = None
+of_two p op.Not = None
+of_two p op.Pos = None
+of_two p op.Lt = Some prim.Boolean
+of_two p op.Le = Some prim.Boolean
+of_two p op.Gt = Some prim.Boolean
+of_two p op.Ge = Some prim.Boolean
+of_two p op.Eq = Some prim.Boolean
+of_two p op.Ne = Some prim.Boolean
+of_two p o = Some p
+
+-- the right side of a shift is an int
+abbrev pub right_side : Primitive → Op → Primitive
+right_side p op.Shl = prim.Int
+right_side p op.Shr = prim.Int
+right_side p op.Ushr = prim.Int
+right_side p o = p
+
+abbrev pub of_one_flag : Op → Option Primitive
+of_one_flag op.Not = Some prim.Boolean
+of_one_flag o = None
+
+abbrev pub of_two_flags : Op → Option Primitive
+of_two_flags op.And = Some prim.Boolean
+of_two_flags op.Or = Some prim.Boolean
+of_two_flags op.Xor = Some prim.Boolean
+of_two_flags op.Eq = Some prim.Boolean
+of_two_flags op.Ne = Some prim.Boolean
+of_two_flags o = None
+
+abbrev pub TakesNumbers : Primitive → Op → List Ty → Ty → Type 0
+TakesNumbers p o (a ∷ []) of = (a ≡ t.Prim p) × Gives (of_one p o) of
+TakesNumbers p o (a ∷ b ∷ []) of = (a ≡ t.Prim p) × (b ≡ t.Prim (right_side p o)) × Gives (of_two p o) of
+TakesNumbers p o others of = ⊥
+
+abbrev pub TakesFlags : Op → List Ty → Ty → Type 0
+TakesFlags o (a ∷ []) of = (a ≡ t.Prim prim.Boolean) × Gives (of_one_flag o) of
+TakesFlags o (a ∷ b ∷ []) of = (a ≡ t.Prim prim.Boolean) × (b ≡ t.Prim prim.Boolean) × Gives (of_two_flags o) of
+TakesFlags o others of = ⊥
+
+-- an operator takes operands of these types and gives a value of that one
+abbrev pub Takes : Operator → List Ty → Ty → Type 0
+Takes (operator.Int o) ofs of = TakesNumbers prim.Int o ofs of
+Takes (operator.Long o) ofs of = TakesNumbers prim.Long o ofs of
+Takes (operator.Boolean o) ofs of = TakesFlags o ofs of
+Takes other ofs of = ⊥
+
+-- ---- casts
+
+-- numbers go to numbers, and a boolean stays one
+abbrev pub Converts : Primitive → Primitive → Type 0
+Converts prim.Boolean prim.Boolean = Unit {0}
+Converts prim.Boolean to = ⊥
+Converts from prim.Boolean = ⊥
+Converts from to = Unit {0}
+
+-- a cast goes from this type to that one
+abbrev pub Casts : Cast → Ty → Ty → Type 0
+Casts cast.Keep from to = from ≡ to
+Casts (cast.Number p q) from to = (from ≡ t.Prim p) × (to ≡ t.Prim q) × Converts p q
+Casts (cast.Wrap p q) from to = (from ≡ t.Prim p) × IsReference to × Converts p q
+Casts other from to = ⊥
