@@ -1,5 +1,5 @@
 -- The bound of a whole program.
-use Rattle.std.proofs.Common.{◌≡◌, ℕ, zero, suc, ◌+◌, ◌*◌, ◌≤◌, false, List, [], ◌∷◌, Some, None, refl, subst, arith}
+use Rattle.std.proofs.Common.{◌≡◌, ℕ, zero, suc, ◌+◌, ◌*◌, ◌≤◌, false, List, [], ◌∷◌, Some, subst, arith}
 use Rattle.std.specs.Prelude.{slice_get}
 use Rattle.std.proofs.Math.Nat.{mul-le-mul_left, mul-le-mul_right}
 use Rattle.pl_types.specs.declared.ty.Ty.{Ty}
@@ -10,7 +10,7 @@ use Rattle.program_meaning.specs.Tree.{Fun, Program}
 use Rattle.program_meaning.specs.Meaning.{Env, Out, Done, Thrown, Over, More, Flow, Normal, Broke, Continued, Returned, entry, meaning}
 use Rattle.program_types.specs.Types.{HaveAll}
 use Rattle.program_types.specs.Agreeing.{Scope, types_in, scope_of, WellFormed}
-use Rattle.program_types.specs.Enough.{stmts_size, size_of, enough, FlowOut, IsEnough}
+use Rattle.program_types.specs.Enough.{stmts_size, size_of, enough, IsEnough}
 use Rattle.program_types.proofs.Scopes.{enters}
 use Rattle.program_types.proofs.Never.{Fine, FlowHas, all_good}
 

@@ -1,10 +1,9 @@
 -- At a bound that is enough, a well-formed program never comes to More: each turn and each call is paid by a tick, and a tick is worth
 -- more than any function is large.
-use Rattle.std.proofs.Common.{◌≡◌, ℕ, zero, suc, ◌+◌, ◌*◌, ◌≤◌, Bool, true, false, List, [], ◌∷◌, map, length, Option, Some, None, refl, sym, ap, ◌∙◌, subst, arith}
+use Rattle.std.proofs.Common.{◌≡◌, ℕ, zero, suc, ◌+◌, ◌≤◌, Bool, true, false, List, [], ◌∷◌, Option, Some, refl, sym, subst, arith}
 use Rattle.std.specs.Prelude.{◌-◌, slice_get, nat_lt, if◌then◌else◌}
 use Rattle.std.proofs.lemmas.Bool.{ltb-true}
-use Rattle.pl_types.specs.declared.ty.Ty.{Ty, out-Ty}
-use Rattle.pl_types.specs.declared.ty.Ty.TheVariants as t
+use Rattle.pl_types.specs.declared.ty.Ty.{Ty}
 use Rattle.object_values.specs.declared.value.Value.{Value}
 use Rattle.object_values.specs.declared.value.Value.TheVariants as v
 use Rattle.object_heap.specs.Effects.{Effect, Gives as Gives_value, Throws, NoRoom}
@@ -17,12 +16,12 @@ use Rattle.typed_tree.specs.declared.operation.Target.TheVariants as target
 use Rattle.typed_tree.specs.declared.operation.Change.{Change}
 use Rattle.typed_tree.specs.declared.operation.Gives.{Gives}
 use Rattle.typed_tree.specs.declared.operation.Gives.TheVariants as gives
-use Rattle.run_world.specs.World.{World, Limits, Limit, Loop, Depth, Ticks, Outcome, Given, Raised, Full, acts_in, Counted, Counts, Passes, pay_tick, take_turn, goes_deeper, enter}
+use Rattle.run_world.specs.World.{World, Limits, Loop, Depth, Ticks, acts_in, Counted, Counts, Passes, pay_tick, take_turn, goes_deeper, enter}
 use Rattle.program_meaning.specs.Tree.{Name, Expr, Literal, Quoted, Local, Apply, Guarded, Logic, Conditional, Elvis, Assign, Modify, Lambda, Reference, NewReference, Exprs, None', One, Maybe, Missing, Given as Present, Stmt, Do, If, While, DoWhile, ForEach, Try, Block, Break, Continue, Return, Throw, Stmts, Finish, Then, Declare, Variable, Fun, Program, type_of}
-use Rattle.program_meaning.specs.Operating.{Operated, Meaningless, Gives as Gives_it, Acts, static_cast, operates, value_of}
-use Rattle.program_meaning.specs.Meaning.{State, Env, Place, Out, Done, Thrown, Over, More, Flow, Normal, Broke, Continued, Returned, bind, leave, found, effect, operated, choose, given_by, goes_next, goes_again, returned, back, default_of, lookup, assigned, older, entry, Meaning, entered, called, applied, logic, modified, expr_of, exprs_of, value_if, turned, done_turn, stmt_of, value_or, stmts_of, layer, meaning}
-use Rattle.program_types.specs.Types.{Has, HaveAll, HasValues, IsReference, Takes, Casts}
-use Rattle.program_types.specs.Agreeing.{Scope, IsVariable, boolean, types_of, types_in, Calls, Applies, Changes, ExprAgrees, ExprsAgree, TestAgrees, UpdateAgrees, BeginAgrees, ReturnAgrees, StmtAgrees, StmtsAgree, scope_of, FunAgrees, WellFormed}
+use Rattle.program_meaning.specs.Operating.{Operated, Meaningless, Gives as Gives_it, Acts}
+use Rattle.program_meaning.specs.Meaning.{State, Env, Place, Out, Done, Thrown, Over, More, Flow, Normal, Broke, Continued, Returned, bind, leave, found, effect, operated, choose, given_by, goes_next, goes_again, back, Meaning, entered, called, applied, logic, modified, expr_of, exprs_of, value_if, turned, done_turn, stmt_of, value_or, stmts_of, layer, meaning}
+use Rattle.program_types.specs.Types.{Has, HaveAll}
+use Rattle.program_types.specs.Agreeing.{Scope, IsVariable, boolean, types_of, Calls, Applies, Changes, ExprAgrees, ExprsAgree, TestAgrees, UpdateAgrees, BeginAgrees, ReturnAgrees, StmtAgrees, StmtsAgree, scope_of, FunAgrees, WellFormed}
 use Rattle.program_types.specs.Enough.{expr_size, exprs_size, maybe_size, stmt_size, stmts_size}
 use Rattle.program_types.proofs.Values.{EffectHas, OperatedHas, has_flag, nothing_has, is_flag, constant_has, default_has, takes_fit, casts_fit}
 use Rattle.program_types.proofs.Scopes.{Bound, reads, writes, leaves, enters}

@@ -1,11 +1,11 @@
 -- Environments agree with the names in sight.
-use Rattle.std.proofs.Common.{◌≡◌, ℕ, Bool, true, false, List, [], ◌∷◌, Option, Some, None, refl, sym, ap, ◌∙◌, subst}
+use Rattle.std.proofs.Common.{◌≡◌, Bool, true, false, List, [], ◌∷◌, Option, Some, refl, sym, ap, subst}
 use Rattle.std.specs.Prelude.{if◌then◌else◌}
 use Rattle.std.specs.Str.{bytes_eq}
 use Rattle.pl_types.specs.declared.ty.Ty.{Ty}
 use Rattle.object_values.specs.declared.value.Value.{Value}
 use Rattle.program_meaning.specs.Tree.{Name, Variable}
-use Rattle.program_meaning.specs.Meaning.{Env, Binding, lookup, assigned, older, entry}
+use Rattle.program_meaning.specs.Meaning.{Env, lookup, assigned, older, entry}
 use Rattle.program_types.specs.Types.{Has, HaveAll}
 use Rattle.program_types.specs.Agreeing.{Scope, variable_of, types_in, scope_of}
 

@@ -1,7 +1,7 @@
 -- Operators, casts and constants give values of the types that they should.
-use Rattle.std.proofs.Common.{◌≡◌, ℕ, suc, Bool, true, false, not, List, [], ◌∷◌, ◌++◌, length, Option, Some, None, refl, sym, ap, ◌∙◌, subst}
-use Rattle.std.specs.Prelude.{ℤ, pos, codes, int_lt, int_le, slice_get, if◌then◌else◌}
-use Rattle.std.specs.Int.{w8, w16, w32, w64}
+use Rattle.std.proofs.Common.{◌≡◌, ℕ, Bool, true, false, not, List, [], ◌∷◌, ◌++◌, length, Option, Some, None, refl, sym, ap, ◌∙◌, subst}
+use Rattle.std.specs.Prelude.{ℤ, pos, codes, int_lt, int_le}
+use Rattle.std.specs.Int.{w32, w64}
 use Rattle.std.specs.Ordering.{int_eq}
 use Rattle.pl_types.specs.declared.primitive.Primitive.{Primitive}
 use Rattle.pl_types.specs.declared.primitive.Primitive.TheVariants as prim
@@ -19,17 +19,16 @@ use Rattle.pl_types.specs.declared.classes.TheConstants.{ARITHMETIC_EXCEPTION}
 use Rattle.pl_units.specs.Utf16.{units}
 use Rattle.arithmetic.specs.declared.operator.Op.{Op}
 use Rattle.arithmetic.specs.declared.operator.Op.TheVariants as op
-use Rattle.arithmetic.specs.declared.operator.Num.{Num}
 use Rattle.arithmetic.specs.declared.operator.Num.TheVariants as n
 use Rattle.arithmetic.specs.Arithmetic.{quotient_of, remainder_of}
-use Rattle.arithmetic.specs.Operators.{truth, some_of, of_type}
+use Rattle.arithmetic.specs.Operators.{truth, some_of}
 use Rattle.number_ops.specs.Outcomes.{effect, zero_divisor, says}
-use Rattle.number_ops.specs.Operators.{truth_in, and_flags, or_flags, xor_flags}
+use Rattle.number_ops.specs.Operators.{truth_in}
 use Rattle.typed_tree.specs.declared.operation.Constant.{Constant}
 use Rattle.typed_tree.specs.declared.operation.Constant.TheVariants as constant
 use Rattle.typed_tree.specs.declared.operation.Operator.{Operator}
 use Rattle.typed_tree.specs.declared.operation.Operator.TheVariants as operator
-use Rattle.program_meaning.specs.Operating.{Operated, Meaningless, Gives as Gives_it, Acts, value_of, of_ints, of_longs, of_flags, OneInt, TwoInts, OneLong, TwoLongs, LongAndInt, OneFlag, TwoFlags, number_given, number_operated, flag_operated, operates, number_cast, in_box, box_if, static_cast}
+use Rattle.program_meaning.specs.Operating.{Operated, Meaningless, Gives as Gives_it, Acts, value_of, of_ints, of_longs, of_flags, OneInt, TwoInts, OneLong, OneFlag, TwoFlags, number_given, number_operated, flag_operated, operates, number_cast, in_box, box_if, static_cast}
 use Rattle.program_meaning.specs.Meaning.{default_of, default_of_layer}
 use Rattle.program_types.specs.Types.{HasPrimitive, HasLayer, Has, HaveAll, is_reference_layer, IsReference, IsOf, Gives, of_one, of_two, right_side, of_one_flag, of_two_flags, TakesNumbers, TakesFlags, Takes, Converts, Casts}
 

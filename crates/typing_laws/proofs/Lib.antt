@@ -1,0 +1,11 @@
+pub mod Nodes
+pub mod Casts
+pub mod Plans
+pub mod Parts
+pub mod Names
+pub mod Sentences
+pub mod Values
+pub mod Steps
+pub mod Compounds
+pub mod Tree
+pub mod Functions

@@ -1,0 +1,187 @@
+-- Statements that rules give agree, where their parts do: what follows one is in the scope of what it declares.
+use Rattle.std.proofs.Common.{◌≡◌, ◌≢◌, ℕ, suc, ◌+◌, Bool, true, false, List, [], ◌∷◌, ◌++◌, map, length, Option, Some, None, Ok, refl, sym, ap, ◌∙◌, subst, append-nil, append_assoc, arith, cond, nat_lt, ◌≤◌}
+use Rattle.std.specs.Prelude.{not, if◌then◌else◌}
+use Rattle.std.specs.List.{position_or_len}
+use Rattle.std.proofs.lemmas.Bool.{false≢true, ltb-false}
+use Rattle.std.specs.Str.{bytes_eq}
+use Rattle.std.proofs.Math.Seq.{take-append_seam}
+use Rattle.std.proofs.lemmas.Slice.Eq.{bytes_eq-Decides}
+use Rattle.pl_types.specs.declared.ty.Ty.{Ty, out-Ty, roll-Ty, roll-out-Ty}
+use Rattle.pl_types.specs.declared.ty.Ty.TheVariants as t
+use Rattle.pl_types.specs.declared.ty.Ty.TheOpen.{Ty-F}
+use Rattle.typed_tree.specs.declared.statement.StatementNode.TheVariants as node
+use Rattle.typed_tree.specs.declared.statement.TypedStatement.{TypedStatement}
+use Rattle.typing_rules.specs.declared.part.Part.{Part}
+use Rattle.typing_rules.specs.declared.part.Step.{Step}
+use Rattle.typing_rules.specs.declared.scopes.Entry.{Entry}
+use Rattle.typing_rules.specs.declared.state.State.{State}
+use Rattle.typing_rules.specs.Scopes.{find}
+use Rattle.typing_rules.specs.State.{closed, variable as new_entry, noted_if, noted}
+use Rattle.typing_rules.specs.Outcomes.{refuse}
+use Rattle.typing_rules.specs.Doing.{Whole, Answer, Doing}
+use Rattle.typing_rules.specs.Rules.Nodes.{is_void, is_void_layer}
+use Rattle.typing_rules.specs.Rules.Casts.{cast_to}
+use Rattle.typing_rules.specs.Rules.Statements.{step, is_deed, deed, give_back, is_result, expression_of, break_of, continue_of, return_of, nothing_returned}
+use Rattle.program_meaning.specs.Tree.{Name, Stmt, Do, Break, Continue, Return, Stmts, Then, Missing, Given, Program}
+use Rattle.program_meaning.specs.Programs.{Before, expr_of, alone, before}
+use Rattle.program_types.specs.Agreeing.{Scope, StmtAgrees, StmtsAgree, scope_of}
+use Rattle.typing_laws.proofs.Parts.{passed, accepted, settled, cast_is}
+use Rattle.typing_laws.proofs.Names.{seen, in_sight, Fresh, Distinct}
+use Rattle.typing_laws.proofs.Sentences as sentence
+use Rattle.typing_laws.proofs.Sentences.{before_if}
+use Rattle.typing_laws.proofs.Values.{Value, PartAt}
+
+-- ---- names that are declared
+
+pub sight_grows : (es : List Entry) (e : Entry) (g : Scope) → scope_of (map seen (es ++ e ∷ [])) g ≡ seen e ∷ scope_of (map seen es) g
+sight_grows [] e g = refl
+sight_grows (e' ∷ es) e g = sight_grows es e (seen e' ∷ g)
+
+-- the name of an entry
+named : Name → Entry → Bool
+named x e = bytes_eq e.name x
+
+abbrev place : Bool → Name → List Entry → ℕ
+place first x es = cond (not first) (1 + position_or_len (λ (e : Entry). bytes_eq e.name x) es) 0
+
+other : (x y : Name) → bytes_eq y x ≡ false → y ≢ x
+other x y differ same = absurd (false≢true (sym differ ∙ (bytes_eq-Decides y x).1 same))
+
+none_named : (x : Name) (es : List Entry) → length es ≤ position_or_len (λ (e : Entry). bytes_eq e.name x) es → Fresh x es
+none_named x [] h = tt
+none_named x (e ∷ es) h = pick (none_named x es) (bytes_eq e.name x) refl h
+  where
+    pick : (length es ≤ position_or_len (λ (e : Entry). bytes_eq e.name x) es → Fresh x es) → (c : Bool) → bytes_eq e.name x ≡ c → suc (length es) ≤ place c x es → Fresh x (e ∷ es)
+    pick rest true is h = absurd (omega (arith, h))
+    pick rest false is h = (other x e.name is, rest (omega (arith, h)))
+
+pub not_found : (x : Name) (es : List Entry) → find x es ≡ None → Fresh x es
+not_found x es is = pick (nat_lt (position_or_len (λ (e : Entry). bytes_eq e.name x) es) (length es)) refl is
+  where
+    pick : (c : Bool) → nat_lt (position_or_len (λ (e : Entry). bytes_eq e.name x) es) (length es) ≡ c → cond c (Some (position_or_len (λ (e : Entry). bytes_eq e.name x) es)) None ≡ None → Fresh x es
+    pick true less is = cc
+    pick false less is = none_named x es (omega (arith, ltb-false _ _ less))
+
+fresh_behind : (x : Name) (es : List Entry) (e : Entry) → Fresh x es → e.name ≢ x → Fresh x (es ++ e ∷ [])
+fresh_behind x [] e h other = (other, tt)
+fresh_behind x (e' ∷ es) e h other = (h.0, fresh_behind x es e h.1 other)
+
+-- a name that is not in sight stands behind the others
+pub distinct_behind : (es : List Entry) (e : Entry) → Distinct es → Fresh e.name es → Distinct (es ++ e ∷ [])
+distinct_behind [] e d f = (tt, tt)
+distinct_behind (e' ∷ es) e d f = (fresh_behind e'.name es e d.0 (λ same. f.0 (sym same)), distinct_behind es e d.1 f.1)
+
+noted_by : (found : Option ℕ) (name : Name) (of : Ty) (s : State) → find name s.scopes ≡ found → Distinct s.scopes → Distinct (noted_if found name of s).scopes
+noted_by None name of s is d = distinct_behind s.scopes (new_entry name of) d (not_found name s.scopes is)
+noted_by (Some i) name of s is d = d
+
+pub noted_distinct : (name : Name) (of : Ty) (s : State) → Distinct s.scopes → Distinct (noted name of s).scopes
+noted_distinct name of s d = noted_by (find name s.scopes) name of s refl d
+
+-- ---- what is known behind a statement
+
+-- more names are in sight, and nothing else has changed
+pub record Grew (s t : State) : Type 0 where
+  pub more : List Entry
+  pub is : t ≡ record s { scopes = s.scopes ++ more }
+  pub distinct : Distinct t.scopes
+
+pub stays : (s : State) → Distinct s.scopes → Grew s s
+stays s d = record { more = []; is = ap (λ es. record s { scopes = es }) (sym (append-nil s.scopes)); distinct = d }
+
+pub grew_on : (s t u : State) → Grew s t → Grew t u → Grew s u
+grew_on s t u x y = record {
+  more = x.more ++ y.more;
+  is = y.is ∙ (ap (λ (t : State). record t { scopes = t.scopes ++ y.more }) x.is ∙ ap (λ es. record s { scopes = es }) (append_assoc s.scopes x.more y.more));
+  distinct = y.distinct;
+}
+
+-- where a scope ends, what is known is as before it
+pub closes : (s t : State) → Grew s t → closed (length s.scopes) t ≡ s
+closes s t x = ap (closed (length s.scopes)) x.is ∙ ap (λ es. record s { scopes = es }) (take-append_seam s.scopes x.more)
+
+module _ (funs : Program) where
+  -- what stands in the scope behind a statement agrees before it, with the statement
+  abbrev pub Leads : State → State → Before → Type 0
+  Leads s t b = (rest : Stmts) → StmtsAgree funs s.result s.looped (in_sight t.scopes) rest → StmtsAgree funs s.result s.looped (in_sight s.scopes) (b rest)
+
+  pub record GotStep {A : Type 0} (b : A → Before) (s : State) (next : A → State → Answer) (r : Whole) : Type 0 where
+    pub given : A
+    pub state : State
+    pub grew : Grew s state
+    pub leads : Leads s state (b given)
+    pub goes : next given state ≡ Ok r
+
+  abbrev pub of_step : Step → Before
+  of_step x = before x.statement
+
+  -- a statement, or several
+  pub record Steps {A : Type 0} (b : A → Before) (m : Doing A) : Type 0 where
+    pub by : (s : State) (next : A → State → Answer) (r : Whole) → Distinct s.scopes → m s next ≡ Ok r → GotStep b s next r
+
+  -- a statement in a scope of its own
+  abbrev pub AloneIs : State → Step → Type 0
+  AloneIs s x = StmtsAgree funs s.result s.looped (in_sight s.scopes) (alone (before x.statement))
+
+  abbrev pub Bodies : Doing Step → Type 0
+  Bodies m = Value AloneIs m
+
+  -- ---- one statement
+
+  pub stmt_leads : (s : State) (x : TypedStatement) (stmt : Stmt) → ((rest : Stmts) → before x rest ≡ Then stmt rest) → StmtAgrees funs s.result s.looped (in_sight s.scopes) stmt → Leads s s (before x)
+  stmt_leads s x stmt is a rest h = subst (StmtsAgree funs s.result s.looped (in_sight s.scopes)) (sym (is rest)) (a, h)
+
+  abbrev pub StepAt : State → Step → Type 0
+  StepAt s x = Leads s s (of_step x)
+
+  -- a statement that declares nothing
+  pub steps_of : {m : Doing Step} → Value StepAt m → Steps of_step m
+  steps_of v = record { by = λ s next r d e. let x = v.by s next r d e in record { given = x.given; state = s; grew = stays s d; leads = x.has; goes = x.goes } }
+
+  deed_if : (c : Bool) (s : State) (number at : ℕ) (x y : Step) → (if c then accepted x else refuse number at) ≡ accepted y → StepAt s x → StepAt s y
+  deed_if true s number at x y e h = settled (StepAt s) x y e h
+  deed_if false s number at x y e h = cc
+
+  pub deed_is : (s : State) (at : ℕ) (x : Part) (y : Step) → deed at x ≡ Ok y → PartAt funs s x → StepAt s y
+  deed_is s at x y e h = deed_if (is_deed x.form) s _ at _ y e (stmt_leads s _ (Do (expr_of x.typed)) (sentence.expression_is at x.typed) h.typed.agrees)
+
+  gives_back : (s : State) (at : ℕ) (x : Part) (y : Step) → give_back at s.result x ≡ Ok y → PartAt funs s x → StepAt s y
+  gives_back s at x y e h =
+      let a = passed (cast_to s.result x) _ y e in
+      let value = cast_is funs (in_sight s.scopes) s.result x a.given a.first h in
+      settled (StepAt s) _ y a.then' (stmt_leads s _ (Return (Given (expr_of a.given))) (sentence.return_is at (Some a.given)) (value.agrees, value.is))
+
+  expression_if : (c : Bool) (s : State) (at : ℕ) (x : Part) (y : Step) → (if c then give_back at s.result x else deed at x) ≡ Ok y → PartAt funs s x → StepAt s y
+  expression_if true s at x y e h = gives_back s at x y e h
+  expression_if false s at x y e h = deed_is s at x y e h
+
+  pub expression_step : (s : State) (at : ℕ) (last : Bool) (x : Part) (y : Step) → expression_of at last x s ≡ Ok y → PartAt funs s x → StepAt s y
+  expression_step s at last x y e h = expression_if (is_result last x s) s at x y e h
+
+  pub return_step : (s : State) (at : ℕ) (x : Part) (y : Step) → return_of at x s ≡ Ok y → PartAt funs s x → StepAt s y
+  return_step s at x y e h = gives_back s at x y e h
+
+  void_is : (of : Ty) (l : Ty-F Ty) → out-Ty of ≡ l → is_void_layer l ≡ true → of ≡ t.Void
+  void_is of Ty-F.Void is e = sym (roll-out-Ty of) ∙ (ap roll-Ty is ∙ t.rolls-Void)
+  void_is of Ty-F.Null is e = cc
+  void_is of Ty-F.Def is e = cc
+  void_is of (Ty-F.Prim p) is e = cc
+  void_is of (Ty-F.Class c) is e = cc
+  void_is of (Ty-F.Array u) is e = cc
+
+  nothing_if : (c : Bool) (s : State) (number at : ℕ) (y : Step) → (c ≡ true → s.result ≡ t.Void) → (if c then accepted (step true false at (node.Return None)) else refuse number at) ≡ accepted y → StepAt s y
+  nothing_if true s number at y void e = settled (StepAt s) _ y e (stmt_leads s _ (Return Missing) (sentence.return_is at None) (void refl))
+  nothing_if false s number at y void e = cc
+
+  pub nothing_step : (s : State) (at : ℕ) (y : Step) → nothing_returned at s ≡ Ok y → StepAt s y
+  nothing_step s at y e = nothing_if (is_void s.result) s _ at y (void_is s.result (out-Ty s.result) refl) e
+
+  break_if : (c : Bool) (s : State) (number at : ℕ) (x y : Step) → (c ≡ true → StepAt s x) → (if c then accepted x else refuse number at) ≡ accepted y → StepAt s y
+  break_if true s number at x y h e = settled (StepAt s) x y e (h refl)
+  break_if false s number at x y h e = cc
+
+  pub break_step : (s : State) (at : ℕ) (y : Step) → break_of at s ≡ Ok y → StepAt s y
+  break_step s at y e = break_if s.looped s _ at _ y (λ looped. stmt_leads s _ Break (sentence.break_is at) looped) e
+
+  pub continue_step : (s : State) (at : ℕ) (y : Step) → continue_of at s ≡ Ok y → StepAt s y
+  continue_step s at y e = break_if s.looped s _ at _ y (λ looped. stmt_leads s _ Continue (sentence.continue_is at) looped) e

@@ -1,0 +1,31 @@
+-- What typing gives is well formed.
+use Rattle.std.specs.Prelude.{◌≡◌, ◌≢◌, ℕ, List, [], ◌∷◌, Ok}
+use Rattle.pl_tree.specs.declared.tree.Tree.{Tree}
+use Rattle.typed_tree.specs.declared.program.Named.{Named}
+use Rattle.typed_tree.specs.declared.program.Program.{Program}
+use Rattle.typing_rules.specs.declared.header.ContextTypes.{ContextTypes}
+use Rattle.typing_rules.specs.Typing.{typing_of}
+use Rattle.program_meaning.specs.Programs.{program_of}
+use Rattle.program_types.specs.Types.{HasValues}
+use Rattle.program_types.specs.Agreeing.{WellFormed}
+
+-- the names are distinct
+abbrev pub IsNew : List ℕ → List Named → Type 0
+IsNew name [] = Unit {0}
+IsNew name (x ∷ xs) = (name ≢ x.name) × IsNew name xs
+
+abbrev pub AreDistinct : List Named → Type 0
+AreDistinct [] = Unit {0}
+AreDistinct (x ∷ xs) = IsNew x.name xs × AreDistinct xs
+
+abbrev pub HaveValues : List Named → Type 0
+HaveValues [] = Unit {0}
+HaveValues (x ∷ xs) = HasValues x.of × HaveValues xs
+
+-- a context's variables have distinct names, and none is of type void
+pub record IsContext (context : ContextTypes) : Type 0 where
+  pub distinct : AreDistinct context.variables
+  pub present : HaveValues context.variables
+
+abbrev pub TypingIsSound : Type 0
+TypingIsSound = (context : ContextTypes) (tree : Tree) (p : Program) → IsContext context → typing_of context tree ≡ Ok p → WellFormed (program_of p)

@@ -1,0 +1,6 @@
+//! What holds of every program that typing gives.
+#![tactic(auto)]
+
+mod laws;
+
+pub use laws::typed_programs_are_well_formed;
