@@ -2,7 +2,7 @@
 use Rattle.std.proofs.Common.{◌≡◌, ℕ, zero, suc, ◌+◌, List, Option, refl, sym, ap, ◌∙◌, arith}
 use Rattle.pl_code.specs.declared.code.FunCode.{FunCode}
 use Rattle.run_world.specs.World.{Limits, End}
-use Rattle.code_meaning.specs.Words.{Word}
+use Rattle.code_meaning.specs.declared.word.Word.{Word}
 use Rattle.code_meaning.specs.Machine.{Next, Goes, Ends, Stuck, step, after}
 
 zero_add : (n : ℕ) → 0 + n ≡ n

@@ -2,7 +2,7 @@
 use Rattle.std.specs.Prelude.{◌≡◌, ℕ, ◌+◌, List}
 use Rattle.pl_code.specs.declared.code.FunCode.{FunCode}
 use Rattle.run_world.specs.World.{Limits, End}
-use Rattle.code_meaning.specs.Words.{Word}
+use Rattle.code_meaning.specs.declared.word.Word.{Word}
 use Rattle.code_meaning.specs.Machine.{Next, Ends, after}
 use Rattle.std.specs.Prelude.{Option}
 

@@ -10,6 +10,7 @@ use Rattle.object_values.specs.declared.value.Value.TheVariants as v
 use Rattle.object_values.specs.declared.object.Object.{Object}
 use Rattle.object_values.specs.declared.object.Object.TheVariants as o
 use Rattle.object_values.specs.declared.object.Owner.{Owner}
+use Rattle.object_values.specs.declared.object.Owner.TheVariants.{Script}
 use Rattle.arithmetic.specs.Arithmetic.{wrapped, low_bits}
 use Rattle.number_ops.specs.Outcomes.{effect, zero_divisor}
 use Rattle.number_ops.specs.Casts.{cast_at_run_time}
@@ -25,7 +26,9 @@ use Rattle.pl_code.specs.declared.code.FunCode.{FunCode}
 use Rattle.pl_code.specs.declared.code.Instruction.{Instruction}
 use Rattle.pl_code.specs.declared.code.Instruction.TheVariants as i
 use Rattle.run_world.specs.World.{World, Limits, Room, End, Result, Uncaught, Limited, Outcome, Given, Raised, Full, acts_in, Counted, Counts, Passes, take_turn, enter}
-use Rattle.code_meaning.specs.Words.{Word, I, J, R, start_of, word_of, Calculation, NoRow, Calculates, calculation, boxed, unboxed}
+use Rattle.code_meaning.specs.declared.word.Word.{Word}
+use Rattle.code_meaning.specs.declared.word.Word.TheVariants.{I, J, R}
+use Rattle.code_meaning.specs.Words.{start_of, word_of, Calculation, NoRow, Calculates, calculation, boxed, unboxed}
 
 pub record Frame : Type 0 where
   -- the script's code, or the prelude's
@@ -48,6 +51,17 @@ pub data Next : Type 0 where
   Goes : (c : Config) → Next
   Ends : (r : End (Option Word)) → Next
   Stuck : Next
+
+-- ---- where a run begins
+
+abbrev pub start_at : Option FunCode → List Word → World → Next
+start_at None words w = Stuck
+start_at (Some f) words w =
+    Goes (record { top = record { text = Script; fun = 0; line = 0; locals = words ++ map start_of f.locals; stack = []; turns = 0; due = [] }; below = []; world = w })
+
+-- the first configuration of code
+abbrev pub start : List FunCode → List Word → World → Next
+start code words w = start_at (slice_get code 0) words w
 
 -- ---- what is thrown
 

@@ -1,5 +1,5 @@
 -- What lies on the operand stack and in locals: an I holds a boolean, byte, short, char or int, a J a long, and an R every other value.
-use Rattle.std.specs.Prelude.{Bool, true, false, not, Option, Some, None, List, ◌∷◌, pos, ℤ}
+use Rattle.std.specs.Prelude.{Bool, true, false, not, Option, Some, None, List, ◌∷◌, pos, ℤ, if◌then◌else◌}
 use Rattle.std.specs.Int.{w8, w16, w32, w64}
 use Rattle.std.specs.Ordering.{int_eq}
 use Rattle.pl_types.specs.declared.primitive.Primitive.{Primitive}
@@ -18,11 +18,8 @@ use Rattle.pl_code.specs.declared.kinds.Width.{Width}
 use Rattle.pl_code.specs.declared.kinds.Width.TheVariants as width
 use Rattle.pl_code.specs.declared.kinds.Slot.{Slot}
 use Rattle.pl_code.specs.declared.kinds.Slot.TheVariants as slot
-
-pub data Word : Type 0 where
-  I : (number : ℤ) → Word
-  J : (number : ℤ) → Word
-  R : (value : Value) → Word
+use Rattle.code_meaning.specs.declared.word.Word.{Word}
+use Rattle.code_meaning.specs.declared.word.Word.TheVariants.{I, J, R}
 
 -- what locals begin with
 abbrev pub start_of : Slot → Word
@@ -61,24 +58,43 @@ pub data Calculation : Type 0 where
   NoRow : Calculation
   Calculates : (given : Option Num) (stack : List Word) → Calculation
 
+abbrev pub takes_one : ArithmeticOp → Bool
+takes_one code.Neg = true
+takes_one code.Not = true
+takes_one o = false
+
+abbrev pub is_shift : ArithmeticOp → Bool
+is_shift code.Shl = true
+is_shift code.Shr = true
+is_shift code.Ushr = true
+is_shift o = false
+
+abbrev pub one_int : Op → List Word → Calculation
+one_int o (I a ∷ stack) = Calculates (of_type n.Int w32 o a a) stack
+one_int o stack = NoRow
+
+abbrev pub two_ints : Op → List Word → Calculation
+two_ints o (I b ∷ I a ∷ stack) = Calculates (of_type n.Int w32 o a b) stack
+two_ints o stack = NoRow
+
 abbrev pub ints_of : ArithmeticOp → List Word → Calculation
-ints_of code.Neg (I a ∷ stack) = Calculates (of_type n.Int w32 op.Neg a a) stack
-ints_of code.Not (I a ∷ stack) = Calculates (of_type n.Int w32 op.Not a a) stack
-ints_of o (I b ∷ I a ∷ stack) = Calculates (of_type n.Int w32 (op_of o) a b) stack
-ints_of o stack = NoRow
+ints_of o stack = if takes_one o then one_int (op_of o) stack else two_ints (op_of o) stack
+
+abbrev pub one_long : Op → List Word → Calculation
+one_long o (J a ∷ stack) = Calculates (of_type n.Long w64 o a a) stack
+one_long o stack = NoRow
 
 -- the right operand of a shift is an int
+abbrev pub long_and_int : Op → List Word → Calculation
+long_and_int o (I b ∷ J a ∷ stack) = Calculates (of_type n.Long w64 o a b) stack
+long_and_int o stack = NoRow
+
+abbrev pub two_longs : Op → List Word → Calculation
+two_longs o (J b ∷ J a ∷ stack) = Calculates (of_type n.Long w64 o a b) stack
+two_longs o stack = NoRow
+
 abbrev pub longs_of : ArithmeticOp → List Word → Calculation
-longs_of code.Neg (J a ∷ stack) = Calculates (of_type n.Long w64 op.Neg a a) stack
-longs_of code.Not (J a ∷ stack) = Calculates (of_type n.Long w64 op.Not a a) stack
-longs_of code.Shl (I b ∷ J a ∷ stack) = Calculates (of_type n.Long w64 op.Shl a b) stack
-longs_of code.Shr (I b ∷ J a ∷ stack) = Calculates (of_type n.Long w64 op.Shr a b) stack
-longs_of code.Ushr (I b ∷ J a ∷ stack) = Calculates (of_type n.Long w64 op.Ushr a b) stack
-longs_of code.Shl stack = NoRow
-longs_of code.Shr stack = NoRow
-longs_of code.Ushr stack = NoRow
-longs_of o (J b ∷ J a ∷ stack) = Calculates (of_type n.Long w64 (op_of o) a b) stack
-longs_of o stack = NoRow
+longs_of o stack = if takes_one o then one_long (op_of o) stack else (if is_shift o then long_and_int (op_of o) stack else two_longs (op_of o) stack)
 
 abbrev pub calculation : ArithmeticOp → Width → List Word → Calculation
 calculation o width.Int stack = ints_of o stack

@@ -2,5 +2,7 @@
 #![tactic(auto)]
 
 mod laws;
+mod word;
 
 pub use laws::code_laws;
+pub use word::Word;

@@ -6,7 +6,8 @@ use Rattle.pl_code.specs.declared.code.FunCode.{FunCode}
 use Rattle.run_world.specs.World.{World, Limits, End}
 use Rattle.program_meaning.specs.Tree.{Variable, Fun, Program}
 use Rattle.program_meaning.specs.Meaning.{State, Env, Out, Done, Thrown, Over, More, Flow, Normal, Broke, Continued, Returned, entry, default_of}
-use Rattle.code_meaning.specs.Words.{Word, start_of}
+use Rattle.code_meaning.specs.declared.word.Word.{Word}
+use Rattle.code_meaning.specs.Words.{start_of}
 use Rattle.code_meaning.specs.Machine.{Next, Goes, Ends, Stuck, unwind, gives_back}
 use Rattle.program_code.specs.Lying.{lying_of, low}
 use Rattle.program_code.specs.Stands.{Scope, all_fall, any_continues, end_stmts, scope_of, no_jumps, ArePresent, lyings_of, EndAt, FunAt, Compiled}
@@ -17,7 +18,8 @@ use Rattle.object_values.specs.declared.object.Owner.TheVariants.{Script}
 use Rattle.run_world.specs.World.{Result, Uncaught, Limited}
 use Rattle.program_meaning.specs.Meaning.{meaning}
 use Rattle.code_meaning.specs.Machine.{after, step}
-use Rattle.program_code.specs.Correct.{end_of, source_in, source_of, source, words_of, Words, start_at, start, EndsAs}
+use Rattle.program_code.specs.Correct.{end_of, source_in, source_of, source, words_of, Words, EndsAs}
+use Rattle.code_meaning.specs.Machine.{start_at, start}
 use Rattle.program_code.proofs.Nodes.Calls.{word_at, words_at, low_is, entry_count, scope_order, starts_fitting, function_ends}
 use Rattle.program_code.proofs.Simulates.{refines}
 

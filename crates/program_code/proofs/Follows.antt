@@ -9,7 +9,7 @@ use Rattle.pl_code.specs.declared.code.FunCode.{FunCode}
 use Rattle.pl_code.specs.declared.code.Instruction.{Instruction}
 use Rattle.run_world.specs.World.{Limits, End, Limited}
 use Rattle.program_meaning.specs.Meaning.{State, Env, Place, Out, Done, Thrown, Over, More, bind, leave, choose}
-use Rattle.code_meaning.specs.Words.{Word}
+use Rattle.code_meaning.specs.declared.word.Word.{Word}
 use Rattle.code_meaning.specs.Machine.{Frame, Config, Next, Goes, Ends, Handlers, traps_of, lands, unwind, act, acts, lines_of, step, after, depth_of, on_top, on_int, unless_zero, pushed}
 use Rattle.program_code.specs.Lying.{Lying, Bare, Whole, Absent, low, result_of}
 use Rattle.program_code.specs.Stands.{Entry, Scope, At}

@@ -6,7 +6,7 @@ use Rattle.object_values.specs.declared.value.Value.{Value}
 use Rattle.pl_code.specs.declared.code.FunCode.{FunCode}
 use Rattle.program_meaning.specs.Tree.{Name}
 use Rattle.program_meaning.specs.Meaning.{Env, lookup, assigned, older}
-use Rattle.code_meaning.specs.Words.{Word}
+use Rattle.code_meaning.specs.declared.word.Word.{Word}
 use Rattle.program_code.specs.Lying.{Absent, lying_of, low}
 use Rattle.program_code.specs.Stands.{Entry, Scope, entry_of}
 

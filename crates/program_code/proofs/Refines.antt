@@ -5,7 +5,7 @@ use Rattle.pl_code.specs.declared.code.FunCode.{FunCode}
 use Rattle.run_world.specs.World.{Limits}
 use Rattle.program_meaning.specs.Tree.{Expr, Exprs, Stmt, Stmts, Program, type_of}
 use Rattle.program_meaning.specs.Meaning.{State, Env, Place, Out, Flow, Normal, Broke, Continued, Returned, Meaning}
-use Rattle.code_meaning.specs.Words.{Word}
+use Rattle.code_meaning.specs.declared.word.Word.{Word}
 use Rattle.code_meaning.specs.Machine.{Handlers, Next, gives_back, pushed}
 use Rattle.program_code.specs.Lying.{Lying, lying_of, low}
 use Rattle.program_code.specs.Stands.{Scope, Jumps, lyings, end_expr, end_exprs, end_stmt, end_stmts, ExprAt, ExprsAt, StmtAt, StmtsAt, falls, all_fall, continues, any_continues}

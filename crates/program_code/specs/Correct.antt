@@ -1,5 +1,5 @@
 -- The compiler theorem.
-use Rattle.std.specs.Prelude.{◌≡◌, ℕ, ◌<◌, ◌++◌, List, [], ◌∷◌, map, Option, Some, None, slice_get}
+use Rattle.std.specs.Prelude.{◌≡◌, ℕ, ◌<◌, List, [], ◌∷◌, map, Option, Some, None, slice_get}
 use Rattle.object_values.specs.declared.value.Value.{Value}
 use Rattle.object_values.specs.declared.object.Owner.TheVariants.{Script}
 use Rattle.pl_types.specs.declared.ty.Ty.{Ty}
@@ -9,8 +9,9 @@ use Rattle.typed_tree.specs.declared.program.Program as typed
 use Rattle.program_meaning.specs.Programs.{fun_of, program_of}
 use Rattle.program_meaning.specs.Tree.{Variable, Fun, Program}
 use Rattle.program_meaning.specs.Meaning.{Env, Out, Done, Thrown, Over, More, Flow, entry, returned, meaning}
-use Rattle.code_meaning.specs.Words.{Word, start_of}
-use Rattle.code_meaning.specs.Machine.{Config, Next, Goes, Ends, Stuck, after}
+use Rattle.code_meaning.specs.declared.word.Word.{Word}
+use Rattle.code_meaning.specs.Machine.{Config, Next, Goes, Ends, after}
+use Rattle.code_meaning.specs.Machine.{start}
 use Rattle.program_code.specs.Lying.{lying_of, low}
 use Rattle.program_code.specs.Stands.{Compiled}
 
@@ -49,15 +50,6 @@ words_of (x ∷ xs) (value ∷ values) = low (lying_of x.of) value ∷ words_of 
 -- the words of arguments, where each has one
 pub record Words (xs : List Variable) (values : List Value) (words : List Word) : Type 0 where
   pub are : map Some words ≡ words_of xs values
-
-abbrev pub start_at : Option FunCode → List Word → World → Next
-start_at None words w = Stuck
-start_at (Some f) words w =
-    Goes (record { top = record { text = Script; fun = 0; line = 0; locals = words ++ map start_of f.locals; stack = []; turns = 0; due = [] }; below = []; world = w })
-
--- the first configuration of code
-abbrev pub start : List FunCode → List Word → World → Next
-start code words w = start_at (slice_get code 0) words w
 
 -- Code ends so after some number of steps, and has a next step at each moment before.
 pub record EndsAs (code : List FunCode) (limits : Limits) (from : Next) (end : End (Option Word)) : Type 0 where

@@ -7,7 +7,9 @@ use Rattle.pl_types.specs.declared.ty.Ty.TheOpen.{Ty-F}
 use Rattle.object_values.specs.declared.value.Value.{Value}
 use Rattle.pl_code.specs.declared.kinds.Slot.{Slot}
 use Rattle.pl_code.specs.declared.kinds.Slot.TheVariants as slot
-use Rattle.code_meaning.specs.Words.{Word, R, unboxed}
+use Rattle.code_meaning.specs.declared.word.Word.{Word}
+use Rattle.code_meaning.specs.declared.word.Word.TheVariants.{R}
+use Rattle.code_meaning.specs.Words.{unboxed}
 
 -- a primitive as a number, every other value as it is, and nothing of void
 pub data Lying : Type 0 where

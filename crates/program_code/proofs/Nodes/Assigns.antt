@@ -12,7 +12,8 @@ use Rattle.run_world.specs.World.{Limits}
 use Rattle.program_meaning.specs.Tree.{Name, Expr, Assign, Modify, Exprs, Program, type_of}
 use Rattle.program_meaning.specs.Operating.{static_cast}
 use Rattle.program_meaning.specs.Meaning.{State, Env, Done, Meaning, found, lookup, assigned, given_by, expr_of}
-use Rattle.code_meaning.specs.Words.{Word, unboxed}
+use Rattle.code_meaning.specs.declared.word.Word.{Word}
+use Rattle.code_meaning.specs.Words.{unboxed}
 use Rattle.code_meaning.specs.Machine.{Handlers, pushed}
 use Rattle.program_code.specs.Lying.{Lying, Bare, Absent, lying_of, low}
 use Rattle.program_code.specs.Parts.{operator_code, cast_code, cast_takes, kept_before}

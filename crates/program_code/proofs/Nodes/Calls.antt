@@ -19,7 +19,9 @@ use Rattle.run_world.specs.World.{Limits, End, Counted, Counts, Passes, enter}
 use Rattle.program_meaning.specs.Tree.{Apply, Exprs, Variable, Fun, Program}
 use Rattle.program_meaning.specs.Operating.{static_cast}
 use Rattle.program_meaning.specs.Meaning.{State, Env, Place, Binding, Out, Done, Thrown, Over, More, Flow, Normal, Broke, Continued, Returned, Meaning, bind, leave, found, lookup, assigned, entry, operated, choose, given_by, default_of, default_of_layer, returned, back, goes_next, goes_again, entered, called, applied, logic, modified, expr_of, exprs_of, value_if, value_or, turned, done_turn, stmt_of, stmts_of}
-use Rattle.code_meaning.specs.Words.{Word, R, unboxed, start_of}
+use Rattle.code_meaning.specs.declared.word.Word.{Word}
+use Rattle.code_meaning.specs.declared.word.Word.TheVariants.{R}
+use Rattle.code_meaning.specs.Words.{unboxed, start_of}
 use Rattle.code_meaning.specs.Machine.{Handlers, Frame, Next, Goes, Ends, Stuck, on_local, on_top, on_int, on_words, on_call, on_enter, on_turn, returns, returns_of, unwind, gives_back, take_words, depth_of, pushed, act, to_line}
 use Rattle.program_code.specs.Lying.{Lying, Bare, Whole, Absent, lying_of, lying_of_layer, low, result_of_layer}
 use Rattle.program_code.specs.Parts.{constant_code, default_code, default_code_layer, operator_code, operation_code, cast_code, cast_takes, cast_gives, pops, kept_before, kept_behind}

@@ -14,7 +14,9 @@ use Rattle.run_world.specs.World.{Limits}
 use Rattle.program_meaning.specs.Tree.{Program}
 use Rattle.program_meaning.specs.Operating.{number_cast, in_box, box_if, static_cast}
 use Rattle.program_meaning.specs.Meaning.{State, Env, found, bind}
-use Rattle.code_meaning.specs.Words.{Word, I, J, R, unboxed, boxed, bit}
+use Rattle.code_meaning.specs.declared.word.Word.{Word}
+use Rattle.code_meaning.specs.declared.word.Word.TheVariants.{I, J, R}
+use Rattle.code_meaning.specs.Words.{unboxed, boxed, bit}
 use Rattle.code_meaning.specs.Machine.{Handlers, on_value, pushed, to_line}
 use Rattle.program_code.specs.Lying.{Lying, Bare, Whole, Absent, low}
 use Rattle.program_code.specs.Parts.{number_code, from_int_code, from_long_code, from_byte_code, from_short_code, from_char_code, cast_code, cast_takes, cast_gives}

@@ -18,7 +18,9 @@ use Rattle.run_world.specs.World.{Limits}
 use Rattle.program_meaning.specs.Tree.{Name, Expr, Literal, Local, Logic, Conditional, Exprs, None', One, Program, type_of}
 use Rattle.program_meaning.specs.Operating.{value_of}
 use Rattle.program_meaning.specs.Meaning.{State, Env, Out, Done, Meaning, found, lookup, assigned, given_by, expr_of, exprs_of}
-use Rattle.code_meaning.specs.Words.{Word, R, unboxed}
+use Rattle.code_meaning.specs.declared.word.Word.{Word}
+use Rattle.code_meaning.specs.declared.word.Word.TheVariants.{R}
+use Rattle.code_meaning.specs.Words.{unboxed}
 use Rattle.code_meaning.specs.Machine.{Handlers, Next, on_local, pushed, act, to_line}
 use Rattle.program_code.specs.Lying.{Lying, Bare, Whole, Absent, lying_of, low}
 use Rattle.program_code.specs.Parts.{constant_code, kept_before, kept_behind}

@@ -9,7 +9,8 @@ use Rattle.pl_code.specs.declared.code.Instruction.TheVariants as i
 use Rattle.run_world.specs.World.{Limits, Counted, Counts, Passes, take_turn}
 use Rattle.program_meaning.specs.Tree.{Maybe, Missing, Given, While, DoWhile, Stmts, Program, type_of}
 use Rattle.program_meaning.specs.Meaning.{State, Env, Place, Out, Done, Flow, Normal, Broke, Continued, Returned, Meaning, bind, choose, goes_again, value_if, turned, done_turn, stmt_of}
-use Rattle.code_meaning.specs.Words.{Word, I}
+use Rattle.code_meaning.specs.declared.word.Word.{Word}
+use Rattle.code_meaning.specs.declared.word.Word.TheVariants.{I}
 use Rattle.code_meaning.specs.Machine.{Handlers, Next, on_turn, pushed}
 use Rattle.program_code.specs.Lying.{lying_of, low}
 use Rattle.program_code.specs.Stands.{Scope, At, end_expr, all_fall, any_continues, goes_on, end_update, end_test, end_last, end_stmt, end_stmts, UpdateAt, TestAt, LastAt}

@@ -20,7 +20,9 @@ use Rattle.program_meaning.specs.Tree.{Program}
 use Rattle.program_meaning.specs.Operating.{Operand, AnInt, ALong, AFlag, NoOperand, operand_of, Operands, OneInt, TwoInts, OneLong, TwoLongs, LongAndInt, OneFlag, TwoFlags, NoOperands, operands_of, one_operand, two_operands, of_ints, of_longs, of_flags, number_given, number_operated, flag_operated, operates}
 use Rattle.program_meaning.specs.Meaning.{State, Env, operated}
 use Rattle.program_meaning.specs.Meaning as meaning
-use Rattle.code_meaning.specs.Words.{Word, I, J, unboxed, Calculates, bit}
+use Rattle.code_meaning.specs.declared.word.Word.{Word}
+use Rattle.code_meaning.specs.declared.word.Word.TheVariants.{I, J}
+use Rattle.code_meaning.specs.Words.{unboxed, Calculates, bit}
 use Rattle.code_meaning.specs.Machine.{Handlers, on_outcome, on_calculation, pushed}
 use Rattle.program_code.specs.Lying.{Lying, Bare, Whole, Absent, low}
 use Rattle.program_code.specs.Parts.{operator_code, arithmetic_code, boolean_code}

@@ -11,7 +11,9 @@ use Rattle.pl_code.specs.declared.code.Instruction.TheVariants as i
 use Rattle.run_world.specs.World.{Limits, End}
 use Rattle.program_meaning.specs.Tree.{Name, Expr, Maybe, Missing, Given, Stmt, Do, If, While, DoWhile, ForEach, Try, Block, Break, Continue, Return, Throw, Stmts, Finish, Then, Declare, Program, type_of}
 use Rattle.program_meaning.specs.Meaning.{State, Env, Out, Done, Flow, Normal, Broke, Continued, Returned, Meaning, goes_next, value_or, stmt_of, stmts_of}
-use Rattle.code_meaning.specs.Words.{Word, R, unboxed}
+use Rattle.code_meaning.specs.declared.word.Word.{Word}
+use Rattle.code_meaning.specs.declared.word.Word.TheVariants.{R}
+use Rattle.code_meaning.specs.Words.{unboxed}
 use Rattle.code_meaning.specs.Machine.{Handlers, Next, pushed}
 use Rattle.program_code.specs.Lying.{Lying, Bare, Whole, Absent, lying_of, low}
 use Rattle.program_code.specs.Parts.{pops}

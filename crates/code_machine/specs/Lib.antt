@@ -1,0 +1,4 @@
+pub mod Seen
+pub mod Rows
+pub mod Runs
+pub mod Activations

@@ -1,0 +1,85 @@
+-- What parts of an instruction come to.
+use Rattle.std.specs.Prelude.{◌≡◌, ℕ, ◌&&◌, Bool, List, [], ◌∷◌, ◌++◌, map, Option, Some, None, find, nat_le, nat_lt, pos}
+use Rattle.arithmetic.specs.declared.operator.Num.{Num}
+use Rattle.pl_types.specs.Names.{class_of_full}
+use Rattle.object_values.specs.declared.value.Value.{Value}
+use Rattle.object_values.specs.declared.value.Value.TheVariants as v
+use Rattle.object_heap.specs.declared.outcome.Which.{Which}
+use Rattle.pl_code.specs.declared.code.Trap.{Trap}
+use Rattle.pl_code.specs.declared.kinds.Slot.{Slot}
+use Rattle.pl_code.specs.declared.code.FunCode.{FunCode}
+use Rattle.run_world.specs.World.{World, Counted, Counts, Passes}
+use Rattle.code_meaning.specs.declared.word.Word.{Word}
+use Rattle.code_meaning.specs.declared.word.Word.TheVariants.{I, J, R}
+use Rattle.code_meaning.specs.Words.{bit, start_of, Calculation, NoRow, Calculates}
+use Rattle.code_meaning.specs.Machine.{Frame, Next, Goes, is_instance}
+use Rattle.code_machine.specs.declared.operators.Operated.{Operated}
+use Rattle.code_machine.specs.declared.operators.Operated.TheVariants as c
+use Rattle.code_machine.specs.declared.stacks.Copying.{Copying}
+use Rattle.code_machine.specs.declared.stacks.Copying.TheVariants as copying
+use Rattle.code_machine.specs.Seen.{limit_of}
+
+-- a copy leaves this stack, unless there was no memory
+abbrev pub Copies : Option (List Word) → List Word → Copying → Type 0
+Copies given stack copying.Done = given ≡ Some stack
+Copies given stack copying.Stuck = given ≡ None
+Copies given stack copying.NoMemory = Unit {0}
+
+-- what an operator comes to, and the stack that it leaves
+abbrev pub CalculatesTo : Calculation → List Word → Operated → Type 0
+CalculatesTo given stack c.NoRow = given ≡ NoRow
+CalculatesTo given stack (c.Number number) = given ≡ Calculates (Some number) stack
+CalculatesTo given stack c.ZeroDivisor = given ≡ Calculates None stack
+
+abbrev pub calculated_of : Option Num → Operated
+calculated_of None = c.ZeroDivisor
+calculated_of (Some number) = c.Number number
+
+-- a count that is paid, or the limit that it would pass, the world being as before
+abbrev pub CountsTo : Counted → World → World → Option Which → Type 0
+CountsTo counted old new None = counted ≡ Counts new
+CountsTo counted old new (Some which) = (counted ≡ Passes (limit_of which)) × (new ≡ old)
+
+-- the word of a primitive
+abbrev pub bare : Value → Option Word
+bare (v.Bool flag) = Some (I (bit flag))
+bare (v.Byte a) = Some (I a)
+bare (v.Short a) = Some (I a)
+bare (v.Char unit) = Some (I (pos unit))
+bare (v.Int a) = Some (I a)
+bare (v.Long a) = Some (J a)
+bare value = None
+
+-- what was taken off a stack, and the stack that is left
+abbrev pub beside : List Word → Option (List Word) → Option (List Word × List Word)
+beside stack None = None
+beside stack (Some words) = Some (words, stack)
+
+-- arguments with the other locals behind them
+abbrev pub with_locals : List Slot → Option (List Word × List Word) → Option (List Word × List Word)
+with_locals slots None = None
+with_locals slots (Some p) = Some (p.0 ++ map start_of slots, p.1)
+
+-- ---- where an exception goes on
+
+-- a trap catches an exception at a line
+abbrev pub catches : ℕ → ℕ → World → Trap → Bool
+catches line id w t = (nat_le t.from line && nat_lt line t.to) && is_instance (class_of_full t.class) id w
+
+abbrev pub line_of : Option Trap → Option ℕ
+line_of None = None
+line_of (Some t) = Some t.at
+
+abbrev pub traps_in : Option FunCode → List Trap
+traps_in None = []
+traps_in (Some f) = f.traps
+
+-- where an exception goes on in a function, if it is caught at this line
+abbrev pub landing : Option FunCode → ℕ → ℕ → World → Option ℕ
+landing f line id w = line_of (find (catches line id w) (traps_in f))
+
+-- it goes on in the frame, or beyond it
+abbrev pub landed : Option ℕ → Frame → List Frame → ℕ → World → Next → Next
+landed None f below id w further = further
+landed (Some at) f below id w further =
+    Goes (record { top = record { text = f.text; fun = f.fun; line = at; locals = f.locals; stack = R (v.Ref id) ∷ []; turns = f.turns; due = f.due }; below = below; world = w })

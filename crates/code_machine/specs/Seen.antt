@@ -1,0 +1,75 @@
+-- The machine's parts as the configurations of which the meaning of code speaks.
+use Rattle.std.specs.Prelude.{◌≡◌, ℤ, Bool, true, false, List, [], ◌∷◌, Option, Some, None}
+use Rattle.object_heap.specs.declared.outcome.Which.{Which}
+use Rattle.object_heap.specs.declared.outcome.Which.TheVariants as which
+use Rattle.run_world.specs.World.{World, Limit, Loop, Depth, Ticks, Room, Limits, Result, Uncaught, Limited}
+use Rattle.code_meaning.specs.declared.word.Word.{Word}
+use Rattle.code_meaning.specs.declared.word.Word.TheVariants.{I, J}
+use Rattle.code_meaning.specs.Machine.{Frame, Config, Next, Goes, Ends, Stuck}
+use Rattle.code_machine.specs.declared.configuration.Frame as held_frame
+use Rattle.code_machine.specs.declared.configuration.World as held_world
+use Rattle.code_machine.specs.declared.configuration.Limits as held_limits
+use Rattle.code_machine.specs.declared.configuration.Configuration.{Configuration}
+use Rattle.code_machine.specs.declared.configuration.End as held_end
+use Rattle.code_machine.specs.declared.configuration.End.TheVariants as end
+use Rattle.code_machine.specs.declared.configuration.Step.{Step}
+use Rattle.code_machine.specs.declared.configuration.Step.TheVariants as step
+
+-- No cast is due yet where a frame returns.
+abbrev pub frame_of : held_frame.Frame → Frame
+frame_of f = record { text = f.text; fun = f.fun; line = f.line; locals = f.locals; stack = f.stack; turns = f.turns; due = [] }
+
+abbrev pub with_stack : Frame → List Word → Frame
+with_stack f stack = record { text = f.text; fun = f.fun; line = f.line; locals = f.locals; stack = stack; turns = f.turns; due = f.due }
+
+abbrev pub frames_of : List held_frame.Frame → List Frame
+frames_of [] = []
+frames_of (f ∷ fs) = frame_of f ∷ frames_of fs
+
+abbrev pub world_of : held_world.World → World
+world_of w = record { store = w.heap; ticks = w.ticks; reached = w.reached }
+
+abbrev pub configuration_of : Configuration → Config
+configuration_of c = record { top = frame_of c.top; below = frames_of c.below; world = world_of c.world }
+
+abbrev pub limits_of : held_limits.Limits → Limits
+limits_of l = record { loop = l.loops; depth = l.depth }
+
+abbrev pub limit_of : Which → Limit
+limit_of which.Loop = Loop
+limit_of which.Depth = Depth
+limit_of which.Ticks = Ticks
+limit_of which.Room = Room
+
+-- a run that has ended in a world
+abbrev pub ended : held_end.End → World → Next
+ended (end.Result word) w = Ends (Result word w)
+ended (end.Thrown id) w = Ends (Uncaught id w)
+ended (end.Limit limit) w = Ends (Limited (limit_of limit) w)
+ended end.Stuck w = Stuck
+
+abbrev pub goes : Step → Bool
+goes step.Goes = true
+goes (step.Ends end) = false
+goes step.NoMemory = false
+
+abbrev pub end_in : Step → Option held_end.End
+end_in step.Goes = None
+end_in (step.Ends end) = Some end
+end_in step.NoMemory = None
+
+-- what comes of a step is what the machine says, unless there was no memory
+abbrev pub Comes : Next → Step → Configuration → Type 0
+Comes next step.Goes c = next ≡ Goes (configuration_of c)
+Comes next (step.Ends end) c = next ≡ ended end (world_of c.world)
+Comes next step.NoMemory c = Unit {0}
+
+-- ---- what lies on the top of a stack
+
+abbrev pub int_of : List Word → Option ℤ
+int_of (I a ∷ stack) = Some a
+int_of stack = None
+
+abbrev pub long_of : List Word → Option ℤ
+long_of (J a ∷ stack) = Some a
+long_of stack = None

@@ -1,0 +1,161 @@
+//! A run of code that stops between any two instructions and goes on.
+ghost use Rattle.std.specs.Prelude.{◌≡◌, [], Some, IfOk};
+ghost use Rattle.code_meaning.specs.Machine.{start};
+ghost use Rattle.code_machine.specs.Activations.{Turned, Leaves, turn_of};
+
+use crate::calls::push_starts;
+use crate::configuration::{Configuration, End, Frame, Limits, Step, World};
+use crate::running::{Ran, run_on};
+use crate::stack::Stack;
+use code_meaning::Word;
+use object_heap::Heap;
+use object_values::{Elements, Owner};
+use pl_code::Code;
+use std::alloc::AllocError;
+use std::marker::Model;
+use task_core::Turn;
+
+// Memory for so many frames is taken at the start.
+const FRAMES: u32 = 256;
+
+/// A run of code.
+#[derive(Drop)]
+pub struct Activation<'c> {
+    code: &'c Code,
+    limits: Limits,
+    run: Configuration,
+    last: Step,
+    steps: u64,
+}
+
+/// What a run leaves.
+#[derive(Drop)]
+pub struct Outcome {
+    pub end: End,
+    pub heap: Heap,
+    /// How many ticks were paid.
+    pub ticks: u64,
+    /// How many instructions were run.
+    pub steps: u64,
+    /// The members that were called, by their numbers, in the order of their first calls.
+    pub reached: Elements<u32>,
+}
+
+impl<'c> Model for Activation<'c> {
+    ghost use Rattle.code_machine.specs.Activations.{Activation, now_of};
+    ghost use Rattle.pl_types.specs.contracts.ty.Ty as ty;
+    ghost use Rattle.std.specs.Coded.{codes};
+    ghost use Rattle.std.specs.Prelude.{◌<◌, ◌^◌};
+
+    ghost Value = { Activation };
+
+    ghost coded = { Prim.hlevel (codes, ty.the_row.coded) };
+
+    ghost view = { λ a. record { code = a.code.now.functions; limits = a.limits; now = now_of a.last a.run; steps = a.steps } };
+
+    ghost invariant = { λ a. a.steps < 2 ^ 64 };
+}
+
+impl<'c> Activation<'c> {
+    /// A run of function 0 of this code on these arguments. Where there is no such function the run is stuck.
+    pub fn start(
+        code: &'c Code,
+        heap: Heap,
+        args: Elements<Word>,
+        limits: Limits,
+    ) -> Result<Activation<'c>, AllocError>
+        ensures { IfOk result (λ a. a ≡ record { code = code.now.functions; limits = limits; now = Some (start code.now.functions args (record { store = heap; ticks = limits.ticks; reached = [] })); steps = 0 }) }
+    {
+        let mut locals = args;
+        let last = match code.functions.get(0) {
+            Some(main) => {
+                push_starts(&mut locals, main.locals.as_slice())?;
+                Step::Goes
+            }
+            None => Step::Ends(End::Stuck),
+        };
+        let alloc = heap.alloc();
+        let below = Stack::with_capacity(alloc, FRAMES.min(limits.depth) as usize)?;
+        let top = Frame {
+            text: Owner::Script,
+            fun: 0,
+            line: 0,
+            locals,
+            stack: Stack::new(alloc),
+            turns: 0,
+        };
+        let world = World {
+            heap,
+            ticks: limits.ticks,
+            reached: Elements::new(alloc),
+        };
+        Ok(Activation {
+            code,
+            limits,
+            run: Configuration { top, below, world },
+            last,
+            steps: 0,
+        })
+    }
+
+    /// Takes `q` instructions, or fewer where the run ends.
+    ///
+    /// More: they were taken, and the run goes on. Done: it has ended. NoMemory: there was none, and there is none at every later
+    /// turn.
+    pub fn turn(&mut self, q: u64) -> Turn
+        ensures { Turned q self.old self.new result }
+    {
+        if self.last.goes() {
+            let Ran { last, steps } = run_on(&mut self.run, self.code, &self.limits, q);
+            self.last = last;
+            self.steps = self.steps.saturating_add(steps);
+            turn_of(&self.last)
+        } else {
+            turn_of(&self.last)
+        }
+    }
+
+    /// What the run leaves, once it has ended.
+    pub fn outcome(self) -> Option<Outcome>
+        ensures { Leaves self.entry result }
+    {
+        let Activation {
+            code: _,
+            limits,
+            run,
+            last,
+            steps,
+        } = self;
+        let Configuration {
+            top: _top,
+            below: _below,
+            world,
+        } = run;
+        let World {
+            heap,
+            ticks,
+            reached,
+        } = world;
+        match last.into_end() {
+            Some(end) => Some(Outcome {
+                end,
+                heap,
+                ticks: limits.ticks.saturating_sub(ticks),
+                steps,
+                reached,
+            }),
+            None => None,
+        }
+    }
+}
+
+// What comes of a turn whose last instruction came to this.
+fn turn_of(last: &Step) -> Turn
+    ensures { result ≡ turn_of last.now }
+{
+    match last {
+        Step::Goes => Turn::More,
+        Step::Ends(_) => Turn::Done,
+        Step::NoMemory => Turn::NoMemory,
+    }
+}

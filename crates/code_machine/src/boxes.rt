@@ -1,0 +1,118 @@
+//! Boxes: a primitive as a value, and a value as a primitive.
+ghost use Rattle.std.specs.Prelude.{◌≡◌, List, ◌∷◌, suc};
+ghost use Rattle.pl_types.specs.declared.ty.Ty.TheVariants as ty;
+ghost use Rattle.object_heap.specs.Effects.{Answers};
+ghost use Rattle.number_ops.specs.Outcomes.{effect};
+ghost use Rattle.number_ops.specs.Casts.{cast_at_run_time};
+ghost use Rattle.run_world.specs.World.{acts_in};
+ghost use Rattle.code_meaning.specs.Words as words;
+ghost use Rattle.code_meaning.specs.declared.word.Word.{Word};
+ghost use Rattle.code_meaning.specs.declared.word.Word.TheVariants.{R};
+ghost use Rattle.code_meaning.specs.Machine.{on_top, on_value, on_reference, on_outcome, to_line, is_written};
+ghost use Rattle.code_machine.specs.Seen.{Comes, frame_of, with_stack, frames_of, limits_of, world_of};
+
+use crate::configuration::{Configuration, End, Limits, Step};
+use crate::throwing::answered;
+use arithmetic::casts::{low_byte, low_char, low_short};
+use code_meaning::Word;
+use number_ops::to_type;
+use object_heap::{Answer, Heap};
+use object_values::Value;
+use pl_code::{Code, Way};
+use pl_types::{Primitive, Ty};
+
+/// Makes a value of the number on the stack.
+pub fn box_number(run: &mut Configuration, primitive: Primitive) -> Step
+    ensures { Comes (on_top run.old.top.stack (λ word stack. on_value (words.boxed primitive word) (λ value. to_line (frame_of run.old.top) (frames_of run.old.below) (world_of run.old.world) (suc run.old.top.line) (R value ∷ stack)))) result run.new }
+{
+    match run.top.stack.pop() {
+        Some(word) => match boxed(primitive, &word) {
+            Some(value) => run.push(Word::R(value)),
+            None => Step::Ends(End::Stuck),
+        },
+        None => Step::Ends(End::Stuck),
+    }
+}
+
+fn boxed(primitive: Primitive, word: &Word) -> Option<Value>
+    ensures { result ≡ words.boxed primitive word.now }
+{
+    match word {
+        Word::I(a) => boxed_int(primitive, *a),
+        Word::J(a) => boxed_long(primitive, *a),
+        Word::R(_) => None,
+    }
+}
+
+fn boxed_int(primitive: Primitive, a: i32) -> Option<Value>
+    ensures { result ≡ words.boxed_int primitive a }
+{
+    match primitive {
+        Primitive::Boolean => Some(Value::Bool(a != 0)),
+        Primitive::Byte => Some(Value::Byte(low_byte(a))),
+        Primitive::Short => Some(Value::Short(low_short(a))),
+        Primitive::Char => Some(Value::Char(low_char(a))),
+        Primitive::Int => Some(Value::Int(a)),
+        Primitive::Long => None,
+    }
+}
+
+fn boxed_long(primitive: Primitive, a: i64) -> Option<Value>
+    ensures { result ≡ words.boxed_long primitive a }
+{
+    match primitive {
+        Primitive::Long => Some(Value::Long(a)),
+        _ => None,
+    }
+}
+
+/// Makes a number of a primitive of the value on the stack.
+pub fn unbox(
+    run: &mut Configuration,
+    code: &Code,
+    limits: &Limits,
+    primitive: Primitive,
+    way: Way,
+) -> Step
+    ensures { Comes (on_top run.old.top.stack (λ word stack. on_reference word (λ value. on_outcome code.now.functions (limits_of limits.now) (acts_in (world_of run.old.world) (effect run.old.world.heap (cast_at_run_time run.old.world.heap.objects value (ty.Prim primitive) (is_written way)))) words.unboxed (frame_of run.old.top) (frames_of run.old.below) (world_of run.old.world) stack))) result run.new }
+{
+    match run.top.stack.pop() {
+        Some(word) => unbox_word(run, code, limits, &word, primitive, way),
+        None => Step::Ends(End::Stuck),
+    }
+}
+
+// The same of a word that was taken off the stack.
+fn unbox_word(
+    run: &mut Configuration,
+    code: &Code,
+    limits: &Limits,
+    word: &Word,
+    primitive: Primitive,
+    way: Way,
+) -> Step
+    ensures { (stack : List Word) → Comes (on_reference word.now (λ value. on_outcome code.now.functions (limits_of limits.now) (acts_in (world_of run.old.world) (effect run.old.world.heap (cast_at_run_time run.old.world.heap.objects value (ty.Prim primitive) (is_written way)))) words.unboxed (with_stack (frame_of run.old.top) stack) (frames_of run.old.below) (world_of run.old.world) run.old.top.stack)) result run.new }
+{
+    match word {
+        Word::R(value) => {
+            let answer = cast(&mut run.world.heap, value, primitive, way);
+            answered(run, code, limits, answer)
+        }
+        _ => Step::Ends(End::Stuck),
+    }
+}
+
+fn cast(heap: &mut Heap, value: &Value, primitive: Primitive, way: Way) -> Answer
+    ensures { Answers (effect heap.old (cast_at_run_time heap.old.objects value.now (ty.Prim primitive) (is_written way))) heap.old heap.new result }
+{
+    to_type(heap, value, &Ty::Prim(primitive), is_written(way))
+}
+
+fn is_written(way: Way) -> bool
+    ensures { result ≡ is_written way }
+{
+    match way {
+        Way::Implicit => false,
+        Way::Explicit => true,
+    }
+}

@@ -1,0 +1,155 @@
+//! Where a run stands.
+ghost use Rattle.std.specs.Prelude.{◌≡◌, suc, ◌∷◌};
+ghost use Rattle.code_meaning.specs.Machine.{to_line};
+ghost use Rattle.code_machine.specs.Seen.{Comes, end_in, goes, frame_of, frames_of, world_of};
+
+use crate::stack::Stack;
+use code_meaning::Word;
+use object_heap::{Heap, Which};
+use object_values::{Elements, Owner};
+
+/// What a run may take.
+#[derive(Clone, Copy, Debug, PartialEq, Eq)]
+pub struct Limits {
+    /// Turns of one frame.
+    pub loops: u64,
+    /// Frames on top of one another, the first left out.
+    pub depth: u32,
+    /// Calls and turns that are paid.
+    pub ticks: u64,
+}
+
+/// A function that is being run.
+#[derive(Drop)]
+pub struct Frame {
+    /// Whose function it is.
+    pub text: Owner,
+    /// The number of the function.
+    pub fun: u32,
+    /// The line that is next or, of a frame that has called, the line of the call. Lines count from 0.
+    pub line: usize,
+    /// The parameters and then the other locals.
+    pub locals: Elements<Word>,
+    /// The operands.
+    pub stack: Stack<Word>,
+    /// How many turns its loops have had.
+    pub turns: u64,
+}
+
+/// What a run changes.
+#[derive(Drop)]
+pub struct World {
+    pub heap: Heap,
+    /// Calls and turns that may still be paid.
+    pub ticks: u64,
+    /// The members that were called.
+    pub reached: Elements<u32>,
+}
+
+/// A run between two instructions.
+#[derive(Drop)]
+pub struct Configuration {
+    /// The newest frame.
+    pub top: Frame,
+    /// The frames below it, which wait for what it gives.
+    pub below: Stack<Frame>,
+    pub world: World,
+}
+
+/// How a run ends.
+pub enum End {
+    /// It gives this, or nothing.
+    Result(Option<Word>),
+    /// The number of the exception that was thrown.
+    Thrown(u32),
+    /// A limit that it would pass.
+    Limit(Which),
+    /// No instruction fits where it stands. Code that was verified never comes here.
+    Stuck,
+}
+
+impl Drop for End {
+    fn drop(self) {
+        match self {
+            End::Result(_word) => {}
+            End::Thrown(_id) => {}
+            End::Limit(_which) => {}
+            End::Stuck => {}
+        }
+    }
+}
+
+/// What comes of an instruction.
+pub enum Step {
+    /// The run goes on.
+    Goes,
+    Ends(End),
+    /// There was no memory. Nothing is said of the run.
+    NoMemory,
+}
+
+impl Drop for Step {
+    fn drop(self) {
+        match self {
+            Step::Goes => {}
+            Step::Ends(_end) => {}
+            Step::NoMemory => {}
+        }
+    }
+}
+
+impl Step {
+    /// Whether the run goes on.
+    pub(crate) fn goes(&self) -> bool
+        ensures { result ≡ goes self.now }
+    {
+        match self {
+            Step::Goes => true,
+            _ => false,
+        }
+    }
+
+    /// The end, where the run has ended.
+    pub(crate) fn into_end(self) -> Option<End>
+        ensures { result ≡ end_in self }
+    {
+        match self {
+            Step::Goes => None,
+            Step::Ends(end) => Some(end),
+            Step::NoMemory => None,
+        }
+    }
+}
+
+impl Configuration {
+    // On to the next line. No code has so many lines that there is no number for it.
+    pub(crate) fn goes_on(&mut self) -> Step
+        ensures { Comes (to_line (frame_of self.old.top) (frames_of self.old.below) (world_of self.old.world) (suc self.old.top.line) self.old.top.stack) result self.new }
+    {
+        match self.top.line.checked_add(1) {
+            Some(line) => {
+                self.top.line = line;
+                Step::Goes
+            }
+            None => Step::NoMemory,
+        }
+    }
+
+    // Puts a word on the stack, and on to the next line.
+    pub(crate) fn push(&mut self, word: Word) -> Step
+        ensures { Comes (to_line (frame_of self.old.top) (frames_of self.old.below) (world_of self.old.world) (suc self.old.top.line) (word ∷ self.old.top.stack)) result self.new }
+    {
+        match self.top.stack.push(word) {
+            Ok(()) => self.goes_on(),
+            Err(_) => Step::NoMemory,
+        }
+    }
+
+    // To a line.
+    pub(crate) fn goes_to(&mut self, line: u32) -> Step
+        ensures { Comes (to_line (frame_of self.old.top) (frames_of self.old.below) (world_of self.old.world) line self.old.top.stack) result self.new }
+    {
+        self.top.line = line as usize;
+        Step::Goes
+    }
+}

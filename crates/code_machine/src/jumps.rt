@@ -1,0 +1,88 @@
+//! Locals, jumps and loops.
+ghost use Rattle.std.specs.Prelude.{◌≡◌, [], ◌∷◌, suc, slice_get, slice_set};
+ghost use Rattle.code_meaning.specs.Machine.{numbered_act, on_local, on_top, on_turn, to_line, Goes};
+ghost use Rattle.run_world.specs.World.{take_turn};
+ghost use Rattle.code_machine.specs.Seen.{Comes, frame_of, frames_of, limits_of, world_of};
+
+use crate::calls::call;
+use crate::configuration::{Configuration, End, Limits, Step};
+use crate::stacks::pop_int;
+use object_heap::Which;
+use pl_code::{Code, Numbered};
+
+/// An instruction with a number.
+#[tactic(auto, using(crate::proofs::Rows::no_int))]
+pub fn numbered(
+    run: &mut Configuration,
+    code: &Code,
+    limits: &Limits,
+    kind: Numbered,
+    number: u32,
+) -> Step
+    ensures { Comes (numbered_act code.now.functions (limits_of limits.now) kind number (frame_of run.old.top) (frames_of run.old.below) (world_of run.old.world)) result run.new }
+{
+    match kind {
+        Numbered::Load => load(run, number),
+        Numbered::Store => store(run, number),
+        Numbered::Goto => run.goes_to(number),
+        Numbered::IfZero => match pop_int(&mut run.top.stack) {
+            Some(0) => run.goes_to(number),
+            Some(_) => run.goes_on(),
+            None => Step::Ends(End::Stuck),
+        },
+        Numbered::IfNotZero => match pop_int(&mut run.top.stack) {
+            Some(0) => run.goes_on(),
+            Some(_) => run.goes_to(number),
+            None => Step::Ends(End::Stuck),
+        },
+        Numbered::Loop => match pop_int(&mut run.top.stack) {
+            Some(0) => run.goes_on(),
+            Some(_) => turn(run, code, limits, number),
+            None => Step::Ends(End::Stuck),
+        },
+        Numbered::Call => call(run, code, limits, number),
+        _ => Step::Ends(End::Stuck),
+    }
+}
+
+// The local of this number goes on the stack. A copy of a text takes memory.
+fn load(run: &mut Configuration, number: u32) -> Step
+    ensures { Comes (on_local (slice_get run.old.top.locals number) (λ word. to_line (frame_of run.old.top) (frames_of run.old.below) (world_of run.old.world) (suc run.old.top.line) (word ∷ run.old.top.stack))) result run.new }
+{
+    match run.top.locals.as_slice().get(number as usize) {
+        Some(word) => match word.share() {
+            Ok(word) => run.push(word),
+            Err(_) => Step::NoMemory,
+        },
+        None => Step::Ends(End::Stuck),
+    }
+}
+
+fn store(run: &mut Configuration, number: u32) -> Step
+    ensures { Comes (on_top run.old.top.stack (λ word stack. Goes (record { top = record { text = run.old.top.text; fun = run.old.top.fun; line = suc run.old.top.line; locals = slice_set run.old.top.locals number word; stack = stack; turns = run.old.top.turns; due = [] }; below = frames_of run.old.below; world = world_of run.old.world }))) result run.new }
+{
+    match run.top.stack.pop() {
+        Some(word) => {
+            run.top.locals.put(number as usize, word);
+            run.goes_on()
+        }
+        None => Step::Ends(End::Stuck),
+    }
+}
+
+// A turn of a loop, which goes back to a line: the limit of turns is tried before the ticks.
+#[tactic(auto, unfolding(run_world::specs::World::take_turn, run_world::specs::World::pay_tick))]
+fn turn(run: &mut Configuration, code: &Code, limits: &Limits, line: u32) -> Step
+    ensures { Comes (on_turn code.now.functions (limits_of limits.now) (take_turn (limits_of limits.now) run.old.top.turns (world_of run.old.world)) line (frame_of run.old.top) (frames_of run.old.below) (world_of run.old.world) run.old.top.stack) result run.new }
+{
+    if run.top.turns >= limits.loops {
+        return Step::Ends(End::Limit(Which::Loop));
+    }
+    if run.world.ticks == 0 {
+        return Step::Ends(End::Limit(Which::Ticks));
+    }
+    run.world.ticks -= 1;
+    run.top.turns += 1;
+    run.top.line = line as usize;
+    Step::Goes
+}

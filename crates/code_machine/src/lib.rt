@@ -1,0 +1,18 @@
+//! The machine that runs code: activations, which run for some instructions at a time.
+#![tactic(auto)]
+
+mod activation;
+mod boxes;
+mod calls;
+mod configuration;
+mod jumps;
+mod operators;
+mod running;
+mod stack;
+mod stacks;
+mod step;
+mod throwing;
+
+pub use activation::{Activation, Outcome};
+pub use configuration::{Configuration, End, Frame, Limits, Step, World};
+pub use stack::Stack;

@@ -1,0 +1,39 @@
+//! One instruction.
+ghost use Rattle.code_meaning.specs.Machine.{act, step};
+ghost use Rattle.code_machine.specs.Seen.{Comes, configuration_of, frame_of, frames_of, limits_of, world_of};
+
+use crate::boxes::{box_number, unbox};
+use crate::configuration::{Configuration, End, Limits, Step};
+use crate::jumps::numbered;
+use crate::operators::arithmetic;
+use crate::stacks::plain;
+use code_meaning::Word;
+use pl_code::{Code, Instruction};
+
+/// Does the instruction at the line of the newest frame.
+pub fn step(run: &mut Configuration, code: &Code, limits: &Limits) -> Step
+    ensures { Comes (step code.now.functions (limits_of limits.now) (configuration_of run.old)) result run.new }
+{
+    match code.functions.get(run.top.fun as usize) {
+        Some(function) => match function.lines.get(run.top.line) {
+            Some(instruction) => execute(run, code, limits, instruction),
+            None => Step::Ends(End::Stuck),
+        },
+        None => Step::Ends(End::Stuck),
+    }
+}
+
+fn execute(run: &mut Configuration, code: &Code, limits: &Limits, instruction: &Instruction) -> Step
+    ensures { Comes (act code.now.functions (limits_of limits.now) instruction.now (frame_of run.old.top) (frames_of run.old.below) (world_of run.old.world)) result run.new }
+{
+    match instruction {
+        Instruction::Plain(kind) => plain(run, code, limits, *kind),
+        Instruction::Arithmetic(op, width) => arithmetic(run, code, limits, *op, *width),
+        Instruction::Int(number) => run.push(Word::I(*number)),
+        Instruction::Long(number) => run.push(Word::J(*number)),
+        Instruction::Numbered(kind, number) => numbered(run, code, limits, *kind, *number),
+        Instruction::Boxing(primitive) => box_number(run, *primitive),
+        Instruction::Unboxing(primitive, way) => unbox(run, code, limits, *primitive, *way),
+        _ => Step::Ends(End::Stuck),
+    }
+}

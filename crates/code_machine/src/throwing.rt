@@ -1,0 +1,158 @@
+//! What comes of operations on the heap: their values, and exceptions, each of which goes on at the trap that catches it.
+ghost use Rattle.std.specs.Prelude.{◌≡◌, List, ◌∷◌, Some, None, find, slice_get};
+ghost use Rattle.std.specs.Option.{option_copied};
+ghost use Rattle.object_heap.specs.Effects.{Effect, Answers};
+ghost use Rattle.object_heap.specs.Store.{Store};
+ghost use Rattle.number_ops.specs.Outcomes.{effect, zero_divisor};
+ghost use Rattle.run_world.specs.World.{acts_in, with_store};
+ghost use Rattle.code_meaning.specs.Words as words;
+ghost use Rattle.code_meaning.specs.declared.word.Word.{Word};
+ghost use Rattle.code_meaning.specs.Machine as spec;
+ghost use Rattle.code_meaning.specs.Machine.{Next, on_outcome};
+ghost use Rattle.code_machine.specs.Seen.{Comes, frame_of, with_stack, frames_of, limits_of, world_of};
+ghost use Rattle.code_machine.specs.Rows.{bare, catches, landing, landed, line_of};
+
+use crate::configuration::{Configuration, End, Frame, Limits, Step, World};
+use code_meaning::Word;
+use object_heap::{Answer, Which, throw};
+use object_values::{Object, Value};
+use pl_code::{Code, Trap};
+use pl_types::classes::ARITHMETIC_EXCEPTION;
+use pl_types::{class_below, class_of_full_name};
+use pl_units::UText;
+
+/// What an operation on the heap gives goes on the stack. The operands have been taken off it.
+pub fn answered(run: &mut Configuration, code: &Code, limits: &Limits, answer: Answer) -> Step
+    ensures { (effect : Effect) (old : Store) (stack : List Word) → Answers effect old run.old.world.heap answer → Comes (on_outcome code.now.functions (limits_of limits.now) (acts_in (with_store (world_of run.old.world) old) effect) words.unboxed (with_stack (frame_of run.old.top) stack) (frames_of run.old.below) (with_store (world_of run.old.world) old) run.old.top.stack) result run.new }
+{
+    match answer {
+        Answer::Value(value) => run.push(unboxed(value)),
+        Answer::Thrown(id) => unwind(run, code, id),
+        Answer::Room => Step::Ends(End::Limit(Which::Room)),
+        Answer::NoMemory => Step::NoMemory,
+    }
+}
+
+#[tactic(auto, using(crate::proofs::Answering::bare_word, crate::proofs::Answering::not_bare))]
+fn unboxed(value: Value) -> Word
+    ensures { result ≡ words.unboxed value }
+{
+    match bare(&value) {
+        Some(word) => word,
+        None => Word::R(value),
+    }
+}
+
+// The word of a primitive.
+fn bare(value: &Value) -> Option<Word>
+    ensures { result ≡ bare value.now }
+{
+    match value {
+        Value::Bool(flag) => Some(Word::I(i32::from(*flag))),
+        Value::Byte(a) => Some(Word::I(i32::from(*a))),
+        Value::Short(a) => Some(Word::I(i32::from(*a))),
+        Value::Char(unit) => Some(Word::I(i32::from(*unit))),
+        Value::Int(a) => Some(Word::I(*a)),
+        Value::Long(a) => Some(Word::J(*a)),
+        _ => None,
+    }
+}
+
+/// Throws the exception of a zero divisor.
+#[tactic(auto, unfolding(number_ops::specs::Outcomes::says))]
+pub fn throw_zero_divisor(run: &mut Configuration, code: &Code, limits: &Limits) -> Step
+    ensures { Comes (on_outcome code.now.functions (limits_of limits.now) (acts_in (world_of run.old.world) (effect run.old.world.heap zero_divisor)) words.unboxed (frame_of run.old.top) (frames_of run.old.below) (world_of run.old.world) run.old.top.stack) result run.new }
+{
+    match UText::from_utf8(run.world.heap.alloc(), "/ by zero") {
+        Ok(message) => {
+            let answer = throw(&mut run.world.heap, ARITHMETIC_EXCEPTION, Some(message));
+            answered(run, code, limits, answer)
+        }
+        Err(_) => Step::NoMemory,
+    }
+}
+
+/// An exception, from the newest frame on down.
+fn unwind(run: &mut Configuration, code: &Code, id: u32) -> Step
+    ensures { Comes (spec.unwind code.now.functions (frame_of run.old.top ∷ frames_of run.old.below) id (world_of run.old.world)) result run.new }
+{
+    'frames: loop {
+        match landing(code, &run.top, id, &run.world) {
+            Some(line) => return land(run, line, id),
+            None => match run.below.pop() {
+                Some(frame) => run.top = frame,
+                None => return Step::Ends(End::Thrown(id)),
+            },
+        }
+    }
+}
+
+// Goes on in the newest frame.
+fn land(run: &mut Configuration, line: u32, id: u32) -> Step
+    ensures { (further : Next) → Comes (landed (Some line) (frame_of run.old.top) (frames_of run.old.below) id (world_of run.old.world) further) result run.new }
+{
+    run.top.stack.clear();
+    match run.top.stack.push(Word::R(Value::Ref(id))) {
+        Ok(()) => {
+            run.top.line = line as usize;
+            Step::Goes
+        }
+        Err(_) => Step::NoMemory,
+    }
+}
+
+// Where an exception goes on in a frame, if it is caught at its line.
+fn landing(code: &Code, frame: &Frame, id: u32, world: &World) -> Option<u32>
+    ensures { result ≡ landing (slice_get code.now.functions frame.now.fun) frame.now.line id (world_of world.now) }
+{
+    match code.functions.get(frame.fun as usize) {
+        Some(function) => line_of(first_that_catches(
+            function.traps.as_slice(),
+            frame.line,
+            id,
+            world,
+        )),
+        None => None,
+    }
+}
+
+fn line_of(trap: Option<&Trap>) -> Option<u32>
+    ensures { result ≡ line_of (option_copied trap.entry) }
+{
+    match trap {
+        Some(trap) => Some(trap.at),
+        None => None,
+    }
+}
+
+fn first_that_catches<'t>(
+    traps: &'t [Trap],
+    line: usize,
+    id: u32,
+    world: &World,
+) -> Option<&'t Trap>
+    ensures { option_copied result ≡ find (catches line id (world_of world.now)) traps.now }
+{
+    traps.iter().find(|trap| catches(trap, line, id, world))
+}
+
+fn catches(trap: &Trap, line: usize, id: u32, world: &World) -> bool
+    ensures { result ≡ catches line id (world_of world.now) trap.now }
+{
+    trap.from as usize <= line
+        && line < trap.to as usize
+        && is_instance(class_of_full_name(trap.class.as_str()), id, world)
+}
+
+#[tactic(auto, unfolding(code_meaning::specs::Machine::is_instance, code_meaning::specs::Machine::exception_is))]
+fn is_instance(class: Option<u32>, id: u32, world: &World) -> bool
+    ensures { result ≡ spec.is_instance class id (world_of world.now) }
+{
+    match class {
+        Some(class) => match world.heap.get(id) {
+            Some(Object::Exc { class: raised, .. }) => class_below(*raised, class),
+            _ => false,
+        },
+        None => false,
+    }
+}
