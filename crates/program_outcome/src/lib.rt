@@ -1,0 +1,6 @@
+//! How a program ends, and that its code ends so.
+#![tactic(auto)]
+
+mod laws;
+
+pub use laws::programs_end;
