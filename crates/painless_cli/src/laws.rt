@@ -7,7 +7,7 @@ use crate::report::Report;
 use crate::status::Status;
 use crate::top::painless;
 use outer_io::{Source, SureFiles, SureSink};
-use pl_grammar::grammar_laws;
+use pl_grammar_laws::grammar_laws;
 use pl_lexer::each_text_has_one_reading;
 use std::alloc::Global;
 

@@ -7,6 +7,7 @@ ghost use Rattle.pl_values.specs.Stack.{AreOnTop, Reduces};
 use pl_making::{before, lambda_of, or_none, reference_of};
 use pl_stack::Stack;
 use pl_tree::{Argument, LambdaBody};
+use pl_values::Value;
 use std::alloc::{AllocError, Global};
 
 /// `(arguments)`
@@ -17,7 +18,7 @@ pub fn args_of(alloc: Global, stack: &mut Stack) -> Result<(), AllocError>
     stack.skip();
     let all = or_none(alloc, stack.arguments_if_any());
     stack.skip();
-    stack.push_arguments(alloc, all)
+    stack.push(alloc, Value::Arguments(Some(all)))
 }
 
 /// Arguments, one at least.
@@ -27,7 +28,7 @@ pub fn arguments_of(alloc: Global, stack: &mut Stack) -> Result<(), AllocError>
 {
     let others = stack.arguments();
     let one = stack.argument();
-    stack.push_arguments(alloc, before(alloc, one, others)?)
+    stack.push(alloc, Value::Arguments(Some(before(alloc, one, others)?)))
 }
 
 /// An expression as an argument.
@@ -36,7 +37,7 @@ pub fn argued(alloc: Global, stack: &mut Stack) -> Result<(), AllocError>
     ensures { OnOk result (Reduces g.argued stack.old stack.new) }
 {
     let given = stack.placed().expr;
-    stack.push_argument(alloc, Argument::Value(given))
+    stack.push(alloc, Value::Argument(Some(Argument::Value(given))))
 }
 
 /// `one -> body`
@@ -47,7 +48,7 @@ pub fn lambda(alloc: Global, stack: &mut Stack) -> Result<(), AllocError>
     let body = stack.lambda_body();
     stack.skip();
     let one = stack.parameter();
-    stack.push_argument(alloc, lambda_of(alloc, one, body)?)
+    stack.push(alloc, Value::Argument(Some(lambda_of(alloc, one, body)?)))
 }
 
 /// `(parameters) -> body`
@@ -60,13 +61,13 @@ pub fn lambdas(alloc: Global, stack: &mut Stack) -> Result<(), AllocError>
     stack.skip();
     let parameters = or_none(alloc, stack.parameters_if_any());
     let at = stack.token().start;
-    stack.push_argument(
+    stack.push(
         alloc,
-        Argument::Lambda {
+        Value::Argument(Some(Argument::Lambda {
             at,
             parameters,
             body,
-        },
+        })),
     )
 }
 
@@ -78,7 +79,7 @@ pub fn reference(alloc: Global, stack: &mut Stack) -> Result<(), AllocError>
     let name = stack.ref_name();
     stack.skip();
     let of = stack.type_name();
-    stack.push_argument(alloc, reference_of(of, name))
+    stack.push(alloc, Value::Argument(Some(reference_of(of, name))))
 }
 
 /// `this::name`
@@ -89,7 +90,10 @@ pub fn this_reference(alloc: Global, stack: &mut Stack) -> Result<(), AllocError
     let spelling = stack.spelled().spelling;
     stack.skip();
     let at = stack.token().start;
-    stack.push_argument(alloc, Argument::ThisReference { at, spelling })
+    stack.push(
+        alloc,
+        Value::Argument(Some(Argument::ThisReference { at, spelling })),
+    )
 }
 
 /// The name behind `::`.
@@ -98,7 +102,7 @@ pub fn ref_word(alloc: Global, stack: &mut Stack) -> Result<(), AllocError>
     ensures { OnOk result (Reduces g.ref_word stack.old stack.new) }
 {
     let name = stack.spelled();
-    stack.push_ref_name(alloc, Some(name))
+    stack.push(alloc, Value::RefName(Some(Some(name))))
 }
 
 /// The `new` behind `::`.
@@ -107,7 +111,7 @@ pub fn ref_new(alloc: Global, stack: &mut Stack) -> Result<(), AllocError>
     ensures { OnOk result (Reduces g.ref_new stack.old stack.new) }
 {
     stack.skip();
-    stack.push_ref_name(alloc, None)
+    stack.push(alloc, Value::RefName(Some(None)))
 }
 
 /// A block as what a lambda runs.
@@ -116,7 +120,7 @@ pub fn block_lambda(alloc: Global, stack: &mut Stack) -> Result<(), AllocError>
     ensures { OnOk result (Reduces g.block_lambda stack.old stack.new) }
 {
     let block = stack.block();
-    stack.push_lambda_body(alloc, LambdaBody::Block(block))
+    stack.push(alloc, Value::LambdaBody(Some(LambdaBody::Block(block))))
 }
 
 /// An expression as what a lambda runs.
@@ -125,5 +129,8 @@ pub fn expr_lambda(alloc: Global, stack: &mut Stack) -> Result<(), AllocError>
     ensures { OnOk result (Reduces g.expr_lambda stack.old stack.new) }
 {
     let value = stack.placed().expr;
-    stack.push_lambda_body(alloc, LambdaBody::Expression(value))
+    stack.push(
+        alloc,
+        Value::LambdaBody(Some(LambdaBody::Expression(value))),
+    )
 }

@@ -7,13 +7,19 @@ use pl_lexer::Token;
 use pl_rules::{Rule, Series};
 use pl_stack::Stack;
 use pl_tree::{Spelled, Tree};
-use pl_values::Actions;
+use pl_values::{Actions, Value};
 use std::alloc::{AllocError, Global};
 
 /// Builds the trees of what is read.
-#[derive(Drop)]
 pub struct Builder {
     stack: Stack,
+}
+
+impl Drop for Builder {
+    /// Written out, so that no crate above proves it again.
+    fn drop(self) {
+        let Builder { stack: _stack } = self;
+    }
 }
 
 impl Actions for Builder {
@@ -26,15 +32,15 @@ impl Actions for Builder {
     }
 
     fn push_token(&mut self, alloc: Global, token: Token) -> Result<(), AllocError> {
-        self.stack.push_token(alloc, token)
+        self.stack.push(alloc, Value::Token(Some(token)))
     }
 
     fn push_spelled(&mut self, alloc: Global, spelled: Spelled) -> Result<(), AllocError> {
-        self.stack.push_spelled(alloc, spelled)
+        self.stack.push(alloc, Value::Spelled(Some(spelled)))
     }
 
     fn push_nothing(&mut self, alloc: Global) -> Result<(), AllocError> {
-        self.stack.push_nothing(alloc)
+        self.stack.push(alloc, Value::Nothing)
     }
 
     fn push_none(&mut self, alloc: Global, series: Series) -> Result<(), AllocError> {

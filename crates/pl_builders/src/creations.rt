@@ -8,6 +8,7 @@ use pl_grammar::{New, Placed};
 use pl_making::{before, bracket_first, chained, created_as, or_none};
 use pl_stack::Stack;
 use pl_tree::Expr;
+use pl_values::Value;
 use plain_data::Items;
 use std::alloc::{AllocError, Global};
 
@@ -21,7 +22,7 @@ pub fn created(alloc: Global, stack: &mut Stack) -> Result<(), AllocError>
     let of = stack.type_name();
     let at = stack.token().start;
     let object = created_as(alloc, at, of, rest)?;
-    stack.push_placed(alloc, chained(alloc, object, others)?)
+    stack.push(alloc, Value::Placed(Some(chained(alloc, object, others)?)))
 }
 
 /// The arguments of a new object.
@@ -30,7 +31,10 @@ pub fn new_object(alloc: Global, stack: &mut Stack) -> Result<(), AllocError>
     ensures { OnOk result (Reduces g.new_object stack.old stack.new) }
 {
     let given = stack.arguments();
-    stack.push_new_rest(alloc, New::Object(Items::new(alloc), given))
+    stack.push(
+        alloc,
+        Value::New(Some(New::Object(Items::new(alloc), given))),
+    )
 }
 
 /// `[` and what follows.
@@ -40,7 +44,7 @@ pub fn new_array(alloc: Global, stack: &mut Stack) -> Result<(), AllocError>
 {
     let rest = stack.new_rest();
     let at = stack.token().start;
-    stack.push_new_rest(alloc, bracket_first(alloc, at, rest)?)
+    stack.push(alloc, Value::New(Some(bracket_first(alloc, at, rest)?)))
 }
 
 /// The sizes of a new array.
@@ -52,7 +56,7 @@ pub fn first_size(alloc: Global, stack: &mut Stack) -> Result<(), AllocError>
     stack.skip();
     let one = stack.placed().expr;
     let sizes = before(alloc, one, others)?;
-    stack.push_new_rest(alloc, New::Sized(sizes))
+    stack.push(alloc, Value::New(Some(New::Sized(sizes))))
 }
 
 /// The items of a new array.
@@ -63,7 +67,7 @@ pub fn array_items(alloc: Global, stack: &mut Stack) -> Result<(), AllocError>
     stack.skip();
     let items = or_none(alloc, stack.exprs_if_any());
     stack.skip();
-    stack.push_new_rest(alloc, New::Filled(items))
+    stack.push(alloc, Value::New(Some(New::Filled(items))))
 }
 
 /// Further `[ ]` of a type, and the arguments of a new object.
@@ -75,7 +79,7 @@ pub fn array_deeper(alloc: Global, stack: &mut Stack) -> Result<(), AllocError>
     let others = stack.places();
     let one = stack.place();
     let brackets = before(alloc, one, others)?;
-    stack.push_new_rest(alloc, New::Object(brackets, given))
+    stack.push(alloc, Value::New(Some(New::Object(brackets, given))))
 }
 
 /// `[size]`
@@ -86,5 +90,5 @@ pub fn size_of(alloc: Global, stack: &mut Stack) -> Result<(), AllocError>
     stack.skip();
     let size = stack.placed().expr;
     stack.skip();
-    stack.push_expr(alloc, size)
+    stack.push(alloc, Value::Expr(Some(size)))
 }

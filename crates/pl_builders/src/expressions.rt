@@ -8,6 +8,7 @@ use pl_grammar::{ElvisRest, ExprRest, Operation, Placed};
 use pl_making::{joined, operator_of, step_of, unary_of, with_elvis, with_rest, with_step};
 use pl_stack::Stack;
 use pl_tree::Expr;
+use pl_values::Value;
 use std::alloc::{AllocError, Global};
 
 /// An expression.
@@ -17,7 +18,7 @@ pub fn expression(alloc: Global, stack: &mut Stack) -> Result<(), AllocError>
 {
     let rest = stack.expr_rest_if_any();
     let left = stack.placed();
-    stack.push_placed(alloc, with_rest(alloc, left, rest)?)
+    stack.push(alloc, Value::Placed(Some(with_rest(alloc, left, rest)?)))
 }
 
 /// `? one : other`
@@ -29,7 +30,10 @@ pub fn conditional_rest(alloc: Global, stack: &mut Stack) -> Result<(), AllocErr
     stack.skip();
     let one = stack.placed().expr;
     let at = stack.token().start;
-    stack.push_expr_rest(alloc, ExprRest::Conditional(at, one, other))
+    stack.push(
+        alloc,
+        Value::ExprRest(Some(ExprRest::Conditional(at, one, other))),
+    )
 }
 
 /// `= value`
@@ -39,7 +43,10 @@ pub fn assign_rest(alloc: Global, stack: &mut Stack) -> Result<(), AllocError>
 {
     let given = stack.placed().expr;
     let at = stack.token().start;
-    stack.push_expr_rest(alloc, ExprRest::Assign(None, at, given))
+    stack.push(
+        alloc,
+        Value::ExprRest(Some(ExprRest::Assign(None, at, given))),
+    )
 }
 
 /// `+= value`, and with the other operators.
@@ -50,7 +57,10 @@ pub fn compound_rest(alloc: Global, stack: &mut Stack) -> Result<(), AllocError>
     let given = stack.placed().expr;
     let token = stack.token();
     let operator = operator_of(token.kind);
-    stack.push_expr_rest(alloc, ExprRest::Assign(Some(operator), token.start, given))
+    stack.push(
+        alloc,
+        Value::ExprRest(Some(ExprRest::Assign(Some(operator), token.start, given))),
+    )
 }
 
 /// What may have a `?:`.
@@ -60,7 +70,7 @@ pub fn elvises(alloc: Global, stack: &mut Stack) -> Result<(), AllocError>
 {
     let rest = stack.elvis_rest_if_any();
     let left = stack.placed();
-    stack.push_placed(alloc, with_elvis(alloc, left, rest)?)
+    stack.push(alloc, Value::Placed(Some(with_elvis(alloc, left, rest)?)))
 }
 
 /// `?: right`
@@ -70,7 +80,7 @@ pub fn elvis_of(alloc: Global, stack: &mut Stack) -> Result<(), AllocError>
 {
     let right = stack.placed().expr;
     let at = stack.token().start;
-    stack.push_elvis_rest(alloc, ElvisRest { at, right })
+    stack.push(alloc, Value::ElvisRest(Some(ElvisRest { at, right })))
 }
 
 /// `++target` or `--target`
@@ -88,12 +98,12 @@ pub fn prefix(alloc: Global, stack: &mut Stack) -> Result<(), AllocError>
             target,
         },
     )?;
-    stack.push_placed(
+    stack.push(
         alloc,
-        Placed {
+        Value::Placed(Some(Placed {
             start: token.start,
             expr,
-        },
+        })),
     )
 }
 
@@ -112,12 +122,12 @@ pub fn signed(alloc: Global, stack: &mut Stack) -> Result<(), AllocError>
             operand,
         },
     )?;
-    stack.push_placed(
+    stack.push(
         alloc,
-        Placed {
+        Value::Placed(Some(Placed {
             start: token.start,
             expr,
-        },
+        })),
     )
 }
 
@@ -131,7 +141,7 @@ pub fn cast(alloc: Global, stack: &mut Stack) -> Result<(), AllocError>
     let of = stack.type_name();
     let at = stack.token().start;
     let expr = Expr::held(alloc, Expr::Cast { at, of, operand })?;
-    stack.push_placed(alloc, Placed { start: at, expr })
+    stack.push(alloc, Value::Placed(Some(Placed { start: at, expr })))
 }
 
 /// An operand that no operator precedes.
@@ -141,7 +151,7 @@ pub fn plain(alloc: Global, stack: &mut Stack) -> Result<(), AllocError>
 {
     let step = stack.token_if_any();
     let one = stack.placed();
-    stack.push_placed(alloc, with_step(alloc, one, step)?)
+    stack.push(alloc, Value::Placed(Some(with_step(alloc, one, step)?)))
 }
 
 /// `(within)`
@@ -153,7 +163,7 @@ pub fn bracketed(alloc: Global, stack: &mut Stack) -> Result<(), AllocError>
     let inner = stack.placed().expr;
     let at = stack.token().start;
     let expr = Expr::held(alloc, Expr::Bracketed { at, inner })?;
-    stack.push_placed(alloc, Placed { start: at, expr })
+    stack.push(alloc, Value::Placed(Some(Placed { start: at, expr })))
 }
 
 /// The operands and operations of a level.
@@ -163,7 +173,7 @@ pub fn products(alloc: Global, stack: &mut Stack) -> Result<(), AllocError>
 {
     let others = stack.operations();
     let one = stack.placed();
-    stack.push_placed(alloc, joined(alloc, one, others)?)
+    stack.push(alloc, Value::Placed(Some(joined(alloc, one, others)?)))
 }
 
 /// An operator and its right side.
@@ -174,7 +184,10 @@ pub fn times(alloc: Global, stack: &mut Stack) -> Result<(), AllocError>
     let right = stack.placed().expr;
     let token = stack.token();
     let operator = operator_of(token.kind);
-    stack.push_operation(alloc, Operation::Binary(operator, token.start, right))
+    stack.push(
+        alloc,
+        Value::Operation(Some(Operation::Binary(operator, token.start, right))),
+    )
 }
 
 /// `instanceof of`
@@ -184,5 +197,5 @@ pub fn test(alloc: Global, stack: &mut Stack) -> Result<(), AllocError>
 {
     let of = stack.type_name();
     let at = stack.token().start;
-    stack.push_operation(alloc, Operation::Test(at, of))
+    stack.push(alloc, Value::Operation(Some(Operation::Test(at, of))))
 }

@@ -8,6 +8,7 @@ use pl_grammar::{Contents, More, Placed};
 use pl_making::{before, collected, constant_of};
 use pl_stack::Stack;
 use pl_tree::{Entry, Expr, Spelled};
+use pl_values::Value;
 use plain_data::Items;
 use std::alloc::{AllocError, Global};
 
@@ -18,7 +19,7 @@ pub fn integer(alloc: Global, stack: &mut Stack) -> Result<(), AllocError>
 {
     let Spelled { at, spelling } = stack.spelled();
     let expr = Expr::held(alloc, Expr::Integer { at, spelling })?;
-    stack.push_placed(alloc, Placed { start: at, expr })
+    stack.push(alloc, Value::Placed(Some(Placed { start: at, expr })))
 }
 
 /// A text.
@@ -28,7 +29,7 @@ pub fn string(alloc: Global, stack: &mut Stack) -> Result<(), AllocError>
 {
     let Spelled { at, spelling } = stack.spelled();
     let expr = Expr::held(alloc, Expr::Text { at, spelling })?;
-    stack.push_placed(alloc, Placed { start: at, expr })
+    stack.push(alloc, Value::Placed(Some(Placed { start: at, expr })))
 }
 
 /// `true`, `false` or `null`
@@ -44,12 +45,12 @@ pub fn constant(alloc: Global, stack: &mut Stack) -> Result<(), AllocError>
             at: token.start,
         },
     )?;
-    stack.push_placed(
+    stack.push(
         alloc,
-        Placed {
+        Value::Placed(Some(Placed {
             start: token.start,
             expr,
-        },
+        })),
     )
 }
 
@@ -62,7 +63,7 @@ pub fn collection(alloc: Global, stack: &mut Stack) -> Result<(), AllocError>
     let inside = stack.contents_if_any();
     let at = stack.token().start;
     let expr = collected(alloc, at, inside)?;
-    stack.push_placed(alloc, Placed { start: at, expr })
+    stack.push(alloc, Value::Placed(Some(Placed { start: at, expr })))
 }
 
 /// The `:` of an empty map.
@@ -71,7 +72,7 @@ pub fn no_entries(alloc: Global, stack: &mut Stack) -> Result<(), AllocError>
     ensures { OnOk result (Reduces g.no_entries stack.old stack.new) }
 {
     stack.skip();
-    stack.push_contents(alloc, Contents::NoEntries)
+    stack.push(alloc, Value::Contents(Some(Contents::NoEntries)))
 }
 
 /// Contents of a list or a map, one at least.
@@ -81,7 +82,7 @@ pub fn filled(alloc: Global, stack: &mut Stack) -> Result<(), AllocError>
 {
     let more = stack.more_if_any();
     let one = stack.placed().expr;
-    stack.push_contents(alloc, Contents::Filled(one, more))
+    stack.push(alloc, Value::Contents(Some(Contents::Filled(one, more))))
 }
 
 /// Further items of a list.
@@ -91,7 +92,10 @@ pub fn more_items(alloc: Global, stack: &mut Stack) -> Result<(), AllocError>
 {
     let others = stack.exprs();
     let one = stack.expr();
-    stack.push_more(alloc, More::Items(before(alloc, one, others)?))
+    stack.push(
+        alloc,
+        Value::More(Some(More::Items(before(alloc, one, others)?))),
+    )
 }
 
 /// The first value of a map, and further entries.
@@ -102,7 +106,7 @@ pub fn more_entries(alloc: Global, stack: &mut Stack) -> Result<(), AllocError>
     let others = stack.entries();
     let one = stack.placed().expr;
     stack.skip();
-    stack.push_more(alloc, More::Entries(one, others))
+    stack.push(alloc, Value::More(Some(More::Entries(one, others))))
 }
 
 /// `key : value`
@@ -113,7 +117,7 @@ pub fn entry_of(alloc: Global, stack: &mut Stack) -> Result<(), AllocError>
     let value = stack.placed().expr;
     stack.skip();
     let key = stack.placed().expr;
-    stack.push_entry(alloc, Entry { key, value })
+    stack.push(alloc, Value::Entry(Some(Entry { key, value })))
 }
 
 /// Items, one at least.
@@ -123,7 +127,7 @@ pub fn items_of(alloc: Global, stack: &mut Stack) -> Result<(), AllocError>
 {
     let others = stack.exprs();
     let one = stack.expr();
-    stack.push_exprs(alloc, before(alloc, one, others)?)
+    stack.push(alloc, Value::Exprs(Some(before(alloc, one, others)?)))
 }
 
 /// An item.
@@ -132,5 +136,5 @@ pub fn item_of(alloc: Global, stack: &mut Stack) -> Result<(), AllocError>
     ensures { OnOk result (Reduces g.item_of stack.old stack.new) }
 {
     let one = stack.placed().expr;
-    stack.push_expr(alloc, one)
+    stack.push(alloc, Value::Expr(Some(one)))
 }

@@ -8,6 +8,7 @@ use pl_grammar::{ForRest, Tail, Three};
 use pl_making::{any_expr, for_statement};
 use pl_stack::Stack;
 use pl_tree::{First, Statement};
+use pl_values::Value;
 use std::alloc::{AllocError, Global};
 
 /// `while (condition) body`
@@ -28,7 +29,7 @@ pub fn looped(alloc: Global, stack: &mut Stack) -> Result<(), AllocError>
             body,
         },
     )?;
-    stack.push_statement(alloc, statement)
+    stack.push(alloc, Value::Statement(Some(statement)))
 }
 
 /// `do block while (condition)`
@@ -50,7 +51,7 @@ pub fn do_loop(alloc: Global, stack: &mut Stack) -> Result<(), AllocError>
             condition,
         },
     )?;
-    stack.push_statement(alloc, statement)
+    stack.push(alloc, Value::Statement(Some(statement)))
 }
 
 /// What a loop runs.
@@ -59,7 +60,7 @@ pub fn runs(alloc: Global, stack: &mut Stack) -> Result<(), AllocError>
     ensures { OnOk result (Reduces g.runs stack.old stack.new) }
 {
     let body = stack.body();
-    stack.push_run(alloc, Some(body))
+    stack.push(alloc, Value::Run(Some(Some(body))))
 }
 
 /// The `;` of a loop that runs nothing.
@@ -68,7 +69,7 @@ pub fn idle(alloc: Global, stack: &mut Stack) -> Result<(), AllocError>
     ensures { OnOk result (Reduces g.idle stack.old stack.new) }
 {
     stack.skip();
-    stack.push_run(alloc, None)
+    stack.push(alloc, Value::Run(Some(None)))
 }
 
 /// `for (` and what follows.
@@ -79,7 +80,10 @@ pub fn for_loop(alloc: Global, stack: &mut Stack) -> Result<(), AllocError>
     let rest = stack.for_rest();
     stack.skip();
     let at = stack.token().start;
-    stack.push_statement(alloc, for_statement(alloc, at, rest)?)
+    stack.push(
+        alloc,
+        Value::Statement(Some(for_statement(alloc, at, rest)?)),
+    )
 }
 
 /// The head of a `for` that does nothing first.
@@ -88,7 +92,7 @@ pub fn three_empty(alloc: Global, stack: &mut Stack) -> Result<(), AllocError>
     ensures { OnOk result (Reduces g.three_empty stack.old stack.new) }
 {
     let rest = stack.three();
-    stack.push_for_rest(alloc, ForRest::Three(None, rest))
+    stack.push(alloc, Value::ForRest(Some(ForRest::Three(None, rest))))
 }
 
 /// The head of a `for` that does something first.
@@ -98,7 +102,7 @@ pub fn three_first(alloc: Global, stack: &mut Stack) -> Result<(), AllocError>
 {
     let rest = stack.three();
     let one = stack.first();
-    stack.push_for_rest(alloc, ForRest::Three(Some(one), rest))
+    stack.push(alloc, Value::ForRest(Some(ForRest::Three(Some(one), rest))))
 }
 
 /// `of name : over) body`
@@ -112,7 +116,10 @@ pub fn each_of(alloc: Global, stack: &mut Stack) -> Result<(), AllocError>
     stack.skip();
     let name = stack.spelled();
     let of = stack.type_name();
-    stack.push_for_rest(alloc, ForRest::Each(of, name, over, body))
+    stack.push(
+        alloc,
+        Value::ForRest(Some(ForRest::Each(of, name, over, body))),
+    )
 }
 
 /// `name in over) body`
@@ -125,7 +132,7 @@ pub fn each_in(alloc: Global, stack: &mut Stack) -> Result<(), AllocError>
     let over = stack.placed().expr;
     stack.skip();
     let name = stack.spelled();
-    stack.push_for_rest(alloc, ForRest::In(name, over, body))
+    stack.push(alloc, Value::ForRest(Some(ForRest::In(name, over, body))))
 }
 
 /// `; condition` and what follows.
@@ -136,13 +143,13 @@ pub fn three_parts(alloc: Global, stack: &mut Stack) -> Result<(), AllocError>
     let Tail { update, body } = stack.tail();
     let condition = any_expr(stack.placed_if_any());
     stack.skip();
-    stack.push_three(
+    stack.push(
         alloc,
-        Three {
+        Value::Three(Some(Three {
             condition,
             update,
             body,
-        },
+        })),
     )
 }
 
@@ -155,7 +162,7 @@ pub fn tail_parts(alloc: Global, stack: &mut Stack) -> Result<(), AllocError>
     stack.skip();
     let update = any_expr(stack.placed_if_any());
     stack.skip();
-    stack.push_tail(alloc, Tail { update, body })
+    stack.push(alloc, Value::Tail(Some(Tail { update, body })))
 }
 
 /// A declaration as the first part of a `for`.
@@ -164,7 +171,7 @@ pub fn declares(alloc: Global, stack: &mut Stack) -> Result<(), AllocError>
     ensures { OnOk result (Reduces g.declares stack.old stack.new) }
 {
     let one = stack.declaration();
-    stack.push_first(alloc, First::Declare(one))
+    stack.push(alloc, Value::First(Some(First::Declare(one))))
 }
 
 /// An expression as the first part of a `for`.
@@ -173,5 +180,5 @@ pub fn expresses(alloc: Global, stack: &mut Stack) -> Result<(), AllocError>
     ensures { OnOk result (Reduces g.expresses stack.old stack.new) }
 {
     let one = stack.placed().expr;
-    stack.push_first(alloc, First::Expression(one))
+    stack.push(alloc, Value::First(Some(First::Expression(one))))
 }

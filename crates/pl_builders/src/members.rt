@@ -8,6 +8,7 @@ use pl_grammar::{Member, Placed, Suffix};
 use pl_making::{access_of, chained, name_or_call, suffix_of, suffixed_by};
 use pl_stack::Stack;
 use pl_tree::Expr;
+use pl_values::Value;
 use std::alloc::{AllocError, Global};
 
 /// A name, and its arguments if any.
@@ -19,7 +20,7 @@ pub fn named(alloc: Global, stack: &mut Stack) -> Result<(), AllocError>
     let name = stack.spelled();
     let start = name.at;
     let expr = Expr::held(alloc, name_or_call(name, given))?;
-    stack.push_placed(alloc, Placed { start, expr })
+    stack.push(alloc, Value::Placed(Some(Placed { start, expr })))
 }
 
 /// An expression, and the suffixes after it.
@@ -29,7 +30,7 @@ pub fn suffixed(alloc: Global, stack: &mut Stack) -> Result<(), AllocError>
 {
     let others = stack.suffixes();
     let one = stack.placed();
-    stack.push_placed(alloc, chained(alloc, one, others)?)
+    stack.push(alloc, Value::Placed(Some(chained(alloc, one, others)?)))
 }
 
 /// A type, a member of it, and the suffixes after that.
@@ -44,7 +45,7 @@ pub fn typed(alloc: Global, stack: &mut Stack) -> Result<(), AllocError>
     let type_expr = Expr::held(alloc, Expr::Type { of })?;
     let expr = suffixed_by(alloc, type_expr, one)?;
     let member = Placed { start, expr };
-    stack.push_placed(alloc, chained(alloc, member, others)?)
+    stack.push(alloc, Value::Placed(Some(chained(alloc, member, others)?)))
 }
 
 /// `[index]`
@@ -55,7 +56,7 @@ pub fn index(alloc: Global, stack: &mut Stack) -> Result<(), AllocError>
     stack.skip();
     let one = stack.placed().expr;
     let at = stack.token().start;
-    stack.push_suffix(alloc, Suffix::Index(at, one))
+    stack.push(alloc, Value::Suffix(Some(Suffix::Index(at, one))))
 }
 
 /// A dot and a member.
@@ -66,7 +67,7 @@ pub fn dot_of(alloc: Global, stack: &mut Stack) -> Result<(), AllocError>
     let member = stack.member();
     let token = stack.token();
     let access = access_of(token.kind);
-    stack.push_suffix(alloc, suffix_of(access, member))
+    stack.push(alloc, Value::Suffix(Some(suffix_of(access, member))))
 }
 
 /// The name of a member, and its arguments if any.
@@ -76,7 +77,7 @@ pub fn named_member(alloc: Global, stack: &mut Stack) -> Result<(), AllocError>
 {
     let given = stack.arguments_if_any();
     let name = stack.spelled();
-    stack.push_member(alloc, Member::Named(name, given))
+    stack.push(alloc, Value::Member(Some(Member::Named(name, given))))
 }
 
 /// A member whose name is a number.
@@ -85,5 +86,5 @@ pub fn numbered(alloc: Global, stack: &mut Stack) -> Result<(), AllocError>
     ensures { OnOk result (Reduces g.numbered stack.old stack.new) }
 {
     let number = stack.spelled();
-    stack.push_member(alloc, Member::Numbered(number))
+    stack.push(alloc, Value::Member(Some(Member::Numbered(number))))
 }

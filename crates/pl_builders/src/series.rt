@@ -57,7 +57,7 @@ fn statements(alloc: Global, stack: &mut Stack) -> Result<(), AllocError>
     let one = stack.statement();
     let mut all = stack.statements();
     all.push(one)?;
-    stack.push_statements(alloc, all)
+    stack.push(alloc, Value::Statements(Some(all)))
 }
 
 /// Places, and one more.
@@ -68,7 +68,7 @@ fn places(alloc: Global, stack: &mut Stack) -> Result<(), AllocError>
     let one = stack.place();
     let mut all = stack.places();
     all.push(one)?;
-    stack.push_places(alloc, all)
+    stack.push(alloc, Value::Places(Some(all)))
 }
 
 /// Catches, and one more.
@@ -79,7 +79,7 @@ fn catches(alloc: Global, stack: &mut Stack) -> Result<(), AllocError>
     let one = stack.catch_clause();
     let mut all = stack.catches();
     all.push(one)?;
-    stack.push_catches(alloc, all)
+    stack.push(alloc, Value::Catches(Some(all)))
 }
 
 /// Suffixes, and one more.
@@ -90,7 +90,7 @@ fn suffixes(alloc: Global, stack: &mut Stack) -> Result<(), AllocError>
     let one = stack.suffix();
     let mut all = stack.suffixes();
     all.push(one)?;
-    stack.push_suffixes(alloc, all)
+    stack.push(alloc, Value::Suffixes(Some(all)))
 }
 
 /// Expressions, and one more.
@@ -101,7 +101,7 @@ fn exprs(alloc: Global, stack: &mut Stack) -> Result<(), AllocError>
     let one = stack.expr();
     let mut all = stack.exprs();
     all.push(one)?;
-    stack.push_exprs(alloc, all)
+    stack.push(alloc, Value::Exprs(Some(all)))
 }
 
 /// Operations, and one more.
@@ -112,7 +112,7 @@ fn operations(alloc: Global, stack: &mut Stack) -> Result<(), AllocError>
     let one = stack.operation();
     let mut all = stack.operations();
     all.push(one)?;
-    stack.push_operations(alloc, all)
+    stack.push(alloc, Value::Operations(Some(all)))
 }
 
 /// Parameters, and one more.
@@ -123,7 +123,7 @@ fn parameters(alloc: Global, stack: &mut Stack) -> Result<(), AllocError>
     let one = stack.parameter();
     let mut all = stack.parameters();
     all.push(one)?;
-    stack.push_parameters(alloc, all)
+    stack.push(alloc, Value::Parameters(Some(all)))
 }
 
 /// Variables, and one more.
@@ -134,7 +134,7 @@ fn variables(alloc: Global, stack: &mut Stack) -> Result<(), AllocError>
     let one = stack.variable();
     let mut all = stack.variables();
     all.push(one)?;
-    stack.push_variables(alloc, all)
+    stack.push(alloc, Value::Variables(Some(all)))
 }
 
 /// Entries, and one more.
@@ -145,7 +145,7 @@ fn entries(alloc: Global, stack: &mut Stack) -> Result<(), AllocError>
     let one = stack.entry();
     let mut all = stack.entries();
     all.push(one)?;
-    stack.push_entries(alloc, all)
+    stack.push(alloc, Value::Entries(Some(all)))
 }
 
 /// Arguments, and one more.
@@ -156,7 +156,7 @@ fn arguments(alloc: Global, stack: &mut Stack) -> Result<(), AllocError>
     let one = stack.argument();
     let mut all = stack.arguments();
     all.push(one)?;
-    stack.push_arguments(alloc, all)
+    stack.push(alloc, Value::Arguments(Some(all)))
 }
 
 /// Joins the phrase on the top of the stack to those below it.

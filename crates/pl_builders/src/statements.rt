@@ -7,6 +7,7 @@ ghost use Rattle.pl_values.specs.Stack.{AreOnTop, Reduces};
 use pl_making::{before, jump_of};
 use pl_stack::Stack;
 use pl_tree::{Block, Body, Catch, Declaration, Statement, Variable};
+use pl_values::Value;
 use std::alloc::{AllocError, Global};
 
 /// `{ statements }`
@@ -17,7 +18,7 @@ pub fn braces(alloc: Global, stack: &mut Stack) -> Result<(), AllocError>
     stack.skip();
     let statements = stack.statements();
     let at = stack.token().start;
-    stack.push_block(alloc, Block { at, statements })
+    stack.push(alloc, Value::Block(Some(Block { at, statements })))
 }
 
 /// `if (condition) then`, and its `else` if any.
@@ -40,7 +41,7 @@ pub fn conditional(alloc: Global, stack: &mut Stack) -> Result<(), AllocError>
             otherwise,
         },
     )?;
-    stack.push_statement(alloc, statement)
+    stack.push(alloc, Value::Statement(Some(statement)))
 }
 
 /// `try block`, and its catches.
@@ -54,7 +55,7 @@ pub fn tried(alloc: Global, stack: &mut Stack) -> Result<(), AllocError>
     let at = stack.token().start;
     let catches = before(alloc, one, others)?;
     let statement = Statement::held(alloc, Statement::Try { at, block, catches })?;
-    stack.push_statement(alloc, statement)
+    stack.push(alloc, Value::Statement(Some(statement)))
 }
 
 /// `catch (of name) block`
@@ -68,14 +69,14 @@ pub fn catches(alloc: Global, stack: &mut Stack) -> Result<(), AllocError>
     let of = stack.type_name();
     stack.skip();
     let at = stack.token().start;
-    stack.push_catch_clause(
+    stack.push(
         alloc,
-        Catch {
+        Value::Catch(Some(Catch {
             at,
             of,
             name,
             block,
-        },
+        })),
     )
 }
 
@@ -86,7 +87,7 @@ pub fn declared(alloc: Global, stack: &mut Stack) -> Result<(), AllocError>
 {
     let one = stack.declaration();
     let statement = Statement::held(alloc, Statement::Declare(one))?;
-    stack.push_statement(alloc, statement)
+    stack.push(alloc, Value::Statement(Some(statement)))
 }
 
 /// `continue` or `break`
@@ -96,7 +97,7 @@ pub fn jump(alloc: Global, stack: &mut Stack) -> Result<(), AllocError>
 {
     let token = stack.token();
     let statement = Statement::held(alloc, jump_of(token))?;
-    stack.push_statement(alloc, statement)
+    stack.push(alloc, Value::Statement(Some(statement)))
 }
 
 /// `return`, and its value if any.
@@ -107,7 +108,7 @@ pub fn returned(alloc: Global, stack: &mut Stack) -> Result<(), AllocError>
     let value = stack.argument_if_any();
     let at = stack.token().start;
     let statement = Statement::held(alloc, Statement::Return { at, value })?;
-    stack.push_statement(alloc, statement)
+    stack.push(alloc, Value::Statement(Some(statement)))
 }
 
 /// `throw value`
@@ -118,7 +119,7 @@ pub fn thrown(alloc: Global, stack: &mut Stack) -> Result<(), AllocError>
     let value = stack.placed().expr;
     let at = stack.token().start;
     let statement = Statement::held(alloc, Statement::Throw { at, value })?;
-    stack.push_statement(alloc, statement)
+    stack.push(alloc, Value::Statement(Some(statement)))
 }
 
 /// An expression as a statement.
@@ -134,7 +135,7 @@ pub fn value_statement(alloc: Global, stack: &mut Stack) -> Result<(), AllocErro
             value: given.expr,
         },
     )?;
-    stack.push_statement(alloc, statement)
+    stack.push(alloc, Value::Statement(Some(statement)))
 }
 
 /// `of variables`
@@ -146,7 +147,10 @@ pub fn declaration_of(alloc: Global, stack: &mut Stack) -> Result<(), AllocError
     let one = stack.variable();
     let of = stack.type_name();
     let variables = before(alloc, one, others)?;
-    stack.push_declaration(alloc, Declaration { of, variables })
+    stack.push(
+        alloc,
+        Value::Declaration(Some(Declaration { of, variables })),
+    )
 }
 
 /// A variable, and its value if any.
@@ -156,7 +160,7 @@ pub fn variable_of(alloc: Global, stack: &mut Stack) -> Result<(), AllocError>
 {
     let value = stack.argument_if_any();
     let name = stack.spelled();
-    stack.push_variable(alloc, Variable { name, value })
+    stack.push(alloc, Value::Variable(Some(Variable { name, value })))
 }
 
 /// A block as a body.
@@ -165,7 +169,7 @@ pub fn block_body(alloc: Global, stack: &mut Stack) -> Result<(), AllocError>
     ensures { OnOk result (Reduces g.block_body stack.old stack.new) }
 {
     let block = stack.block();
-    stack.push_body(alloc, Body::Block(block))
+    stack.push(alloc, Value::Body(Some(Body::Block(block))))
 }
 
 /// A statement as a body.
@@ -174,5 +178,5 @@ pub fn statement_body(alloc: Global, stack: &mut Stack) -> Result<(), AllocError
     ensures { OnOk result (Reduces g.statement_body stack.old stack.new) }
 {
     let statement = stack.statement();
-    stack.push_body(alloc, Body::Statement(statement))
+    stack.push(alloc, Value::Body(Some(Body::Statement(statement))))
 }

@@ -7,6 +7,7 @@ ghost use Rattle.pl_values.specs.Stack.{AreOnTop, Reduces};
 use pl_making::{base_of, before, or_none};
 use pl_stack::Stack;
 use pl_tree::{Function, Parameter, Spelled, TypeBase, TypeName};
+use pl_values::Value;
 use plain_data::Items;
 use std::alloc::{AllocError, Global};
 
@@ -21,14 +22,14 @@ pub fn function_of(alloc: Global, stack: &mut Stack) -> Result<(), AllocError>
     stack.skip();
     let name = stack.spelled();
     let of = stack.type_name();
-    stack.push_function(
+    stack.push(
         alloc,
-        Function {
+        Value::Function(Some(Function {
             result: of,
             name,
             parameters,
             body,
-        },
+        })),
     )
 }
 
@@ -39,7 +40,7 @@ pub fn formal_list(alloc: Global, stack: &mut Stack) -> Result<(), AllocError>
 {
     let others = stack.parameters();
     let one = stack.parameter();
-    stack.push_parameters(alloc, before(alloc, one, others)?)
+    stack.push(alloc, Value::Parameters(Some(before(alloc, one, others)?)))
 }
 
 /// `of name`
@@ -49,7 +50,10 @@ pub fn formal_of(alloc: Global, stack: &mut Stack) -> Result<(), AllocError>
 {
     let name = stack.spelled();
     let of = stack.type_name();
-    stack.push_parameter(alloc, Parameter { of: Some(of), name })
+    stack.push(
+        alloc,
+        Value::Parameter(Some(Parameter { of: Some(of), name })),
+    )
 }
 
 /// A parameter with no type.
@@ -58,7 +62,7 @@ pub fn bare_param(alloc: Global, stack: &mut Stack) -> Result<(), AllocError>
     ensures { OnOk result (Reduces g.bare_param stack.old stack.new) }
 {
     let name = stack.spelled();
-    stack.push_parameter(alloc, Parameter { of: None, name })
+    stack.push(alloc, Value::Parameter(Some(Parameter { of: None, name })))
 }
 
 /// A type that a name begins.
@@ -68,13 +72,13 @@ pub fn name_type(alloc: Global, stack: &mut Stack) -> Result<(), AllocError>
 {
     let brackets = stack.places();
     let Spelled { at, spelling } = stack.spelled();
-    stack.push_type_name(
+    stack.push(
         alloc,
-        TypeName {
+        Value::TypeName(Some(TypeName {
             at,
             base: TypeBase::Name(spelling),
             brackets,
-        },
+        })),
     )
 }
 
@@ -85,13 +89,13 @@ pub fn cast_type_of(alloc: Global, stack: &mut Stack) -> Result<(), AllocError>
 {
     let brackets = stack.places();
     let token = stack.token();
-    stack.push_type_name(
+    stack.push(
         alloc,
-        TypeName {
+        Value::TypeName(Some(TypeName {
             at: token.start,
             base: base_of(token.kind),
             brackets,
-        },
+        })),
     )
 }
 
@@ -102,7 +106,7 @@ pub fn square(alloc: Global, stack: &mut Stack) -> Result<(), AllocError>
 {
     stack.skip();
     let at = stack.token().start;
-    stack.push_place(alloc, at)
+    stack.push(alloc, Value::Place(Some(at)))
 }
 
 /// A name after `new`.
@@ -111,13 +115,13 @@ pub fn name_element(alloc: Global, stack: &mut Stack) -> Result<(), AllocError>
     ensures { OnOk result (Reduces g.name_element stack.old stack.new) }
 {
     let Spelled { at, spelling } = stack.spelled();
-    stack.push_type_name(
+    stack.push(
         alloc,
-        TypeName {
+        Value::TypeName(Some(TypeName {
             at,
             base: TypeBase::Name(spelling),
             brackets: Items::new(alloc),
-        },
+        })),
     )
 }
 
@@ -127,12 +131,12 @@ pub fn known_element(alloc: Global, stack: &mut Stack) -> Result<(), AllocError>
     ensures { OnOk result (Reduces g.known_element stack.old stack.new) }
 {
     let token = stack.token();
-    stack.push_type_name(
+    stack.push(
         alloc,
-        TypeName {
+        Value::TypeName(Some(TypeName {
             at: token.start,
             base: base_of(token.kind),
             brackets: Items::new(alloc),
-        },
+        })),
     )
 }

@@ -1,25 +1,2 @@
-pub mod Lexemes
-pub mod Certificates
-pub mod Fitting
-pub mod LookAhead
-pub mod Ranks
 pub mod Scan
-pub mod Walks
-pub mod Told
-pub mod Spine
-pub mod Settled
-pub mod Steps
-pub mod Choices
-pub mod Sound
-pub mod Complete
-pub mod Stops
-pub mod Heads
-pub mod Shapes
-pub mod Openings
-pub mod Forward
-pub mod Reach
-pub mod Levels
-pub mod Prefix
-pub mod Whole
-pub mod Deep
-pub mod Answered
+mod Lexemes

@@ -1,17 +1,12 @@
 -- What a form begins with, and which production of it the tokens ahead tell.
 use Rattle.std.specs.Prelude.{Bool, true, false, not, ◌||◌}
-use Rattle.pl_tree.specs.declared.operator.Step.{Step}
-use Rattle.pl_tree.specs.declared.operator.Constant.{Constant}
-use Rattle.pl_tree.specs.declared.tree.Function.{Function}
-use Rattle.pl_tree.specs.declared.tree.Catch.{Catch}
 use Rattle.pl_grammar.specs.declared.terminal.Terminal.{Terminal}
 use Rattle.pl_grammar.specs.declared.terminal.Terminal.TheVariants as t
 use Rattle.pl_grammar.specs.declared.ahead.Seen.{Seen}
 use Rattle.pl_grammar.specs.declared.ahead.Seen.TheVariants as s
-use Rattle.pl_grammar.specs.declared.parts.New.{New}
 use Rattle.pl_grammar.specs.Lexeme.{matches}
 use Rattle.pl_grammar.specs.Ahead.{is_final}
-use Rattle.pl_grammar.specs.Grammar.{Form, Production, after_bracket, arg, args, argued, arguments, array_rest, bare_param, binary, block, body, cast, cast_type, chain, closing, comma, contents, decl, declaration, declared, declares, dot, each_in, each_of, element, elvis, elvis_rest, entry, expr, expr_rest, expresses, expression, for_first, for_rest, for_tail, formal, formals, function, functions, handler, init, inner, item, items, lambda, lambda_body, lambdas, last, member, more, new_rest, opening, operation, optional, otherwise, pair, param, params, plain, postfix, primary, ref_name, reference, run, separator, sign_at, size, statement, statements, step, symbols, three, three_first, token, top, type, typed_param, unary, value, var}
+use Rattle.pl_grammar.specs.Grammar.{Form, Production, after_bracket, arg, args, argued, arguments, array_rest, bare_param, binary, block, body, cast, cast_type, chain, closing, comma, contents, decl, declared, declares, dot, each_in, each_of, element, elvis, elvis_rest, entry, expr, expr_rest, expresses, for_first, for_rest, for_tail, formal, formals, function, functions, handler, init, inner, item, items, lambda, lambda_body, lambdas, last, member, more, new_rest, opening, operation, otherwise, pair, param, params, plain, postfix, primary, ref_name, reference, run, separator, sign_at, size, statement, statements, step, three, three_first, top, type, typed_param, unary, value, var}
 
 abbrev pub begins_cast_type : Terminal → Bool
 begins_cast_type t.Class = true

@@ -1,8 +1,6 @@
 -- The grammar: a row for each production, in the order in which the language is described.
 use Rattle.std.specs.Prelude.{ℕ, List, [], ◌∷◌, Option, Some, None}
 use Rattle.pl_lexer.specs.declared.token.Token.{Token}
-use Rattle.pl_tree.specs.declared.operator.Step.{Step}
-use Rattle.pl_tree.specs.declared.operator.Constant.{Constant}
 use Rattle.pl_tree.specs.declared.tree.Tree.{Tree}
 use Rattle.pl_tree.specs.declared.tree.Spelled.{Spelled}
 use Rattle.pl_tree.specs.declared.tree.TypeName.{TypeName}

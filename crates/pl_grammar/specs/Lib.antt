@@ -5,6 +5,4 @@ pub mod Firsts
 pub mod Grammar
 pub mod Derives
 pub mod Reading
-pub mod Nesting
 pub mod Parses
-pub mod Laws

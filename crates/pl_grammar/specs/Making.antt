@@ -1,5 +1,5 @@
 -- The trees that productions make of the trees of their symbols.
-use Rattle.std.specs.Prelude.{◌≡◌, ℕ, Bool, true, false, not, ◌||◌, List, [], ◌∷◌, Option, Some, None}
+use Rattle.std.specs.Prelude.{ℕ, List, [], ◌∷◌, Option, Some, None}
 use Rattle.pl_lexer.specs.declared.token.Kind.{Kind}
 use Rattle.pl_lexer.specs.declared.token.Kind.TheVariants as k
 use Rattle.pl_lexer.specs.declared.token.Sign.{Sign}
@@ -23,23 +23,14 @@ use Rattle.pl_tree.specs.declared.tree.TypeBase.{TypeBase}
 use Rattle.pl_tree.specs.declared.tree.TypeBase.TheVariants as bs
 use Rattle.pl_tree.specs.declared.tree.Function.{Function}
 use Rattle.pl_tree.specs.declared.tree.Parameter.{Parameter}
-use Rattle.pl_tree.specs.declared.tree.Block.{Block, roll-Block}
-use Rattle.pl_tree.specs.declared.tree.Body.{Body}
-use Rattle.pl_tree.specs.declared.tree.Body.TheVariants as bd
 use Rattle.pl_tree.specs.declared.tree.Statement.{Statement}
 use Rattle.pl_tree.specs.declared.tree.Statement.TheVariants as st
-use Rattle.pl_tree.specs.declared.tree.First.{First}
-use Rattle.pl_tree.specs.declared.tree.First.TheVariants as fi
-use Rattle.pl_tree.specs.declared.tree.Declaration.{Declaration, roll-Declaration}
-use Rattle.pl_tree.specs.declared.tree.Variable.{Variable, roll-Variable}
-use Rattle.pl_tree.specs.declared.tree.Catch.{Catch, roll-Catch}
 use Rattle.pl_tree.specs.declared.tree.Expr.{Expr}
 use Rattle.pl_tree.specs.declared.tree.Expr.TheVariants as e
-use Rattle.pl_tree.specs.declared.tree.Entry.{Entry, roll-Entry}
+use Rattle.pl_tree.specs.declared.tree.Entry.{roll-Entry}
 use Rattle.pl_tree.specs.declared.tree.Argument.{Argument}
 use Rattle.pl_tree.specs.declared.tree.Argument.TheVariants as ar
 use Rattle.pl_tree.specs.declared.tree.LambdaBody.{LambdaBody}
-use Rattle.pl_tree.specs.declared.tree.LambdaBody.TheVariants as lb
 use Rattle.pl_grammar.specs.declared.parts.Placed.{Placed}
 use Rattle.pl_grammar.specs.declared.parts.Operation.{Operation}
 use Rattle.pl_grammar.specs.declared.parts.Operation.TheVariants as op
@@ -56,8 +47,6 @@ use Rattle.pl_grammar.specs.declared.parts.Contents.{Contents}
 use Rattle.pl_grammar.specs.declared.parts.Contents.TheVariants as cn
 use Rattle.pl_grammar.specs.declared.parts.More.{More}
 use Rattle.pl_grammar.specs.declared.parts.More.TheVariants as mr
-use Rattle.pl_grammar.specs.declared.parts.Three.{Three}
-use Rattle.pl_grammar.specs.declared.parts.Tail.{Tail}
 use Rattle.pl_grammar.specs.declared.parts.ForRest.{ForRest}
 use Rattle.pl_grammar.specs.declared.parts.ForRest.TheVariants as fr
 

@@ -5,7 +5,7 @@ use Rattle.pl_types.specs.declared.refusal.Refusal.{Refusal}
 use Rattle.pl_types.specs.declared.rules.TheConstants.{NESTING_DEEP, SYNTAX}
 use Rattle.pl_tree.specs.declared.tree.Tree.{Tree}
 use Rattle.pl_grammar.specs.Lexeme.{Lexeme, lexemes}
-use Rattle.pl_grammar.specs.Nesting.{nesting_fault}
+use Rattle.pl_nesting.specs.Nesting.{nesting_fault}
 use Rattle.pl_grammar.specs.Grammar.{top}
 use Rattle.pl_grammar.specs.Derives.{Derives, Begins}
 

@@ -8,7 +8,7 @@ use crate::terminal::{Terminal, terminal_of};
 use pl_lexer::Token;
 
 /// What is seen of the tokens ahead.
-#[derive(Clone, Copy, Debug, PartialEq, Eq)]
+#[derive(Clone, Copy)]
 pub enum Seen {
     /// Nothing yet of what may be a type, a parameter or an expression.
     Start,

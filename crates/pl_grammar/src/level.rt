@@ -6,7 +6,7 @@ ghost use Rattle.pl_grammar.specs.Grammar as spec;
 use crate::terminal::Terminal;
 
 /// A level, whose operators group to the left.
-#[derive(Clone, Copy, Debug, PartialEq, Eq)]
+#[derive(Clone, Copy)]
 pub enum Level {
     /// `*`, `/` and `%`, the tightest, between unary expressions.
     Product,
@@ -17,7 +17,7 @@ pub enum Level {
 }
 
 /// A level with another inside it, tightest first.
-#[derive(Clone, Copy, Debug, PartialEq, Eq)]
+#[derive(Clone, Copy)]
 pub enum Looser {
     Sum,
     Shift,

@@ -3,17 +3,13 @@
 #![tactic(auto)]
 
 mod ahead;
-mod laws;
 mod level;
-mod nesting;
 mod parts;
 mod stop;
 mod terminal;
 
 pub use ahead::{Seen, is_final, look, sees};
-pub use laws::grammar_laws;
 pub use level::{Level, Looser, sign_of, tighter};
-pub use nesting::nesting_fault;
 pub use parts::{
     Contents, ElvisRest, ExprRest, ForRest, Member, More, New, Operation, Placed, Suffix, Tail,
     Three,

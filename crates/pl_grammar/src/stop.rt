@@ -5,7 +5,7 @@ ghost use Rattle.std.specs.Prelude.{◌≡◌};
 use std::alloc::{AllocError, AllocFailed};
 
 /// Why a part of a script is not read.
-#[derive(Debug, Drop)]
+#[derive(Drop)]
 pub enum Stop {
     NoMemory,
     /// With this many tokens left, the next one continues no script.

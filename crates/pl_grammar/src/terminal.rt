@@ -6,7 +6,7 @@ ghost use Rattle.pl_grammar.specs.Lexeme as spec;
 use pl_lexer::{Kind, Sign, Word};
 
 /// What the grammar sees of a token, and what it asks for.
-#[derive(Clone, Copy, Debug, PartialEq, Eq)]
+#[derive(Clone, Copy, PartialEq, Eq)]
 pub enum Terminal {
     /// A name.
     Name,

@@ -7,8 +7,8 @@ use Rattle.pl_tree.specs.declared.tree.Tree.{Tree}
 use Rattle.pl_grammar.specs.declared.stop.Stop.{Stop}
 use Rattle.pl_grammar.specs.declared.stop.Stop.TheVariants.{NoMemory, Unexpected, TooDeep}
 use Rattle.pl_grammar.specs.Lexeme.{Lexeme, lexemes}
-use Rattle.pl_grammar.specs.Laws.{levels_for, Exact, Ends, Unique}
-use Rattle.pl_grammar.specs.Nesting.{nesting_fault}
+use Rattle.pl_grammar_laws.specs.Laws.{levels_for, Exact, Ends, Unique}
+use Rattle.pl_nesting.specs.Nesting.{nesting_fault}
 use Rattle.pl_grammar.specs.Parses.{StopsBefore, Refused, Parses, syntax_at, place_of}
 use Rattle.pl_grammar.specs.Reading.{read_script}
 use Rattle.pl_reader.proofs.Lexemes.{length_lexemes}

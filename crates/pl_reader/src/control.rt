@@ -9,7 +9,7 @@ use std::alloc::{AllocError, Global};
 use std::marker::Model;
 
 /// What is still to be read of a phrase, or of phrases that are repeated. Rules below it nest no deeper than `levels`.
-#[derive(Clone, Copy, Debug)]
+#[derive(Clone, Copy)]
 pub enum Frame {
     /// The symbols of a rule, from `at` on.
     Rest {

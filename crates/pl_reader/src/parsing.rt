@@ -9,8 +9,10 @@ ghost use Rattle.pl_grammar.specs.Parses.{Parses, place_of};
 
 use crate::cursor::Cursor;
 use crate::script::read_script;
-use pl_grammar::{Stop, grammar_laws, nesting_fault};
+use pl_grammar::Stop;
+use pl_grammar_laws::grammar_laws;
 use pl_lexer::Token;
+use pl_nesting::nesting_fault;
 use pl_tree::Tree;
 use pl_types::{Fail, Refusal, rules};
 use pl_values::Actions;

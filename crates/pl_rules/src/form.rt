@@ -6,7 +6,7 @@ ghost use Rattle.pl_rules.specs.Names as spec;
 use pl_grammar::Level;
 
 /// What commas may stand before.
-#[derive(Clone, Copy, Debug, PartialEq, Eq)]
+#[derive(Clone, Copy)]
 pub enum Listed {
     Formal,
     Var,
@@ -17,7 +17,7 @@ pub enum Listed {
 }
 
 /// What the rules describe, but for whole scripts.
-#[derive(Clone, Copy, Debug, PartialEq, Eq)]
+#[derive(Clone, Copy)]
 pub enum Form {
     /// A function: its result, its name, its parameters and its block.
     Function,
@@ -132,7 +132,7 @@ pub enum Form {
 }
 
 /// What may be repeated.
-#[derive(Clone, Copy, Debug, PartialEq, Eq)]
+#[derive(Clone, Copy)]
 pub enum Series {
     Statement,
     Inner,

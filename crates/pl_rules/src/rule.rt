@@ -8,7 +8,7 @@ use crate::form::{Form, Listed, Series};
 use pl_grammar::{Level, Looser, Terminal};
 
 /// What stands in a rule.
-#[derive(Clone, Copy, Debug, PartialEq, Eq)]
+#[derive(Clone, Copy)]
 pub enum Symbol {
     /// A token of this class.
     Sign(Terminal),
@@ -22,7 +22,7 @@ pub enum Symbol {
 }
 
 /// A production of the grammar, by its name.
-#[derive(Clone, Copy, Debug, PartialEq, Eq)]
+#[derive(Clone, Copy)]
 pub enum Rule {
     FunctionOf,
     FormalList,

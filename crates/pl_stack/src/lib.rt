@@ -2,7 +2,6 @@
 #![tactic(auto)]
 
 mod options;
-mod pushes;
 mod stack;
 mod takes;
 

@@ -1,7 +1,7 @@
 use Rattle.std.proofs.Common.{rules, ◌≡◌, ◌+◌, ◌*◌, length, None, arith}
 use Rattle.std.proofs.lemmas.Grind.{common_steps}
 use Rattle.pl_grammar.specs.Lexeme.{lexemes}
-use Rattle.pl_grammar.specs.Nesting.{nesting_fault}
+use Rattle.pl_nesting.specs.Nesting.{nesting_fault}
 use Rattle.pl_reader.proofs.Answered.{enough, deep, stop_of, within, refused_at, only_stop}
 use Rattle.pl_reader.proofs.parsing.parse_by.Goals as goal
 

@@ -1,9 +1,0 @@
-use Rattle.std.proofs.Common.{◌≡◌, ◌+◌, ◌≤◌, drop, sum}
-use Rattle.pl_grammar.specs.Nesting as spec
-use Rattle.pl_grammar.proofs.nesting.nesting_fault.Given as goal
-
-abbrev pub invariant-loop-at : goal.invariant-loop-at
-invariant-loop-at l = record {
-  same : spec.nesting_fault l.fn.tokens ≡ spec.deep_from l.levels (drop l.at l.fn.tokens);
-  small : l.levels.inner + sum l.levels.outer ≤ 1000;
-}
