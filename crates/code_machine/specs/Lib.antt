@@ -2,3 +2,4 @@ pub mod Seen
 pub mod Rows
 pub mod Runs
 pub mod Activations
+pub mod Laws

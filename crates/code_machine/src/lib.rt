@@ -6,6 +6,7 @@ mod boxes;
 mod calls;
 mod configuration;
 mod jumps;
+mod laws;
 mod operators;
 mod running;
 mod stack;
@@ -15,4 +16,5 @@ mod throwing;
 
 pub use activation::{Activation, Outcome};
 pub use configuration::{Configuration, End, Frame, Limits, Step, World};
+pub use laws::activation_laws;
 pub use stack::Stack;

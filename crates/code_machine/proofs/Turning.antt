@@ -1,0 +1,80 @@
+-- Turns add up.
+use Rattle.std.proofs.Common.{◌≡◌, ℕ, zero, suc, ◌+◌, ◌-◌, ◌≤◌, List, Option, Some, None, refl, sym, ap, ◌∙◌, subst, arith}
+use Rattle.pl_code.specs.declared.code.FunCode.{FunCode}
+use Rattle.run_world.specs.World.{Limits, End}
+use Rattle.code_meaning.specs.declared.word.Word.{Word}
+use Rattle.code_meaning.specs.Machine.{Next, Goes, Ends, Stuck, step, after}
+use Rattle.code_machine.specs.Seen.{limits_of}
+use Rattle.code_machine.specs.Runs.{steps_taken}
+use Rattle.code_machine.specs.Activations.{Activation, counted, later}
+use Rattle.code_machine.specs.Laws.{TurnsAdd, ComesToItsEnd}
+
+zero_add : (n : ℕ) → 0 + n ≡ n
+zero_add n = omega arith
+
+suc_add : (k n : ℕ) → suc k + n ≡ suc (k + n)
+suc_add k n = omega arith
+
+module _ (code : List FunCode) (limits : Limits) where
+  end_stays : (n : ℕ) (r : End (Option Word)) → after code limits n (Ends r) ≡ Ends r
+  end_stays zero r = refl
+  end_stays (suc n) r = refl
+
+  stuck_stays : (n : ℕ) → after code limits n Stuck ≡ Stuck
+  stuck_stays zero = refl
+  stuck_stays (suc n) = refl
+
+  none_behind : (n : ℕ) (r : End (Option Word)) → steps_taken code limits n (Ends r) ≡ 0
+  none_behind zero r = refl
+  none_behind (suc n) r = refl
+
+  none_stuck : (n : ℕ) → steps_taken code limits n Stuck ≡ 0
+  none_stuck zero = refl
+  none_stuck (suc n) = refl
+
+  pub adds : (first second : ℕ) (from : Next) → after code limits (first + second) from ≡ after code limits second (after code limits first from)
+  adds zero second from = ap (λ n. after code limits n from) (zero_add second)
+  adds (suc k) second (Goes c) = ap (λ n. after code limits n (Goes c)) (suc_add k second) ∙ adds k second (step code limits c)
+  adds (suc k) second (Ends r) = end_stays (suc k + second) r ∙ sym (end_stays second r)
+  adds (suc k) second Stuck = stuck_stays (suc k + second) ∙ sym (stuck_stays second)
+
+  pub taken_adds : (first second : ℕ) (from : Next) → steps_taken code limits (first + second) from ≡ steps_taken code limits first from + steps_taken code limits second (after code limits first from)
+  taken_adds zero second from = ap (λ n. steps_taken code limits n from) (zero_add second) ∙ sym (zero_add (steps_taken code limits second from))
+  taken_adds (suc k) second (Goes c) =
+      ap (λ n. steps_taken code limits n (Goes c)) (suc_add k second) ∙ ap suc (taken_adds k second (step code limits c))
+      ∙ sym (suc_add (steps_taken code limits k (step code limits c)) (steps_taken code limits second (after code limits k (step code limits c))))
+  taken_adds (suc k) second (Ends r) = none_behind (suc k + second) r ∙ sym (zero_add (steps_taken code limits second (Ends r)) ∙ none_behind second r)
+  taken_adds (suc k) second Stuck = none_stuck (suc k + second) ∙ sym (zero_add (steps_taken code limits second Stuck) ∙ none_stuck second)
+
+counted_twice : (steps first second : ℕ) → counted (steps + (first + second)) ≡ counted (counted (steps + first) + second)
+counted_twice steps first second = omega arith
+
+of_sum : (steps first second sum : ℕ) → sum ≡ first + second → counted (steps + sum) ≡ counted (counted (steps + first) + second)
+of_sum steps first second sum e = ap (λ n. counted (steps + n)) e ∙ counted_twice steps first second
+
+module _ (a : Activation) (first second : ℕ) where
+  abbrev made : ℕ → Option Next → Activation
+  made steps now = record { code = a.code; limits = a.limits; now = now; steps = steps }
+
+  by_now : (now : Option Next) → a.now ≡ now → later (first + second) a ≡ later second (later first a)
+  by_now None e = subst (λ now. later (first + second) (made a.steps now) ≡ later second (later first (made a.steps now))) (sym e) refl
+  by_now (Some n) e =
+      subst (λ now. later (first + second) (made a.steps now) ≡ later second (later first (made a.steps now))) (sym e)
+      (ap (λ next. made (counted (a.steps + steps_taken a.code (limits_of a.limits) (first + second) n)) (Some next)) (adds a.code (limits_of a.limits) first second n)
+      ∙ ap (λ steps. made steps (Some (after a.code (limits_of a.limits) second (after a.code (limits_of a.limits) first n))))
+      (of_sum a.steps (steps_taken a.code (limits_of a.limits) first n) (steps_taken a.code (limits_of a.limits) second (after a.code (limits_of a.limits) first n))
+      (steps_taken a.code (limits_of a.limits) (first + second) n) (taken_adds a.code (limits_of a.limits) first second n)))
+
+pub turns_add : TurnsAdd
+turns_add a first second = by_now a first second a.now refl
+
+the_rest : (steps q : ℕ) → steps ≤ q → q ≡ steps + (q - steps)
+the_rest steps q h = omega arith
+
+pub comes_to_its_end : ComesToItsEnd
+comes_to_its_end a from steps q end stands ends h =
+    let code = a.code in
+    let limits = limits_of a.limits in
+    let there : after code limits q from ≡ Ends end =
+    ap (λ n. after code limits n from) (the_rest steps q h) ∙ adds code limits steps (q - steps) from ∙ ap (after code limits (q - steps)) ends ∙ end_stays code limits (q - steps) end in
+    ap (λ now. (later q (record { code = a.code; limits = a.limits; now = now; steps = a.steps })).now) stands ∙ ap (λ next. Some next) there

@@ -1,0 +1,348 @@
+//! Listings, and how their runs end.
+
+/// A listing, the limits of its run, and what the run leaves.
+#[derive(Clone, Copy)]
+pub struct Row {
+    pub listing: &'static str,
+    pub loops: u64,
+    pub depth: u32,
+    pub ticks: u64,
+    pub room: u64,
+    pub left: &'static str,
+}
+
+pub const ROWS: [Row; 37] = [
+    // int s = 0; for (int i = 0; i < 5; i++) { s += i } s
+    Row {
+        listing: "painless 1\nfun 0 loop R - II\ni 0\nstore 0\ni 0\nstore 1\ngoto 13\nload 0\nload 1\nadd.i\nstore 0\nload 1\ni 1\nadd.i\nstore 1\nload 1\ni 5\nlt.i\nloop 5\nload 0\nbox int\nret\nend\n",
+        loops: 5,
+        depth: 100,
+        ticks: 100,
+        room: 1000,
+        left: "int 10; steps 72; ticks 5",
+    },
+    // the same with i < 6
+    Row {
+        listing: "painless 1\nfun 0 loop R - II\ni 0\nstore 0\ni 0\nstore 1\ngoto 13\nload 0\nload 1\nadd.i\nstore 0\nload 1\ni 1\nadd.i\nstore 1\nload 1\ni 6\nlt.i\nloop 5\nload 0\nbox int\nret\nend\n",
+        loops: 5,
+        depth: 100,
+        ticks: 100,
+        room: 1000,
+        left: "loop; steps 69; ticks 5",
+    },
+    // two loops of three turns share the turns of their frame
+    Row {
+        listing: "painless 1\nfun 0 loop R - I\ni 0\nstore 0\ngoto 7\nload 0\ni 1\nadd.i\nstore 0\nload 0\ni 3\nlt.i\nloop 3\ni 0\nstore 0\ngoto 18\nload 0\ni 1\nadd.i\nstore 0\nload 0\ni 3\nlt.i\nloop 14\nload 0\nbox int\nret\nend\n",
+        loops: 5,
+        depth: 100,
+        ticks: 100,
+        room: 1000,
+        left: "loop; steps 54; ticks 5",
+    },
+    // two functions with such a loop each
+    Row {
+        listing: "painless 1\nfun 0 loop R - -\ncall 1\ncall 2\nadd.i\nbox int\nret\nend\nfun 1 loop I - I\ni 0\nstore 0\ngoto 7\nload 0\ni 1\nadd.i\nstore 0\nload 0\ni 3\nlt.i\nloop 3\nload 0\nret\nend\nfun 2 loop I - I\ni 0\nstore 0\ngoto 7\nload 0\ni 1\nadd.i\nstore 0\nload 0\ni 3\nlt.i\nloop 3\nload 0\nret\nend\n",
+        loops: 5,
+        depth: 100,
+        ticks: 100,
+        room: 1000,
+        left: "int 6; steps 71; ticks 8",
+    },
+    // int f(int n) { return n == 0 ? 0 : f(n-1) + 1 } f(9)
+    Row {
+        listing: "painless 1\nfun 0 loop R - -\ni 9\ncall 1\nbox int\nret\nend\nfun 1 loop I I -\nload 0\ni 0\neq.i\nifz 6\ni 0\nret\nload 0\ni 1\nsub.i\ncall 1\ni 1\nadd.i\nret\nend\n",
+        loops: 100,
+        depth: 10,
+        ticks: 100,
+        room: 1000,
+        left: "int 9; steps 109; ticks 10",
+    },
+    // f(10)
+    Row {
+        listing: "painless 1\nfun 0 loop R - -\ni 10\ncall 1\nbox int\nret\nend\nfun 1 loop I I -\nload 0\ni 0\neq.i\nifz 6\ni 0\nret\nload 0\ni 1\nsub.i\ncall 1\ni 1\nadd.i\nret\nend\n",
+        loops: 100,
+        depth: 10,
+        ticks: 100,
+        room: 1000,
+        left: "depth; steps 82; ticks 10",
+    },
+    // 256 frames deep
+    Row {
+        listing: "painless 1\nfun 0 loop R - -\ni 255\ncall 1\nbox int\nret\nend\nfun 1 loop I I -\nload 0\ni 0\neq.i\nifz 6\ni 0\nret\nload 0\ni 1\nsub.i\ncall 1\ni 1\nadd.i\nret\nend\n",
+        loops: 100,
+        depth: 256,
+        ticks: 1000,
+        room: 1000,
+        left: "int 255; steps 2815; ticks 256",
+    },
+    // 257 frames deep
+    Row {
+        listing: "painless 1\nfun 0 loop R - -\ni 256\ncall 1\nbox int\nret\nend\nfun 1 loop I I -\nload 0\ni 0\neq.i\nifz 6\ni 0\nret\nload 0\ni 1\nsub.i\ncall 1\ni 1\nadd.i\nret\nend\n",
+        loops: 100,
+        depth: 256,
+        ticks: 1000,
+        room: 1000,
+        left: "depth; steps 2050; ticks 256",
+    },
+    // int f() { return 1 } f() + f()
+    Row {
+        listing: "painless 1\nfun 0 loop R - -\ncall 1\ncall 1\nadd.i\nbox int\nret\nend\nfun 1 loop I - -\ni 1\nret\nend\n",
+        loops: 100,
+        depth: 100,
+        ticks: 2,
+        room: 1000,
+        left: "int 2; steps 9; ticks 2",
+    },
+    // the same with one tick
+    Row {
+        listing: "painless 1\nfun 0 loop R - -\ncall 1\ncall 1\nadd.i\nbox int\nret\nend\nfun 1 loop I - -\ni 1\nret\nend\n",
+        loops: 100,
+        depth: 100,
+        ticks: 1,
+        room: 1000,
+        left: "ticks; steps 4; ticks 1",
+    },
+    // ticks are tried before the depth
+    Row {
+        listing: "painless 1\nfun 0 loop R - -\ncall 1\ncall 1\nadd.i\nbox int\nret\nend\nfun 1 loop I - -\ni 1\nret\nend\n",
+        loops: 100,
+        depth: 0,
+        ticks: 0,
+        room: 1000,
+        left: "ticks; steps 1; ticks 0",
+    },
+    // the depth alone
+    Row {
+        listing: "painless 1\nfun 0 loop R - -\ncall 1\ncall 1\nadd.i\nbox int\nret\nend\nfun 1 loop I - -\ni 1\nret\nend\n",
+        loops: 100,
+        depth: 0,
+        ticks: 1,
+        room: 1000,
+        left: "depth; steps 1; ticks 0",
+    },
+    // no more than one frame deep, twice
+    Row {
+        listing: "painless 1\nfun 0 loop R - -\ncall 1\ncall 1\nadd.i\nbox int\nret\nend\nfun 1 loop I - -\ni 1\nret\nend\n",
+        loops: 100,
+        depth: 1,
+        ticks: 2,
+        room: 1000,
+        left: "int 2; steps 9; ticks 2",
+    },
+    // an empty loop of three turns
+    Row {
+        listing: "painless 1\nfun 0 loop V - I\ni 0\nstore 0\ngoto 7\nload 0\ni 1\nadd.i\nstore 0\nload 0\ni 3\nlt.i\nloop 3\nret\nend\n",
+        loops: 100,
+        depth: 100,
+        ticks: 3,
+        room: 1000,
+        left: "nothing; steps 32; ticks 3",
+    },
+    // the same with two ticks
+    Row {
+        listing: "painless 1\nfun 0 loop V - I\ni 0\nstore 0\ngoto 7\nload 0\ni 1\nadd.i\nstore 0\nload 0\ni 3\nlt.i\nloop 3\nret\nend\n",
+        loops: 100,
+        depth: 100,
+        ticks: 2,
+        room: 1000,
+        left: "ticks; steps 23; ticks 2",
+    },
+    // turns are tried before ticks
+    Row {
+        listing: "painless 1\nfun 0 loop V - I\ni 0\nstore 0\ngoto 7\nload 0\ni 1\nadd.i\nstore 0\nload 0\ni 3\nlt.i\nloop 3\nret\nend\n",
+        loops: 0,
+        depth: 100,
+        ticks: 0,
+        room: 1000,
+        left: "loop; steps 7; ticks 0",
+    },
+    // the other operand of a division is zero
+    Row {
+        listing: "painless 1\nfun 0 loop R - -\ni 1\ni 0\ndiv.i\nbox int\nret\nend\n",
+        loops: 100,
+        depth: 100,
+        ticks: 100,
+        room: 1000,
+        left: "thrown; steps 3; ticks 0",
+    },
+    // no room for the exception
+    Row {
+        listing: "painless 1\nfun 0 loop R - -\ni 1\ni 0\ndiv.i\nbox int\nret\nend\n",
+        loops: 100,
+        depth: 100,
+        ticks: 100,
+        room: 0,
+        left: "room; steps 3; ticks 0",
+    },
+    // a trap catches it
+    Row {
+        listing: "painless 1\nfun 0 loop R - -\ntrap 0 3 4 java.lang.ArithmeticException\ni 1\ni 0\ndiv.i\nbox int\npop\ni 7\nbox int\nret\nend\n",
+        loops: 100,
+        depth: 100,
+        ticks: 100,
+        room: 1000,
+        left: "int 7; steps 7; ticks 0",
+    },
+    // a trap of another class does not
+    Row {
+        listing: "painless 1\nfun 0 loop R - -\ntrap 0 3 4 java.lang.NullPointerException\ni 1\ni 0\ndiv.i\nbox int\npop\ni 7\nbox int\nret\nend\n",
+        loops: 100,
+        depth: 100,
+        ticks: 100,
+        room: 1000,
+        left: "thrown; steps 3; ticks 0",
+    },
+    // a trap that ends before does not
+    Row {
+        listing: "painless 1\nfun 0 loop R - -\ntrap 0 2 4 java.lang.ArithmeticException\ni 1\ni 0\ndiv.i\nbox int\npop\ni 7\nbox int\nret\nend\n",
+        loops: 100,
+        depth: 100,
+        ticks: 100,
+        room: 1000,
+        left: "thrown; steps 3; ticks 0",
+    },
+    // a trap of the caller catches it at the call
+    Row {
+        listing: "painless 1\nfun 0 loop R - -\ntrap 0 1 2 java.lang.Exception\ncall 1\nret\npop\nj 5\nbox long\nret\nend\nfun 1 loop R - -\ni 1\ni 0\nrem.i\nbox int\nret\nend\n",
+        loops: 100,
+        depth: 100,
+        ticks: 100,
+        room: 1000,
+        left: "long 5; steps 8; ticks 1",
+    },
+    // null is no int
+    Row {
+        listing: "painless 1\nfun 0 loop R - -\nnull\nunbox int imp\nbox int\nret\nend\n",
+        loops: 100,
+        depth: 100,
+        ticks: 100,
+        room: 1000,
+        left: "thrown; steps 2; ticks 0",
+    },
+    // an int that is cast to a byte
+    Row {
+        listing: "painless 1\nfun 0 loop R - -\ni 300\nbox int\nunbox byte exp\nbox byte\nret\nend\n",
+        loops: 100,
+        depth: 100,
+        ticks: 100,
+        room: 1000,
+        left: "byte 44; steps 5; ticks 0",
+    },
+    // 1L << 33
+    Row {
+        listing: "painless 1\nfun 0 loop R - -\nj 1\ni 33\nshl.j\nbox long\nret\nend\n",
+        loops: 100,
+        depth: 100,
+        ticks: 100,
+        room: 1000,
+        left: "long 8589934592; steps 5; ticks 0",
+    },
+    // (char)65601
+    Row {
+        listing: "painless 1\nfun 0 loop R - -\ni 65601\ni2c\nbox char\nret\nend\n",
+        loops: 100,
+        depth: 100,
+        ticks: 100,
+        room: 1000,
+        left: "char 65; steps 4; ticks 0",
+    },
+    // 2, 1 and 2 are left
+    Row {
+        listing: "painless 1\nfun 0 loop R - -\ni 1\ni 2\ndupx1\nsub.i\nsub.i\nbox int\nret\nend\n",
+        loops: 100,
+        depth: 100,
+        ticks: 100,
+        room: 1000,
+        left: "int 3; steps 7; ticks 0",
+    },
+    // 3, 1, 2 and 3 are left
+    Row {
+        listing: "painless 1\nfun 0 loop R - -\ni 1\ni 2\ni 3\ndupx2\nsub.i\nsub.i\nsub.i\nbox int\nret\nend\n",
+        loops: 100,
+        depth: 100,
+        ticks: 100,
+        room: 1000,
+        left: "int 1; steps 9; ticks 0",
+    },
+    // 1, 2, 1 and 2 are left
+    Row {
+        listing: "painless 1\nfun 0 loop R - -\ni 1\ni 2\ndup2\nsub.i\nsub.i\nsub.i\nbox int\nret\nend\n",
+        loops: 100,
+        depth: 100,
+        ticks: 100,
+        room: 1000,
+        left: "int -2; steps 8; ticks 0",
+    },
+    // -9223372036854775808L / -1L
+    Row {
+        listing: "painless 1\nfun 0 loop R - -\nj -9223372036854775808\nj -1\ndiv.j\nbox long\nret\nend\n",
+        loops: 100,
+        depth: 100,
+        ticks: 100,
+        room: 1000,
+        left: "long -9223372036854775808; steps 5; ticks 0",
+    },
+    // arguments come in their order, and other locals begin with 0
+    Row {
+        listing: "painless 1\nfun 0 loop R - -\ni 7\ni 2\ncall 1\nbox int\nret\nend\nfun 1 loop I II I\nload 0\nload 1\nsub.i\nload 2\nadd.i\nret\nend\n",
+        loops: 100,
+        depth: 100,
+        ticks: 100,
+        room: 1000,
+        left: "int 5; steps 11; ticks 1",
+    },
+    // an int as it lies in code
+    Row {
+        listing: "painless 1\nfun 0 loop I - -\ni 3\nret\nend\n",
+        loops: 100,
+        depth: 100,
+        ticks: 100,
+        room: 1000,
+        left: "i 3; steps 2; ticks 0",
+    },
+    // a long as it lies in code
+    Row {
+        listing: "painless 1\nfun 0 loop J - -\ni 3\ni2j\nret\nend\n",
+        loops: 100,
+        depth: 100,
+        ticks: 100,
+        room: 1000,
+        left: "j 3; steps 3; ticks 0",
+    },
+    // no operand
+    Row {
+        listing: "painless 1\nfun 0 loop R - -\nadd.i\nbox int\nret\nend\n",
+        loops: 100,
+        depth: 100,
+        ticks: 100,
+        room: 1000,
+        left: "stuck; steps 1; ticks 0",
+    },
+    // an operand of another kind
+    Row {
+        listing: "painless 1\nfun 0 loop R - -\ni 1\nj 1\nadd.i\nbox int\nret\nend\n",
+        loops: 100,
+        depth: 100,
+        ticks: 100,
+        room: 1000,
+        left: "stuck; steps 3; ticks 0",
+    },
+    // no line
+    Row {
+        listing: "painless 1\nfun 0 loop R - -\ni 1\nend\n",
+        loops: 100,
+        depth: 100,
+        ticks: 100,
+        room: 1000,
+        left: "stuck; steps 2; ticks 0",
+    },
+    // no function
+    Row {
+        listing: "painless 1\n",
+        loops: 100,
+        depth: 100,
+        ticks: 100,
+        room: 1000,
+        left: "stuck; steps 0; ticks 0",
+    },
+];

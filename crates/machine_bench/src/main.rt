@@ -1,0 +1,73 @@
+//! Prints what a loop of a million turns and as many calls take, in nanoseconds an instruction. It measures where it is given an
+//! argument, and else prints nothing: `rt run -- times`.
+#![tactic(auto)]
+
+use code_machine::{Activation, Limits};
+use object_heap::Heap;
+use object_values::Elements;
+use pl_code::{Code, read_listing};
+use std::alloc::{AllocError, Global};
+use std::rt::Clock;
+use std::time::Instant;
+use std::{env, io};
+use task_core::Turn;
+
+// int s = 0; for (int i = 0; i < 1000000; i++) { s += i } s
+const LOOP: &str =
+    "painless 1\nfun 0 loop R - II\ni 0\nstore 0\ni 0\nstore 1\ngoto 13\nload 0\nload 1\nadd.i\nstore 0\nload 1\ni 1\nadd.i\nstore 1\nload 1\ni 1000000\nlt.i\nloop 5\nload 0\nbox int\nret\nend\n";
+
+// int f(int n) { return n } for (int i = 0; i < 1000000; i++) { f(i) }
+const CALLS: &str =
+    "painless 1\nfun 0 loop V - I\ni 0\nstore 0\ngoto 10\nload 0\ncall 1\npop\nload 0\ni 1\nadd.i\nstore 0\nload 0\ni 1000000\nlt.i\nloop 3\nret\nend\nfun 1 loop I I -\nload 0\nret\nend\n";
+
+const LIMITS: Limits = Limits {
+    loops: 1_000_000,
+    depth: 256,
+    ticks: 2_000_000,
+};
+
+/// How many instructions a run takes, in turns of so many. It is 0 where the run does not end.
+fn run(alloc: Global, code: &Code, q: u64) -> Result<u64, AllocError> {
+    let heap = Heap::new(alloc, 1_000_000);
+    let mut activation = Activation::start(code, heap, Elements::new(alloc), LIMITS)?;
+    for _ in 0..100_000_000 {
+        if activation.turn(q) != Turn::More {
+            break;
+        }
+    }
+    Ok(match activation.outcome() {
+        Some(outcome) => outcome.steps,
+        None => 0,
+    })
+}
+
+fn measure(
+    rt: &(impl Clock + Print),
+    alloc: Global,
+    name: &str,
+    code: &Code,
+    q: u64,
+) -> io::Result<()> {
+    let start = Instant::now(rt)?;
+    let Ok(steps) = run(alloc, code, q) else {
+        return Ok(());
+    };
+    let spent = start.elapsed(rt)?.as_nanos();
+    let each = spent / u128::from(steps.max(1));
+    println!(rt; "{name} in turns of {q}: {steps} instructions, {each} ns each, {spent} ns in all")
+}
+
+fn main(rt: HostRuntime) -> io::Result<()> {
+    if env::args(&rt)?.nth(1).is_none() {
+        return Ok(());
+    }
+    for (name, listing) in [("a loop", LOOP), ("calls", CALLS)] {
+        let Ok(code) = read_listing(rt.alloc(), listing.as_bytes()) else {
+            return Ok(());
+        };
+        for q in [1, 1_000, 100_000_000] {
+            measure(&rt, rt.alloc(), name, &code, q)?;
+        }
+    }
+    Ok(())
+}
