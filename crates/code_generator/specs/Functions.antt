@@ -10,7 +10,11 @@ use Rattle.code_generator.specs.Checks.{lying}
 use Rattle.pl_types.specs.declared.ty.Ty.{Ty}
 use Rattle.pl_code.specs.declared.kinds.Slot.{Slot}
 use Rattle.typed_tree.specs.declared.program.Named.{Named}
-use Rattle.program_meaning.specs.Programs.{variable_of}
+use Rattle.program_meaning.specs.Programs.{variable_of, fun_of}
+use Rattle.object_values.specs.declared.value.Value.{Value}
+use Rattle.run_world.specs.World.{World, Limits, End}
+use Rattle.code_meaning.specs.Words.{Word}
+use Rattle.program_code.specs.Correct.{Words, EndsAs, program_ends, start}
 use Rattle.code_generator.specs.Labels.{settled_line}
 use Rattle.code_generator.specs.declared.config.Entry as d
 use Rattle.code_generator.specs.Jobs.{scope_in, entry}
@@ -58,3 +62,9 @@ pub record InScope (params : List Named) (old new : List Slot) (scope : List d.E
   pub names : map entry scope ≡ scope_of (map variable_of params) 0 []
   pub count : length new ≡ length old + length params
   pub present : ArePresent (lyings_of (map variable_of params))
+
+-- Where a typed program ends at some bound, this code ends alike, from every start.
+abbrev pub EndsAsProgram : typed.Program → List FunCode → Type 0
+EndsAsProgram p code =
+    (limits : Limits) (args : List Value) (words : List Word) → Words (fun_of p.main).params args words
+    → (w : World) (bound : ℕ) (end : End (Option Word)) → program_ends p limits bound args w ≡ Some end → EndsAs code limits (start code words w) end

@@ -1,8 +1,9 @@
 //! Functions and programs.
 
 ghost use Rattle.std.specs.Prelude.{◌≡◌, ◌≢◌, ◌+◌, ◌∷◌, length, map, IfOk, OnOk};
-ghost use Rattle.code_generator.specs.Functions.{Begun, FunStands, InScope};
+ghost use Rattle.code_generator.specs.Functions.{Begun, EndsAsProgram, FunStands, InScope};
 ghost use Rattle.code_generator.specs.Jobs.{entry};
+ghost use Rattle.program_code.specs.Correct.{IsCodeOf};
 ghost use Rattle.program_code.specs.Lying.{Absent, lying_of};
 ghost use Rattle.program_code.specs.Stands.{Compiled};
 ghost use Rattle.program_meaning.specs.Programs.{program_of, fun_of};
@@ -17,11 +18,26 @@ use crate::task::{Tail, Task};
 use crate::writer::walk;
 use pl_code::{Code, FunCode, Slot};
 use plain_data::Items;
+use program_code::compiler_laws;
 use std::alloc::Global;
 use typed_tree::{Named, Program, TypedFunction};
 
-/// Code of a program. Function k of the program is function k of the code.
+/// Code of a program: function k of the program is function k of the code, and where the program comes to an end, its code comes to the
+/// same end.
+///
+/// # Errors
+///
+/// `Malformed` where the program breaks a rule of types or scopes, which no program that typing made does; `Unbuilt` where it has a part
+/// of a kind that has no code yet; `NoMemory`.
 pub fn generate(alloc: Global, program: &Program) -> Result<Code, CodeError>
+    ensures code { IfOk result (λ code. IsCodeOf program.now code.functions) }
+    ensures ends { IfOk result (λ code. EndsAsProgram program.now code.functions) }
+{
+    compiler_laws();
+    write(alloc, program)
+}
+
+fn write(alloc: Global, program: &Program) -> Result<Code, CodeError>
     ensures { IfOk result (λ code. Compiled (program_of program.now) code.functions) }
 {
     let mut functions = Items::new(alloc);

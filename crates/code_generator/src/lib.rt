@@ -20,12 +20,5 @@ mod task;
 mod values;
 mod writer;
 
-pub use config::{Config, Entry, Flow};
 pub use error::CodeError;
 pub use functions::generate;
-pub use labels::{Labels, Line};
-pub use lying::Lies;
-pub use pieces::Piece;
-pub use pile::Pile;
-pub use task::{Exits, Tail, Task, Wanted};
-pub use writer::walk;

@@ -1,9 +1,5 @@
-use Rattle.std.proofs.Common.{sym}
-use Rattle.code_generator.proofs.Whole.{functions_more, functions_all}
+use Rattle.std.proofs.lemmas.Result.{IfOk-weaker}
 use Rattle.code_generator.proofs.functions.generate.Goals as goal
 
-pub loop-at-preserved : goal.loop-at-preserved
-loop-at-preserved c = functions_more c.args.program.now c.loop-at.at c.in-Some.f.now c.loop-at.functions _ c.in_ok-code.code (sym c.in-Some.ensures.value) c.in_ok-push-2.ensures.ok c.in_ok-code.ensures c.loop-at.invariant
-
-pub returns-in_default : goal.returns-in_default
-returns-in_default c = functions_all c.args.program.now c.loop-at.at c.loop-at.functions (sym c.in_default.ensures.value) c.loop-at.invariant
+pub returns-clause-ends : goal.returns-clause-ends
+returns-clause-ends c = IfOk-weaker c.write.result _ _ (λ code d. c.compiler_laws.ensures.programs c.args.program.now code.functions d) c.write.ensures
