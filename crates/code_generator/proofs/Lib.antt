@@ -1,0 +1,9 @@
+pub mod Lists
+pub mod Back
+pub mod Opened
+pub mod Plans
+pub mod Names
+pub mod Parts
+pub mod Bodies
+pub mod Rows
+pub mod Whole

@@ -1,0 +1,133 @@
+-- What is to be written for each kind of expression.
+use Rattle.std.proofs.Common.{◌≡◌, ℕ, suc, List, [], ◌∷◌, sym, ◌∙◌, subst, Some}
+use Rattle.pl_types.specs.declared.ty.Ty.{Ty}
+use Rattle.pl_code.specs.declared.kinds.Numbered.{Numbered}
+use Rattle.pl_code.specs.declared.kinds.Numbered.TheVariants as numbered
+use Rattle.pl_code.specs.declared.code.FunCode.{FunCode}
+use Rattle.pl_code.specs.declared.code.Instruction.TheVariants as i
+use Rattle.pl_code.specs.declared.kinds.Plain.TheVariants as plain
+use Rattle.typed_tree.specs.declared.operation.Constant.{Constant}
+use Rattle.typed_tree.specs.declared.operation.Operation.{Operation}
+use Rattle.typed_tree.specs.declared.operation.Logical.{Logical}
+use Rattle.typed_tree.specs.declared.operation.Logical.TheVariants.{And, Or}
+use Rattle.typed_tree.specs.declared.operation.Target.TheVariants as target
+use Rattle.typed_tree.specs.declared.operation.Change.{Change}
+use Rattle.typed_tree.specs.declared.operation.Gives.{Gives}
+use Rattle.program_meaning.specs.Tree.{Name, Expr, Literal, Local, Logic, Conditional, Assign, Modify, Apply, Exprs, None', One, Program, type_of}
+use Rattle.program_code.specs.Lying.{lying_of, Lying, Bare}
+use Rattle.program_code.specs.Parts.{constant_code, operation_code, operator_code, cast_code, cast_gives, kept_before, kept_behind}
+use Rattle.code_generator.specs.Checks.{jump_of}
+use Rattle.program_code.specs.Stands.{Entry, Scope, IsEntry, At, end_expr, literal_lies, settled, settles, Fitting, lyings, change_first, change_last}
+use Rattle.code_generator.specs.Labels.{line_of}
+use Rattle.code_generator.specs.Jobs.{Job, Value, Values, Put, Jump, Bind, Load, Store, Wanted, Wants, Taken, Back}
+use Rattle.code_generator.specs.declared.config.Config.{Config}
+use Rattle.code_generator.proofs.Back.{planned}
+
+-- a jump to where a label is
+pub goes_to : (f : FunCode) (p : ℕ) (kind : Numbered) (line to : ℕ) → line ≡ to → At f [] p (i.Numbered kind line) → At f [] p (i.Numbered kind to)
+goes_to f p kind line to e a = subst (λ to. At f [] p (i.Numbered kind to)) e a
+
+settles_so : (f : FunCode) (p : ℕ) (o : Logical) (to : ℕ) → At f [] p (i.Numbered (jump_of o) to) → At f [] p (settles o to)
+settles_so f p And to a = a
+settles_so f p Or to a = a
+
+-- a name has one entry
+same_entry : (g : Scope) (x : Name) (y z : Entry) → IsEntry g x y → IsEntry g x z → z ≡ y
+same_entry g x y z a b = let h : Some z ≡ Some y = sym b.is ∙ a.is in cc
+
+module _ (funs : Program) (js : List Job) (c : Config) where
+  pub constant_plan : (at : ℕ) (of : Ty) (it : Constant) → lying_of of ≡ literal_lies it → Back funs (Value (Literal at of it) ∷ js) c (Put (constant_code it ∷ []) ∷ js) c
+  constant_plan at of it e = planned funs (Value (Literal at of it) ∷ js) c (Put (constant_code it ∷ []) ∷ js) (λ f labels g n p flows s. ((s.0.0, e), s.1))
+
+  pub local_plan : (at : ℕ) (of : Ty) (x : Name) (lies : Lying) → lies ≡ lying_of of → Back funs (Value (Local at of x) ∷ js) c (Load x lies ∷ js) c
+  local_plan at of x lies e = planned funs (Value (Local at of x) ∷ js) c (Load x lies ∷ js) (λ f labels g n p flows s. ((s.0.0, s.0.1, sym e ∙ s.0.2, s.0.3), s.1))
+
+  pub conditional_plan : (at : ℕ) (of : Ty) (a b d : Expr) (other end : ℕ) → lying_of (type_of a) ≡ Bare → lying_of (type_of b) ≡ lying_of of → lying_of (type_of d) ≡ lying_of of
+      → Back funs (Value (Conditional at of a b d) ∷ js) c
+      (Value a ∷ Jump numbered.IfZero other ∷ Value b ∷ Jump numbered.Goto end ∷ Bind other ∷ Value d ∷ Bind end ∷ js) c
+  conditional_plan at of a b d other end ea eb ed =
+      planned funs (Value (Conditional at of a b d) ∷ js) c (Value a ∷ Jump numbered.IfZero other ∷ Value b ∷ Jump numbered.Goto end ∷ Bind other ∷ Value d ∷ Bind end ∷ js)
+      (λ f labels g n p flows s.
+      let q = suc (end_expr p a) in
+      let r = suc (end_expr q b) in (
+        (
+          s.0,
+          goes_to f (end_expr p a) numbered.IfZero (line_of labels other) r s.1.1.1.1.0 s.1.0,
+          s.1.1.0,
+          goes_to f (end_expr q b) numbered.Goto (line_of labels end) (end_expr r d) s.1.1.1.1.1.1.0 s.1.1.1.0,
+          s.1.1.1.1.1.0,
+          ea,
+          eb,
+          ed,
+        ),
+        s.1.1.1.1.1.1.1,
+      ))
+
+  pub logical_plan : (at : ℕ) (of : Ty) (o : Logical) (a b : Expr) (other end : ℕ) → lying_of (type_of a) ≡ Bare → lying_of (type_of b) ≡ Bare → lying_of of ≡ Bare
+      → Back funs (Value (Logic at of o a b) ∷ js) c
+      (Value a ∷ Jump (jump_of o) other ∷ Value b ∷ Jump numbered.Goto end ∷ Bind other ∷ Put (settled o ∷ []) ∷ Bind end ∷ js) c
+  logical_plan at of o a b other end ea eb e =
+      planned funs (Value (Logic at of o a b) ∷ js) c (Value a ∷ Jump (jump_of o) other ∷ Value b ∷ Jump numbered.Goto end ∷ Bind other ∷ Put (settled o ∷ []) ∷ Bind end ∷ js)
+      (λ f labels g n p flows s.
+      let q = suc (end_expr p a) in
+      let r = end_expr q b in (
+        (
+          s.0,
+          settles_so f (end_expr p a) o (suc r) (goes_to f (end_expr p a) (jump_of o) (line_of labels other) (suc r) s.1.1.1.1.0 s.1.0),
+          s.1.1.0,
+          goes_to f r numbered.Goto (line_of labels end) (suc (suc r)) s.1.1.1.1.1.1.0 s.1.1.1.0,
+          s.1.1.1.1.1.0.0,
+          ea,
+          eb,
+          e,
+        ),
+        s.1.1.1.1.1.1.1,
+      ))
+
+  pub assign_plan : (at : ℕ) (of : Ty) (x : Name) (parts : Exprs) (a : Expr) (lies : Lying) → lies ≡ lying_of of → lying_of (type_of a) ≡ lies
+      → Back funs (Value (Assign at of (target.Local x) parts a) ∷ js) c (Value a ∷ Put (i.Plain plain.Dup ∷ []) ∷ Store x lies ∷ js) c
+  assign_plan at of x parts a lies e ea =
+      planned funs (Value (Assign at of (target.Local x) parts a) ∷ js) c (Value a ∷ Put (i.Plain plain.Dup ∷ []) ∷ Store x lies ∷ js)
+      (λ f labels g n p flows s. ((s.0, s.1.0.0, (s.1.1.0.0, s.1.1.0.1, ea ∙ s.1.1.0.2, sym e ∙ s.1.1.0.2, s.1.1.0.3)), s.1.1.1))
+
+  pub modify_plan : (at : ℕ) (of : Ty) (x : Name) (parts : Exprs) (change : Change) (a : Expr) (gives : Gives) → lying_of of ≡ Bare → lying_of (type_of a) ≡ Bare
+      → cast_gives change.before Bare ≡ Bare → cast_gives change.after Bare ≡ Bare
+      → Back funs (Value (Modify at of (target.Local x) parts change a gives) ∷ js) c
+      (Load x Bare ∷ Put (kept_before gives) ∷ Put (cast_code change.before) ∷ Value a ∷ Put (operator_code change.operator) ∷ Put (cast_code change.after) ∷ Put (kept_behind gives) ∷ Store x Bare ∷ js) c
+  modify_plan at of x parts change a gives e ea eb ec =
+      planned funs (Value (Modify at of (target.Local x) parts change a gives) ∷ js) c
+      (Load x Bare ∷ Put (kept_before gives) ∷ Put (cast_code change.before) ∷ Value a ∷ Put (operator_code change.operator) ∷ Put (cast_code change.after) ∷ Put (kept_behind gives) ∷ Store x Bare ∷ js)
+      (λ f labels g n p flows s.
+      let load = s.0 in
+      let store = s.1.1.1.1.1.1.1.0 in (
+        (
+          load.0,
+          load.1,
+          sym load.2,
+          e,
+          load.3,
+          s.1.0,
+          s.1.1.0,
+          s.1.1.1.0,
+          s.1.1.1.1.0,
+          s.1.1.1.1.1.0,
+          s.1.1.1.1.1.1.0,
+          subst (λ (y : Entry). At f [] (change_last gives change (end_expr (change_first gives change p) a)) (i.Numbered numbered.Store y.local)) (same_entry g x load.0 store.0 load.1 store.1) store.3,
+          ea,
+          eb,
+          ec,
+        ),
+        s.1.1.1.1.1.1.1.1,
+      ))
+
+  pub apply_plan : (at : ℕ) (of : Ty) (o : Operation) (parts : Exprs) (wanted : Wanted) → (Wants wanted (lyings parts) → Fitting funs o (lyings parts) (lying_of of))
+      → Back funs (Value (Apply at of o parts) ∷ js) c (Values parts wanted ∷ Put (operation_code o) ∷ js) c
+  apply_plan at of o parts wanted e =
+      planned funs (Value (Apply at of o parts) ∷ js) c (Values parts wanted ∷ Put (operation_code o) ∷ js) (λ f labels g n p flows s. ((s.0.0, s.1.0, e s.0.1), s.1.1))
+
+  pub values_end : (wanted : Wanted) → Wants wanted [] → Back funs (Values None' wanted ∷ js) c js c
+  values_end wanted e = planned funs (Values None' wanted ∷ js) c js (λ f labels g n p flows s. ((tt, e), s))
+
+  pub values_more : (a : Expr) (parts : Exprs) (wanted behind : Wanted) → Taken wanted behind (lying_of (type_of a)) → Back funs (Values (One a parts) wanted ∷ js) c (Value a ∷ Values parts behind ∷ js) c
+  values_more a parts wanted behind e =
+      planned funs (Values (One a parts) wanted ∷ js) c (Value a ∷ Values parts behind ∷ js) (λ f labels g n p flows s. (((s.0, s.1.0.0), e.by (lyings parts) s.1.0.1), s.1.1))

@@ -1,0 +1,12 @@
+use Rattle.std.proofs.Common.{sym, ◌∙◌}
+use Rattle.code_generator.specs.Jobs.{jobs}
+use Rattle.code_generator.proofs.Back.{with_labels}
+use Rattle.code_generator.proofs.Plans.{logical_plan}
+use Rattle.code_generator.proofs.expressions.logical.Goals as goal
+
+pub returns : goal.returns
+returns c =
+    rw c.in_ok-push_four.ensures (rw c.in_ok-push_three.ensures (rw c.settling.ensures
+    (with_labels _ _ c.args.config.now _ c.fresh.new.self c.fresh-2.new.self c.in_ok-settled.ensures.labels c.in_ok-end.ensures.labels
+    (logical_plan _ (jobs c.args.tasks.now) c.args.config.now c.args.at c.args.of.now c.args.operator _ _ c.in_ok-settled.settled c.in_ok-end.end
+    c.in_ok-lies_as.ensures c.in_ok-lies_as-2.ensures (sym c.lies_of.ensures ∙ c.in_ok-alike.ensures)))))

@@ -1,0 +1,14 @@
+use Rattle.std.proofs.Common.{sym}
+use Rattle.code_generator.proofs.Whole.{ahead_start, ahead_more, ahead_end}
+use Rattle.code_generator.proofs.functions.parameters.Goals as goal
+
+pub loop-at-preserved : goal.loop-at-preserved
+loop-at-preserved c =
+    ahead_more c.args.all.now c.loop-at.at c.args.params.now c.loop-at.params c.parameter.new.params c.loop-at.scope c.parameter.new.scope c.in-Some.param.now (sym c.in-Some.ensures.value) c.loop-at.invariant
+    c.in_ok-parameter.ensures.present c.in_ok-parameter.ensures.scope c.in_ok-parameter.ensures.count
+
+pub loop-at-init : goal.loop-at-init
+loop-at-init c = ahead_start _ _ _ c.new-scope.ensures
+
+pub returns-in_default : goal.returns-in_default
+returns-in_default c = ahead_end c.args.all.now c.loop-at.at c.args.params.now c.loop-at.params c.loop-at.scope (sym c.in_default.ensures.value) c.loop-at.invariant

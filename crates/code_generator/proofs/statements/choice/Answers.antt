@@ -1,0 +1,10 @@
+use Rattle.code_generator.specs.Jobs.{jobs}
+use Rattle.code_generator.proofs.Back.{with_labels}
+use Rattle.code_generator.proofs.Bodies.{if_plan}
+use Rattle.code_generator.proofs.statements.choice.Goals as goal
+
+pub returns : goal.returns
+returns c =
+    rw c.in_ok-push_four.ensures (rw c.in_ok-push_three-2.ensures (rw c.in_ok-push_three.ensures (rw c.body-yes.ensures (rw c.body_if_any-no.ensures
+    (with_labels _ _ c.args.config.now _ c.fresh.new.self c.fresh-2.new.self c.in_ok-over.ensures.labels c.in_ok-end.ensures.labels
+    (if_plan _ (jobs c.args.tasks.now) c.args.config.now c.args.exits _ _ _ c.len-height.result c.in_ok-over.over c.in_ok-end.end c.len-height.ensures c.in_ok-lies_as.ensures))))))

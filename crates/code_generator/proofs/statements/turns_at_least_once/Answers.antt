@@ -1,0 +1,12 @@
+use Rattle.code_generator.specs.Jobs.{jobs}
+use Rattle.code_generator.proofs.Back.{with_labels, label_more}
+use Rattle.code_generator.proofs.Bodies.{do_while_plan}
+use Rattle.code_generator.proofs.statements.turns_at_least_once.Goals as goal
+
+pub returns : goal.returns
+returns c =
+    rw c.in_ok-push_four-2.ensures (rw c.in_ok-push_four.ensures (rw c.in_ok-push_three.ensures (rw c.body-within.ensures (rw c.part-test.ensures
+    (label_more _ _ c.args.config.now _ c.fresh-3.new.self c.fresh-4.new.self c.in_ok-on.ensures.labels
+    (label_more _ _ c.args.config.now _ c.fresh-2.new.self c.fresh-3.new.self c.in_ok-out.ensures.labels
+    (with_labels _ _ c.args.config.now _ c.fresh.new.self c.fresh-2.new.self c.in_ok-first.ensures.labels c.in_ok-start.ensures.labels
+    (do_while_plan _ (jobs c.args.tasks.now) c.args.config.now c.args.exits _ _ c.len-height.result c.in_ok-first.first c.in_ok-start.start (record { out = c.in_ok-out.out; on = c.in_ok-on.on }) c.len-height.ensures))))))))

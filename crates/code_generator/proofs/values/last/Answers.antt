@@ -1,0 +1,6 @@
+use Rattle.std.proofs.Common.{sym}
+use Rattle.code_generator.proofs.Parts.{last_param}
+use Rattle.code_generator.proofs.values.last.Goals as goal
+
+pub returns-in-None : goal.returns-in-None
+returns-in-None c = rw c.in-As.is (last_param c.in-As.params.now c.args.at (sym c.in-None.ensures.value))

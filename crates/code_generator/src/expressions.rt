@@ -1,0 +1,390 @@
+//! Expressions: what is to be written for a node.
+
+ghost use Rattle.std.specs.Prelude.{◌≡◌, ◌∷◌, map, OnOk};
+ghost use Rattle.code_generator.specs.Checks.{lying, jump_of};
+ghost use Rattle.code_generator.specs.Jobs as j;
+ghost use Rattle.code_generator.specs.Jobs.{Back, jobs};
+ghost use Rattle.code_generator.specs.Opened.{opened};
+ghost use Rattle.code_generator.specs.Functions.{function_at};
+ghost use Rattle.std.specs.Option.{option_copied};
+ghost use Rattle.program_code.specs.Lying.{lying_of};
+ghost use Rattle.program_code.specs.Stands as stands;
+ghost use Rattle.program_meaning.specs.Programs.{program_of, expr_of, exprs_of};
+ghost use Rattle.program_meaning.specs.Tree.{type_of};
+ghost use Rattle.program_meaning.specs.Tree as tree;
+
+use crate::config::Config;
+use crate::error::CodeError;
+use crate::lying::{Lies, alike, cast_gives, cast_takes, lies_of};
+use crate::pieces::Piece;
+use crate::pile::Pile;
+use crate::task::{Task, Wanted};
+use pl_code::{Numbered, Plain};
+use pl_types::Ty;
+use plain_data::{Items, Subtree, Text};
+use typed_tree::{
+    Change, Constant, Gives, Logical, Node, Operation, Program, Target, Typed, TypedFunction,
+};
+
+/// How an expression's values lie.
+pub fn lies_in(e: &Typed) -> Lies
+    ensures { lying result ≡ lying_of (type_of (expr_of e.now)) }
+{
+    lies_of(&e.of)
+}
+
+/// An expression's values have to lie so.
+pub fn lies_as(e: &Typed, wanted: Lies) -> Result<(), CodeError>
+    ensures { OnOk result (lying_of (type_of (expr_of e.now)) ≡ lying wanted) }
+{
+    alike(lies_in(e), wanted)
+}
+
+/// What is to be written for an expression.
+pub fn value<'a>(
+    program: &'a Program,
+    config: &mut Config,
+    tasks: &mut Pile<Task<'a>>,
+    e: &'a Typed,
+) -> Result<(), CodeError>
+    ensures { OnOk result (Back (program_of program.now) (j.Value (opened e.now) ∷ jobs tasks.old) config.old (jobs tasks.new) config.new) }
+{
+    match &e.node {
+        Node::Constant(it) => constant(program, config, tasks, e.at, &e.of, *it),
+        Node::Local(name) => local(program, config, tasks, e.at, &e.of, name),
+        Node::Conditional { condition, yes, no } => conditional(
+            program,
+            config,
+            tasks,
+            e.at,
+            &e.of,
+            condition.get(),
+            yes.get(),
+            no.get(),
+        ),
+        Node::Apply { operation, parts } => {
+            apply(program, config, tasks, e.at, &e.of, operation, parts)
+        }
+        Node::Logical {
+            operator,
+            left,
+            right,
+        } => logical(
+            program,
+            config,
+            tasks,
+            e.at,
+            &e.of,
+            *operator,
+            left.get(),
+            right.get(),
+        ),
+        Node::Assign {
+            target,
+            parts,
+            value,
+        } => assign(
+            program,
+            config,
+            tasks,
+            e.at,
+            &e.of,
+            target,
+            parts,
+            value.get(),
+        ),
+        Node::Change {
+            target,
+            parts,
+            change,
+            right,
+            gives,
+        } => modify(
+            program,
+            config,
+            tasks,
+            e.at,
+            &e.of,
+            target,
+            parts,
+            *change,
+            right.get(),
+            *gives,
+        ),
+        _ => Err(CodeError::Unbuilt),
+    }
+}
+
+fn constant<'a>(
+    program: &'a Program,
+    config: &mut Config,
+    tasks: &mut Pile<Task<'a>>,
+    at: u32,
+    of: &Ty,
+    it: Constant,
+) -> Result<(), CodeError>
+    ensures { OnOk result (Back (program_of program.now) (j.Value (tree.Literal at of.now it) ∷ jobs tasks.old) config.old (jobs tasks.new) config.new) }
+{
+    alike(lies_of(of), literal_lies(it))?;
+    tasks.push(Task::Put(Piece::Constant(it)))?;
+    Ok(())
+}
+
+fn literal_lies(it: Constant) -> Lies
+    ensures { lying result ≡ stands.literal_lies it }
+{
+    match it {
+        Constant::Null => Lies::Whole,
+        _ => Lies::Bare,
+    }
+}
+
+fn local<'a>(
+    program: &'a Program,
+    config: &Config,
+    tasks: &mut Pile<Task<'a>>,
+    at: u32,
+    of: &Ty,
+    name: &'a Text,
+) -> Result<(), CodeError>
+    ensures { OnOk result (Back (program_of program.now) (j.Value (tree.Local at of.now name.now) ∷ jobs tasks.old) config.now (jobs tasks.new) config.now) }
+{
+    tasks.push(Task::Load(name, lies_of(of)))?;
+    Ok(())
+}
+
+fn conditional<'a>(
+    program: &'a Program,
+    config: &mut Config,
+    tasks: &mut Pile<Task<'a>>,
+    at: u32,
+    of: &Ty,
+    condition: &'a Typed,
+    yes: &'a Typed,
+    no: &'a Typed,
+) -> Result<(), CodeError>
+    ensures { OnOk result (Back (program_of program.now) (j.Value (tree.Conditional at of.now (expr_of condition.now) (expr_of yes.now) (expr_of no.now)) ∷ jobs tasks.old) config.old (jobs tasks.new) config.new) }
+{
+    lies_as(condition, Lies::Bare)?;
+    lies_as(yes, lies_of(of))?;
+    lies_as(no, lies_of(of))?;
+    let other = config.labels.fresh()?;
+    let end = config.labels.fresh()?;
+    tasks.push_three(Task::Bind(other), Task::Value(no), Task::Bind(end))?;
+    tasks.push_four(
+        Task::Value(condition),
+        Task::Jump(Numbered::IfZero, other),
+        Task::Value(yes),
+        Task::Jump(Numbered::Goto, end),
+    )?;
+    Ok(())
+}
+
+fn logical<'a>(
+    program: &'a Program,
+    config: &mut Config,
+    tasks: &mut Pile<Task<'a>>,
+    at: u32,
+    of: &Ty,
+    operator: Logical,
+    left: &'a Typed,
+    right: &'a Typed,
+) -> Result<(), CodeError>
+    ensures { OnOk result (Back (program_of program.now) (j.Value (tree.Logic at of.now operator (expr_of left.now) (expr_of right.now)) ∷ jobs tasks.old) config.old (jobs tasks.new) config.new) }
+{
+    lies_as(left, Lies::Bare)?;
+    lies_as(right, Lies::Bare)?;
+    alike(lies_of(of), Lies::Bare)?;
+    let settled = config.labels.fresh()?;
+    let end = config.labels.fresh()?;
+    tasks.push_three(
+        Task::Bind(settled),
+        Task::Put(Piece::Settled(operator)),
+        Task::Bind(end),
+    )?;
+    tasks.push_four(
+        Task::Value(left),
+        Task::Jump(settling(operator), settled),
+        Task::Value(right),
+        Task::Jump(Numbered::Goto, end),
+    )?;
+    Ok(())
+}
+
+/// The jump at the value of the left side that settles the whole.
+fn settling(operator: Logical) -> Numbered
+    ensures { result ≡ jump_of operator }
+{
+    match operator {
+        Logical::And => Numbered::IfZero,
+        Logical::Or => Numbered::IfNotZero,
+    }
+}
+
+fn assign<'a>(
+    program: &'a Program,
+    config: &Config,
+    tasks: &mut Pile<Task<'a>>,
+    at: u32,
+    of: &Ty,
+    target: &'a Target,
+    parts: &Items<Subtree<Typed>>,
+    value: &'a Typed,
+) -> Result<(), CodeError>
+    ensures { OnOk result (Back (program_of program.now) (j.Value (tree.Assign at of.now target.now (exprs_of (map expr_of parts.now)) (expr_of value.now)) ∷ jobs tasks.old) config.now (jobs tasks.new) config.now) }
+{
+    let Target::Local(name) = target else {
+        return Err(CodeError::Unbuilt);
+    };
+    let lies = lies_of(of);
+    lies_as(value, lies)?;
+    tasks.push_three(
+        Task::Value(value),
+        Task::Put(Piece::Plain(Plain::Dup)),
+        Task::Store(name, lies),
+    )?;
+    Ok(())
+}
+
+fn modify<'a>(
+    program: &'a Program,
+    config: &Config,
+    tasks: &mut Pile<Task<'a>>,
+    at: u32,
+    of: &Ty,
+    target: &'a Target,
+    parts: &Items<Subtree<Typed>>,
+    change: Change,
+    right: &'a Typed,
+    gives: Gives,
+) -> Result<(), CodeError>
+    ensures { OnOk result (Back (program_of program.now) (j.Value (tree.Modify at of.now target.now (exprs_of (map expr_of parts.now)) change (expr_of right.now) gives) ∷ jobs tasks.old) config.now (jobs tasks.new) config.now) }
+{
+    let Target::Local(name) = target else {
+        return Err(CodeError::Unbuilt);
+    };
+    alike(lies_of(of), Lies::Bare)?;
+    lies_as(right, Lies::Bare)?;
+    alike(cast_gives(change.before, Lies::Bare), Lies::Bare)?;
+    alike(cast_gives(change.after, Lies::Bare), Lies::Bare)?;
+    tasks.push_four(
+        Task::Put(Piece::Operator(change.operator)),
+        Task::Put(Piece::Cast(change.after)),
+        Task::Put(Piece::Behind(gives)),
+        Task::Store(name, Lies::Bare),
+    )?;
+    tasks.push_four(
+        Task::Load(name, Lies::Bare),
+        Task::Put(Piece::Before(gives)),
+        Task::Put(Piece::Cast(change.before)),
+        Task::Value(right),
+    )?;
+    Ok(())
+}
+
+fn apply<'a>(
+    program: &'a Program,
+    config: &Config,
+    tasks: &mut Pile<Task<'a>>,
+    at: u32,
+    of: &Ty,
+    operation: &'a Operation,
+    parts: &'a Items<Subtree<Typed>>,
+) -> Result<(), CodeError>
+    ensures { OnOk result (Back (program_of program.now) (j.Value (tree.Apply at of.now operation.now (exprs_of (map expr_of parts.now))) ∷ jobs tasks.old) config.now (jobs tasks.new) config.now) }
+{
+    match operation {
+        Operation::Operator(_) => apply_operator(program, config, tasks, at, of, operation, parts),
+        Operation::Cast(_) => apply_cast(program, config, tasks, at, of, operation, parts),
+        Operation::Function(_) => apply_call(program, config, tasks, at, of, operation, parts),
+        _ => Err(CodeError::Unbuilt),
+    }
+}
+
+fn apply_operator<'a>(
+    program: &'a Program,
+    config: &Config,
+    tasks: &mut Pile<Task<'a>>,
+    at: u32,
+    of: &Ty,
+    operation: &'a Operation,
+    parts: &'a Items<Subtree<Typed>>,
+) -> Result<(), CodeError>
+    ensures { OnOk result (Back (program_of program.now) (j.Value (tree.Apply at of.now operation.now (exprs_of (map expr_of parts.now))) ∷ jobs tasks.old) config.now (jobs tasks.new) config.now) }
+{
+    let Operation::Operator(_) = operation else {
+        return Err(CodeError::Unbuilt);
+    };
+    alike(lies_of(of), Lies::Bare)?;
+    tasks.push_two(
+        Task::Values(parts, 0, Wanted::Bares),
+        Task::Put(Piece::Operation(operation)),
+    )?;
+    Ok(())
+}
+
+fn apply_cast<'a>(
+    program: &'a Program,
+    config: &Config,
+    tasks: &mut Pile<Task<'a>>,
+    at: u32,
+    of: &Ty,
+    operation: &'a Operation,
+    parts: &'a Items<Subtree<Typed>>,
+) -> Result<(), CodeError>
+    ensures { OnOk result (Back (program_of program.now) (j.Value (tree.Apply at of.now operation.now (exprs_of (map expr_of parts.now))) ∷ jobs tasks.old) config.now (jobs tasks.new) config.now) }
+{
+    let Operation::Cast(cast) = operation else {
+        return Err(CodeError::Unbuilt);
+    };
+    let Some(part) = parts.get(0) else {
+        return Err(CodeError::Malformed);
+    };
+    if parts.len() != 1 {
+        return Err(CodeError::Malformed);
+    }
+    let given = lies_in(part.get());
+    alike(given, cast_takes(*cast, given))?;
+    alike(lies_of(of), cast_gives(*cast, given))?;
+    tasks.push_two(
+        Task::Values(parts, 0, Wanted::Any),
+        Task::Put(Piece::Operation(operation)),
+    )?;
+    Ok(())
+}
+
+fn apply_call<'a>(
+    program: &'a Program,
+    config: &Config,
+    tasks: &mut Pile<Task<'a>>,
+    at: u32,
+    of: &Ty,
+    operation: &'a Operation,
+    parts: &'a Items<Subtree<Typed>>,
+) -> Result<(), CodeError>
+    ensures { OnOk result (Back (program_of program.now) (j.Value (tree.Apply at of.now operation.now (exprs_of (map expr_of parts.now))) ∷ jobs tasks.old) config.now (jobs tasks.new) config.now) }
+{
+    let Operation::Function(number) = operation else {
+        return Err(CodeError::Unbuilt);
+    };
+    let Some(callee) = function(program, *number) else {
+        return Err(CodeError::Malformed);
+    };
+    alike(lies_of(of), lies_of(&callee.result))?;
+    tasks.push_two(
+        Task::Values(parts, 0, Wanted::As(&callee.parameters)),
+        Task::Put(Piece::Operation(operation)),
+    )?;
+    Ok(())
+}
+
+/// A function by its number.
+pub fn function<'a>(program: &'a Program, number: u32) -> Option<&'a TypedFunction>
+    ensures { option_copied result ≡ function_at program.now number }
+{
+    if number == 0 {
+        Some(&program.main)
+    } else {
+        program.functions.get(number as usize - 1)
+    }
+}

@@ -1,0 +1,121 @@
+//! Functions and programs.
+
+ghost use Rattle.std.specs.Prelude.{◌≡◌, ◌≢◌, ◌+◌, ◌∷◌, length, map, IfOk, OnOk};
+ghost use Rattle.code_generator.specs.Functions.{Begun, EndsAsProgram, FunStands, InScope};
+ghost use Rattle.code_generator.specs.Jobs.{entry};
+ghost use Rattle.program_code.specs.Correct.{IsCodeOf};
+ghost use Rattle.program_code.specs.Lying.{Absent, lying_of};
+ghost use Rattle.program_code.specs.Stands.{Compiled};
+ghost use Rattle.program_meaning.specs.Programs.{program_of, fun_of};
+
+use crate::config::{Config, Entry};
+use crate::error::CodeError;
+use crate::labels::Labels;
+use crate::lying::{lies_of, slot};
+use crate::pile::Pile;
+use crate::scopes::{entry_for, present};
+use crate::task::{Tail, Task};
+use crate::writer::walk;
+use pl_code::{Code, FunCode, Slot};
+use plain_data::Items;
+use program_code::compiler_laws;
+use std::alloc::Global;
+use typed_tree::{Named, Program, TypedFunction};
+
+/// Code of a program: function k of the program is function k of the code, and where the program comes to an end, its code comes to the
+/// same end.
+///
+/// # Errors
+///
+/// `Malformed` where the program breaks a rule of types or scopes, which no program that typing made does; `Unbuilt` where it has a part
+/// of a kind that has no code yet; `NoMemory`.
+pub fn generate(alloc: Global, program: &Program) -> Result<Code, CodeError>
+    ensures code { IfOk result (λ code. IsCodeOf program.now code.functions) }
+    ensures ends { IfOk result (λ code. EndsAsProgram program.now code.functions) }
+{
+    compiler_laws();
+    write(alloc, program)
+}
+
+fn write(alloc: Global, program: &Program) -> Result<Code, CodeError>
+    ensures { IfOk result (λ code. Compiled (program_of program.now) code.functions) }
+{
+    let mut functions = Items::new(alloc);
+    let main = function(alloc, program, &program.main)?;
+    functions.push(main)?;
+    for at in 0..u64::MAX {
+        let Some(f) = program.functions.get(at as usize) else {
+            return Ok(Code { functions });
+        };
+        let code = function(alloc, program, f)?;
+        functions.push(code)?;
+    }
+    Err(CodeError::NoMemory)
+}
+
+/// Code of a function.
+fn function(alloc: Global, program: &Program, f: &TypedFunction) -> Result<FunCode, CodeError>
+    ensures { IfOk result (λ code. FunStands (program_of program.now) code (fun_of f.now)) }
+{
+    let mut config = begin(alloc, f)?;
+    let mut tasks = Pile::new(alloc);
+    tasks.push_two(
+        Task::Rest(Tail::Row(&f.body, 0), None),
+        Task::End(&f.result),
+    )?;
+    walk(alloc, program, &mut config, &mut tasks)?;
+    config.finish(alloc, &f.result)
+}
+
+/// Nothing is written yet, and the parameters are in scope.
+fn begin(alloc: Global, f: &TypedFunction) -> Result<Config, CodeError>
+    ensures { IfOk result (λ config. Begun (fun_of f.now) config) }
+{
+    let mut params = Items::new(alloc);
+    let scope = parameters(alloc, &f.parameters, &mut params)?;
+    Ok(Config {
+        result: lies_of(&f.result),
+        params,
+        locals: Items::new(alloc),
+        lines: Items::new(alloc),
+        labels: Labels::new(alloc),
+        scope,
+        flows: Pile::new(alloc),
+    })
+}
+
+/// The scope of some parameters, the last of them the newest.
+fn parameters(
+    alloc: Global,
+    all: &Items<Named>,
+    params: &mut Items<Slot>,
+) -> Result<Pile<Entry>, CodeError>
+    ensures { IfOk result (λ scope. InScope all.now params.old params.new scope) }
+{
+    let mut scope = Pile::new(alloc);
+    for at in 0..4294967295u32 {
+        let Some(param) = all.get(at as usize) else {
+            return Ok(scope);
+        };
+        parameter(alloc, param, at, &mut scope, params)?;
+    }
+    Err(CodeError::NoMemory)
+}
+
+fn parameter(
+    alloc: Global,
+    param: &Named,
+    local: u32,
+    scope: &mut Pile<Entry>,
+    params: &mut Items<Slot>,
+) -> Result<(), CodeError>
+    ensures present { OnOk result (lying_of param.now.of ≢ Absent) }
+    ensures scope { OnOk result (map entry scope.new ≡ record { name = param.now.name; of = param.now.of; local = local } ∷ map entry scope.old) }
+    ensures count { OnOk result (length params.new ≡ length params.old + 1) }
+{
+    present(&param.of)?;
+    let one = entry_for(alloc, &param.name, &param.of, local)?;
+    scope.push(one)?;
+    params.push(slot(&param.of))?;
+    Ok(())
+}

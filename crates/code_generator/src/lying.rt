@@ -1,0 +1,94 @@
+//! How values lie on the operand stack.
+
+ghost use Rattle.std.specs.Prelude.{◌≡◌, OnOk};
+ghost use Rattle.program_code.specs.Lying.{lying_of, kind_of, result_of};
+ghost use Rattle.program_code.specs.Parts as parts;
+ghost use Rattle.code_generator.specs.Checks.{lying};
+
+use crate::error::CodeError;
+use pl_code::Slot;
+use pl_types::{Cast, Primitive, Ty};
+
+/// How the values of a type lie.
+#[derive(Clone, Copy, Debug, PartialEq, Eq)]
+pub enum Lies {
+    /// As a number.
+    Bare,
+    /// As it is.
+    Whole,
+    /// There is none.
+    Absent,
+}
+
+/// How the values of a type lie.
+pub fn lies_of(of: &Ty) -> Lies
+    ensures { lying result ≡ lying_of of.now }
+{
+    match of {
+        Ty::Void => Lies::Absent,
+        Ty::Prim(_) => Lies::Bare,
+        Ty::Null => Lies::Whole,
+        Ty::Def => Lies::Whole,
+        Ty::Class(_) => Lies::Whole,
+        Ty::Array(_) => Lies::Whole,
+    }
+}
+
+/// What a local of a type holds.
+pub fn slot(of: &Ty) -> Slot
+    ensures { result ≡ kind_of of.now }
+{
+    match of {
+        Ty::Prim(Primitive::Long) => Slot::J,
+        Ty::Prim(_) => Slot::I,
+        Ty::Void => Slot::R,
+        Ty::Null => Slot::R,
+        Ty::Def => Slot::R,
+        Ty::Class(_) => Slot::R,
+        Ty::Array(_) => Slot::R,
+    }
+}
+
+/// What a function of a result type gives.
+pub fn given(of: &Ty) -> Option<Slot>
+    ensures { result ≡ result_of of.now }
+{
+    match of {
+        Ty::Void => None,
+        _ => Some(slot(of)),
+    }
+}
+
+/// How what a cast takes lies.
+pub fn cast_takes(cast: Cast, given: Lies) -> Lies
+    ensures { lying result ≡ parts.cast_takes cast (lying given) }
+{
+    match cast {
+        Cast::Number(_, _) => Lies::Bare,
+        Cast::Wrap(_, _) => Lies::Bare,
+        _ => given,
+    }
+}
+
+/// How what a cast gives lies.
+pub fn cast_gives(cast: Cast, given: Lies) -> Lies
+    ensures { lying result ≡ parts.cast_gives cast (lying given) }
+{
+    match cast {
+        Cast::Number(_, _) => Lies::Bare,
+        Cast::Wrap(_, _) => Lies::Whole,
+        _ => given,
+    }
+}
+
+/// Two ways of lying have to be one.
+pub fn alike(left: Lies, right: Lies) -> Result<(), CodeError>
+    ensures { OnOk result (lying left ≡ lying right) }
+{
+    match (left, right) {
+        (Lies::Bare, Lies::Bare) => Ok(()),
+        (Lies::Whole, Lies::Whole) => Ok(()),
+        (Lies::Absent, Lies::Absent) => Ok(()),
+        _ => Err(CodeError::Malformed),
+    }
+}

@@ -1,0 +1,83 @@
+//! What is still to be written.
+
+use crate::config::Flow;
+use crate::lying::Lies;
+use crate::pieces::Piece;
+use pl_code::Numbered;
+use pl_types::Ty;
+use plain_data::{Items, Subtree, Text};
+use typed_tree::{Named, Typed, TypedStatement, TypedVariable};
+
+/// How parts have to lie.
+#[derive(Clone, Copy)]
+pub enum Wanted<'a> {
+    Any,
+    /// As numbers.
+    Bares,
+    /// As parameters do.
+    As(&'a Items<Named>),
+}
+
+/// Where `break` and `continue` go.
+#[derive(Clone, Copy)]
+pub struct Exits {
+    pub out: u32,
+    pub on: u32,
+}
+
+/// What stands behind a statement in its scope.
+#[derive(Clone, Copy)]
+pub enum Tail<'a> {
+    Nothing,
+    /// Some statements, from one on.
+    Row(&'a Items<Subtree<TypedStatement>>, usize),
+    /// The loop itself, behind what is done before it.
+    Loop(&'a TypedStatement),
+}
+
+/// A part that is still to be written.
+#[derive(Clone, Copy)]
+pub enum Task<'a> {
+    Value(&'a Typed),
+    /// Some parts, from one on.
+    Values(&'a Items<Subtree<Typed>>, usize, Wanted<'a>),
+    Put(Piece<'a>),
+    /// A jump to a label.
+    Jump(Numbered, u32),
+    /// A label is here.
+    Bind(u32),
+    /// Loads a name whose values lie so.
+    Load(&'a Text, Lies),
+    /// Stores to a name whose values lie so.
+    Store(&'a Text, Lies),
+    /// A statement that declares nothing, without what is done before a loop.
+    One(&'a TypedStatement, Option<Exits>),
+    /// A statement, and what stands behind it.
+    Statement(&'a TypedStatement, Tail<'a>, Option<Exits>),
+    /// What stands behind a statement.
+    Rest(Tail<'a>, Option<Exits>),
+    /// Variables from one on, and what stands behind them.
+    Variables(&'a Items<TypedVariable>, usize, Tail<'a>, Option<Exits>),
+    /// A variable is in scope from here on.
+    Declared(&'a TypedVariable),
+    /// The names above so many are gone.
+    Close(usize),
+    /// How control goes on behind what is written.
+    Flows(Flow),
+    /// A statement and those behind it go on as one.
+    Both,
+    /// Two ways go on as one.
+    Either,
+    /// A jump over what follows, where it is reached.
+    Skip(u32),
+    /// What is done behind a turn, where that is reached.
+    Update(Option<&'a Typed>),
+    /// The test before a turn.
+    Test(Option<&'a Typed>),
+    /// The test behind a turn, where that is reached, and the jump out of the loop.
+    Last(Option<&'a Typed>, u32),
+    /// A loop is left.
+    Turned,
+    /// The end of a function with this result.
+    End(&'a Ty),
+}

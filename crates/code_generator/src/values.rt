@@ -1,0 +1,66 @@
+//! Parts, from the left to the right.
+
+ghost use Rattle.std.specs.Prelude.{◌+◌, [], ◌∷◌, OnOk};
+ghost use Rattle.code_generator.specs.Jobs as j;
+ghost use Rattle.code_generator.specs.Jobs.{Back, Wants, Taken, jobs, parts_from, wanted};
+ghost use Rattle.program_code.specs.Lying.{lying_of};
+ghost use Rattle.program_meaning.specs.Programs.{program_of, expr_of};
+ghost use Rattle.program_meaning.specs.Tree.{type_of};
+
+use crate::config::Config;
+use crate::error::CodeError;
+use crate::expressions::lies_as;
+use crate::lying::{Lies, lies_of};
+use crate::pile::Pile;
+use crate::task::{Task, Wanted};
+use plain_data::{Items, Subtree};
+use typed_tree::{Program, Typed};
+
+/// Parts from one on: this one, and then the rest.
+pub fn values<'a>(
+    program: &'a Program,
+    config: &Config,
+    tasks: &mut Pile<Task<'a>>,
+    parts: &'a Items<Subtree<Typed>>,
+    at: usize,
+    kind: Wanted<'a>,
+) -> Result<(), CodeError>
+    ensures { OnOk result (Back (program_of program.now) (j.Values (parts_from at parts.now) (wanted at kind.entry) ∷ jobs tasks.old) config.now (jobs tasks.new) config.now) }
+{
+    let _count = parts.len();
+    let Some(part) = parts.get(at) else {
+        last(kind, at)?;
+        return Ok(());
+    };
+    let part = part.get();
+    fits(part, kind, at)?;
+    tasks.push_two(Task::Value(part), Task::Values(parts, at + 1, kind))?;
+    Ok(())
+}
+
+/// No parameter is left.
+fn last<'a>(kind: Wanted<'a>, at: usize) -> Result<(), CodeError>
+    ensures { OnOk result (Wants (wanted at kind.entry) []) }
+{
+    match kind {
+        Wanted::As(params) => match params.get(at) {
+            None => Ok(()),
+            Some(_) => Err(CodeError::Malformed),
+        },
+        _ => Ok(()),
+    }
+}
+
+/// A part lies as it has to.
+fn fits<'a>(part: &Typed, kind: Wanted<'a>, at: usize) -> Result<(), CodeError>
+    ensures { OnOk result (Taken (wanted at kind.entry) (wanted (at + 1) kind.entry) (lying_of (type_of (expr_of part.now)))) }
+{
+    match kind {
+        Wanted::Any => Ok(()),
+        Wanted::Bares => lies_as(part, Lies::Bare),
+        Wanted::As(params) => match params.get(at) {
+            Some(param) => lies_as(part, lies_of(&param.of)),
+            None => Err(CodeError::Malformed),
+        },
+    }
+}

@@ -1,0 +1,31 @@
+//! Goes on until nothing is left to be written.
+
+ghost use Rattle.std.specs.Prelude.{[], OnOk};
+ghost use Rattle.code_generator.specs.Jobs.{Back, jobs};
+ghost use Rattle.program_meaning.specs.Programs.{program_of};
+
+use crate::config::Config;
+use crate::error::CodeError;
+use crate::pile::Pile;
+use crate::step::step;
+use crate::task::Task;
+use std::alloc::Global;
+use typed_tree::Program;
+
+/// Goes on until nothing is left to be written.
+pub fn walk<'a>(
+    alloc: Global,
+    program: &'a Program,
+    config: &mut Config,
+    tasks: &mut Pile<Task<'a>>,
+) -> Result<(), CodeError>
+    ensures { OnOk result (Back (program_of program.now) (jobs tasks.old) config.old [] config.new) }
+{
+    for _ in 0..u64::MAX {
+        let Some(task) = tasks.pop() else {
+            return Ok(());
+        };
+        step(alloc, program, config, tasks, task)?;
+    }
+    Err(CodeError::NoMemory)
+}
