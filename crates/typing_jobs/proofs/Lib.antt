@@ -1,0 +1,8 @@
+mod Behind
+mod Above
+mod ValuePlans
+mod StatementPlans
+mod PartPlans
+mod Goings
+mod Firsts
+mod Runs

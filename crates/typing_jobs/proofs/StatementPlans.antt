@@ -1,0 +1,89 @@
+-- The plan of each statement comes to what the statement comes to.
+use Rattle.std.proofs.Common.{◌≡◌, ℕ, Bool, true, false, List, [], ◌∷◌, ◌++◌, length, map, Option, Some, None, Ok, Err, refl, sym, ap, subst, ◌∙◌}
+use Rattle.pl_types.specs.declared.ty.Ty.{Ty}
+use Rattle.pl_tree.specs.declared.operator.UnaryOperator.TheVariants as sign
+use Rattle.pl_tree.specs.declared.tree.Argument.{Argument, out-Argument, roll-Argument, roll-out-Argument}
+use Rattle.pl_tree.specs.declared.tree.Body.{Body, out-Body, roll-Body, roll-out-Body}
+use Rattle.pl_tree.specs.declared.tree.Expr.{Expr, out-Expr, roll-Expr, roll-out-Expr}
+use Rattle.pl_tree.specs.declared.tree.First.{First, out-First, roll-First, roll-out-First}
+use Rattle.pl_tree.specs.declared.tree.LambdaBody.{LambdaBody, out-LambdaBody, roll-LambdaBody, roll-out-LambdaBody}
+use Rattle.pl_tree.specs.declared.tree.Statement.{Statement, out-Statement, roll-Statement, roll-out-Statement}
+use Rattle.pl_tree.specs.declared.tree.TypeName.{TypeName}
+use Rattle.pl_tree.specs.declared.tree.Argument.TheOpen.{Argument-F, Body-F, Expr-F, First-F, LambdaBody-F, Statement-F}
+use Rattle.pl_tree.specs.declared.tree.Argument.TheFolds.{fold-roll-Expr, fold-roll-Argument, fold-roll-LambdaBody, fold-roll-Statement, fold-roll-Body, fold-roll-First, fold_out-Block}
+use Rattle.typed_tree.specs.declared.operation.Gives.TheVariants as g
+use Rattle.typed_tree.specs.declared.statement.TypedVariable.{TypedVariable}
+use Rattle.typed_tree.specs.declared.typed.Typed.{Typed}
+use Rattle.typing_rules.specs.declared.header.Header.{Header}
+use Rattle.typing_rules.specs.declared.part.Part.{Part}
+use Rattle.typing_rules.specs.declared.part.Place.{Place}
+use Rattle.typing_rules.specs.declared.part.Place.TheVariants as place
+use Rattle.typing_rules.specs.declared.part.Step.{Step}
+use Rattle.typing_rules.specs.declared.state.State.{State}
+use Rattle.typing_rules.specs.Doing.{Doing, Answer, and_then, ◌>>=◌, ◌>>◌, pure, by_rule}
+use Rattle.typing_rules.specs.Outcomes.{Out, bind}
+use Rattle.typing_rules.specs.State.{noted}
+use Rattle.typing_rules.specs.Rules.Types.{type_of}
+use Rattle.typing_rules.specs.Rules.Literals as literals
+use Rattle.typing_rules.specs.Rules.Casts as casts
+use Rattle.typing_rules.specs.Rules.Operators as operators
+use Rattle.typing_rules.specs.Rules.Places as places
+use Rattle.typing_rules.specs.Rules.Statements as rules
+use Rattle.typing_rules.specs.Typing.{Reading, Doer, Braces, Seen, reading, argument, body, doer, braces, argument_step, body_step, expression_step, first_step, lambda_step, statement_step, block_step, catch_step, declaration_step, entry_step, variable_step, scoped, looping}
+use Rattle.typing_acts.specs.declared.config.Config.{Config}
+use Rattle.typing_acts.specs.Expressions as expressions
+use Rattle.typing_jobs.specs.declared.task.Act.TheVariants as a
+use Rattle.typing_jobs.specs.declared.task.StatementAct.TheVariants as sa
+use Rattle.typing_jobs.specs.Going.{is_there}
+use Rattle.typing_jobs.specs.Job as j
+use Rattle.typing_jobs.specs.Job.{Job}
+use Rattle.typing_jobs.specs.Machine.{run, part_to, place_to, step_to, steps_to, refused_at}
+use Rattle.typing_jobs.specs.Plans.{Open, value_plan, negated_plan, target_plan, argument_plan, inner_plan, statement_plan, body_plan, first_plan, loop_body_plan, first_if_plan, condition_plan, update_if_plan, otherwise_plan, returned_plan, initial_plan, for_plan}
+use Rattle.typing_jobs.proofs.Behind.{behind, behind_with, behind_two, again}
+
+module _ (hs : List Header) (js : List Job) (c : Config) where
+  pub statement_rolled : (last : Bool) (y : Open Statement-F) → run hs (j.Statement_ (roll-Statement y) last ∷ js) c ≡ run hs (statement_plan last y ++ js) c
+  unfolding run
+  statement_rolled last (Statement-F.If at condition chosen None) = ap (λ (x : Doer). x.typed last c.state (step_to c (run hs js))) (fold-roll-Statement (Doing Part) (Doing Step) Reading (Doing Step) Seen Doer Braces Seen Doer Seen (Ty → Doing TypedVariable) (argument_step hs) (body_step hs) (expression_step hs) (first_step hs) (lambda_step hs) (statement_step hs) (block_step hs) (catch_step hs) (declaration_step hs) (entry_step hs) (variable_step hs) (Statement-F.If at condition chosen None))
+      ∙ (λ i. (reading hs condition).value c.state (λ x s. behind_with (rules.test x) (λ t. Some t) (λ t. record c { tests = t ∷ c.tests; state = s }) (run hs (j.Body_ chosen ∷ j.Otherwise at None ∷ js)) i))
+  statement_rolled last (Statement-F.If at condition chosen (Some other)) = ap (λ (x : Doer). x.typed last c.state (step_to c (run hs js))) (fold-roll-Statement (Doing Part) (Doing Step) Reading (Doing Step) Seen Doer Braces Seen Doer Seen (Ty → Doing TypedVariable) (argument_step hs) (body_step hs) (expression_step hs) (first_step hs) (lambda_step hs) (statement_step hs) (block_step hs) (catch_step hs) (declaration_step hs) (entry_step hs) (variable_step hs) (Statement-F.If at condition chosen (Some other)))
+      ∙ (λ i. (reading hs condition).value c.state (λ x s. behind_with (rules.test x) (λ t. Some t) (λ t. record c { tests = t ∷ c.tests; state = s }) (run hs (j.Body_ chosen ∷ j.Otherwise at (Some other) ∷ js)) i))
+  statement_rolled last (Statement-F.While at condition None) = ap (λ (x : Doer). x.typed last c.state (step_to c (run hs js))) (fold-roll-Statement (Doing Part) (Doing Step) Reading (Doing Step) Seen Doer Braces Seen Doer Seen (Ty → Doing TypedVariable) (argument_step hs) (body_step hs) (expression_step hs) (first_step hs) (lambda_step hs) (statement_step hs) (block_step hs) (catch_step hs) (declaration_step hs) (entry_step hs) (variable_step hs) (Statement-F.While at condition None))
+      ∙ (λ i. (reading hs condition).value c.state (λ x s. behind (rules.loop_test x) (λ t. record c { tests = t ∷ c.tests; state = s }) (run hs (j.DoStatement sa.NoTest ∷ j.LoopBody None ∷ j.DoStatement (sa.Loop at false false) ∷ js)) i))
+  statement_rolled last (Statement-F.While at condition (Some body_)) = ap (λ (x : Doer). x.typed last c.state (step_to c (run hs js))) (fold-roll-Statement (Doing Part) (Doing Step) Reading (Doing Step) Seen Doer Braces Seen Doer Seen (Ty → Doing TypedVariable) (argument_step hs) (body_step hs) (expression_step hs) (first_step hs) (lambda_step hs) (statement_step hs) (block_step hs) (catch_step hs) (declaration_step hs) (entry_step hs) (variable_step hs) (Statement-F.While at condition (Some body_)))
+      ∙ (λ i. (reading hs condition).value c.state (λ x s. behind (rules.loop_test x) (λ t. record c { tests = t ∷ c.tests; state = s }) (run hs (j.DoStatement sa.NoTest ∷ j.LoopBody (Some body_) ∷ j.DoStatement (sa.Loop at false true) ∷ js)) i))
+  statement_rolled last (Statement-F.For at None None None None) = ap (λ (x : Doer). x.typed last c.state (step_to c (run hs js))) (fold-roll-Statement (Doing Part) (Doing Step) Reading (Doing Step) Seen Doer Braces Seen Doer Seen (Ty → Doing TypedVariable) (argument_step hs) (body_step hs) (expression_step hs) (first_step hs) (lambda_step hs) (statement_step hs) (block_step hs) (catch_step hs) (declaration_step hs) (entry_step hs) (variable_step hs) (Statement-F.For at None None None None))
+  statement_rolled last (Statement-F.For at None None None (Some b)) = ap (λ (x : Doer). x.typed last c.state (step_to c (run hs js))) (fold-roll-Statement (Doing Part) (Doing Step) Reading (Doing Step) Seen Doer Braces Seen Doer Seen (Ty → Doing TypedVariable) (argument_step hs) (body_step hs) (expression_step hs) (first_step hs) (lambda_step hs) (statement_step hs) (block_step hs) (catch_step hs) (declaration_step hs) (entry_step hs) (variable_step hs) (Statement-F.For at None None None (Some b)))
+  statement_rolled last (Statement-F.For at None None (Some u) None) = ap (λ (x : Doer). x.typed last c.state (step_to c (run hs js))) (fold-roll-Statement (Doing Part) (Doing Step) Reading (Doing Step) Seen Doer Braces Seen Doer Seen (Ty → Doing TypedVariable) (argument_step hs) (body_step hs) (expression_step hs) (first_step hs) (lambda_step hs) (statement_step hs) (block_step hs) (catch_step hs) (declaration_step hs) (entry_step hs) (variable_step hs) (Statement-F.For at None None (Some u) None))
+  statement_rolled last (Statement-F.For at None None (Some u) (Some b)) = ap (λ (x : Doer). x.typed last c.state (step_to c (run hs js))) (fold-roll-Statement (Doing Part) (Doing Step) Reading (Doing Step) Seen Doer Braces Seen Doer Seen (Ty → Doing TypedVariable) (argument_step hs) (body_step hs) (expression_step hs) (first_step hs) (lambda_step hs) (statement_step hs) (block_step hs) (catch_step hs) (declaration_step hs) (entry_step hs) (variable_step hs) (Statement-F.For at None None (Some u) (Some b)))
+  statement_rolled last (Statement-F.For at None (Some d) None None) = ap (λ (x : Doer). x.typed last c.state (step_to c (run hs js))) (fold-roll-Statement (Doing Part) (Doing Step) Reading (Doing Step) Seen Doer Braces Seen Doer Seen (Ty → Doing TypedVariable) (argument_step hs) (body_step hs) (expression_step hs) (first_step hs) (lambda_step hs) (statement_step hs) (block_step hs) (catch_step hs) (declaration_step hs) (entry_step hs) (variable_step hs) (Statement-F.For at None (Some d) None None))
+  statement_rolled last (Statement-F.For at None (Some d) None (Some b)) = ap (λ (x : Doer). x.typed last c.state (step_to c (run hs js))) (fold-roll-Statement (Doing Part) (Doing Step) Reading (Doing Step) Seen Doer Braces Seen Doer Seen (Ty → Doing TypedVariable) (argument_step hs) (body_step hs) (expression_step hs) (first_step hs) (lambda_step hs) (statement_step hs) (block_step hs) (catch_step hs) (declaration_step hs) (entry_step hs) (variable_step hs) (Statement-F.For at None (Some d) None (Some b)))
+  statement_rolled last (Statement-F.For at None (Some d) (Some u) None) = ap (λ (x : Doer). x.typed last c.state (step_to c (run hs js))) (fold-roll-Statement (Doing Part) (Doing Step) Reading (Doing Step) Seen Doer Braces Seen Doer Seen (Ty → Doing TypedVariable) (argument_step hs) (body_step hs) (expression_step hs) (first_step hs) (lambda_step hs) (statement_step hs) (block_step hs) (catch_step hs) (declaration_step hs) (entry_step hs) (variable_step hs) (Statement-F.For at None (Some d) (Some u) None))
+  statement_rolled last (Statement-F.For at None (Some d) (Some u) (Some b)) = ap (λ (x : Doer). x.typed last c.state (step_to c (run hs js))) (fold-roll-Statement (Doing Part) (Doing Step) Reading (Doing Step) Seen Doer Braces Seen Doer Seen (Ty → Doing TypedVariable) (argument_step hs) (body_step hs) (expression_step hs) (first_step hs) (lambda_step hs) (statement_step hs) (block_step hs) (catch_step hs) (declaration_step hs) (entry_step hs) (variable_step hs) (Statement-F.For at None (Some d) (Some u) (Some b)))
+  statement_rolled last (Statement-F.For at (Some f) None None None) = ap (λ (x : Doer). x.typed last c.state (step_to c (run hs js))) (fold-roll-Statement (Doing Part) (Doing Step) Reading (Doing Step) Seen Doer Braces Seen Doer Seen (Ty → Doing TypedVariable) (argument_step hs) (body_step hs) (expression_step hs) (first_step hs) (lambda_step hs) (statement_step hs) (block_step hs) (catch_step hs) (declaration_step hs) (entry_step hs) (variable_step hs) (Statement-F.For at (Some f) None None None))
+  statement_rolled last (Statement-F.For at (Some f) None None (Some b)) = ap (λ (x : Doer). x.typed last c.state (step_to c (run hs js))) (fold-roll-Statement (Doing Part) (Doing Step) Reading (Doing Step) Seen Doer Braces Seen Doer Seen (Ty → Doing TypedVariable) (argument_step hs) (body_step hs) (expression_step hs) (first_step hs) (lambda_step hs) (statement_step hs) (block_step hs) (catch_step hs) (declaration_step hs) (entry_step hs) (variable_step hs) (Statement-F.For at (Some f) None None (Some b)))
+  statement_rolled last (Statement-F.For at (Some f) None (Some u) None) = ap (λ (x : Doer). x.typed last c.state (step_to c (run hs js))) (fold-roll-Statement (Doing Part) (Doing Step) Reading (Doing Step) Seen Doer Braces Seen Doer Seen (Ty → Doing TypedVariable) (argument_step hs) (body_step hs) (expression_step hs) (first_step hs) (lambda_step hs) (statement_step hs) (block_step hs) (catch_step hs) (declaration_step hs) (entry_step hs) (variable_step hs) (Statement-F.For at (Some f) None (Some u) None))
+  statement_rolled last (Statement-F.For at (Some f) None (Some u) (Some b)) = ap (λ (x : Doer). x.typed last c.state (step_to c (run hs js))) (fold-roll-Statement (Doing Part) (Doing Step) Reading (Doing Step) Seen Doer Braces Seen Doer Seen (Ty → Doing TypedVariable) (argument_step hs) (body_step hs) (expression_step hs) (first_step hs) (lambda_step hs) (statement_step hs) (block_step hs) (catch_step hs) (declaration_step hs) (entry_step hs) (variable_step hs) (Statement-F.For at (Some f) None (Some u) (Some b)))
+  statement_rolled last (Statement-F.For at (Some f) (Some d) None None) = ap (λ (x : Doer). x.typed last c.state (step_to c (run hs js))) (fold-roll-Statement (Doing Part) (Doing Step) Reading (Doing Step) Seen Doer Braces Seen Doer Seen (Ty → Doing TypedVariable) (argument_step hs) (body_step hs) (expression_step hs) (first_step hs) (lambda_step hs) (statement_step hs) (block_step hs) (catch_step hs) (declaration_step hs) (entry_step hs) (variable_step hs) (Statement-F.For at (Some f) (Some d) None None))
+  statement_rolled last (Statement-F.For at (Some f) (Some d) None (Some b)) = ap (λ (x : Doer). x.typed last c.state (step_to c (run hs js))) (fold-roll-Statement (Doing Part) (Doing Step) Reading (Doing Step) Seen Doer Braces Seen Doer Seen (Ty → Doing TypedVariable) (argument_step hs) (body_step hs) (expression_step hs) (first_step hs) (lambda_step hs) (statement_step hs) (block_step hs) (catch_step hs) (declaration_step hs) (entry_step hs) (variable_step hs) (Statement-F.For at (Some f) (Some d) None (Some b)))
+  statement_rolled last (Statement-F.For at (Some f) (Some d) (Some u) None) = ap (λ (x : Doer). x.typed last c.state (step_to c (run hs js))) (fold-roll-Statement (Doing Part) (Doing Step) Reading (Doing Step) Seen Doer Braces Seen Doer Seen (Ty → Doing TypedVariable) (argument_step hs) (body_step hs) (expression_step hs) (first_step hs) (lambda_step hs) (statement_step hs) (block_step hs) (catch_step hs) (declaration_step hs) (entry_step hs) (variable_step hs) (Statement-F.For at (Some f) (Some d) (Some u) None))
+  statement_rolled last (Statement-F.For at (Some f) (Some d) (Some u) (Some b)) = ap (λ (x : Doer). x.typed last c.state (step_to c (run hs js))) (fold-roll-Statement (Doing Part) (Doing Step) Reading (Doing Step) Seen Doer Braces Seen Doer Seen (Ty → Doing TypedVariable) (argument_step hs) (body_step hs) (expression_step hs) (first_step hs) (lambda_step hs) (statement_step hs) (block_step hs) (catch_step hs) (declaration_step hs) (entry_step hs) (variable_step hs) (Statement-F.For at (Some f) (Some d) (Some u) (Some b)))
+  statement_rolled last (Statement-F.ForEach at of name over body_) = ap (λ (x : Doer). x.typed last c.state (step_to c (run hs js))) (fold-roll-Statement (Doing Part) (Doing Step) Reading (Doing Step) Seen Doer Braces Seen Doer Seen (Ty → Doing TypedVariable) (argument_step hs) (body_step hs) (expression_step hs) (first_step hs) (lambda_step hs) (statement_step hs) (block_step hs) (catch_step hs) (declaration_step hs) (entry_step hs) (variable_step hs) (Statement-F.ForEach at of name over body_))
+      ∙ again (type_of of) (λ p. (reading hs over).value c.state (λ x s. and_then p (λ t. looping (body hs body_) (noted name.spelling t s) (refused_at at))))
+  statement_rolled last (Statement-F.ForIn at name over body_) = ap (λ (x : Doer). x.typed last c.state (step_to c (run hs js))) (fold-roll-Statement (Doing Part) (Doing Step) Reading (Doing Step) Seen Doer Braces Seen Doer Seen (Ty → Doing TypedVariable) (argument_step hs) (body_step hs) (expression_step hs) (first_step hs) (lambda_step hs) (statement_step hs) (block_step hs) (catch_step hs) (declaration_step hs) (entry_step hs) (variable_step hs) (Statement-F.ForIn at name over body_))
+  statement_rolled last (Statement-F.Try at block catches) = ap (λ (x : Doer). x.typed last c.state (step_to c (run hs js))) (fold-roll-Statement (Doing Part) (Doing Step) Reading (Doing Step) Seen Doer Braces Seen Doer Seen (Ty → Doing TypedVariable) (argument_step hs) (body_step hs) (expression_step hs) (first_step hs) (lambda_step hs) (statement_step hs) (block_step hs) (catch_step hs) (declaration_step hs) (entry_step hs) (variable_step hs) (Statement-F.Try at block catches))
+  statement_rolled last (Statement-F.Do at block condition) = ap (λ (x : Doer). x.typed last c.state (step_to c (run hs js))) (fold-roll-Statement (Doing Part) (Doing Step) Reading (Doing Step) Seen Doer Braces Seen Doer Seen (Ty → Doing TypedVariable) (argument_step hs) (body_step hs) (expression_step hs) (first_step hs) (lambda_step hs) (statement_step hs) (block_step hs) (catch_step hs) (declaration_step hs) (entry_step hs) (variable_step hs) (Statement-F.Do at block condition))
+      ∙ (λ i. looping (scoped (braces hs block).steps) c.state (λ ys w. (reading hs condition).value w (λ x s. behind (rules.loop_test x) (λ t. record c { tests = t ∷ c.tests; steps = rules.block_of (braces hs block).at ys ∷ c.steps; state = s }) (run hs (j.DoStatement (sa.DoLoop at) ∷ js)) i)))
+  statement_rolled last (Statement-F.«Statement::Declare» declaration) = ap (λ (x : Doer). x.typed last c.state (step_to c (run hs js))) (fold-roll-Statement (Doing Part) (Doing Step) Reading (Doing Step) Seen Doer Braces Seen Doer Seen (Ty → Doing TypedVariable) (argument_step hs) (body_step hs) (expression_step hs) (first_step hs) (lambda_step hs) (statement_step hs) (block_step hs) (catch_step hs) (declaration_step hs) (entry_step hs) (variable_step hs) (Statement-F.«Statement::Declare» declaration))
+  statement_rolled last (Statement-F.Continue at) = ap (λ (x : Doer). x.typed last c.state (step_to c (run hs js))) (fold-roll-Statement (Doing Part) (Doing Step) Reading (Doing Step) Seen Doer Braces Seen Doer Seen (Ty → Doing TypedVariable) (argument_step hs) (body_step hs) (expression_step hs) (first_step hs) (lambda_step hs) (statement_step hs) (block_step hs) (catch_step hs) (declaration_step hs) (entry_step hs) (variable_step hs) (Statement-F.Continue at))
+      ∙ (λ i. behind (rules.continue_of at c.state) (λ y. record c { steps = y ∷ c.steps; state = c.state }) (run hs js) i)
+  statement_rolled last (Statement-F.Break at) = ap (λ (x : Doer). x.typed last c.state (step_to c (run hs js))) (fold-roll-Statement (Doing Part) (Doing Step) Reading (Doing Step) Seen Doer Braces Seen Doer Seen (Ty → Doing TypedVariable) (argument_step hs) (body_step hs) (expression_step hs) (first_step hs) (lambda_step hs) (statement_step hs) (block_step hs) (catch_step hs) (declaration_step hs) (entry_step hs) (variable_step hs) (Statement-F.Break at))
+      ∙ (λ i. behind (rules.break_of at c.state) (λ y. record c { steps = y ∷ c.steps; state = c.state }) (run hs js) i)
+  statement_rolled last (Statement-F.Return at None) = ap (λ (x : Doer). x.typed last c.state (step_to c (run hs js))) (fold-roll-Statement (Doing Part) (Doing Step) Reading (Doing Step) Seen Doer Braces Seen Doer Seen (Ty → Doing TypedVariable) (argument_step hs) (body_step hs) (expression_step hs) (first_step hs) (lambda_step hs) (statement_step hs) (block_step hs) (catch_step hs) (declaration_step hs) (entry_step hs) (variable_step hs) (Statement-F.Return at None))
+  statement_rolled last (Statement-F.Return at (Some value)) = ap (λ (x : Doer). x.typed last c.state (step_to c (run hs js))) (fold-roll-Statement (Doing Part) (Doing Step) Reading (Doing Step) Seen Doer Braces Seen Doer Seen (Ty → Doing TypedVariable) (argument_step hs) (body_step hs) (expression_step hs) (first_step hs) (lambda_step hs) (statement_step hs) (block_step hs) (catch_step hs) (declaration_step hs) (entry_step hs) (variable_step hs) (Statement-F.Return at (Some value)))
+  statement_rolled last (Statement-F.Throw at value) = ap (λ (x : Doer). x.typed last c.state (step_to c (run hs js))) (fold-roll-Statement (Doing Part) (Doing Step) Reading (Doing Step) Seen Doer Braces Seen Doer Seen (Ty → Doing TypedVariable) (argument_step hs) (body_step hs) (expression_step hs) (first_step hs) (lambda_step hs) (statement_step hs) (block_step hs) (catch_step hs) (declaration_step hs) (entry_step hs) (variable_step hs) (Statement-F.Throw at value))
+  statement_rolled last (Statement-F.«Statement::Expression» at value) = ap (λ (x : Doer). x.typed last c.state (step_to c (run hs js))) (fold-roll-Statement (Doing Part) (Doing Step) Reading (Doing Step) Seen Doer Braces Seen Doer Seen (Ty → Doing TypedVariable) (argument_step hs) (body_step hs) (expression_step hs) (first_step hs) (lambda_step hs) (statement_step hs) (block_step hs) (catch_step hs) (declaration_step hs) (entry_step hs) (variable_step hs) (Statement-F.«Statement::Expression» at value))
+      ∙ (λ i. (reading hs value).value c.state (λ x s. behind (rules.expression_of at last x s) (λ y. record c { steps = y ∷ c.steps; state = s }) (run hs js) i))
+
+  pub statement_planned : (last : Bool) (e : Statement) → run hs (j.Statement_ e last ∷ js) c ≡ run hs (statement_plan last (out-Statement e) ++ js) c
+  statement_planned last e = ap (λ (x : Statement). run hs (j.Statement_ x last ∷ js) c) (sym (roll-out-Statement e)) ∙ statement_rolled last (out-Statement e)

@@ -1,0 +1,198 @@
+-- What jobs come to.
+use Rattle.std.specs.Prelude.{ℕ, Bool, true, false, List, [], ◌∷◌, length, reverse, drop, map, Option, Some, None, Ok, Err}
+use Rattle.pl_types.specs.declared.rules.TheConstants.{OUT_OF_PROFILE}
+use Rattle.pl_tree.specs.declared.tree.Argument.{Argument}
+use Rattle.pl_tree.specs.declared.tree.Block.{Block}
+use Rattle.pl_tree.specs.declared.tree.Body.{Body}
+use Rattle.pl_tree.specs.declared.tree.Catch.{Catch, out-Catch}
+use Rattle.pl_tree.specs.declared.tree.Expr.{Expr}
+use Rattle.pl_tree.specs.declared.tree.First.{First}
+use Rattle.pl_tree.specs.declared.tree.TypeName.{TypeName}
+use Rattle.typed_tree.specs.declared.statement.TypedVariable.{TypedVariable}
+use Rattle.typed_tree.specs.declared.typed.Typed.{Typed}
+use Rattle.typing_rules.specs.declared.header.Header.{Header}
+use Rattle.typing_rules.specs.declared.part.Part.{Part}
+use Rattle.typing_rules.specs.declared.part.Place.{Place}
+use Rattle.typing_rules.specs.declared.part.Step.{Step}
+use Rattle.typing_rules.specs.declared.state.State.{State}
+use Rattle.pl_types.specs.declared.ty.Ty.TheVariants as ty
+use Rattle.typing_rules.specs.Outcomes.{Out, refuse, refusal}
+use Rattle.typing_rules.specs.State.{noted}
+use Rattle.typing_rules.specs.Doing.{Answer, Doing, ◌>>=◌, ◌>>◌, pure, and_then, setting, known}
+use Rattle.typing_rules.specs.Rules.Types.{type_of}
+use Rattle.typing_rules.specs.Rules.Statements.{loop_of, block_of, reached}
+use Rattle.typing_rules.specs.Typing as typing
+use Rattle.typing_rules.specs.Typing.{Reading, Seen, reading, argument, body, doer, braces, seen, all_seen, scoped, looping, perhaps, parts, call, statements, initial, returned, loop_condition, loop_step, loop_update, lambda_parameters}
+use Rattle.typing_acts.specs.declared.config.Config.{Config}
+use Rattle.typing_acts.specs.Piles.{one}
+use Rattle.typing_acts.specs.Expressions as expressions
+use Rattle.typing_acts.specs.Places as places
+use Rattle.typing_acts.specs.Statements as deeds
+use Rattle.typing_acts.specs.Bodies as bodies
+use Rattle.typing_jobs.specs.declared.task.Act.{Act}
+use Rattle.typing_jobs.specs.declared.task.Act.TheVariants as a
+use Rattle.typing_jobs.specs.declared.task.StatementAct.{StatementAct}
+use Rattle.typing_jobs.specs.declared.task.StatementAct.TheVariants as s
+use Rattle.typing_jobs.specs.Folds.{first, inner, handler, declaration, entry, variable, reading_if, argument_if, body_if, first_if}
+use Rattle.typing_jobs.specs.Job as j
+use Rattle.typing_jobs.specs.Job.{Job}
+
+abbrev pub does : Act → Config → Out Config
+does (a.Unbuilt at) c = refuse OUT_OF_PROFILE at
+does (a.Constant at of) c = expressions.constant at of c
+does (a.Binary at operator) c = expressions.binary operator at c
+does (a.Unary at operator) c = expressions.unary operator at c
+does (a.Choice at) c = expressions.choice at c
+does (a.Bracketed at) c = expressions.bracketed at c
+does a.Fixed c = places.fixed c
+does (a.Assign at operator) c = places.assign at operator c
+does (a.Step at step gives) c = places.step at step gives c
+does a.Enter c = Ok (bodies.enter c)
+
+abbrev pub does_statement : StatementAct → Config → Out Config
+does_statement s.Test c = deeds.test c
+does_statement s.LoopTest c = deeds.loop_test c
+does_statement s.NoTest c = deeds.no_test c
+does_statement (s.First at) c = deeds.deed at c
+does_statement (s.Update at) c = deeds.update at c
+does_statement (s.Declaration at height) c = deeds.declaration at height c
+does_statement (s.Expression at last) c = deeds.expression at last c
+does_statement (s.ReturnValue at) c = deeds.return_value at c
+does_statement (s.ReturnNothing at) c = deeds.return_nothing at c
+does_statement (s.Break at) c = deeds.break_loop at c
+does_statement (s.Continue at) c = deeds.continue_loop at c
+does_statement (s.Block at height) c = deeds.block at height c
+does_statement (s.IfAlone at) c = deeds.if_alone at c
+does_statement (s.IfElse at) c = deeds.if_else at c
+does_statement (s.Loop at has_first has_body) c = deeds.whole_loop at has_first has_body c
+does_statement (s.DoLoop at) c = deeds.do_loop at c
+does_statement (s.Close height) c = Ok (bodies.close height c)
+does_statement (s.Looped is) c = Ok (bodies.looped is c)
+
+-- some, the first first, are put on a stack
+abbrev pub piled : {A : Type 0} → List A → List A → List A
+piled [] below = below
+piled (x ∷ xs) below = piled xs (x ∷ below)
+
+abbrev pub part_to : Config → (Config → Answer) → Part → State → Answer
+part_to c k x s = k (record c { parts = x ∷ c.parts; state = s })
+
+abbrev pub parts_to : Config → (Config → Answer) → List Part → State → Answer
+parts_to c k xs s = k (record c { parts = piled xs c.parts; state = s })
+
+abbrev pub place_to : Config → (Config → Answer) → Place → State → Answer
+place_to c k p s = k (record c { places = p ∷ c.places; state = s })
+
+abbrev pub test_to : Config → (Config → Answer) → Option Typed → State → Answer
+test_to c k x s = k (record c { tests = x ∷ c.tests; state = s })
+
+abbrev pub variable_to : Config → (Config → Answer) → TypedVariable → State → Answer
+variable_to c k x s = k (record c { variables = x ∷ c.variables; state = s })
+
+abbrev pub variables_to : Config → (Config → Answer) → List TypedVariable → State → Answer
+variables_to c k xs s = k (record c { variables = piled xs c.variables; state = s })
+
+abbrev pub step_to : Config → (Config → Answer) → Step → State → Answer
+step_to c k y s = k (record c { steps = y ∷ c.steps; state = s })
+
+abbrev pub steps_to : Config → (Config → Answer) → List Step → State → Answer
+steps_to c k ys s = k (record c { steps = piled ys c.steps; state = s })
+
+abbrev pub block_to : Config → (Config → Answer) → ℕ → List Step → State → Answer
+block_to c k at ys s = k (record c { steps = block_of at ys ∷ c.steps; state = s })
+
+-- nothing is given
+abbrev pub nothing_to : Config → (Config → Answer) → Unit {0} → State → Answer
+nothing_to c k u s = k (record c { state = s })
+
+-- what is not built is refused behind its parts
+abbrev pub refused_at : {A : Type 0} → ℕ → A → State → Answer
+refused_at at x s = Err (refusal OUT_OF_PROFILE at)
+
+module _ (hs : List Header) where
+  -- a `for` in its scope
+  abbrev pub for_parts : ℕ → Option First → Option Expr → Option Expr → Option Body → Doing Step
+  for_parts at f c u b =
+      do f ← perhaps (first_if hs f); c ← loop_condition (reading_if hs c); u ← loop_update (reading_if hs u); y ← looping (perhaps (body_if hs b)); pure (loop_of at f c u y)
+
+  -- an `else`, or none
+  abbrev pub otherwise : ℕ → Option Body → Config → (Config → Answer) → Answer
+  otherwise at None c k = and_then (deeds.if_alone at c) k
+  otherwise at (Some b) c k = body hs b c.state (step_to c (λ d. and_then (deeds.if_else at d) k))
+
+  abbrev pub loop_body : Option Body → Config → (Config → Answer) → Answer
+  loop_body None c k = k c
+  loop_body (Some b) c k = looping (body hs b) c.state (step_to c k)
+
+  abbrev pub initial_part : TypeName → Option Argument → Config → (Config → Answer) → Answer
+  initial_part of None c k = k (record c { tests = None ∷ c.tests })
+  initial_part of (Some e) c k = argument hs e c.state (part_to c (λ d. and_then (deeds.initial of d) k))
+
+  abbrev pub first_part : Option First → Config → (Config → Answer) → Answer
+  first_part None c k = k c
+  first_part (Some f) c k = first hs f c.state (step_to c k)
+
+  -- a handler: its name is in sight in its block
+  abbrev pub caught : Catch → Config → (Config → Answer) → Answer
+  caught e c k = and_then (type_of (out-Catch e).of) (λ of.
+      scoped (do setting (noted (out-Catch e).name.spelling of); (braces hs (out-Catch e).block).steps) c.state (steps_to c k))
+
+abbrev pub mean : List Header → Job → Config → (Config → Answer) → Answer
+mean hs (j.Value e) c k = (reading hs e).value c.state (part_to c k)
+mean hs (j.Negated e minus) c k = (reading hs e).negated minus c.state (part_to c k)
+mean hs (j.Target e) c k = (reading hs e).place c.state (place_to c k)
+mean hs (j.Given e) c k = argument hs e c.state (part_to c k)
+mean hs (j.Arguments all i) c k = parts (map (argument hs) (drop i all)) c.state (parts_to c k)
+mean hs (j.Call at name all) c k = call hs at name (map (argument hs) all) c.state (part_to c k)
+mean hs (j.Called at name height) c k = and_then (expressions.call hs at name height c) k
+mean hs (j.Integer at spelling) c k = and_then (expressions.integer at spelling c) k
+mean hs (j.NegatedInteger minus at spelling) c k = and_then (expressions.negated_integer minus at spelling c) k
+mean hs (j.Name at name) c k = and_then (expressions.local at name c) k
+mean hs (j.Written at name) c k = and_then (places.written at name c) k
+mean hs (j.TypeOf of) c k = and_then (type_of of) (λ t. k c)
+mean hs (j.Asked at of) c k = and_then (expressions.asked at of c) k
+mean hs (j.Do act) c k = and_then (does act c) k
+mean hs (j.Statement_ e last) c k = (doer hs e).typed last c.state (step_to c k)
+mean hs (j.Body_ e) c k = body hs e c.state (step_to c k)
+mean hs (j.Scoped e) c k = scoped ((doer hs e).typed false) c.state (step_to c k)
+mean hs (j.Block_ e) c k = scoped (braces hs e).steps c.state (block_to c k (braces hs e).at)
+mean hs (j.Looping e) c k = looping (body hs e) c.state (step_to c k)
+mean hs (j.LoopBody e) c k = loop_body hs e c k
+mean hs (j.LoopBlock e) c k = looping (scoped (braces hs e).steps) c.state (block_to c k (braces hs e).at)
+mean hs (j.Statements all i in_main after) c k = statements in_main after (map (doer hs) (drop i all)) c.state (steps_to c k)
+mean hs (j.Reached all i at in_main after) c k = one c.steps (λ x rest. and_then (reached after at x) (λ y.
+    statements in_main y.escapes (map (doer hs) (drop i all)) c.state (λ ys s. k (record c { steps = piled ys (y ∷ rest); state = s }))))
+mean hs (j.For at f d u b) c k = scoped (for_parts hs at f d u b) c.state (step_to c k)
+mean hs (j.ForParts at f d u b) c k = for_parts hs at f d u b c.state (step_to c k)
+mean hs (j.FirstIf e) c k = first_part hs e c k
+mean hs (j.First_ e) c k = first hs e c.state (step_to c k)
+mean hs (j.Deed e) c k = loop_step (reading hs e) c.state (step_to c k)
+mean hs (j.Condition e) c k = loop_condition (reading_if hs e) c.state (test_to c k)
+mean hs (j.UpdateIf e) c k = loop_update (reading_if hs e) c.state (test_to c k)
+mean hs (j.Update e) c k = loop_update (Some (reading hs e)) c.state (test_to c k)
+mean hs (j.Otherwise at e) c k = otherwise hs at e c k
+mean hs (j.Returned at e) c k = returned at (argument_if hs e) c.state (step_to c k)
+mean hs (j.Declaration_ e) c k = (declaration hs e).typed false c.state (step_to c k)
+mean hs (j.Variables of all i) c k = and_then (type_of of) (λ t. typing.variables t (map (variable hs) (drop i all)) c.state (variables_to c k))
+mean hs (j.Variable_ of e) c k = and_then (type_of of) (λ t. variable hs e t c.state (variable_to c k))
+mean hs (j.Initial of e) c k = initial_part hs of e c k
+mean hs (j.CastInitial of) c k = and_then (deeds.initial of c) k
+mean hs (j.Declare name of) c k = and_then (deeds.variable name of c) k
+mean hs (j.DoStatement act) c k = and_then (does_statement act c) k
+mean hs (j.Noted name of) c k = and_then (type_of of) (λ t. k (bodies.note name t c))
+mean hs (j.NotedDef name) c k = k (bodies.note name ty.Def c)
+mean hs (j.Parameters all i) c k = lambda_parameters (drop i all) c.state (nothing_to c k)
+mean hs (j.UnbuiltInner e at) c k = inner hs e c.state (refused_at at)
+mean hs (j.UnbuiltValues all i at) c k = all_seen (map (λ (e : Reading). seen e.value) (map (reading hs) (drop i all))) c.state (refused_at at)
+mean hs (j.UnbuiltArguments all i at) c k = all_seen (map (λ (m : Doing Part). seen m) (map (argument hs) (drop i all))) c.state (refused_at at)
+mean hs (j.UnbuiltEntries all i at) c k = all_seen (map (entry hs) (drop i all)) c.state (refused_at at)
+mean hs (j.UnbuiltCatches all i at) c k = all_seen (map (handler hs) (drop i all)) c.state (refused_at at)
+mean hs (j.Catch_ e) c k = caught hs e c k
+
+abbrev pub ended : Config → Answer
+ended c = Ok (reverse c.steps, c.state)
+
+-- what jobs come to, one after the other
+unfoldable pub run : List Header → List Job → Config → Answer
+run hs [] c = ended c
+run hs (job ∷ jobs) c = mean hs job c (run hs jobs)

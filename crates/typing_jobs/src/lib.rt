@@ -1,0 +1,16 @@
+//! The pass of typing over a tree: tasks on a stack, each a part that is to be typed, or what is done once parts are. A task is taken, and
+//! the tasks that it comes to are put in its place, until none is left.
+#![tactic(auto)]
+
+mod acting;
+mod acts;
+mod expressions;
+mod first;
+mod goes;
+mod pass;
+mod statements;
+mod task;
+mod unbuilt;
+
+pub use pass::run;
+pub use task::{Act, StatementAct, Task, Tasks};

@@ -1,0 +1,246 @@
+//! What is still to be typed.
+
+ghost use Rattle.std.specs.Prelude.{◌≡◌, ◌∷◌, [], OnOk};
+ghost use Rattle.typing_jobs.specs.Jobs.{job, Pops};
+
+use pl_tree::{
+    Argument, BinaryOperator, Block, Body, Catch, Constant, Declaration, Entry, Expr, First,
+    LambdaBody, Parameter, Spelled, Statement, Step, TypeName, UnaryOperator, Variable,
+};
+use plain_data::{Items, Subtree, Text};
+use std::alloc::{AllocError, Global};
+use std::marker::Model;
+use typed_tree::Gives;
+
+/// What is done once the parts of an expression are typed. The first number of each is its place.
+#[derive(Clone, Copy)]
+pub enum Act {
+    Unbuilt(u32),
+    Constant(u32, Constant),
+    Binary(u32, BinaryOperator),
+    Unary(u32, UnaryOperator),
+    Choice(u32),
+    Bracketed(u32),
+    /// A part that is no name is written to.
+    Fixed,
+    Assign(u32, Option<BinaryOperator>),
+    Step(u32, Step, Gives),
+    /// The body of a function value begins.
+    Enter,
+}
+
+/// The same for a statement.
+#[derive(Clone, Copy)]
+pub enum StatementAct {
+    Test,
+    LoopTest,
+    /// A test or an update is missing.
+    NoTest,
+    /// What a `for` begins with.
+    First(u32),
+    Update(u32),
+    /// A declaration of the variables above a height.
+    Declaration(u32, usize),
+    Expression(u32, bool),
+    ReturnValue(u32),
+    ReturnNothing(u32),
+    Break(u32),
+    Continue(u32),
+    /// A block of the statements above a height.
+    Block(u32, usize),
+    IfAlone(u32),
+    IfElse(u32),
+    /// Whether a first step and a body are there.
+    Loop(u32, bool, bool),
+    DoLoop(u32),
+    /// Names declared since there were so many are forgotten.
+    Close(usize),
+    Looped(bool),
+}
+
+/// A part that is to be typed, or what is done once parts are.
+#[derive(Clone, Copy)]
+pub enum Task<'a> {
+    Value(&'a Expr),
+    /// Directly behind a minus that stands at a place.
+    Negated(&'a Expr, u32),
+    /// What is written to.
+    Target(&'a Expr),
+    Given(&'a Argument),
+    /// Those from one on.
+    Arguments(&'a Items<Argument>, usize),
+    Call(u32, &'a Text, &'a Items<Argument>),
+    /// The arguments above a height are typed.
+    Called(u32, &'a Text, usize),
+    Integer(u32, &'a Text),
+    NegatedInteger(u32, u32, &'a Text),
+    Name(u32, &'a Text),
+    Written(u32, &'a Text),
+    TypeOf(&'a TypeName),
+    Asked(u32, &'a TypeName),
+    Do(Act),
+    /// A statement; it may be the last of the main script.
+    Statement(&'a Statement, bool),
+    Body(&'a Body),
+    /// A statement with a scope of its own.
+    Scoped(&'a Statement),
+    /// A block with a scope of its own.
+    Block(&'a Block),
+    /// A body with a loop around it.
+    Looping(&'a Body),
+    LoopBody(&'a Option<Body>),
+    LoopBlock(&'a Block),
+    /// Those from one on, in the main script or not, behind one that escapes or not.
+    Statements(&'a Items<Subtree<Statement>>, usize, bool, bool),
+    /// The statement before, which stands at a place, is typed.
+    Reached(&'a Items<Subtree<Statement>>, usize, u32, bool, bool),
+    For(
+        u32,
+        &'a Option<First>,
+        &'a Option<Subtree<Expr>>,
+        &'a Option<Subtree<Expr>>,
+        &'a Option<Body>,
+    ),
+    ForParts(
+        u32,
+        &'a Option<First>,
+        &'a Option<Subtree<Expr>>,
+        &'a Option<Subtree<Expr>>,
+        &'a Option<Body>,
+    ),
+    FirstIf(&'a Option<First>),
+    First(&'a First),
+    Deed(&'a Expr),
+    Condition(&'a Option<Subtree<Expr>>),
+    UpdateIf(&'a Option<Subtree<Expr>>),
+    Update(&'a Expr),
+    /// The `else` of an `if`, whose test and first body are typed.
+    Otherwise(u32, &'a Option<Body>),
+    Returned(u32, &'a Option<Argument>),
+    Declaration(&'a Declaration),
+    Variables(&'a TypeName, &'a Items<Variable>, usize),
+    Variable(&'a TypeName, &'a Variable),
+    Initial(&'a TypeName, &'a Option<Argument>),
+    CastInitial(&'a TypeName),
+    Declare(&'a Spelled, &'a TypeName),
+    DoStatement(StatementAct),
+    /// A name that a construct which is not built declares.
+    Noted(&'a Text, &'a TypeName),
+    NotedDef(&'a Text),
+    Parameters(&'a Items<Parameter>, usize),
+    /// Parts of a node that is not built: behind them it is refused.
+    UnbuiltInner(&'a LambdaBody, u32),
+    UnbuiltValues(&'a Items<Subtree<Expr>>, usize, u32),
+    UnbuiltArguments(&'a Items<Argument>, usize, u32),
+    UnbuiltEntries(&'a Items<Entry>, usize, u32),
+    UnbuiltCatches(&'a Items<Catch>, usize, u32),
+    Catch(&'a Catch),
+}
+
+/// Tasks. Contracts see the next one first.
+pub struct Tasks<'a> {
+    tasks: Vec<Task<'a>>,
+}
+
+impl<'a> Drop for Tasks<'a> {
+    fn drop(self) {
+        let Tasks { tasks: _tasks } = self;
+    }
+}
+
+impl<'a> Model for Tasks<'a> {
+    ghost use Rattle.std.specs.Prelude.{List, reverse, map};
+    ghost use Rattle.typing_jobs.specs.Job.{Job};
+    ghost use Rattle.typing_jobs.specs.Jobs.{job};
+    ghost use Rattle.std.specs.Coded.{codes};
+    ghost use Rattle.pl_tree.specs.contracts.tree.Argument as r0;
+    ghost use Rattle.pl_tree.specs.contracts.tree.Block as r1;
+    ghost use Rattle.pl_tree.specs.contracts.tree.Body as r2;
+    ghost use Rattle.pl_tree.specs.contracts.tree.Declaration as r3;
+    ghost use Rattle.pl_tree.specs.contracts.tree.Expr as r4;
+    ghost use Rattle.pl_tree.specs.contracts.tree.LambdaBody as r5;
+    ghost use Rattle.pl_tree.specs.contracts.tree.Statement as r6;
+    ghost use Rattle.pl_tree.specs.contracts.tree.Variable as r7;
+    ghost use Rattle.pl_tree.specs.contracts.tree.First as r8;
+    ghost use Rattle.pl_tree.specs.contracts.tree.Catch as r9;
+    ghost use Rattle.pl_tree.specs.contracts.tree.Entry as r10;
+
+    ghost Value = { List Job };
+
+    ghost coded = { Prim.hlevel (codes, r0.the_row.coded, r1.the_row.coded, r2.the_row.coded, r3.the_row.coded, r4.the_row.coded, r5.the_row.coded, r6.the_row.coded, r7.the_row.coded, r8.the_row.coded, r9.the_row.coded, r10.the_row.coded) };
+
+    ghost view = { λ c. reverse (map job c.tasks.items) };
+}
+
+impl<'a> Tasks<'a> {
+    pub fn new(alloc: Global) -> Tasks<'a>
+        ensures { result ≡ [] }
+    {
+        Tasks {
+            tasks: Vec::new(alloc),
+        }
+    }
+
+    pub fn push(&mut self, task: Task<'a>) -> Result<(), AllocError>
+        ensures { OnOk result (self.new ≡ job task.entry ∷ self.old) }
+    {
+        self.tasks.push(task)?;
+        Ok(())
+    }
+
+    pub fn pop(&mut self) -> Option<Task<'a>>
+        ensures { Pops result self.old self.new }
+    {
+        self.tasks.pop()
+    }
+
+    /// Puts two tasks on, the first first.
+    pub fn push_two(&mut self, first: Task<'a>, second: Task<'a>) -> Result<(), AllocError>
+        ensures { OnOk result (self.new ≡ job first.entry ∷ job second.entry ∷ self.old) }
+    {
+        self.push(second)?;
+        self.push(first)
+    }
+
+    /// Puts three tasks on, the first first.
+    pub fn push_three(
+        &mut self,
+        first: Task<'a>,
+        second: Task<'a>,
+        third: Task<'a>,
+    ) -> Result<(), AllocError>
+        ensures { OnOk result (self.new ≡ job first.entry ∷ job second.entry ∷ job third.entry ∷ self.old) }
+    {
+        self.push_two(second, third)?;
+        self.push(first)
+    }
+
+    /// Puts four tasks on, the first first.
+    pub fn push_four(
+        &mut self,
+        first: Task<'a>,
+        second: Task<'a>,
+        third: Task<'a>,
+        fourth: Task<'a>,
+    ) -> Result<(), AllocError>
+        ensures { OnOk result (self.new ≡ job first.entry ∷ job second.entry ∷ job third.entry ∷ job fourth.entry ∷ self.old) }
+    {
+        self.push_three(second, third, fourth)?;
+        self.push(first)
+    }
+
+    /// Puts five tasks on, the first first.
+    pub fn push_five(
+        &mut self,
+        first: Task<'a>,
+        second: Task<'a>,
+        third: Task<'a>,
+        fourth: Task<'a>,
+        fifth: Task<'a>,
+    ) -> Result<(), AllocError>
+        ensures { OnOk result (self.new ≡ job first.entry ∷ job second.entry ∷ job third.entry ∷ job fourth.entry ∷ job fifth.entry ∷ self.old) }
+    {
+        self.push_four(second, third, fourth, fifth)?;
+        self.push(first)
+    }
+}

@@ -1,0 +1,171 @@
+//! Parts of what is not built: they are looked through, and then the node is refused.
+
+ghost use Rattle.std.specs.Prelude.{◌≡◌, ◌∷◌, ◌++◌, OnOk};
+ghost use Rattle.pl_types.specs.declared.ty.Ty.TheVariants as ty;
+ghost use Rattle.typing_acts.specs.Bodies as bodies;
+ghost use Rattle.typing_jobs.specs.Going.{Goes};
+ghost use Rattle.typing_jobs.specs.Job as j;
+ghost use Rattle.typing_jobs.specs.Machine.{run};
+ghost use Rattle.typing_jobs.specs.Plans as spec;
+ghost use Rattle.std.specs.Prelude.{IfOk};
+
+use crate::task::{Act, StatementAct, Task, Tasks};
+use pl_tree::{Argument, Catch, Entry, Expr, Parameter};
+use pl_types::{Fail, Ty};
+use plain_data::{Items, Subtree, Text};
+use std::alloc::{AllocError, Global};
+use typing_acts::Config;
+use typing_rules::{Entry as Declared, Header, Standing};
+
+/// Expressions from one on.
+#[tactic(auto, using(crate::proofs::Goings::values_go, crate::proofs::Goings::values_end))]
+pub fn values<'a>(
+    _headers: &[Header],
+    _config: &Config,
+    tasks: &mut Tasks<'a>,
+    all: &'a Items<Subtree<Expr>>,
+    i: usize,
+    at: u32,
+) -> Result<(), Fail>
+    ensures { Goes (run _headers.now (j.UnbuiltValues all.now i at ∷ tasks.old) _config.now) result (run _headers.now tasks.new _config.now) }
+{
+    let _count = all.len();
+    let Some(one) = all.get(i) else {
+        tasks.push(Task::Do(Act::Unbuilt(at)))?;
+        return Ok(());
+    };
+    tasks.push_two(Task::Value(one.get()), Task::UnbuiltValues(all, i + 1, at))?;
+    Ok(())
+}
+
+/// Arguments from one on.
+#[tactic(auto, using(crate::proofs::Goings::unbuilt_arguments_go, crate::proofs::Goings::unbuilt_arguments_end))]
+pub fn arguments<'a>(
+    _headers: &[Header],
+    _config: &Config,
+    tasks: &mut Tasks<'a>,
+    all: &'a Items<Argument>,
+    i: usize,
+    at: u32,
+) -> Result<(), Fail>
+    ensures { Goes (run _headers.now (j.UnbuiltArguments all.now i at ∷ tasks.old) _config.now) result (run _headers.now tasks.new _config.now) }
+{
+    let _count = all.len();
+    let Some(one) = all.get(i) else {
+        tasks.push(Task::Do(Act::Unbuilt(at)))?;
+        return Ok(());
+    };
+    tasks.push_two(Task::Given(one), Task::UnbuiltArguments(all, i + 1, at))?;
+    Ok(())
+}
+
+/// Entries of a map from one on.
+#[tactic(auto, using(crate::proofs::Goings::entries_go, crate::proofs::Goings::entries_end))]
+pub fn entries<'a>(
+    _headers: &[Header],
+    _config: &Config,
+    tasks: &mut Tasks<'a>,
+    all: &'a Items<Entry>,
+    i: usize,
+    at: u32,
+) -> Result<(), Fail>
+    ensures { Goes (run _headers.now (j.UnbuiltEntries all.now i at ∷ tasks.old) _config.now) result (run _headers.now tasks.new _config.now) }
+{
+    let _count = all.len();
+    let Some(one) = all.get(i) else {
+        tasks.push(Task::Do(Act::Unbuilt(at)))?;
+        return Ok(());
+    };
+    tasks.push_three(
+        Task::Value(one.key.get()),
+        Task::Value(one.value.get()),
+        Task::UnbuiltEntries(all, i + 1, at),
+    )?;
+    Ok(())
+}
+
+/// Handlers of a `try` from one on.
+#[tactic(auto, using(crate::proofs::Goings::catches_go, crate::proofs::Goings::catches_end))]
+pub fn catches<'a>(
+    _headers: &[Header],
+    _config: &Config,
+    tasks: &mut Tasks<'a>,
+    all: &'a Items<Catch>,
+    i: usize,
+    at: u32,
+) -> Result<(), Fail>
+    ensures { Goes (run _headers.now (j.UnbuiltCatches all.now i at ∷ tasks.old) _config.now) result (run _headers.now tasks.new _config.now) }
+{
+    let _count = all.len();
+    let Some(one) = all.get(i) else {
+        tasks.push(Task::Do(Act::Unbuilt(at)))?;
+        return Ok(());
+    };
+    tasks.push_two(Task::Catch(one), Task::UnbuiltCatches(all, i + 1, at))?;
+    Ok(())
+}
+
+/// A handler, whose name is in sight in its block.
+#[tactic(auto, using(crate::proofs::Goings::catch_goes))]
+pub fn catch<'a>(
+    _headers: &[Header],
+    config: &Config,
+    tasks: &mut Tasks<'a>,
+    e: &'a Catch,
+) -> Result<(), Fail>
+    ensures { Goes (run _headers.now (j.Catch_ e.now ∷ tasks.old) config.now) result (run _headers.now tasks.new config.now) }
+{
+    let height = config.state.scopes.len();
+    tasks.push_three(
+        Task::Noted(&e.name.spelling, &e.of),
+        Task::Statements(&e.block.statements, 0, false, false),
+        Task::DoStatement(StatementAct::Close(height)),
+    )?;
+    Ok(())
+}
+
+/// Puts on what is to be done for a parameter of a function value.
+fn parameter<'a>(tasks: &mut Tasks<'a>, e: &'a Parameter) -> Result<(), AllocError>
+    ensures { OnOk result (tasks.new ≡ spec.parameter_plan e.now.name.spelling e.now.of ++ tasks.old) }
+{
+    match &e.of {
+        None => tasks.push(Task::NotedDef(&e.name.spelling)),
+        Some(of) => tasks.push(Task::Noted(&e.name.spelling, of)),
+    }
+}
+
+/// Parameters of a function value from one on.
+#[tactic(auto, using(crate::proofs::Goings::parameters_go, crate::proofs::Goings::parameters_end))]
+pub fn parameters<'a>(
+    _headers: &[Header],
+    _config: &Config,
+    tasks: &mut Tasks<'a>,
+    all: &'a Items<Parameter>,
+    at: usize,
+) -> Result<(), Fail>
+    ensures { Goes (run _headers.now (j.Parameters all.now at ∷ tasks.old) _config.now) result (run _headers.now tasks.new _config.now) }
+{
+    let _count = all.len();
+    let Some(one) = all.get(at) else {
+        return Ok(());
+    };
+    tasks.push(Task::Parameters(all, at + 1))?;
+    parameter(tasks, one)?;
+    Ok(())
+}
+
+/// A name that a construct which is not built declares.
+pub fn note(alloc: Global, config: &mut Config, name: &Text, of: Ty) -> Result<(), AllocError>
+    ensures { OnOk result (config.new ≡ bodies.note name.now of config.old) }
+{
+    if config.state.scopes.find(name).is_some() {
+        return Ok(());
+    }
+    let name = Text::new(alloc, name.as_str())?;
+    config.state.scopes.push(Declared {
+        name,
+        of,
+        standing: Standing::Variable,
+    })?;
+    Ok(())
+}
