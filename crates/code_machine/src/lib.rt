@@ -15,6 +15,5 @@ mod step;
 mod throwing;
 
 pub use activation::{Activation, Outcome};
-pub use configuration::{Configuration, End, Frame, Limits, Step, World};
+pub use configuration::{End, Limits};
 pub use laws::activation_laws;
-pub use stack::Stack;
