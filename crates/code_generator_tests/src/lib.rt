@@ -1,0 +1,7 @@
+//! Listings of the code of small programs.
+#![tactic(auto)]
+
+#[cfg(test)]
+mod build;
+#[cfg(test)]
+mod tests;
