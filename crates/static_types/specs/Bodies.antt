@@ -1,0 +1,45 @@
+-- The statements of a body.
+use Rattle.std.specs.declared.alloc.Global.{Global}
+use Rattle.std.specs.declared.vec.Vec.{Vec}
+use Rattle.std.specs.Prelude.{◌≡◌, Bool, false, List, [], ◌∷◌, map, reverse, Option, Some, None, Result, Ok, Err}
+use Rattle.pl_types.specs.declared.refusal.Fail.{Fail}
+use Rattle.pl_types.specs.declared.refusal.Fail.TheVariants.{Refused, NoMemory}
+use Rattle.pl_tree.specs.declared.tree.Statement.{Statement}
+use Rattle.typing_rules.specs.declared.header.Header.{Header}
+use Rattle.typing_rules.specs.declared.part.Step.{Step}
+use Rattle.typing_rules.specs.declared.state.State.{State}
+use Rattle.typing_rules.specs.Doing.{Answer}
+use Rattle.typing_rules.specs.Outcomes.{Out, bind}
+use Rattle.typing_rules.specs.Typing.{ran, doer, statements}
+use Rattle.typing_acts.specs.declared.config.Config.{Config}
+use Rattle.typing_jobs.specs.Job as j
+use Rattle.typing_jobs.specs.Job.{Job}
+use Rattle.typing_jobs.specs.Machine.{ended}
+
+abbrev pub steps_of : List Header → Bool → List Statement → State → Out (List Step)
+steps_of hs in_main all s = bind (ran (statements in_main false (map (doer hs) all)) s) (λ whole. Ok whole.0)
+
+-- the code gives these statements, or tells the refusal; want of memory is free
+abbrev pub KeepsSteps : Out (List Step) → Result (Vec Step Global) Fail → Type 0
+KeepsSteps o (Ok taken) = o ≡ Ok taken.items
+KeepsSteps o (Err (Refused r)) = o ≡ Err r
+KeepsSteps o (Err NoMemory) = Unit {0}
+
+-- nothing is typed so far
+abbrev pub fresh : State → Config
+fresh s = record { state = s; parts = []; places = []; tests = []; variables = []; steps = [] }
+
+-- what is to be done for a body
+abbrev pub jobs_of : Bool → List Statement → List Job
+jobs_of in_main all = j.Statements all 0 in_main false ∷ []
+
+-- what jobs come to is where they end
+abbrev pub Ends : Answer → Result Config Fail → Type 0
+Ends o (Ok c) = o ≡ ended c
+Ends o (Err (Refused r)) = o ≡ Err r
+Ends o (Err NoMemory) = Unit {0}
+
+-- all that is on a stack is taken, the uppermost last
+abbrev pub TakesAll : List Step → Option (Vec Step Global) → Type 0
+TakesAll steps None = Unit {0}
+TakesAll steps (Some taken) = taken.items ≡ reverse steps
