@@ -13,8 +13,9 @@ use Rattle.typed_tree.specs.declared.program.Named.{Named}
 use Rattle.program_meaning.specs.Programs.{variable_of, fun_of}
 use Rattle.object_values.specs.declared.value.Value.{Value}
 use Rattle.run_world.specs.World.{World, Limits, End}
-use Rattle.code_meaning.specs.Words.{Word}
-use Rattle.program_code.specs.Correct.{Words, EndsAs, program_ends, start}
+use Rattle.code_meaning.specs.declared.word.Word.{Word}
+use Rattle.program_code.specs.Correct.{Words, EndsAs, program_ends}
+use Rattle.code_meaning.specs.Machine.{start}
 use Rattle.code_generator.specs.Labels.{settled_line}
 use Rattle.code_generator.specs.declared.config.Entry as d
 use Rattle.code_generator.specs.Jobs.{scope_in, entry}
