@@ -25,7 +25,7 @@ before [] ys at x e = absurd cc
 before (z ∷ xs) ys zero x e = e
 before (z ∷ xs) ys (suc at) x e = before xs ys at x e
 
-seam : {A : Type 0} (xs : List A) (y : A) (ys : List A) → slice_get (xs ++ y ∷ ys) (length xs) ≡ Some y
+pub seam : {A : Type 0} (xs : List A) (y : A) (ys : List A) → slice_get (xs ++ y ∷ ys) (length xs) ≡ Some y
 seam [] y ys = refl
 seam (x ∷ xs) y ys = seam xs y ys
 

@@ -34,10 +34,13 @@ length_reversed : {A : Type 0} (xs : List A) → length (reverse xs) ≡ length 
 length_reversed [] = refl
 length_reversed (x ∷ xs) = ap length (reverse-append (x ∷ []) xs) ∙ length_snoc (reverse xs) x ∙ ap suc (length_reversed xs)
 
+pub kept_under : {A : Type 0} (height : ℕ) (more g : List A) → height ≡ length g → keep height (more ++ g) ≡ g
+kept_under height more g e =
+    ap (λ xs. reverse (take height xs)) (reverse-append more g)
+    ∙ ap (λ n. reverse (take n (reverse g ++ reverse more))) (e ∙ sym (length_reversed g)) ∙ ap reverse (taken_whole (reverse g) (reverse more)) ∙ reverse-reverse g
+
 closed : (height : ℕ) (g later : Scope) → height ≡ length g → Grown g later → keep height later ≡ g
-closed height g later e w =
-    ap (keep height) w.is ∙ ap (λ xs. reverse (take height xs)) (reverse-append w.more g)
-    ∙ ap (λ n. reverse (take n (reverse g ++ reverse w.more))) (e ∙ sym (length_reversed g)) ∙ ap reverse (taken_whole (reverse g) (reverse w.more)) ∙ reverse-reverse g
+closed height g later e w = ap (keep height) w.is ∙ kept_under height w.more g e
 
 pub same_scope : (g : Scope) → Grown g g
 same_scope g = record { more = []; is = refl }
@@ -45,7 +48,7 @@ same_scope g = record { more = []; is = refl }
 grown_one : (y : Entry) (g later : Scope) → Grown (y ∷ g) later → Grown g later
 grown_one y g later w = record { more = w.more ++ y ∷ []; is = w.is ∙ sym (append_assoc w.more (y ∷ []) g) }
 
-length_mapped : (c : Config) → length (scope_in c) ≡ length c.scope
+pub length_mapped : (c : Config) → length (scope_in c) ≡ length c.scope
 length_mapped c = nested c.scope
   where
     nested : (xs : _) → length (map entry xs) ≡ length xs

@@ -1,3 +1,5 @@
+pub mod Memory
+pub mod Steps
 pub mod Lists
 pub mod Back
 pub mod Opened
@@ -6,4 +8,8 @@ pub mod Names
 pub mod Parts
 pub mod Bodies
 pub mod Rows
+pub mod Fitting
+pub mod Free
+pub mod Known
+pub mod Agreeing
 pub mod Whole

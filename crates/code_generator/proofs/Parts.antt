@@ -1,5 +1,5 @@
 -- Parts and parameters from one on.
-use Rattle.std.proofs.Common.{◌≡◌, ℕ, zero, suc, ◌+◌, List, [], ◌∷◌, length, drop, Some, None, refl, sym, ap, ◌∙◌, subst, add-one, arith}
+use Rattle.std.proofs.Common.{◌≡◌, ◌≢◌, ℕ, zero, suc, ◌+◌, List, [], ◌∷◌, length, drop, Some, None, Ok, Result, refl, sym, ap, ◌∙◌, subst, add-one, arith}
 use Rattle.std.specs.Prelude.{map, slice_get}
 use Rattle.pl_types.specs.declared.conversion.Cast.{Cast}
 use Rattle.typed_tree.specs.declared.operation.Operation.TheVariants as operation
@@ -7,15 +7,24 @@ use Rattle.typed_tree.specs.declared.program.Named.{Named}
 use Rattle.typed_tree.specs.declared.program.Program as typed
 use Rattle.typed_tree.specs.declared.program.TypedFunction.{TypedFunction}
 use Rattle.typed_tree.specs.declared.typed.Typed.{Typed}
-use Rattle.program_meaning.specs.Tree.{Fun, Program, type_of}
+use Rattle.pl_types.specs.declared.ty.Ty.{Ty}
+use Rattle.program_meaning.specs.Tree.{Exprs, None', One, Fun, Program, type_of}
+use Rattle.program_types.specs.Agreeing.{types_of, types_in, Calls, Applies}
+use Rattle.program_types.specs.Types.{Casts}
 use Rattle.program_meaning.specs.Programs.{expr_of, exprs_of, fun_of, variable_of, program_of}
-use Rattle.program_code.specs.Lying.{Lying, lying_of}
+use Rattle.program_code.specs.Lying.{Lying, Bare, lying_of}
 use Rattle.program_code.specs.Parts.{cast_takes, cast_gives}
 use Rattle.program_code.specs.Stands.{lyings, lyings_of, Fitting}
 use Rattle.code_generator.specs.Functions.{function_at}
-use Rattle.code_generator.specs.Jobs.{Job, Value, Values, Back, Wanted, As, Wants, Taken, parts_from, lyings_in}
+use Rattle.code_generator.specs.Jobs.{Job, Value, Values, Back, Wanted, Bares, As, Wants, Taken, wanted, parts_from, lyings_in}
+use Rattle.code_generator.specs.Sound.{Keeps, Refuses}
+use Rattle.code_generator.specs.declared.task.Wanted as dw
+use Rattle.code_generator.specs.declared.task.Wanted.TheVariants as w
 use Rattle.code_generator.specs.declared.config.Config.{Config}
+use Rattle.code_generator.proofs.Fitting.{types_lie, cast_takes_so, cast_gives_so}
 use Rattle.code_generator.proofs.Plans.{values_end, values_more}
+use Rattle.code_generator.proofs.Steps.{instead, never}
+use Rattle.code_generator.specs.declared.error.CodeError.{CodeError}
 
 drop_at : {A : Type 0} (at : ℕ) (all : List A) (one : A) → slice_get all at ≡ Some one → drop at all ≡ one ∷ drop (suc at) all
 drop_at zero [] one is = absurd cc
@@ -80,3 +89,105 @@ pub cast_fits : (funs : Program) (cast : Cast) (parts : List Typed) (x : Typed) 
 cast_fits funs cast parts x k given is e g t r =
     subst (λ (ps : List Typed). Fitting funs (operation.Cast cast) (lyings (exprs_of (map expr_of ps))) k) (sym (one_part parts x is e))
     (subst (λ (given : Lying). given ≡ cast_takes cast given) g t, subst (λ (given : Lying). k ≡ cast_gives cast given) g r)
+
+-- ---- parts of a well-formed program
+
+pub parts_go : (parts : List Typed) (at : ℕ) (x : Typed) → slice_get parts at ≡ Some x → parts_from at parts ≡ One (expr_of x) (parts_from (at + 1) parts)
+parts_go parts at x is = ap (λ (ps : List Typed). exprs_of (map expr_of ps)) (drop_one at parts x is)
+
+pub parts_stop : (parts : List Typed) (at : ℕ) → slice_get parts at ≡ None → parts_from at parts ≡ None'
+parts_stop parts at is = ap (λ (ps : List Typed). exprs_of (map expr_of ps)) (drop_end at parts is)
+
+others_lie : (params : List Named) (at : ℕ) (k : Lying) (ks : List Lying) → k ∷ ks ≡ lyings_in (drop at params) → ks ≡ lyings_in (drop (suc at) params)
+others_lie [] zero k ks e = absurd cc
+others_lie [] (suc at) k ks e = absurd cc
+others_lie (x ∷ params) zero k ks e = cc
+others_lie (x ∷ params) (suc at) k ks e = others_lie params at k ks e
+
+pub wanted_of_others : (kind : dw.Wanted) (at : ℕ) (k : Lying) (ks : List Lying) → Wants (wanted at kind) (k ∷ ks) → Wants (wanted (at + 1) kind) ks
+wanted_of_others w.Any at k ks h = tt
+wanted_of_others w.Bares at k ks h = h.1
+wanted_of_others (w.As params) at k ks h = others_lie params.now at k ks h ∙ ap (λ n. lyings_in (drop n params.now)) (sym (add-one at))
+
+pub refuses_bare : (k : Lying) → k ≢ Bare → Refuses Bares k
+refuses_bare k n = record { by = λ ks h. n h.0 }
+
+pub refuses_param : (params : List Named) (at : ℕ) (x : Named) (k : Lying) → slice_get params at ≡ Some x → k ≢ lying_of x.of → Refuses (As (lyings_in (drop at params))) k
+refuses_param params at x k is n = record { by = λ ks h. let e : k ∷ ks ≡ lying_of x.of ∷ lyings_in (drop (at + 1) params) = h ∙ ap lyings_in (drop_one at params x is) in n cc }
+
+pub refuses_more : (params : List Named) (at : ℕ) (k : Lying) → slice_get params at ≡ None → Refuses (As (lyings_in (drop at params))) k
+refuses_more params at k is = record { by = λ ks h. let e : k ∷ ks ≡ [] = h ∙ ap lyings_in (drop_end at params is) in absurd cc }
+
+pub some_param : (params : List Named) (at : ℕ) (x : Named) → slice_get params at ≡ Some x → Wants (As (lyings_in (drop at params))) [] → ⊥
+some_param params at x is h = let e : [] ≡ lying_of x.of ∷ lyings_in (drop (at + 1) params) = h ∙ ap lyings_in (drop_one at params x is) in absurd cc
+
+-- ---- calls of a well-formed program
+
+pub function_there : (p : typed.Program) (number : ℕ) (g : Fun) → slice_get (program_of p) number ≡ Some g → function_at p number ≡ None → ⊥
+function_there p zero g is e = absurd cc
+function_there p (suc number) g is e = nested p.functions number is e
+  where
+    nested : (fs : List TypedFunction) (n : ℕ) → slice_get (map fun_of fs) n ≡ Some g → slice_get fs n ≡ None → ⊥
+    nested [] n is e = absurd cc
+    nested (x ∷ fs) zero is e = absurd cc
+    nested (x ∷ fs) (suc n) is e = nested fs n is e
+
+params_typed : (params : List Named) → map lying_of (types_in (map variable_of params)) ≡ lyings_in params
+params_typed [] = refl
+params_typed (x ∷ xs) = ap (λ l. lying_of x.of ∷ l) (params_typed xs)
+
+pub call_gives : (p : typed.Program) (number : ℕ) (f : TypedFunction) (ofs : List Ty) (of : Ty) → function_at p number ≡ Some f → Calls (program_of p) number ofs of → lying_of of ≡ lying_of f.result
+call_gives p number f ofs of is x = ap lying_of (x.gives ∙ ap (λ (g : Fun). g.result) (fun_at p number f x.fun is x.is))
+
+pub call_takes : (p : typed.Program) (number : ℕ) (f : TypedFunction) (parts : Exprs) (of : Ty) → function_at p number ≡ Some f → Calls (program_of p) number (types_of parts) of → Wants (As (lyings_in f.parameters)) (lyings parts)
+call_takes p number f parts of is x =
+    types_lie parts ∙ ap (map lying_of) (x.takes ∙ ap (λ (g : Fun). types_in g.params) (fun_at p number f x.fun is x.is)) ∙ params_typed f.parameters
+
+-- ---- steps over the parts of a well-formed program
+
+module _ (funs : Program) (js : List Job) (c : Config) where
+  pub keeps_part : (parts : List Typed) (at : ℕ) (x : Typed) (kind : dw.Wanted) → slice_get parts at ≡ Some x
+      → Keeps funs (Values (parts_from at parts) (wanted at kind) ∷ js) c (Ok tt) (Value (expr_of x) ∷ Values (parts_from (at + 1) parts) (wanted (at + 1) kind) ∷ js) c
+  keeps_part parts at x kind is =
+      subst (λ (es : Exprs). Keeps funs (Values es (wanted at kind) ∷ js) c (Ok tt) (Value (expr_of x) ∷ Values (parts_from (at + 1) parts) (wanted (at + 1) kind) ∷ js) c) (sym (parts_go parts at x is))
+      (instead funs (Values (One (expr_of x) (parts_from (at + 1) parts)) (wanted at kind) ∷ js) (Value (expr_of x) ∷ Values (parts_from (at + 1) parts) (wanted (at + 1) kind) ∷ js) c
+      (λ of s. (s.0.0.0, ((s.0.0.1, wanted_of_others kind at (lying_of (type_of (expr_of x))) (lyings (parts_from (at + 1) parts)) s.0.1), s.1))) refl)
+
+  pub keeps_no_part : (parts : List Typed) (at : ℕ) (kind : dw.Wanted) → slice_get parts at ≡ None → Keeps funs (Values (parts_from at parts) (wanted at kind) ∷ js) c (Ok tt) js c
+  keeps_no_part parts at kind is =
+      subst (λ (es : Exprs). Keeps funs (Values es (wanted at kind) ∷ js) c (Ok tt) js c) (sym (parts_stop parts at is)) (instead funs (Values None' (wanted at kind) ∷ js) js c (λ of s. s.1) refl)
+
+  pub keeps_unfit : (parts : List Typed) (at : ℕ) (x : Typed) (kind : dw.Wanted) (result : Result Unit CodeError) (js' : List Job) (c' : Config) → slice_get parts at ≡ Some x
+      → Refuses (wanted at kind) (lying_of (type_of (expr_of x))) → Keeps funs (Values (parts_from at parts) (wanted at kind) ∷ js) c result js' c'
+  keeps_unfit parts at x kind result js' c' is n =
+      subst (λ (es : Exprs). Keeps funs (Values es (wanted at kind) ∷ js) c result js' c') (sym (parts_go parts at x is))
+      (never funs (Values (One (expr_of x) (parts_from (at + 1) parts)) (wanted at kind) ∷ js) js' c result c' (λ of s. n.by (lyings (parts_from (at + 1) parts)) s.0.1))
+
+  pub keeps_unended : (parts : List Typed) (at : ℕ) (kind : dw.Wanted) (result : Result Unit CodeError) (js' : List Job) (c' : Config) → slice_get parts at ≡ None
+      → (Wants (wanted at kind) [] → ⊥) → Keeps funs (Values (parts_from at parts) (wanted at kind) ∷ js) c result js' c'
+  keeps_unended parts at kind result js' c' is n =
+      subst (λ (es : Exprs). Keeps funs (Values es (wanted at kind) ∷ js) c result js' c') (sym (parts_stop parts at is))
+      (never funs (Values None' (wanted at kind) ∷ js) js' c result c' (λ of s. n s.0.1))
+
+-- ---- casts of a well-formed program
+
+pub cast_there : (funs : Program) (c : Cast) (parts : List Typed) (of : Ty) → slice_get parts 0 ≡ None → Applies funs (operation.Cast c) (types_of (exprs_of (map expr_of parts))) of → ⊥
+cast_there funs c [] of e x = x
+cast_there funs c (y ∷ parts) of e x = cc
+
+pub cast_alone : (funs : Program) (c : Cast) (parts : List Typed) (of : Ty) → length parts ≢ 1 → Applies funs (operation.Cast c) (types_of (exprs_of (map expr_of parts))) of → ⊥
+cast_alone funs c [] of n x = x
+cast_alone funs c (y ∷ []) of n x = n refl
+cast_alone funs c (y ∷ z ∷ parts) of n x = x
+
+casts : (funs : Program) (c : Cast) (parts : List Typed) (x : Typed) (of : Ty) → slice_get parts 0 ≡ Some x → Applies funs (operation.Cast c) (types_of (exprs_of (map expr_of parts))) of → Casts c (type_of (expr_of x)) of
+casts funs c [] x of e h = absurd h
+casts funs c (y ∷ []) x of e h = let same : y ≡ x = cc in subst (λ (x : Typed). Casts c (type_of (expr_of x)) of) same h
+casts funs c (y ∷ z ∷ parts) x of e h = absurd h
+
+module _ (funs : Program) (c : Cast) (parts : List Typed) (x : Typed) (of : Ty) (given : Lying) where
+  pub well_cast_takes : slice_get parts 0 ≡ Some x → given ≡ lying_of (type_of (expr_of x)) → Applies funs (operation.Cast c) (types_of (exprs_of (map expr_of parts))) of → given ≡ cast_takes c given
+  well_cast_takes is e h = subst (λ (k : Lying). k ≡ cast_takes c k) (sym e) (cast_takes_so c (type_of (expr_of x)) of (casts funs c parts x of is h))
+
+  pub well_cast_gives : slice_get parts 0 ≡ Some x → given ≡ lying_of (type_of (expr_of x)) → Applies funs (operation.Cast c) (types_of (exprs_of (map expr_of parts))) of → lying_of of ≡ cast_gives c given
+  well_cast_gives is e h = subst (λ (k : Lying). lying_of of ≡ cast_gives c k) (sym e) (cast_gives_so c (type_of (expr_of x)) of (casts funs c parts x of is h))

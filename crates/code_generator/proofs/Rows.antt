@@ -36,15 +36,15 @@ map_taken f zero xs = refl
 map_taken f (suc n) [] = refl
 map_taken f (suc n) (x ∷ xs) = ap (λ ys. f x ∷ ys) (map_taken f n xs)
 
-kept_entries : (height : ℕ) (xs : List d.Entry) → map entry (keep height xs) ≡ keep height (map entry xs)
-kept_entries height xs = map_reversed entry (take height (reverse xs)) ∙ ap reverse (map_taken entry height (reverse xs) ∙ ap (take height) (map_reversed entry xs))
+pub kept_mapped : {A B : Type 0} (f : A → B) (height : ℕ) (xs : List A) → map f (keep height xs) ≡ keep height (map f xs)
+kept_mapped f height xs = map_reversed f (take height (reverse xs)) ∙ ap reverse (map_taken f height (reverse xs) ∙ ap (take height) (map_reversed f xs))
 
 module _ (funs : Program) (js : List Job) (c : Config) where
   pub close_back : (height : ℕ) (new : List d.Entry) → new ≡ keep height c.scope → Back funs (Close height ∷ js) c js (record c { scope = new })
   close_back height new e = record {
     by = λ f labels m. record {
       holds = record { lines = m.holds.lines; traps = m.holds.traps; bound = m.holds.bound; params = m.holds.params; locals = m.holds.locals };
-      stand = subst (λ g. Stand funs (lying c.result) f labels js g (next_in c) (length c.lines) c.flows) (ap (map entry) e ∙ kept_entries height c.scope) m.stand;
+      stand = subst (λ g. Stand funs (lying c.result) f labels js g (next_in c) (length c.lines) c.flows) (ap (map entry) e ∙ kept_mapped entry height c.scope) m.stand;
     };
   }
 

@@ -1,10 +1,12 @@
 -- The code of a function and of a program.
-use Rattle.std.proofs.Common.{◌≡◌, ◌≢◌, ℕ, zero, suc, ◌+◌, List, [], ◌∷◌, ◌++◌, length, drop, take, refl, sym, ap, ◌∙◌, subst, Some, None, arith, add-one}
+use Rattle.std.proofs.Common.{◌≡◌, ◌≢◌, ℕ, zero, suc, ◌+◌, List, [], ◌∷◌, ◌++◌, length, drop, take, refl, sym, ap, ◌∙◌, subst, Some, None, false, arith, add-one}
 use Rattle.std.specs.Prelude.{map, slice_get}
 use Rattle.pl_code.specs.declared.kinds.Slot.{Slot}
 use Rattle.pl_code.specs.declared.code.FunCode.{FunCode}
 use Rattle.typed_tree.specs.declared.program.Named.{Named}
-use Rattle.program_meaning.specs.Tree.{Fun, Program}
+use Rattle.program_meaning.specs.Tree.{Fun, Program, Variable}
+use Rattle.program_types.specs.Types.{HasValues}
+use Rattle.program_types.specs.Agreeing.{StmtsAgree, HaveValues, FunAgrees}
 use Rattle.program_meaning.specs.Programs.{variable_of, fun_of, program_of}
 use Rattle.typed_tree.specs.declared.program.Program as typed
 use Rattle.typed_tree.specs.declared.program.TypedFunction.{TypedFunction}
@@ -13,12 +15,14 @@ use Rattle.program_code.specs.Stands.{StmtsAt, EndAt, ArePresent, Compiled, lyin
 use Rattle.code_generator.specs.Checks.{lying}
 use Rattle.code_generator.specs.Labels.{settled_line}
 use Rattle.code_generator.specs.Jobs.{Run, End, Meets, Back, entry, scope_in, next_in}
+use Rattle.code_generator.specs.Sound.{Sound, variable}
 use Rattle.code_generator.specs.Functions.{FunStands, Begun, Finished, Written, InScope}
 use Rattle.code_generator.specs.declared.config.Config.{Config}
 use Rattle.code_generator.specs.declared.config.Entry as d
+use Rattle.code_generator.proofs.Known.{parameters_named}
 use Rattle.code_generator.proofs.Parts.{drop_one, drop_end}
 
-got_mapped : {A B : Type 0} (f : A → B) (xs : List A) (at : ℕ) (x : A) → slice_get xs at ≡ Some x → slice_get (map f xs) at ≡ Some (f x)
+pub got_mapped : {A B : Type 0} (f : A → B) (xs : List A) (at : ℕ) (x : A) → slice_get xs at ≡ Some x → slice_get (map f xs) at ≡ Some (f x)
 got_mapped f [] at x e = absurd cc
 got_mapped f (y ∷ xs) zero x e = let h : y ≡ x = cc in ap (λ x. Some (f x)) h
 got_mapped f (y ∷ xs) (suc at) x e = got_mapped f xs at x e
@@ -85,15 +89,31 @@ length_mapped : {A B : Type 0} (f : A → B) (xs : List A) → length (map f xs)
 length_mapped f [] = refl
 length_mapped f (x ∷ xs) = ap suc (length_mapped f xs)
 
-pub begun : (f : TypedFunction) (c : Config) (old : List Slot) → old ≡ [] → lying c.result ≡ lying_of f.result → InScope f.parameters old c.params c.scope → c.locals ≡ [] → c.lines ≡ [] → c.flows ≡ [] → Begun (fun_of f) c
-begun f c old none result a locals lines flows = record {
+pub begun : (f : TypedFunction) (c : Config) (old : List Slot) → old ≡ [] → lying c.result ≡ lying_of f.result → InScope f.parameters old c.params c.scope → c.locals ≡ [] → c.lines ≡ [] → c.labels ≡ [] → c.flows ≡ [] → Begun (fun_of f) c
+begun f c old none result a locals lines labels flows = record {
   result = result;
   params = omega (arith, a.count, ap length none, length_mapped variable_of f.parameters);
   locals = locals;
   lines = lines;
   scope = a.names;
+  labels = labels;
   flows = flows;
   present = a.present;
+}
+
+-- ---- parameters and functions of a well-formed program
+
+pub has_values_at : (all : List Named) (at : ℕ) (x : Named) → slice_get all at ≡ Some x → HaveValues (map variable_of all) → HasValues x.of
+has_values_at [] at x is h = absurd cc
+has_values_at (y ∷ all) zero x is h = let same : y ≡ x = cc in subst (λ (x : Named). HasValues x.of) same h.0
+has_values_at (y ∷ all) (suc at) x is h = has_values_at all at x is h.1
+
+pub sound_start : (funs : Program) (fun : Fun) (c : Config) → Begun fun c → FunAgrees funs fun → Sound funs (Run fun.body None ∷ End fun.result ∷ []) c
+sound_start funs fun c begun h = record {
+  result = fun.result;
+  lies = begun.result;
+  agree = (subst (λ (g : List Variable). StmtsAgree funs fun.result false g fun.body) (sym (ap (map variable) begun.scope ∙ parameters_named fun.params 0 [])) h.body, tt);
+  free = tt;
 }
 
 -- ---- programs

@@ -40,6 +40,7 @@ pub record Begun (fun : Fun) (c : Config) : Type 0 where
   pub locals : c.locals ≡ []
   pub lines : c.lines ≡ []
   pub scope : scope_in c ≡ scope_of fun.params 0 []
+  pub labels : c.labels ≡ []
   pub flows : c.flows ≡ []
   pub present : ArePresent (lyings_of fun.params)
 

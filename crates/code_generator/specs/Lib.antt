@@ -4,4 +4,5 @@ pub mod Pieces
 pub mod Opened
 pub mod Jobs
 pub mod Scopes
+pub mod Sound
 pub mod Functions

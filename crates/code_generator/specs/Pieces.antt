@@ -3,8 +3,9 @@ use Rattle.std.specs.Prelude.{List, [], ◌∷◌, Option, Some, None}
 use Rattle.pl_code.specs.declared.code.Instruction.{Instruction}
 use Rattle.pl_code.specs.declared.code.Instruction.TheVariants as i
 use Rattle.pl_code.specs.declared.kinds.ArithmeticOp.{ArithmeticOp}
+use Rattle.pl_code.specs.declared.kinds.Numbered.TheVariants as numbered
 use Rattle.pl_code.specs.declared.kinds.Width.{Width}
-use Rattle.program_code.specs.Parts.{constant_code, default_code, operator_code, cast_code, operation_code, pops, kept_before, kept_behind}
+use Rattle.program_code.specs.Parts.{constant_code, default_code, operator_code, cast_code, pops, kept_before, kept_behind}
 use Rattle.program_code.specs.Stands.{settled}
 use Rattle.code_generator.specs.Checks.{lying}
 use Rattle.code_generator.specs.declared.pieces.Piece.{Piece}
@@ -19,7 +20,7 @@ if_any None = []
 if_any (Some instruction) = instruction ∷ []
 
 abbrev pub piece : Piece → List Instruction
-piece (p.Operation operation) = operation_code operation.now
+piece (p.Call number) = i.Numbered numbered.Call number ∷ []
 piece (p.Operator operator) = operator_code operator
 piece (p.Cast cast) = cast_code cast
 piece (p.Plain plain) = i.Plain plain ∷ []

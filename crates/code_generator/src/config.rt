@@ -2,6 +2,7 @@
 
 ghost use Rattle.std.specs.Prelude.{IfOk};
 ghost use Rattle.code_generator.specs.Functions.{Finished};
+ghost use Rattle.code_generator.specs.Sound.{OnlyMemory};
 
 use crate::error::CodeError;
 use crate::labels::{Labels, Line, settle};
@@ -67,7 +68,8 @@ impl Drop for Config {
 impl Config {
     /// The code of what is written, with its jumps settled.
     pub fn finish(self, alloc: Global, of: &Ty) -> Result<FunCode, CodeError>
-        ensures { IfOk result (λ code. Finished self of.now code) }
+        ensures code { IfOk result (λ code. Finished self of.now code) }
+        ensures memory { OnlyMemory result }
     {
         let Config {
             result: _,

@@ -1,17 +1,19 @@
 //! Expressions: what is to be written for a node.
 
-ghost use Rattle.std.specs.Prelude.{◌≡◌, ◌∷◌, map, OnOk};
+ghost use Rattle.std.specs.Prelude.{◌≡◌, ◌≢◌, ◌∷◌, map, MatchResult, OnOk};
 ghost use Rattle.code_generator.specs.Checks.{lying, jump_of};
 ghost use Rattle.code_generator.specs.Jobs as j;
 ghost use Rattle.code_generator.specs.Jobs.{Back, jobs};
 ghost use Rattle.code_generator.specs.Opened.{opened};
 ghost use Rattle.code_generator.specs.Functions.{function_at};
+ghost use Rattle.code_generator.specs.Sound.{Keeps};
 ghost use Rattle.std.specs.Option.{option_copied};
 ghost use Rattle.program_code.specs.Lying.{lying_of};
 ghost use Rattle.program_code.specs.Stands as stands;
 ghost use Rattle.program_meaning.specs.Programs.{program_of, expr_of, exprs_of};
 ghost use Rattle.program_meaning.specs.Tree.{type_of};
 ghost use Rattle.program_meaning.specs.Tree as tree;
+ghost use Rattle.typed_tree.specs.declared.operation.Operation.TheVariants as operation;
 
 use crate::config::Config;
 use crate::error::CodeError;
@@ -20,10 +22,11 @@ use crate::pieces::Piece;
 use crate::pile::Pile;
 use crate::task::{Task, Wanted};
 use pl_code::{Numbered, Plain};
-use pl_types::Ty;
+use pl_types::{Cast, Ty};
 use plain_data::{Items, Subtree, Text};
 use typed_tree::{
-    Change, Constant, Gives, Logical, Node, Operation, Program, Target, Typed, TypedFunction,
+    Change, Constant, Gives, Logical, Node, Operation, Operator, Program, Target, Typed,
+    TypedFunction,
 };
 
 /// How an expression's values lie.
@@ -35,7 +38,7 @@ pub fn lies_in(e: &Typed) -> Lies
 
 /// An expression's values have to lie so.
 pub fn lies_as(e: &Typed, wanted: Lies) -> Result<(), CodeError>
-    ensures { OnOk result (lying_of (type_of (expr_of e.now)) ≡ lying wanted) }
+    ensures { MatchResult result (λ _. lying_of (type_of (expr_of e.now)) ≡ lying wanted) (λ _. lying_of (type_of (expr_of e.now)) ≢ lying wanted) }
 {
     alike(lies_in(e), wanted)
 }
@@ -47,7 +50,8 @@ pub fn value<'a>(
     tasks: &mut Pile<Task<'a>>,
     e: &'a Typed,
 ) -> Result<(), CodeError>
-    ensures { OnOk result (Back (program_of program.now) (j.Value (opened e.now) ∷ jobs tasks.old) config.old (jobs tasks.new) config.new) }
+    ensures back { OnOk result (Back (program_of program.now) (j.Value (opened e.now) ∷ jobs tasks.old) config.old (jobs tasks.new) config.new) }
+    ensures sound { Keeps (program_of program.now) (j.Value (opened e.now) ∷ jobs tasks.old) config.old result (jobs tasks.new) config.new }
 {
     match &e.node {
         Node::Constant(it) => constant(program, config, tasks, e.at, &e.of, *it),
@@ -111,7 +115,12 @@ pub fn value<'a>(
             right.get(),
             *gives,
         ),
-        _ => Err(CodeError::Unbuilt),
+        Node::Text(_) => Err(CodeError::Unbuilt),
+        Node::Guarded { .. } => Err(CodeError::Unbuilt),
+        Node::Elvis { .. } => Err(CodeError::Unbuilt),
+        Node::Lambda { .. } => Err(CodeError::Unbuilt),
+        Node::Reference { .. } => Err(CodeError::Unbuilt),
+        Node::NewReference { .. } => Err(CodeError::Unbuilt),
     }
 }
 
@@ -123,7 +132,8 @@ fn constant<'a>(
     of: &Ty,
     it: Constant,
 ) -> Result<(), CodeError>
-    ensures { OnOk result (Back (program_of program.now) (j.Value (tree.Literal at of.now it) ∷ jobs tasks.old) config.old (jobs tasks.new) config.new) }
+    ensures back { OnOk result (Back (program_of program.now) (j.Value (tree.Literal at of.now it) ∷ jobs tasks.old) config.old (jobs tasks.new) config.new) }
+    ensures sound { Keeps (program_of program.now) (j.Value (tree.Literal at of.now it) ∷ jobs tasks.old) config.old result (jobs tasks.new) config.new }
 {
     alike(lies_of(of), literal_lies(it))?;
     tasks.push(Task::Put(Piece::Constant(it)))?;
@@ -147,7 +157,8 @@ fn local<'a>(
     of: &Ty,
     name: &'a Text,
 ) -> Result<(), CodeError>
-    ensures { OnOk result (Back (program_of program.now) (j.Value (tree.Local at of.now name.now) ∷ jobs tasks.old) config.now (jobs tasks.new) config.now) }
+    ensures back { OnOk result (Back (program_of program.now) (j.Value (tree.Local at of.now name.now) ∷ jobs tasks.old) config.now (jobs tasks.new) config.now) }
+    ensures sound { Keeps (program_of program.now) (j.Value (tree.Local at of.now name.now) ∷ jobs tasks.old) config.now result (jobs tasks.new) config.now }
 {
     tasks.push(Task::Load(name, lies_of(of)))?;
     Ok(())
@@ -163,13 +174,14 @@ fn conditional<'a>(
     yes: &'a Typed,
     no: &'a Typed,
 ) -> Result<(), CodeError>
-    ensures { OnOk result (Back (program_of program.now) (j.Value (tree.Conditional at of.now (expr_of condition.now) (expr_of yes.now) (expr_of no.now)) ∷ jobs tasks.old) config.old (jobs tasks.new) config.new) }
+    ensures back { OnOk result (Back (program_of program.now) (j.Value (tree.Conditional at of.now (expr_of condition.now) (expr_of yes.now) (expr_of no.now)) ∷ jobs tasks.old) config.old (jobs tasks.new) config.new) }
+    ensures sound { Keeps (program_of program.now) (j.Value (tree.Conditional at of.now (expr_of condition.now) (expr_of yes.now) (expr_of no.now)) ∷ jobs tasks.old) config.old result (jobs tasks.new) config.new }
 {
     lies_as(condition, Lies::Bare)?;
     lies_as(yes, lies_of(of))?;
     lies_as(no, lies_of(of))?;
-    let other = config.labels.fresh()?;
     let end = config.labels.fresh()?;
+    let other = config.labels.fresh()?;
     tasks.push_three(Task::Bind(other), Task::Value(no), Task::Bind(end))?;
     tasks.push_four(
         Task::Value(condition),
@@ -190,13 +202,14 @@ fn logical<'a>(
     left: &'a Typed,
     right: &'a Typed,
 ) -> Result<(), CodeError>
-    ensures { OnOk result (Back (program_of program.now) (j.Value (tree.Logic at of.now operator (expr_of left.now) (expr_of right.now)) ∷ jobs tasks.old) config.old (jobs tasks.new) config.new) }
+    ensures back { OnOk result (Back (program_of program.now) (j.Value (tree.Logic at of.now operator (expr_of left.now) (expr_of right.now)) ∷ jobs tasks.old) config.old (jobs tasks.new) config.new) }
+    ensures sound { Keeps (program_of program.now) (j.Value (tree.Logic at of.now operator (expr_of left.now) (expr_of right.now)) ∷ jobs tasks.old) config.old result (jobs tasks.new) config.new }
 {
     lies_as(left, Lies::Bare)?;
     lies_as(right, Lies::Bare)?;
     alike(lies_of(of), Lies::Bare)?;
-    let settled = config.labels.fresh()?;
     let end = config.labels.fresh()?;
+    let settled = config.labels.fresh()?;
     tasks.push_three(
         Task::Bind(settled),
         Task::Put(Piece::Settled(operator)),
@@ -231,7 +244,8 @@ fn assign<'a>(
     parts: &Items<Subtree<Typed>>,
     value: &'a Typed,
 ) -> Result<(), CodeError>
-    ensures { OnOk result (Back (program_of program.now) (j.Value (tree.Assign at of.now target.now (exprs_of (map expr_of parts.now)) (expr_of value.now)) ∷ jobs tasks.old) config.now (jobs tasks.new) config.now) }
+    ensures back { OnOk result (Back (program_of program.now) (j.Value (tree.Assign at of.now target.now (exprs_of (map expr_of parts.now)) (expr_of value.now)) ∷ jobs tasks.old) config.now (jobs tasks.new) config.now) }
+    ensures sound { Keeps (program_of program.now) (j.Value (tree.Assign at of.now target.now (exprs_of (map expr_of parts.now)) (expr_of value.now)) ∷ jobs tasks.old) config.now result (jobs tasks.new) config.now }
 {
     let Target::Local(name) = target else {
         return Err(CodeError::Unbuilt);
@@ -258,7 +272,8 @@ fn modify<'a>(
     right: &'a Typed,
     gives: Gives,
 ) -> Result<(), CodeError>
-    ensures { OnOk result (Back (program_of program.now) (j.Value (tree.Modify at of.now target.now (exprs_of (map expr_of parts.now)) change (expr_of right.now) gives) ∷ jobs tasks.old) config.now (jobs tasks.new) config.now) }
+    ensures back { OnOk result (Back (program_of program.now) (j.Value (tree.Modify at of.now target.now (exprs_of (map expr_of parts.now)) change (expr_of right.now) gives) ∷ jobs tasks.old) config.now (jobs tasks.new) config.now) }
+    ensures sound { Keeps (program_of program.now) (j.Value (tree.Modify at of.now target.now (exprs_of (map expr_of parts.now)) change (expr_of right.now) gives) ∷ jobs tasks.old) config.now result (jobs tasks.new) config.now }
 {
     let Target::Local(name) = target else {
         return Err(CodeError::Unbuilt);
@@ -291,12 +306,13 @@ fn apply<'a>(
     operation: &'a Operation,
     parts: &'a Items<Subtree<Typed>>,
 ) -> Result<(), CodeError>
-    ensures { OnOk result (Back (program_of program.now) (j.Value (tree.Apply at of.now operation.now (exprs_of (map expr_of parts.now))) ∷ jobs tasks.old) config.now (jobs tasks.new) config.now) }
+    ensures back { OnOk result (Back (program_of program.now) (j.Value (tree.Apply at of.now operation.now (exprs_of (map expr_of parts.now))) ∷ jobs tasks.old) config.now (jobs tasks.new) config.now) }
+    ensures sound { Keeps (program_of program.now) (j.Value (tree.Apply at of.now operation.now (exprs_of (map expr_of parts.now))) ∷ jobs tasks.old) config.now result (jobs tasks.new) config.now }
 {
     match operation {
-        Operation::Operator(_) => apply_operator(program, config, tasks, at, of, operation, parts),
-        Operation::Cast(_) => apply_cast(program, config, tasks, at, of, operation, parts),
-        Operation::Function(_) => apply_call(program, config, tasks, at, of, operation, parts),
+        Operation::Operator(it) => apply_operator(program, config, tasks, at, of, *it, parts),
+        Operation::Cast(it) => apply_cast(program, config, tasks, at, of, *it, parts),
+        Operation::Function(it) => apply_call(program, config, tasks, at, of, *it, parts),
         _ => Err(CodeError::Unbuilt),
     }
 }
@@ -307,18 +323,16 @@ fn apply_operator<'a>(
     tasks: &mut Pile<Task<'a>>,
     at: u32,
     of: &Ty,
-    operation: &'a Operation,
+    operator: Operator,
     parts: &'a Items<Subtree<Typed>>,
 ) -> Result<(), CodeError>
-    ensures { OnOk result (Back (program_of program.now) (j.Value (tree.Apply at of.now operation.now (exprs_of (map expr_of parts.now))) ∷ jobs tasks.old) config.now (jobs tasks.new) config.now) }
+    ensures back { OnOk result (Back (program_of program.now) (j.Value (tree.Apply at of.now (operation.Operator operator) (exprs_of (map expr_of parts.now))) ∷ jobs tasks.old) config.now (jobs tasks.new) config.now) }
+    ensures sound { Keeps (program_of program.now) (j.Value (tree.Apply at of.now (operation.Operator operator) (exprs_of (map expr_of parts.now))) ∷ jobs tasks.old) config.now result (jobs tasks.new) config.now }
 {
-    let Operation::Operator(_) = operation else {
-        return Err(CodeError::Unbuilt);
-    };
     alike(lies_of(of), Lies::Bare)?;
     tasks.push_two(
         Task::Values(parts, 0, Wanted::Bares),
-        Task::Put(Piece::Operation(operation)),
+        Task::Put(Piece::Operator(operator)),
     )?;
     Ok(())
 }
@@ -329,14 +343,12 @@ fn apply_cast<'a>(
     tasks: &mut Pile<Task<'a>>,
     at: u32,
     of: &Ty,
-    operation: &'a Operation,
+    cast: Cast,
     parts: &'a Items<Subtree<Typed>>,
 ) -> Result<(), CodeError>
-    ensures { OnOk result (Back (program_of program.now) (j.Value (tree.Apply at of.now operation.now (exprs_of (map expr_of parts.now))) ∷ jobs tasks.old) config.now (jobs tasks.new) config.now) }
+    ensures back { OnOk result (Back (program_of program.now) (j.Value (tree.Apply at of.now (operation.Cast cast) (exprs_of (map expr_of parts.now))) ∷ jobs tasks.old) config.now (jobs tasks.new) config.now) }
+    ensures sound { Keeps (program_of program.now) (j.Value (tree.Apply at of.now (operation.Cast cast) (exprs_of (map expr_of parts.now))) ∷ jobs tasks.old) config.now result (jobs tasks.new) config.now }
 {
-    let Operation::Cast(cast) = operation else {
-        return Err(CodeError::Unbuilt);
-    };
     let Some(part) = parts.get(0) else {
         return Err(CodeError::Malformed);
     };
@@ -344,11 +356,11 @@ fn apply_cast<'a>(
         return Err(CodeError::Malformed);
     }
     let given = lies_in(part.get());
-    alike(given, cast_takes(*cast, given))?;
-    alike(lies_of(of), cast_gives(*cast, given))?;
+    alike(given, cast_takes(cast, given))?;
+    alike(lies_of(of), cast_gives(cast, given))?;
     tasks.push_two(
         Task::Values(parts, 0, Wanted::Any),
-        Task::Put(Piece::Operation(operation)),
+        Task::Put(Piece::Cast(cast)),
     )?;
     Ok(())
 }
@@ -359,21 +371,19 @@ fn apply_call<'a>(
     tasks: &mut Pile<Task<'a>>,
     at: u32,
     of: &Ty,
-    operation: &'a Operation,
+    number: u32,
     parts: &'a Items<Subtree<Typed>>,
 ) -> Result<(), CodeError>
-    ensures { OnOk result (Back (program_of program.now) (j.Value (tree.Apply at of.now operation.now (exprs_of (map expr_of parts.now))) ∷ jobs tasks.old) config.now (jobs tasks.new) config.now) }
+    ensures back { OnOk result (Back (program_of program.now) (j.Value (tree.Apply at of.now (operation.Function number) (exprs_of (map expr_of parts.now))) ∷ jobs tasks.old) config.now (jobs tasks.new) config.now) }
+    ensures sound { Keeps (program_of program.now) (j.Value (tree.Apply at of.now (operation.Function number) (exprs_of (map expr_of parts.now))) ∷ jobs tasks.old) config.now result (jobs tasks.new) config.now }
 {
-    let Operation::Function(number) = operation else {
-        return Err(CodeError::Unbuilt);
-    };
-    let Some(callee) = function(program, *number) else {
+    let Some(callee) = function(program, number) else {
         return Err(CodeError::Malformed);
     };
     alike(lies_of(of), lies_of(&callee.result))?;
     tasks.push_two(
         Task::Values(parts, 0, Wanted::As(&callee.parameters)),
-        Task::Put(Piece::Operation(operation)),
+        Task::Put(Piece::Call(number)),
     )?;
     Ok(())
 }

@@ -1,8 +1,9 @@
 //! How control goes on behind what is written, and what depends on it.
 
-ghost use Rattle.std.specs.Prelude.{◌≡◌, ◌∷◌, IfOk, OnOk};
+ghost use Rattle.std.specs.Prelude.{◌≡◌, ◌≢◌, [], ◌∷◌, IfOk, OnOk};
 ghost use Rattle.code_generator.specs.Jobs as j;
 ghost use Rattle.code_generator.specs.Jobs.{Back, IsTop, jobs, maybe_in};
+ghost use Rattle.code_generator.specs.Sound.{Keeps, OnlyMemory};
 ghost use Rattle.program_meaning.specs.Programs.{program_of};
 
 use crate::config::{Config, Flow};
@@ -19,6 +20,7 @@ use typed_tree::{Program, Typed};
 fn top(flows: &mut Pile<Flow>) -> Result<Flow, CodeError>
     ensures top { IfOk result (λ x. IsTop flows.old x) }
     ensures same { OnOk result (flows.new ≡ flows.old) }
+    ensures memory { flows.old ≢ [] → OnlyMemory result }
 {
     let Some(flow) = flows.pop() else {
         return Err(CodeError::Malformed);
@@ -40,7 +42,8 @@ pub fn add<'a>(
     tasks: &Pile<Task<'a>>,
     flow: Flow,
 ) -> Result<(), CodeError>
-    ensures { OnOk result (Back (program_of program.now) (j.Flows flow ∷ jobs tasks.now) config.old (jobs tasks.now) config.new) }
+    ensures back { OnOk result (Back (program_of program.now) (j.Flows flow ∷ jobs tasks.now) config.old (jobs tasks.now) config.new) }
+    ensures sound { Keeps (program_of program.now) (j.Flows flow ∷ jobs tasks.now) config.old result (jobs tasks.now) config.new }
 {
     config.flows.push(flow)?;
     Ok(())
@@ -52,7 +55,8 @@ pub fn both<'a>(
     config: &mut Config,
     tasks: &Pile<Task<'a>>,
 ) -> Result<(), CodeError>
-    ensures { OnOk result (Back (program_of program.now) (j.Both ∷ jobs tasks.now) config.old (jobs tasks.now) config.new) }
+    ensures back { OnOk result (Back (program_of program.now) (j.Both ∷ jobs tasks.now) config.old (jobs tasks.now) config.new) }
+    ensures sound { Keeps (program_of program.now) (j.Both ∷ jobs tasks.now) config.old result (jobs tasks.now) config.new }
 {
     let Some(rest) = config.flows.pop() else {
         return Err(CodeError::Malformed);
@@ -80,7 +84,8 @@ pub fn either<'a>(
     config: &mut Config,
     tasks: &Pile<Task<'a>>,
 ) -> Result<(), CodeError>
-    ensures { OnOk result (Back (program_of program.now) (j.Either ∷ jobs tasks.now) config.old (jobs tasks.now) config.new) }
+    ensures back { OnOk result (Back (program_of program.now) (j.Either ∷ jobs tasks.now) config.old (jobs tasks.now) config.new) }
+    ensures sound { Keeps (program_of program.now) (j.Either ∷ jobs tasks.now) config.old result (jobs tasks.now) config.new }
 {
     let Some(no) = config.flows.pop() else {
         return Err(CodeError::Malformed);
@@ -108,7 +113,8 @@ pub fn turned<'a>(
     config: &mut Config,
     tasks: &Pile<Task<'a>>,
 ) -> Result<(), CodeError>
-    ensures { OnOk result (Back (program_of program.now) (j.Turned ∷ jobs tasks.now) config.old (jobs tasks.now) config.new) }
+    ensures back { OnOk result (Back (program_of program.now) (j.Turned ∷ jobs tasks.now) config.old (jobs tasks.now) config.new) }
+    ensures sound { Keeps (program_of program.now) (j.Turned ∷ jobs tasks.now) config.old result (jobs tasks.now) config.new }
 {
     let Some(_body) = config.flows.pop() else {
         return Err(CodeError::Malformed);
@@ -127,7 +133,8 @@ pub fn skip<'a>(
     tasks: &mut Pile<Task<'a>>,
     label: u32,
 ) -> Result<(), CodeError>
-    ensures { OnOk result (Back (program_of program.now) (j.Skip label ∷ jobs tasks.old) config.old (jobs tasks.new) config.new) }
+    ensures back { OnOk result (Back (program_of program.now) (j.Skip label ∷ jobs tasks.old) config.old (jobs tasks.new) config.new) }
+    ensures sound { Keeps (program_of program.now) (j.Skip label ∷ jobs tasks.old) config.old result (jobs tasks.new) config.new }
 {
     let flow = top(&mut config.flows)?;
     if flow.falls {
@@ -144,7 +151,8 @@ pub fn update<'a>(
     tasks: &mut Pile<Task<'a>>,
     what: Option<&'a Typed>,
 ) -> Result<(), CodeError>
-    ensures { OnOk result (Back (program_of program.now) (j.Update (maybe_in what.entry) ∷ jobs tasks.old) config.old (jobs tasks.new) config.new) }
+    ensures back { OnOk result (Back (program_of program.now) (j.Update (maybe_in what.entry) ∷ jobs tasks.old) config.old (jobs tasks.new) config.new) }
+    ensures sound { Keeps (program_of program.now) (j.Update (maybe_in what.entry) ∷ jobs tasks.old) config.old result (jobs tasks.new) config.new }
 {
     let flow = top(&mut config.flows)?;
     let Some(e) = what else {
@@ -165,7 +173,8 @@ pub fn test<'a>(
     tasks: &mut Pile<Task<'a>>,
     what: Option<&'a Typed>,
 ) -> Result<(), CodeError>
-    ensures { OnOk result (Back (program_of program.now) (j.Test (maybe_in what.entry) ∷ jobs tasks.old) config.now (jobs tasks.new) config.now) }
+    ensures back { OnOk result (Back (program_of program.now) (j.Test (maybe_in what.entry) ∷ jobs tasks.old) config.now (jobs tasks.new) config.now) }
+    ensures sound { Keeps (program_of program.now) (j.Test (maybe_in what.entry) ∷ jobs tasks.old) config.now result (jobs tasks.new) config.now }
 {
     let Some(e) = what else {
         tasks.push(Task::Put(Piece::Int(1)))?;
@@ -184,7 +193,8 @@ pub fn last<'a>(
     what: Option<&'a Typed>,
     label: u32,
 ) -> Result<(), CodeError>
-    ensures { OnOk result (Back (program_of program.now) (j.Last (maybe_in what.entry) label ∷ jobs tasks.old) config.old (jobs tasks.new) config.new) }
+    ensures back { OnOk result (Back (program_of program.now) (j.Last (maybe_in what.entry) label ∷ jobs tasks.old) config.old (jobs tasks.new) config.new) }
+    ensures sound { Keeps (program_of program.now) (j.Last (maybe_in what.entry) label ∷ jobs tasks.old) config.old result (jobs tasks.new) config.new }
 {
     let flow = top(&mut config.flows)?;
     let Some(e) = what else {
@@ -205,7 +215,8 @@ pub fn end<'a>(
     tasks: &mut Pile<Task<'a>>,
     of: &'a Ty,
 ) -> Result<(), CodeError>
-    ensures { OnOk result (Back (program_of program.now) (j.End of.now ∷ jobs tasks.old) config.old (jobs tasks.new) config.new) }
+    ensures back { OnOk result (Back (program_of program.now) (j.End of.now ∷ jobs tasks.old) config.old (jobs tasks.new) config.new) }
+    ensures sound { Keeps (program_of program.now) (j.End of.now ∷ jobs tasks.old) config.old result (jobs tasks.new) config.new }
 {
     let flow = top(&mut config.flows)?;
     if flow.falls {

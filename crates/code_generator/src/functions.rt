@@ -3,10 +3,13 @@
 ghost use Rattle.std.specs.Prelude.{◌≡◌, ◌≢◌, ◌+◌, ◌∷◌, length, map, IfOk, OnOk};
 ghost use Rattle.code_generator.specs.Functions.{Begun, EndsAsProgram, FunStands, InScope};
 ghost use Rattle.code_generator.specs.Jobs.{entry};
+ghost use Rattle.code_generator.specs.Sound.{OnlyMemory};
 ghost use Rattle.program_code.specs.Correct.{IsCodeOf};
 ghost use Rattle.program_code.specs.Lying.{Absent, lying_of};
 ghost use Rattle.program_code.specs.Stands.{Compiled};
-ghost use Rattle.program_meaning.specs.Programs.{program_of, fun_of};
+ghost use Rattle.program_meaning.specs.Programs.{program_of, fun_of, variable_of};
+ghost use Rattle.program_types.specs.Agreeing.{FunAgrees, HaveValues, WellFormed};
+ghost use Rattle.program_types.specs.Types.{HasValues};
 
 use crate::config::{Config, Entry};
 use crate::error::CodeError;
@@ -27,18 +30,20 @@ use typed_tree::{Named, Program, TypedFunction};
 ///
 /// # Errors
 ///
-/// `Malformed` where the program breaks a rule of types or scopes, which no program that typing made does; `Unbuilt` where it has a part
-/// of a kind that has no code yet; `NoMemory`.
+/// `Malformed` where the program breaks a rule of types or scopes; `Unbuilt` where it has a part of a kind that has no code yet;
+/// `NoMemory`. A well-formed program, as typing makes them, gets `NoMemory` at most.
 pub fn generate(alloc: Global, program: &Program) -> Result<Code, CodeError>
     ensures code { IfOk result (λ code. IsCodeOf program.now code.functions) }
     ensures ends { IfOk result (λ code. EndsAsProgram program.now code.functions) }
+    ensures total { WellFormed (program_of program.now) → OnlyMemory result }
 {
     compiler_laws();
     write(alloc, program)
 }
 
 fn write(alloc: Global, program: &Program) -> Result<Code, CodeError>
-    ensures { IfOk result (λ code. Compiled (program_of program.now) code.functions) }
+    ensures code { IfOk result (λ code. Compiled (program_of program.now) code.functions) }
+    ensures total { WellFormed (program_of program.now) → OnlyMemory result }
 {
     let mut functions = Items::new(alloc);
     let main = function(alloc, program, &program.main)?;
@@ -55,7 +60,8 @@ fn write(alloc: Global, program: &Program) -> Result<Code, CodeError>
 
 /// Code of a function.
 fn function(alloc: Global, program: &Program, f: &TypedFunction) -> Result<FunCode, CodeError>
-    ensures { IfOk result (λ code. FunStands (program_of program.now) code (fun_of f.now)) }
+    ensures code { IfOk result (λ code. FunStands (program_of program.now) code (fun_of f.now)) }
+    ensures total { FunAgrees (program_of program.now) (fun_of f.now) → OnlyMemory result }
 {
     let mut config = begin(alloc, f)?;
     let mut tasks = Pile::new(alloc);
@@ -69,7 +75,8 @@ fn function(alloc: Global, program: &Program, f: &TypedFunction) -> Result<FunCo
 
 /// Nothing is written yet, and the parameters are in scope.
 fn begin(alloc: Global, f: &TypedFunction) -> Result<Config, CodeError>
-    ensures { IfOk result (λ config. Begun (fun_of f.now) config) }
+    ensures begun { IfOk result (λ config. Begun (fun_of f.now) config) }
+    ensures total { HaveValues (fun_of f.now).params → OnlyMemory result }
 {
     let mut params = Items::new(alloc);
     let scope = parameters(alloc, &f.parameters, &mut params)?;
@@ -90,7 +97,8 @@ fn parameters(
     all: &Items<Named>,
     params: &mut Items<Slot>,
 ) -> Result<Pile<Entry>, CodeError>
-    ensures { IfOk result (λ scope. InScope all.now params.old params.new scope) }
+    ensures scope { IfOk result (λ scope. InScope all.now params.old params.new scope) }
+    ensures total { HaveValues (map variable_of all.now) → OnlyMemory result }
 {
     let mut scope = Pile::new(alloc);
     for at in 0..4294967295u32 {
@@ -112,6 +120,7 @@ fn parameter(
     ensures present { OnOk result (lying_of param.now.of ≢ Absent) }
     ensures scope { OnOk result (map entry scope.new ≡ record { name = param.now.name; of = param.now.of; local = local } ∷ map entry scope.old) }
     ensures count { OnOk result (length params.new ≡ length params.old + 1) }
+    ensures total { HasValues param.now.of → OnlyMemory result }
 {
     present(&param.of)?;
     let one = entry_for(alloc, &param.name, &param.of, local)?;

@@ -1,8 +1,9 @@
 //! Lines whose jumps name labels, and the lines that labels have.
 
-ghost use Rattle.std.specs.Prelude.{◌≡◌, ◌++◌, [], ◌∷◌, length, slice_get, slice_set, map, IfOk, OnOk};
+ghost use Rattle.std.specs.Prelude.{◌≡◌, ◌≢◌, ◌++◌, [], ◌∷◌, length, slice_get, slice_set, map, IfOk, MatchResult, OnOk};
 ghost use Rattle.code_generator.specs.Labels as spec;
 ghost use Rattle.code_generator.specs.Labels.{bound, settled_line};
+ghost use Rattle.code_generator.specs.Sound.{OnlyMemory};
 
 use crate::error::CodeError;
 use crate::pile::Pile;
@@ -59,6 +60,7 @@ impl Labels {
     pub fn fresh(&mut self) -> Result<u32, CodeError>
         ensures label { IfOk result (λ label. label ≡ length self.old) }
         ensures labels { OnOk result (self.new ≡ self.old ++ None ∷ []) }
+        ensures memory { OnlyMemory result }
     {
         let label = self.lines.len();
         if label > 4294967295 {
@@ -70,7 +72,7 @@ impl Labels {
 
     /// Gives a label its line. It has none yet.
     pub fn bind(&mut self, label: u32, line: u32) -> Result<(), CodeError>
-        ensures free { OnOk result (slice_get self.old label ≡ Some None) }
+        ensures free { MatchResult result (λ _. slice_get self.old label ≡ Some None) (λ _. slice_get self.old label ≢ Some None) }
         ensures labels { OnOk result (self.new ≡ slice_set self.old label (Some line)) }
     {
         let at = label as usize;
@@ -119,7 +121,8 @@ pub fn settle(
     labels: &Labels,
     mut lines: Items<Line>,
 ) -> Result<Items<Instruction>, CodeError>
-    ensures { IfOk result (λ instructions. instructions ≡ map (settled_line labels.now) lines) }
+    ensures lines { IfOk result (λ instructions. instructions ≡ map (settled_line labels.now) lines) }
+    ensures memory { OnlyMemory result }
 {
     let mut settled = Pile::new(alloc);
     while let Some(line) = lines.pop() {

@@ -2,7 +2,7 @@
 //!
 //! A function's code is written in one pass: what is still to be written lies on a pile, and each piece of it puts lines at the end, or
 //! other pieces on the pile. A jump names a label until the end, when each label has its line.
-#![tactic(auto)]
+#![tactic(auto, using(crate::proofs::Memory::only_memory))]
 
 mod config;
 mod error;

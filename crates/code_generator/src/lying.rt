@@ -1,6 +1,6 @@
 //! How values lie on the operand stack.
 
-ghost use Rattle.std.specs.Prelude.{◌≡◌, OnOk};
+ghost use Rattle.std.specs.Prelude.{◌≡◌, ◌≢◌, MatchResult};
 ghost use Rattle.program_code.specs.Lying.{lying_of, kind_of, result_of};
 ghost use Rattle.program_code.specs.Parts as parts;
 ghost use Rattle.code_generator.specs.Checks.{lying};
@@ -83,7 +83,7 @@ pub fn cast_gives(cast: Cast, given: Lies) -> Lies
 
 /// Two ways of lying have to be one.
 pub fn alike(left: Lies, right: Lies) -> Result<(), CodeError>
-    ensures { OnOk result (lying left ≡ lying right) }
+    ensures { MatchResult result (λ _. lying left ≡ lying right) (λ _. lying left ≢ lying right) }
 {
     match (left, right) {
         (Lies::Bare, Lies::Bare) => Ok(()),

@@ -6,22 +6,22 @@ ghost use Rattle.code_generator.specs.declared.labels.Line.TheVariants.{Fixed};
 ghost use Rattle.code_generator.specs.Pieces.{piece, if_any, in_width};
 ghost use Rattle.pl_code.specs.declared.code.Instruction.TheVariants.{Boxing};
 ghost use Rattle.pl_code.specs.declared.kinds.Width.{Width};
-ghost use Rattle.program_code.specs.Parts.{constant_code, arithmetic_code, boolean_code, operator_code, cast_code, number_code, from_int_code, from_long_code, from_byte_code, from_short_code, from_char_code, default_code, default_of_primitive, operation_code, pops, kept_before, kept_behind};
+ghost use Rattle.program_code.specs.Parts.{constant_code, arithmetic_code, boolean_code, operator_code, cast_code, number_code, from_int_code, from_long_code, from_byte_code, from_short_code, from_char_code, default_code, default_of_primitive, pops, kept_before, kept_behind};
 ghost use Rattle.program_code.specs.Stands.{settled};
 
-use crate::error::CodeError;
 use crate::labels::Line;
 use crate::lying::Lies;
 use arithmetic::Op;
 use pl_code::{ArithmeticOp, Instruction, Numbered, Plain, Width};
 use pl_types::{Cast, Primitive, Ty};
 use plain_data::Items;
-use typed_tree::{Constant, Gives, Logical, Operation, Operator};
+use std::alloc::AllocError;
+use typed_tree::{Constant, Gives, Logical, Operator};
 
 /// Some instructions.
 #[derive(Clone, Copy)]
 pub enum Piece<'a> {
-    Operation(&'a Operation),
+    Call(u32),
     Operator(Operator),
     Cast(Cast),
     Plain(Plain),
@@ -39,7 +39,7 @@ pub enum Piece<'a> {
     Default(&'a Ty),
 }
 
-fn one(lines: &mut Items<Line>, instruction: Instruction) -> Result<(), CodeError>
+fn one(lines: &mut Items<Line>, instruction: Instruction) -> Result<(), AllocError>
     ensures { OnOk result (lines.new ≡ lines.old ++ Fixed instruction ∷ []) }
 {
     lines.push(Line::Fixed(instruction))?;
@@ -47,11 +47,11 @@ fn one(lines: &mut Items<Line>, instruction: Instruction) -> Result<(), CodeErro
 }
 
 /// Puts some instructions at the end.
-pub fn put<'a>(lines: &mut Items<Line>, what: Piece<'a>) -> Result<(), CodeError>
+pub fn put<'a>(lines: &mut Items<Line>, what: Piece<'a>) -> Result<(), AllocError>
     ensures { OnOk result (lines.new ≡ lines.old ++ map Fixed (piece what.entry)) }
 {
     match what {
-        Piece::Operation(operation) => put_operation(lines, operation),
+        Piece::Call(number) => one(lines, Instruction::Numbered(Numbered::Call, number)),
         Piece::Operator(operator) => put_operator(lines, operator),
         Piece::Cast(cast) => put_cast(lines, cast),
         Piece::Plain(plain) => one(lines, Instruction::Plain(plain)),
@@ -79,7 +79,7 @@ fn constant_of(constant: Constant) -> Instruction
     }
 }
 
-fn put_pop(lines: &mut Items<Line>, lies: Lies) -> Result<(), CodeError>
+fn put_pop(lines: &mut Items<Line>, lies: Lies) -> Result<(), AllocError>
     ensures { OnOk result (lines.new ≡ lines.old ++ map Fixed (pops (lying lies))) }
 {
     match lies {
@@ -88,7 +88,7 @@ fn put_pop(lines: &mut Items<Line>, lies: Lies) -> Result<(), CodeError>
     }
 }
 
-fn put_settled(lines: &mut Items<Line>, operator: Logical) -> Result<(), CodeError>
+fn put_settled(lines: &mut Items<Line>, operator: Logical) -> Result<(), AllocError>
     ensures { OnOk result (lines.new ≡ lines.old ++ map Fixed (settled operator ∷ [])) }
 {
     match operator {
@@ -97,7 +97,7 @@ fn put_settled(lines: &mut Items<Line>, operator: Logical) -> Result<(), CodeErr
     }
 }
 
-fn put_before(lines: &mut Items<Line>, gives: Gives) -> Result<(), CodeError>
+fn put_before(lines: &mut Items<Line>, gives: Gives) -> Result<(), AllocError>
     ensures { OnOk result (lines.new ≡ lines.old ++ map Fixed (kept_before gives)) }
 {
     match gives {
@@ -106,7 +106,7 @@ fn put_before(lines: &mut Items<Line>, gives: Gives) -> Result<(), CodeError>
     }
 }
 
-fn put_behind(lines: &mut Items<Line>, gives: Gives) -> Result<(), CodeError>
+fn put_behind(lines: &mut Items<Line>, gives: Gives) -> Result<(), AllocError>
     ensures { OnOk result (lines.new ≡ lines.old ++ map Fixed (kept_behind gives)) }
 {
     match gives {
@@ -124,7 +124,7 @@ fn default_of(primitive: Primitive) -> Instruction
     }
 }
 
-fn put_default(lines: &mut Items<Line>, of: &Ty) -> Result<(), CodeError>
+fn put_default(lines: &mut Items<Line>, of: &Ty) -> Result<(), AllocError>
     ensures { OnOk result (lines.new ≡ lines.old ++ map Fixed (default_code of.now)) }
 {
     match of {
@@ -137,18 +137,7 @@ fn put_default(lines: &mut Items<Line>, of: &Ty) -> Result<(), CodeError>
     }
 }
 
-fn put_operation(lines: &mut Items<Line>, operation: &Operation) -> Result<(), CodeError>
-    ensures { OnOk result (lines.new ≡ lines.old ++ map Fixed (operation_code operation.now)) }
-{
-    match operation {
-        Operation::Operator(operator) => put_operator(lines, *operator),
-        Operation::Cast(cast) => put_cast(lines, *cast),
-        Operation::Function(number) => one(lines, Instruction::Numbered(Numbered::Call, *number)),
-        _ => Ok(()),
-    }
-}
-
-fn put_operator(lines: &mut Items<Line>, operator: Operator) -> Result<(), CodeError>
+fn put_operator(lines: &mut Items<Line>, operator: Operator) -> Result<(), AllocError>
     ensures { OnOk result (lines.new ≡ lines.old ++ map Fixed (operator_code operator)) }
 {
     match operator {
@@ -186,7 +175,7 @@ fn arithmetic_op(op: Op) -> Option<ArithmeticOp>
     }
 }
 
-fn put_if_any(lines: &mut Items<Line>, instruction: Option<Instruction>) -> Result<(), CodeError>
+fn put_if_any(lines: &mut Items<Line>, instruction: Option<Instruction>) -> Result<(), AllocError>
     ensures { OnOk result (lines.new ≡ lines.old ++ map Fixed (if_any instruction)) }
 {
     match instruction {
@@ -195,7 +184,7 @@ fn put_if_any(lines: &mut Items<Line>, instruction: Option<Instruction>) -> Resu
     }
 }
 
-fn put_arithmetic(lines: &mut Items<Line>, op: Op, width: Width) -> Result<(), CodeError>
+fn put_arithmetic(lines: &mut Items<Line>, op: Op, width: Width) -> Result<(), AllocError>
     ensures { OnOk result (lines.new ≡ lines.old ++ map Fixed (arithmetic_code op width)) }
 {
     match arithmetic_op(op) {
@@ -204,7 +193,7 @@ fn put_arithmetic(lines: &mut Items<Line>, op: Op, width: Width) -> Result<(), C
     }
 }
 
-fn put_boolean(lines: &mut Items<Line>, op: Op) -> Result<(), CodeError>
+fn put_boolean(lines: &mut Items<Line>, op: Op) -> Result<(), AllocError>
     ensures { OnOk result (lines.new ≡ lines.old ++ map Fixed (boolean_code op)) }
 {
     match op {
@@ -269,7 +258,7 @@ fn from_char(to: Primitive) -> Option<Instruction>
 }
 
 #[tactic(auto, using(crate::proofs::Lists::one_and_more))]
-fn put_from_long(lines: &mut Items<Line>, to: Primitive) -> Result<(), CodeError>
+fn put_from_long(lines: &mut Items<Line>, to: Primitive) -> Result<(), AllocError>
     ensures { OnOk result (lines.new ≡ lines.old ++ map Fixed (from_long_code to)) }
 {
     match to {
@@ -282,7 +271,7 @@ fn put_from_long(lines: &mut Items<Line>, to: Primitive) -> Result<(), CodeError
     }
 }
 
-fn put_number(lines: &mut Items<Line>, from: Primitive, to: Primitive) -> Result<(), CodeError>
+fn put_number(lines: &mut Items<Line>, from: Primitive, to: Primitive) -> Result<(), AllocError>
     ensures { OnOk result (lines.new ≡ lines.old ++ map Fixed (number_code from to)) }
 {
     match from {
@@ -296,14 +285,14 @@ fn put_number(lines: &mut Items<Line>, from: Primitive, to: Primitive) -> Result
 }
 
 #[tactic(auto, using(crate::proofs::Lists::more_and_one))]
-fn put_wrapped(lines: &mut Items<Line>, from: Primitive, to: Primitive) -> Result<(), CodeError>
+fn put_wrapped(lines: &mut Items<Line>, from: Primitive, to: Primitive) -> Result<(), AllocError>
     ensures { OnOk result (lines.new ≡ lines.old ++ map Fixed (number_code from to ++ Boxing to ∷ [])) }
 {
     put_number(lines, from, to)?;
     one(lines, Instruction::Boxing(to))
 }
 
-fn put_cast(lines: &mut Items<Line>, cast: Cast) -> Result<(), CodeError>
+fn put_cast(lines: &mut Items<Line>, cast: Cast) -> Result<(), AllocError>
     ensures { OnOk result (lines.new ≡ lines.old ++ map Fixed (cast_code cast)) }
 {
     match cast {

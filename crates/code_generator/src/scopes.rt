@@ -1,13 +1,14 @@
 //! Statements that stand in one scope, the variables that they declare, and how control goes on behind them.
 
-ghost use Rattle.std.specs.Prelude.{◌≡◌, ◌≢◌, ◌∷◌, drop, IfOk, OnOk};
+ghost use Rattle.std.specs.Prelude.{◌≡◌, ◌≢◌, ◌∷◌, drop, IfOk, MatchResult, OnOk};
 ghost use Rattle.code_generator.specs.Jobs as j;
 ghost use Rattle.code_generator.specs.Jobs.{Back, IsFirst, entry, job, jobs, next_in, tail_of};
 ghost use Rattle.code_generator.specs.Opened.{statement_of, opened_before, loop_before};
+ghost use Rattle.code_generator.specs.Sound.{BeginLies, Keeps, OnlyMemory};
 ghost use Rattle.typed_tree.specs.declared.statement.StatementNode.{out-StatementNode};
 ghost use Rattle.typed_tree.specs.declared.statement.TypedStatement.{out-TypedStatement};
 ghost use Rattle.program_code.specs.Lying.{Absent, lying_of};
-ghost use Rattle.program_meaning.specs.Programs.{program_of, before, declared, stmts_of};
+ghost use Rattle.program_meaning.specs.Programs.{program_of, before, declared, maybe_of, stmts_of};
 ghost use Rattle.program_meaning.specs.Tree as tree;
 
 use crate::config::{Config, Entry, Flow};
@@ -33,7 +34,8 @@ pub fn statement<'a>(
     tail: Tail<'a>,
     exits: Option<Exits>,
 ) -> Result<(), CodeError>
-    ensures { OnOk result (Back (program_of program.now) (j.Run (before s.now (tail_of tail.entry)) exits ∷ jobs tasks.old) config.now (jobs tasks.new) config.now) }
+    ensures back { OnOk result (Back (program_of program.now) (j.Run (before s.now (tail_of tail.entry)) exits ∷ jobs tasks.old) config.now (jobs tasks.new) config.now) }
+    ensures sound { Keeps (program_of program.now) (j.Run (before s.now (tail_of tail.entry)) exits ∷ jobs tasks.old) config.now result (jobs tasks.new) config.now }
 {
     by_kind(program, config, tasks, s, tail, exits)
 }
@@ -46,7 +48,8 @@ fn by_kind<'a>(
     tail: Tail<'a>,
     exits: Option<Exits>,
 ) -> Result<(), CodeError>
-    ensures { OnOk result (Back (program_of program.now) (j.Run (opened_before (out-StatementNode (out-TypedStatement s.now).node) (tail_of tail.entry)) exits ∷ jobs tasks.old) config.now (jobs tasks.new) config.now) }
+    ensures back { OnOk result (Back (program_of program.now) (j.Run (opened_before (out-StatementNode (out-TypedStatement s.now).node) (tail_of tail.entry)) exits ∷ jobs tasks.old) config.now (jobs tasks.new) config.now) }
+    ensures sound { Keeps (program_of program.now) (j.Run (opened_before (out-StatementNode (out-TypedStatement s.now).node) (tail_of tail.entry)) exits ∷ jobs tasks.old) config.now result (jobs tasks.new) config.now }
 {
     match &s.node {
         StatementNode::Expression(_) => simple(program, config, tasks, s, tail, exits),
@@ -72,7 +75,8 @@ fn simple<'a>(
     tail: Tail<'a>,
     exits: Option<Exits>,
 ) -> Result<(), CodeError>
-    ensures { OnOk result (Back (program_of program.now) (j.Run (tree.Then (statement_of s.now) (tail_of tail.entry)) exits ∷ jobs tasks.old) config.now (jobs tasks.new) config.now) }
+    ensures back { OnOk result (Back (program_of program.now) (j.Run (tree.Then (statement_of s.now) (tail_of tail.entry)) exits ∷ jobs tasks.old) config.now (jobs tasks.new) config.now) }
+    ensures sound { Keeps (program_of program.now) (j.Run (tree.Then (statement_of s.now) (tail_of tail.entry)) exits ∷ jobs tasks.old) config.now result (jobs tasks.new) config.now }
 {
     tasks.push_three(Task::One(s, exits), Task::Rest(tail, exits), Task::Both)?;
     Ok(())
@@ -86,7 +90,8 @@ fn declaration<'a>(
     tail: Tail<'a>,
     exits: Option<Exits>,
 ) -> Result<(), CodeError>
-    ensures { OnOk result (Back (program_of program.now) (j.Run (declared all.now (tail_of tail.entry)) exits ∷ jobs tasks.old) config.now (jobs tasks.new) config.now) }
+    ensures back { OnOk result (Back (program_of program.now) (j.Run (declared all.now (tail_of tail.entry)) exits ∷ jobs tasks.old) config.now (jobs tasks.new) config.now) }
+    ensures sound { Keeps (program_of program.now) (j.Run (declared all.now (tail_of tail.entry)) exits ∷ jobs tasks.old) config.now result (jobs tasks.new) config.now }
 {
     tasks.push(Task::Variables(all, 0, tail, exits))?;
     Ok(())
@@ -102,7 +107,8 @@ fn begun<'a>(
     tail: Tail<'a>,
     exits: Option<Exits>,
 ) -> Result<(), CodeError>
-    ensures { OnOk result (Back (program_of program.now) (j.Run (loop_before first.now (statement_of s.now) (tail_of tail.entry)) exits ∷ jobs tasks.old) config.now (jobs tasks.new) config.now) }
+    ensures back { OnOk result (Back (program_of program.now) (j.Run (loop_before first.now (statement_of s.now) (tail_of tail.entry)) exits ∷ jobs tasks.old) config.now (jobs tasks.new) config.now) }
+    ensures sound { Keeps (program_of program.now) (j.Run (loop_before first.now (statement_of s.now) (tail_of tail.entry)) exits ∷ jobs tasks.old) config.now result (jobs tasks.new) config.now }
 {
     match first {
         Some(first) => begun_by(program, config, tasks, s, first.get(), tail, exits),
@@ -119,7 +125,8 @@ fn begun_by<'a>(
     tail: Tail<'a>,
     exits: Option<Exits>,
 ) -> Result<(), CodeError>
-    ensures { OnOk result (Back (program_of program.now) (j.Run (tree.Then (tree.Block (before first.now (tree.Then (statement_of s.now) tree.Finish))) (tail_of tail.entry)) exits ∷ jobs tasks.old) config.now (jobs tasks.new) config.now) }
+    ensures back { OnOk result (Back (program_of program.now) (j.Run (tree.Then (tree.Block (before first.now (tree.Then (statement_of s.now) tree.Finish))) (tail_of tail.entry)) exits ∷ jobs tasks.old) config.now (jobs tasks.new) config.now) }
+    ensures sound { Keeps (program_of program.now) (j.Run (tree.Then (tree.Block (before first.now (tree.Then (statement_of s.now) tree.Finish))) (tail_of tail.entry)) exits ∷ jobs tasks.old) config.now result (jobs tasks.new) config.now }
 {
     let height = config.scope.len();
     tasks.push_four(
@@ -139,7 +146,8 @@ pub fn rest<'a>(
     tail: Tail<'a>,
     exits: Option<Exits>,
 ) -> Result<(), CodeError>
-    ensures { OnOk result (Back (program_of program.now) (j.Run (tail_of tail.entry) exits ∷ jobs tasks.old) config.now (jobs tasks.new) config.now) }
+    ensures back { OnOk result (Back (program_of program.now) (j.Run (tail_of tail.entry) exits ∷ jobs tasks.old) config.now (jobs tasks.new) config.now) }
+    ensures sound { Keeps (program_of program.now) (j.Run (tail_of tail.entry) exits ∷ jobs tasks.old) config.now result (jobs tasks.new) config.now }
 {
     match tail {
         Tail::Nothing => {
@@ -160,7 +168,8 @@ fn finish<'a>(
     tasks: &mut Pile<Task<'a>>,
     exits: Option<Exits>,
 ) -> Result<(), CodeError>
-    ensures { OnOk result (Back (program_of program.now) (j.Run tree.Finish exits ∷ jobs tasks.old) config.now (jobs tasks.new) config.now) }
+    ensures back { OnOk result (Back (program_of program.now) (j.Run tree.Finish exits ∷ jobs tasks.old) config.now (jobs tasks.new) config.now) }
+    ensures sound { Keeps (program_of program.now) (j.Run tree.Finish exits ∷ jobs tasks.old) config.now result (jobs tasks.new) config.now }
 {
     tasks.push(Task::Flows(Flow {
         falls: true,
@@ -176,7 +185,8 @@ fn last<'a>(
     s: &'a TypedStatement,
     exits: Option<Exits>,
 ) -> Result<(), CodeError>
-    ensures { OnOk result (Back (program_of program.now) (j.Run (tree.Then (statement_of s.now) tree.Finish) exits ∷ jobs tasks.old) config.now (jobs tasks.new) config.now) }
+    ensures back { OnOk result (Back (program_of program.now) (j.Run (tree.Then (statement_of s.now) tree.Finish) exits ∷ jobs tasks.old) config.now (jobs tasks.new) config.now) }
+    ensures sound { Keeps (program_of program.now) (j.Run (tree.Then (statement_of s.now) tree.Finish) exits ∷ jobs tasks.old) config.now result (jobs tasks.new) config.now }
 {
     tasks.push_three(
         Task::One(s, exits),
@@ -195,12 +205,12 @@ fn row<'a>(
     at: usize,
     exits: Option<Exits>,
 ) -> Result<(), CodeError>
-    ensures { OnOk result (Back (program_of program.now) (j.Run (stmts_of (drop at all.now)) exits ∷ jobs tasks.old) config.now (jobs tasks.new) config.now) }
+    ensures back { OnOk result (Back (program_of program.now) (j.Run (stmts_of (drop at all.now)) exits ∷ jobs tasks.old) config.now (jobs tasks.new) config.now) }
+    ensures sound { Keeps (program_of program.now) (j.Run (stmts_of (drop at all.now)) exits ∷ jobs tasks.old) config.now result (jobs tasks.new) config.now }
 {
     let _count = all.len();
     let Some(s) = all.get(at) else {
-        finish(program, config, tasks, exits)?;
-        return Ok(());
+        return finish(program, config, tasks, exits);
     };
     let s = s.get();
     tasks.push(Task::Statement(s, Tail::Row(all, at + 1), exits))?;
@@ -217,7 +227,8 @@ pub fn variables<'a>(
     tail: Tail<'a>,
     exits: Option<Exits>,
 ) -> Result<(), CodeError>
-    ensures { OnOk result (Back (program_of program.now) (j.Run (declared (drop at all.now) (tail_of tail.entry)) exits ∷ jobs tasks.old) config.now (jobs tasks.new) config.now) }
+    ensures back { OnOk result (Back (program_of program.now) (j.Run (declared (drop at all.now) (tail_of tail.entry)) exits ∷ jobs tasks.old) config.now (jobs tasks.new) config.now) }
+    ensures sound { Keeps (program_of program.now) (j.Run (declared (drop at all.now) (tail_of tail.entry)) exits ∷ jobs tasks.old) config.now result (jobs tasks.new) config.now }
 {
     let _count = all.len();
     let Some(variable) = all.get(at) else {
@@ -235,7 +246,7 @@ pub fn variables<'a>(
 
 /// What a variable begins with.
 fn first_value<'a>(variable: &'a TypedVariable) -> Result<Task<'a>, CodeError>
-    ensures { IfOk result (λ first. IsFirst variable.now (job first)) }
+    ensures { MatchResult result (λ first. IsFirst variable.now (job first)) (λ _. BeginLies (maybe_of variable.now.value) variable.now.of → ⊥) }
 {
     match &variable.value {
         Some(value) => {
@@ -255,7 +266,8 @@ pub fn declare<'a>(
     tasks: &Pile<Task<'a>>,
     variable: &TypedVariable,
 ) -> Result<(), CodeError>
-    ensures { OnOk result (Back (program_of program.now) (j.Declared variable.now.name variable.now.of ∷ jobs tasks.now) config.old (jobs tasks.now) config.new) }
+    ensures back { OnOk result (Back (program_of program.now) (j.Declared variable.now.name variable.now.of ∷ jobs tasks.now) config.old (jobs tasks.now) config.new) }
+    ensures sound { Keeps (program_of program.now) (j.Declared variable.now.name variable.now.of ∷ jobs tasks.now) config.old result (jobs tasks.now) config.new }
 {
     present(&variable.of)?;
     let local = next(config)?;
@@ -270,7 +282,8 @@ pub fn declare<'a>(
 
 /// The number of the next local.
 fn next(config: &Config) -> Result<u32, CodeError>
-    ensures { IfOk result (λ next. next ≡ next_in config.now) }
+    ensures number { IfOk result (λ next. next ≡ next_in config.now) }
+    ensures memory { OnlyMemory result }
 {
     let params = config.params.len();
     let locals = config.locals.len();
@@ -285,7 +298,8 @@ fn next(config: &Config) -> Result<u32, CodeError>
 
 /// The entry of a name.
 pub fn entry_for(alloc: Global, name: &Text, of: &Ty, local: u32) -> Result<Entry, CodeError>
-    ensures { IfOk result (λ one. entry one ≡ record { name = name.now; of = of.now; local = local }) }
+    ensures entry { IfOk result (λ one. entry one ≡ record { name = name.now; of = of.now; local = local }) }
+    ensures memory { OnlyMemory result }
 {
     let name = Text::new(alloc, name.as_str())?;
     let of = of.share(alloc)?;
@@ -294,7 +308,7 @@ pub fn entry_for(alloc: Global, name: &Text, of: &Ty, local: u32) -> Result<Entr
 
 /// A type has values.
 pub fn present(of: &Ty) -> Result<(), CodeError>
-    ensures { OnOk result (lying_of of.now ≢ Absent) }
+    ensures { MatchResult result (λ _. lying_of of.now ≢ Absent) (λ _. lying_of of.now ≡ Absent) }
 {
     match lies_of(of) {
         Lies::Absent => Err(CodeError::Malformed),
@@ -309,7 +323,8 @@ pub fn close<'a>(
     tasks: &Pile<Task<'a>>,
     height: usize,
 ) -> Result<(), CodeError>
-    ensures { OnOk result (Back (program_of program.now) (j.Close height ∷ jobs tasks.now) config.old (jobs tasks.now) config.new) }
+    ensures back { OnOk result (Back (program_of program.now) (j.Close height ∷ jobs tasks.now) config.old (jobs tasks.now) config.new) }
+    ensures sound { Keeps (program_of program.now) (j.Close height ∷ jobs tasks.now) config.old result (jobs tasks.now) config.new }
 {
     config.scope.lower(height);
     Ok(())

@@ -4,6 +4,7 @@ ghost use Rattle.std.specs.Prelude.{◌≡◌, ◌∷◌, OnOk};
 ghost use Rattle.code_generator.specs.Jobs as j;
 ghost use Rattle.code_generator.specs.Jobs.{Back, job, jobs, maybe_in};
 ghost use Rattle.code_generator.specs.Opened.{body_of, body_if, statement_of};
+ghost use Rattle.code_generator.specs.Sound.{Keeps};
 ghost use Rattle.program_meaning.specs.Programs.{program_of, expr_of, maybe_of, stmts_of};
 ghost use Rattle.program_meaning.specs.Tree as tree;
 
@@ -26,7 +27,8 @@ pub fn one<'a>(
     s: &'a TypedStatement,
     exits: Option<Exits>,
 ) -> Result<(), CodeError>
-    ensures { OnOk result (Back (program_of program.now) (j.One (statement_of s.now) exits ∷ jobs tasks.old) config.old (jobs tasks.new) config.new) }
+    ensures back { OnOk result (Back (program_of program.now) (j.One (statement_of s.now) exits ∷ jobs tasks.old) config.old (jobs tasks.new) config.new) }
+    ensures sound { Keeps (program_of program.now) (j.One (statement_of s.now) exits ∷ jobs tasks.old) config.old result (jobs tasks.new) config.new }
 {
     match &s.node {
         StatementNode::Expression(value) => {
@@ -58,7 +60,10 @@ pub fn one<'a>(
         StatementNode::Break => leave(program, config, tasks, exits),
         StatementNode::Continue => go_on(program, config, tasks, exits),
         StatementNode::Return(value) => give(program, config, tasks, value, exits),
-        _ => Err(CodeError::Unbuilt),
+        StatementNode::Declare(_) => Err(CodeError::Unbuilt),
+        StatementNode::ForEach { .. } => Err(CodeError::Unbuilt),
+        StatementNode::Try { .. } => Err(CodeError::Unbuilt),
+        StatementNode::Throw(_) => Err(CodeError::Unbuilt),
     }
 }
 
@@ -96,7 +101,8 @@ fn expression<'a>(
     value: &'a Typed,
     exits: Option<Exits>,
 ) -> Result<(), CodeError>
-    ensures { OnOk result (Back (program_of program.now) (j.One (tree.Do (expr_of value.now)) exits ∷ jobs tasks.old) config.now (jobs tasks.new) config.now) }
+    ensures back { OnOk result (Back (program_of program.now) (j.One (tree.Do (expr_of value.now)) exits ∷ jobs tasks.old) config.now (jobs tasks.new) config.now) }
+    ensures sound { Keeps (program_of program.now) (j.One (tree.Do (expr_of value.now)) exits ∷ jobs tasks.old) config.now result (jobs tasks.new) config.now }
 {
     tasks.push_three(
         Task::Value(value),
@@ -116,7 +122,8 @@ fn block<'a>(
     statements: &'a Items<Subtree<TypedStatement>>,
     exits: Option<Exits>,
 ) -> Result<(), CodeError>
-    ensures { OnOk result (Back (program_of program.now) (j.One (tree.Block (stmts_of statements.now)) exits ∷ jobs tasks.old) config.now (jobs tasks.new) config.now) }
+    ensures back { OnOk result (Back (program_of program.now) (j.One (tree.Block (stmts_of statements.now)) exits ∷ jobs tasks.old) config.now (jobs tasks.new) config.now) }
+    ensures sound { Keeps (program_of program.now) (j.One (tree.Block (stmts_of statements.now)) exits ∷ jobs tasks.old) config.now result (jobs tasks.new) config.now }
 {
     let height = config.scope.len();
     tasks.push_two(
@@ -135,14 +142,15 @@ fn choice<'a>(
     otherwise: &'a Option<Subtree<TypedStatement>>,
     exits: Option<Exits>,
 ) -> Result<(), CodeError>
-    ensures { OnOk result (Back (program_of program.now) (j.One (tree.If (expr_of condition.now) (body_of then.now) (body_if otherwise.now)) exits ∷ jobs tasks.old) config.old (jobs tasks.new) config.new) }
+    ensures back { OnOk result (Back (program_of program.now) (j.One (tree.If (expr_of condition.now) (body_of then.now) (body_if otherwise.now)) exits ∷ jobs tasks.old) config.old (jobs tasks.new) config.new) }
+    ensures sound { Keeps (program_of program.now) (j.One (tree.If (expr_of condition.now) (body_of then.now) (body_if otherwise.now)) exits ∷ jobs tasks.old) config.old result (jobs tasks.new) config.new }
 {
     lies_as(condition, Lies::Bare)?;
     let height = config.scope.len();
     let yes = body(then, exits);
     let no = body_if_any(otherwise, exits);
-    let over = config.labels.fresh()?;
     let end = config.labels.fresh()?;
+    let over = config.labels.fresh()?;
     tasks.push_three(Task::Close(height), Task::Bind(end), Task::Either)?;
     tasks.push_three(Task::Skip(end), Task::Bind(over), no)?;
     tasks.push_four(
@@ -163,15 +171,16 @@ fn turns<'a>(
     turn: &'a Option<Subtree<TypedStatement>>,
     exits: Option<Exits>,
 ) -> Result<(), CodeError>
-    ensures { OnOk result (Back (program_of program.now) (j.One (tree.While (maybe_of condition.now) (maybe_of update.now) (body_if turn.now)) exits ∷ jobs tasks.old) config.old (jobs tasks.new) config.new) }
+    ensures back { OnOk result (Back (program_of program.now) (j.One (tree.While (maybe_of condition.now) (maybe_of update.now) (body_if turn.now)) exits ∷ jobs tasks.old) config.old (jobs tasks.new) config.new) }
+    ensures sound { Keeps (program_of program.now) (j.One (tree.While (maybe_of condition.now) (maybe_of update.now) (body_if turn.now)) exits ∷ jobs tasks.old) config.old result (jobs tasks.new) config.new }
 {
     let height = config.scope.len();
     let test = part(condition);
     let behind = part(update);
-    let first = config.labels.fresh()?;
-    let start = config.labels.fresh()?;
     let out = config.labels.fresh()?;
+    let first = config.labels.fresh()?;
     let on = config.labels.fresh()?;
+    let start = config.labels.fresh()?;
     let within = body_if_any(turn, Some(Exits { out, on }));
     tasks.push_three(
         Task::Jump(Numbered::Loop, start),
@@ -201,14 +210,15 @@ fn turns_at_least_once<'a>(
     condition: &'a Option<Subtree<Typed>>,
     exits: Option<Exits>,
 ) -> Result<(), CodeError>
-    ensures { OnOk result (Back (program_of program.now) (j.One (tree.DoWhile (body_of turn.now) (maybe_of condition.now)) exits ∷ jobs tasks.old) config.old (jobs tasks.new) config.new) }
+    ensures back { OnOk result (Back (program_of program.now) (j.One (tree.DoWhile (body_of turn.now) (maybe_of condition.now)) exits ∷ jobs tasks.old) config.old (jobs tasks.new) config.new) }
+    ensures sound { Keeps (program_of program.now) (j.One (tree.DoWhile (body_of turn.now) (maybe_of condition.now)) exits ∷ jobs tasks.old) config.old result (jobs tasks.new) config.new }
 {
     let height = config.scope.len();
     let test = part(condition);
-    let first = config.labels.fresh()?;
-    let start = config.labels.fresh()?;
     let out = config.labels.fresh()?;
+    let first = config.labels.fresh()?;
     let on = config.labels.fresh()?;
+    let start = config.labels.fresh()?;
     let within = body(turn, Some(Exits { out, on }));
     tasks.push_three(
         Task::Jump(Numbered::Loop, start),
@@ -236,7 +246,8 @@ fn leave<'a>(
     tasks: &mut Pile<Task<'a>>,
     exits: Option<Exits>,
 ) -> Result<(), CodeError>
-    ensures { OnOk result (Back (program_of program.now) (j.One tree.Break exits ∷ jobs tasks.old) config.now (jobs tasks.new) config.now) }
+    ensures back { OnOk result (Back (program_of program.now) (j.One tree.Break exits ∷ jobs tasks.old) config.now (jobs tasks.new) config.now) }
+    ensures sound { Keeps (program_of program.now) (j.One tree.Break exits ∷ jobs tasks.old) config.now result (jobs tasks.new) config.now }
 {
     let Some(to) = exits else {
         return Err(CodeError::Malformed);
@@ -257,7 +268,8 @@ fn go_on<'a>(
     tasks: &mut Pile<Task<'a>>,
     exits: Option<Exits>,
 ) -> Result<(), CodeError>
-    ensures { OnOk result (Back (program_of program.now) (j.One tree.Continue exits ∷ jobs tasks.old) config.now (jobs tasks.new) config.now) }
+    ensures back { OnOk result (Back (program_of program.now) (j.One tree.Continue exits ∷ jobs tasks.old) config.now (jobs tasks.new) config.now) }
+    ensures sound { Keeps (program_of program.now) (j.One tree.Continue exits ∷ jobs tasks.old) config.now result (jobs tasks.new) config.now }
 {
     let Some(to) = exits else {
         return Err(CodeError::Malformed);
@@ -279,7 +291,8 @@ fn give<'a>(
     value: &'a Option<Subtree<Typed>>,
     exits: Option<Exits>,
 ) -> Result<(), CodeError>
-    ensures { OnOk result (Back (program_of program.now) (j.One (tree.Return (maybe_of value.now)) exits ∷ jobs tasks.old) config.now (jobs tasks.new) config.now) }
+    ensures back { OnOk result (Back (program_of program.now) (j.One (tree.Return (maybe_of value.now)) exits ∷ jobs tasks.old) config.now (jobs tasks.new) config.now) }
+    ensures sound { Keeps (program_of program.now) (j.One (tree.Return (maybe_of value.now)) exits ∷ jobs tasks.old) config.now result (jobs tasks.new) config.now }
 {
     match value {
         Some(value) => give_value(program, config, tasks, value.get(), exits),
@@ -294,7 +307,8 @@ fn give_value<'a>(
     value: &'a Typed,
     exits: Option<Exits>,
 ) -> Result<(), CodeError>
-    ensures { OnOk result (Back (program_of program.now) (j.One (tree.Return (tree.Given (expr_of value.now))) exits ∷ jobs tasks.old) config.now (jobs tasks.new) config.now) }
+    ensures back { OnOk result (Back (program_of program.now) (j.One (tree.Return (tree.Given (expr_of value.now))) exits ∷ jobs tasks.old) config.now (jobs tasks.new) config.now) }
+    ensures sound { Keeps (program_of program.now) (j.One (tree.Return (tree.Given (expr_of value.now))) exits ∷ jobs tasks.old) config.now result (jobs tasks.new) config.now }
 {
     lies_as(value, config.result)?;
     tasks.push_three(
@@ -314,7 +328,8 @@ fn give_nothing<'a>(
     tasks: &mut Pile<Task<'a>>,
     exits: Option<Exits>,
 ) -> Result<(), CodeError>
-    ensures { OnOk result (Back (program_of program.now) (j.One (tree.Return tree.Missing) exits ∷ jobs tasks.old) config.now (jobs tasks.new) config.now) }
+    ensures back { OnOk result (Back (program_of program.now) (j.One (tree.Return tree.Missing) exits ∷ jobs tasks.old) config.now (jobs tasks.new) config.now) }
+    ensures sound { Keeps (program_of program.now) (j.One (tree.Return tree.Missing) exits ∷ jobs tasks.old) config.now result (jobs tasks.new) config.now }
 {
     alike(config.result, Lies::Absent)?;
     tasks.push_two(

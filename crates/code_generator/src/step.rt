@@ -1,10 +1,11 @@
 //! Goes on with a task.
 
-ghost use Rattle.std.specs.Prelude.{◌∷◌, map, IfOk, OnOk};
+ghost use Rattle.std.specs.Prelude.{◌∷◌, map, MatchResult, OnOk};
 ghost use Rattle.code_generator.specs.Checks.{lying};
 ghost use Rattle.code_generator.specs.Jobs as j;
 ghost use Rattle.code_generator.specs.Jobs.{Back, IsLocal, job, jobs, entry};
 ghost use Rattle.code_generator.specs.Pieces as pieces;
+ghost use Rattle.code_generator.specs.Sound.{IsNamed, Keeps, variable};
 ghost use Rattle.program_meaning.specs.Programs.{program_of, expr_of};
 
 use crate::config::{Config, Entry};
@@ -32,7 +33,8 @@ pub fn step<'a>(
     tasks: &mut Pile<Task<'a>>,
     task: Task<'a>,
 ) -> Result<(), CodeError>
-    ensures { OnOk result (Back (program_of program.now) (job task.entry ∷ jobs tasks.old) config.old (jobs tasks.new) config.new) }
+    ensures back { OnOk result (Back (program_of program.now) (job task.entry ∷ jobs tasks.old) config.old (jobs tasks.new) config.new) }
+    ensures sound { Keeps (program_of program.now) (job task.entry ∷ jobs tasks.old) config.old result (jobs tasks.new) config.new }
 {
     match task {
         Task::Value(e) => {
@@ -110,7 +112,8 @@ fn expression<'a>(
     tasks: &mut Pile<Task<'a>>,
     e: &'a Typed,
 ) -> Result<(), CodeError>
-    ensures { OnOk result (Back (program_of program.now) (j.Value (expr_of e.now) ∷ jobs tasks.old) config.old (jobs tasks.new) config.new) }
+    ensures back { OnOk result (Back (program_of program.now) (j.Value (expr_of e.now) ∷ jobs tasks.old) config.old (jobs tasks.new) config.new) }
+    ensures sound { Keeps (program_of program.now) (j.Value (expr_of e.now) ∷ jobs tasks.old) config.old result (jobs tasks.new) config.new }
 {
     value(program, config, tasks, e)
 }
@@ -121,9 +124,11 @@ fn piece<'a>(
     tasks: &Pile<Task<'a>>,
     what: Piece<'a>,
 ) -> Result<(), CodeError>
-    ensures { OnOk result (Back (program_of program.now) (j.Put (pieces.piece what.entry) ∷ jobs tasks.now) config.old (jobs tasks.now) config.new) }
+    ensures back { OnOk result (Back (program_of program.now) (j.Put (pieces.piece what.entry) ∷ jobs tasks.now) config.old (jobs tasks.now) config.new) }
+    ensures sound { Keeps (program_of program.now) (j.Put (pieces.piece what.entry) ∷ jobs tasks.now) config.old result (jobs tasks.now) config.new }
 {
-    put(&mut config.lines, what)
+    put(&mut config.lines, what)?;
+    Ok(())
 }
 
 fn jump<'a>(
@@ -133,7 +138,8 @@ fn jump<'a>(
     kind: Numbered,
     label: u32,
 ) -> Result<(), CodeError>
-    ensures { OnOk result (Back (program_of program.now) (j.Jump kind label ∷ jobs tasks.now) config.old (jobs tasks.now) config.new) }
+    ensures back { OnOk result (Back (program_of program.now) (j.Jump kind label ∷ jobs tasks.now) config.old (jobs tasks.now) config.new) }
+    ensures sound { Keeps (program_of program.now) (j.Jump kind label ∷ jobs tasks.now) config.old result (jobs tasks.now) config.new }
 {
     config.lines.push(Line::Jump(kind, label))?;
     Ok(())
@@ -145,7 +151,8 @@ fn bind<'a>(
     tasks: &Pile<Task<'a>>,
     label: u32,
 ) -> Result<(), CodeError>
-    ensures { OnOk result (Back (program_of program.now) (j.Bind label ∷ jobs tasks.now) config.old (jobs tasks.now) config.new) }
+    ensures back { OnOk result (Back (program_of program.now) (j.Bind label ∷ jobs tasks.now) config.old (jobs tasks.now) config.new) }
+    ensures sound { Keeps (program_of program.now) (j.Bind label ∷ jobs tasks.now) config.old result (jobs tasks.now) config.new }
 {
     let line = config.lines.len();
     if line > 4294967295 {
@@ -157,7 +164,7 @@ fn bind<'a>(
 
 /// The number of a name's local. Its values have to lie so.
 fn local(scope: &Pile<Entry>, name: &Text, wanted: Lies) -> Result<u32, CodeError>
-    ensures { IfOk result (λ local. IsLocal (map entry scope.now) name.now (lying wanted) local) }
+    ensures { MatchResult result (λ local. IsLocal (map entry scope.now) name.now (lying wanted) local) (λ _. IsNamed (map variable (map entry scope.now)) name.now (lying wanted) → ⊥) }
 {
     let Some(found) = scope.find(name) else {
         return Err(CodeError::Malformed);
@@ -173,7 +180,8 @@ fn load<'a>(
     name: &Text,
     wanted: Lies,
 ) -> Result<(), CodeError>
-    ensures { OnOk result (Back (program_of program.now) (j.Load name.now (lying wanted) ∷ jobs tasks.now) config.old (jobs tasks.now) config.new) }
+    ensures back { OnOk result (Back (program_of program.now) (j.Load name.now (lying wanted) ∷ jobs tasks.now) config.old (jobs tasks.now) config.new) }
+    ensures sound { Keeps (program_of program.now) (j.Load name.now (lying wanted) ∷ jobs tasks.now) config.old result (jobs tasks.now) config.new }
 {
     let local = local(&config.scope, name, wanted)?;
     config
@@ -189,7 +197,8 @@ fn store<'a>(
     name: &Text,
     wanted: Lies,
 ) -> Result<(), CodeError>
-    ensures { OnOk result (Back (program_of program.now) (j.Store name.now (lying wanted) ∷ jobs tasks.now) config.old (jobs tasks.now) config.new) }
+    ensures back { OnOk result (Back (program_of program.now) (j.Store name.now (lying wanted) ∷ jobs tasks.now) config.old (jobs tasks.now) config.new) }
+    ensures sound { Keeps (program_of program.now) (j.Store name.now (lying wanted) ∷ jobs tasks.now) config.old result (jobs tasks.now) config.new }
 {
     let local = local(&config.scope, name, wanted)?;
     config

@@ -1,8 +1,9 @@
 //! Parts, from the left to the right.
 
-ghost use Rattle.std.specs.Prelude.{◌+◌, [], ◌∷◌, OnOk};
+ghost use Rattle.std.specs.Prelude.{◌+◌, [], ◌∷◌, MatchResult, OnOk};
 ghost use Rattle.code_generator.specs.Jobs as j;
 ghost use Rattle.code_generator.specs.Jobs.{Back, Wants, Taken, jobs, parts_from, wanted};
+ghost use Rattle.code_generator.specs.Sound.{Keeps, Refuses};
 ghost use Rattle.program_code.specs.Lying.{lying_of};
 ghost use Rattle.program_meaning.specs.Programs.{program_of, expr_of};
 ghost use Rattle.program_meaning.specs.Tree.{type_of};
@@ -25,7 +26,8 @@ pub fn values<'a>(
     at: usize,
     kind: Wanted<'a>,
 ) -> Result<(), CodeError>
-    ensures { OnOk result (Back (program_of program.now) (j.Values (parts_from at parts.now) (wanted at kind.entry) ∷ jobs tasks.old) config.now (jobs tasks.new) config.now) }
+    ensures back { OnOk result (Back (program_of program.now) (j.Values (parts_from at parts.now) (wanted at kind.entry) ∷ jobs tasks.old) config.now (jobs tasks.new) config.now) }
+    ensures sound { Keeps (program_of program.now) (j.Values (parts_from at parts.now) (wanted at kind.entry) ∷ jobs tasks.old) config.now result (jobs tasks.new) config.now }
 {
     let _count = parts.len();
     let Some(part) = parts.get(at) else {
@@ -40,7 +42,7 @@ pub fn values<'a>(
 
 /// No parameter is left.
 fn last<'a>(kind: Wanted<'a>, at: usize) -> Result<(), CodeError>
-    ensures { OnOk result (Wants (wanted at kind.entry) []) }
+    ensures { MatchResult result (λ _. Wants (wanted at kind.entry) []) (λ _. Wants (wanted at kind.entry) [] → ⊥) }
 {
     match kind {
         Wanted::As(params) => match params.get(at) {
@@ -53,7 +55,7 @@ fn last<'a>(kind: Wanted<'a>, at: usize) -> Result<(), CodeError>
 
 /// A part lies as it has to.
 fn fits<'a>(part: &Typed, kind: Wanted<'a>, at: usize) -> Result<(), CodeError>
-    ensures { OnOk result (Taken (wanted at kind.entry) (wanted (at + 1) kind.entry) (lying_of (type_of (expr_of part.now)))) }
+    ensures { MatchResult result (λ _. Taken (wanted at kind.entry) (wanted (at + 1) kind.entry) (lying_of (type_of (expr_of part.now)))) (λ _. Refuses (wanted at kind.entry) (lying_of (type_of (expr_of part.now)))) }
 {
     match kind {
         Wanted::Any => Ok(()),

@@ -2,6 +2,7 @@
 
 ghost use Rattle.std.specs.Prelude.{[], OnOk};
 ghost use Rattle.code_generator.specs.Jobs.{Back, jobs};
+ghost use Rattle.code_generator.specs.Sound.{OnlyMemory, Sound};
 ghost use Rattle.program_meaning.specs.Programs.{program_of};
 
 use crate::config::Config;
@@ -19,7 +20,8 @@ pub fn walk<'a>(
     config: &mut Config,
     tasks: &mut Pile<Task<'a>>,
 ) -> Result<(), CodeError>
-    ensures { OnOk result (Back (program_of program.now) (jobs tasks.old) config.old [] config.new) }
+    ensures back { OnOk result (Back (program_of program.now) (jobs tasks.old) config.old [] config.new) }
+    ensures total { Sound (program_of program.now) (jobs tasks.old) config.old → OnlyMemory result }
 {
     for _ in 0..u64::MAX {
         let Some(task) = tasks.pop() else {

@@ -1,12 +1,16 @@
-use Rattle.std.proofs.Common.{◌∙◌}
+use Rattle.std.proofs.Common.{◌∙◌, refl}
 use Rattle.code_generator.specs.Jobs.{jobs}
 use Rattle.code_generator.proofs.Back.{with_labels}
 use Rattle.code_generator.proofs.Plans.{conditional_plan}
+use Rattle.code_generator.proofs.Steps.{with_two}
 use Rattle.code_generator.proofs.expressions.conditional.Goals as goal
 
-pub returns : goal.returns
-returns c =
+pub returns-clause-back : goal.returns-clause-back
+returns-clause-back c =
     rw c.in_ok-push_four.ensures (rw c.in_ok-push_three.ensures
-    (with_labels _ _ c.args.config.now _ c.fresh.new.self c.fresh-2.new.self c.in_ok-other.ensures.labels c.in_ok-end.ensures.labels
+    (with_labels _ _ c.args.config.now _ c.fresh.new.self c.fresh-2.new.self c.in_ok-end.ensures.labels c.in_ok-other.ensures.labels
     (conditional_plan _ (jobs c.args.tasks.now) c.args.config.now c.args.at c.args.of.now _ _ _ c.in_ok-other.other c.in_ok-end.end
     c.in_ok-lies_as.ensures (c.in_ok-lies_as-2.ensures ∙ c.lies_of.ensures) (c.in_ok-lies_as-3.ensures ∙ c.lies_of-2.ensures))))
+
+pub returns-clause-sound : goal.returns-clause-sound
+returns-clause-sound c = rw c.in_ok-push_four.ensures (rw c.in_ok-push_three.ensures (with_two _ _ _ c.args.config.now c.fresh.new.self c.fresh-2.new.self c.in_ok-end.end c.in_ok-other.other c.in_ok-end.ensures.label c.in_ok-end.ensures.labels c.in_ok-other.ensures.label c.in_ok-other.ensures.labels (λ of s. (s.0.0, (s.0.1, (s.0.2, s.1)))) refl))

@@ -1,12 +1,16 @@
-use Rattle.std.proofs.Common.{sym, ◌∙◌}
+use Rattle.std.proofs.Common.{sym, ◌∙◌, refl}
 use Rattle.code_generator.specs.Jobs.{jobs}
 use Rattle.code_generator.proofs.Back.{with_labels}
 use Rattle.code_generator.proofs.Plans.{logical_plan}
+use Rattle.code_generator.proofs.Steps.{with_two}
 use Rattle.code_generator.proofs.expressions.logical.Goals as goal
 
-pub returns : goal.returns
-returns c =
+pub returns-clause-back : goal.returns-clause-back
+returns-clause-back c =
     rw c.in_ok-push_four.ensures (rw c.in_ok-push_three.ensures (rw c.settling.ensures
-    (with_labels _ _ c.args.config.now _ c.fresh.new.self c.fresh-2.new.self c.in_ok-settled.ensures.labels c.in_ok-end.ensures.labels
+    (with_labels _ _ c.args.config.now _ c.fresh.new.self c.fresh-2.new.self c.in_ok-end.ensures.labels c.in_ok-settled.ensures.labels
     (logical_plan _ (jobs c.args.tasks.now) c.args.config.now c.args.at c.args.of.now c.args.operator _ _ c.in_ok-settled.settled c.in_ok-end.end
     c.in_ok-lies_as.ensures c.in_ok-lies_as-2.ensures (sym c.lies_of.ensures ∙ c.in_ok-alike.ensures)))))
+
+pub returns-clause-sound : goal.returns-clause-sound
+returns-clause-sound c = rw c.in_ok-push_four.ensures (rw c.in_ok-push_three.ensures (with_two _ _ _ c.args.config.now c.fresh.new.self c.fresh-2.new.self c.in_ok-end.end c.in_ok-settled.settled c.in_ok-end.ensures.label c.in_ok-end.ensures.labels c.in_ok-settled.ensures.label c.in_ok-settled.ensures.labels (λ of s. (s.0.0, (s.0.1, s.1))) refl))

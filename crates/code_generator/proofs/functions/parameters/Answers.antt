@@ -1,5 +1,5 @@
-use Rattle.std.proofs.Common.{sym}
-use Rattle.code_generator.proofs.Whole.{ahead_start, ahead_more, ahead_end}
+use Rattle.std.proofs.Common.{rules, sym}
+use Rattle.code_generator.proofs.Whole.{ahead_start, ahead_more, ahead_end, has_values_at}
 use Rattle.code_generator.proofs.functions.parameters.Goals as goal
 
 pub loop-at-preserved : goal.loop-at-preserved
@@ -10,5 +10,8 @@ loop-at-preserved c =
 pub loop-at-init : goal.loop-at-init
 loop-at-init c = ahead_start _ _ _ c.new-scope.ensures
 
-pub returns-in_default : goal.returns-in_default
-returns-in_default c = ahead_end c.args.all.now c.loop-at.at c.args.params.now c.loop-at.params c.loop-at.scope (sym c.in_default.ensures.value) c.loop-at.invariant
+pub returns-in_default-clause-scope : goal.returns-in_default-clause-scope
+returns-in_default-clause-scope c = ahead_end c.args.all.now c.loop-at.at c.args.params.now c.loop-at.params c.loop-at.scope (sym c.in_default.ensures.value) c.loop-at.invariant
+
+pub returns-in_err-parameter-clause-total : goal.returns-in_err-parameter-clause-total
+returns-in_err-parameter-clause-total c = λ h. let m = c.in_err-parameter.ensures.total (has_values_at c.args.all.now c.loop-at.at c.in-Some.param.now (sym c.in-Some.ensures.value) h) in search rules

@@ -1,6 +1,10 @@
 use Rattle.code_generator.specs.Jobs.{jobs}
 use Rattle.code_generator.proofs.Rows.{close_back}
+use Rattle.code_generator.proofs.Agreeing.{keeps_closed}
 use Rattle.code_generator.proofs.scopes.close.Goals as goal
 
-pub returns : goal.returns
-returns c = close_back _ (jobs c.args.tasks.now) c.args.config.now c.args.height _ c.lower.ensures
+pub returns-clause-back : goal.returns-clause-back
+returns-clause-back c = close_back _ (jobs c.args.tasks.now) c.args.config.now c.args.height _ c.lower.ensures
+
+pub returns-clause-sound : goal.returns-clause-sound
+returns-clause-sound c = keeps_closed _ _ c.args.config.now c.args.height _ c.lower.ensures

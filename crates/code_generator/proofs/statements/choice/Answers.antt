@@ -1,10 +1,16 @@
 use Rattle.code_generator.specs.Jobs.{jobs}
 use Rattle.code_generator.proofs.Back.{with_labels}
 use Rattle.code_generator.proofs.Bodies.{if_plan}
+use Rattle.code_generator.proofs.Steps.{with_two}
+use Rattle.code_generator.proofs.Agreeing.{if_agrees}
+use Rattle.std.proofs.Common.{refl}
 use Rattle.code_generator.proofs.statements.choice.Goals as goal
 
-pub returns : goal.returns
-returns c =
+pub returns-clause-back : goal.returns-clause-back
+returns-clause-back c =
     rw c.in_ok-push_four.ensures (rw c.in_ok-push_three-2.ensures (rw c.in_ok-push_three.ensures (rw c.body-yes.ensures (rw c.body_if_any-no.ensures
-    (with_labels _ _ c.args.config.now _ c.fresh.new.self c.fresh-2.new.self c.in_ok-over.ensures.labels c.in_ok-end.ensures.labels
+    (with_labels _ _ c.args.config.now _ c.fresh.new.self c.fresh-2.new.self c.in_ok-end.ensures.labels c.in_ok-over.ensures.labels
     (if_plan _ (jobs c.args.tasks.now) c.args.config.now c.args.exits _ _ _ c.len-height.result c.in_ok-over.over c.in_ok-end.end c.len-height.ensures c.in_ok-lies_as.ensures))))))
+
+pub returns-clause-sound : goal.returns-clause-sound
+returns-clause-sound c = rw c.in_ok-push_four.ensures (rw c.in_ok-push_three-2.ensures (rw c.in_ok-push_three.ensures (rw c.body-yes.ensures (rw c.body_if_any-no.ensures (with_two _ _ _ c.args.config.now c.fresh.new.self c.fresh-2.new.self c.in_ok-end.end c.in_ok-over.over c.in_ok-end.ensures.label c.in_ok-end.ensures.labels c.in_ok-over.ensures.label c.in_ok-over.ensures.labels (λ of s. if_agrees _ of (jobs c.args.tasks.now) c.args.config.now c.args.exits _ _ _ c.len-height.result c.in_ok-over.over c.in_ok-end.end c.len-height.ensures s) refl)))))

@@ -1,6 +1,5 @@
-use Rattle.std.proofs.lemmas.Result.{on_ok_weaker}
 use Rattle.code_generator.proofs.Back.{put_back}
 use Rattle.code_generator.proofs.step.piece.Goals as goal
 
-pub returns : goal.returns
-returns c = on_ok_weaker c.put.result (λ d. put_back _ _ _ _ _ d) c.put.ensures
+pub returns-clause-back : goal.returns-clause-back
+returns-clause-back c = put_back _ _ _ _ _ c.in_ok-put.ensures

@@ -1,12 +1,19 @@
-use Rattle.std.proofs.Common.{◌∷◌, List, subst}
-use Rattle.code_generator.specs.Jobs.{jobs}
+use Rattle.std.proofs.Common.{rules, ◌∷◌, List, subst}
 use Rattle.program_meaning.specs.Programs.{program_of}
-use Rattle.code_generator.specs.Jobs.{Back, job}
+use Rattle.code_generator.specs.Jobs.{Back, job, jobs}
+use Rattle.code_generator.specs.Sound.{Sound}
 use Rattle.code_generator.specs.declared.task.Task.{Task}
 use Rattle.code_generator.proofs.Back.{back_all}
 use Rattle.code_generator.proofs.writer.walk.Goals as goal
 
 pub loop-preserved : goal.loop-preserved
-loop-preserved c =
-    back_all (program_of c.args.program.now) (jobs c.args.tasks.now) (job c.in-Some.task ∷ jobs c.pop.new.self) (jobs c.step.new.tasks) c.args.config.now c.loop.config c.step.new.config
-    (subst (λ (ts : List Task). Back (program_of c.args.program.now) (jobs c.args.tasks.now) c.args.config.now (jobs ts) c.loop.config) c.in-Some.ensures c.loop.invariant) c.in_ok-step.ensures
+loop-preserved c = record {
+  back =
+      back_all (program_of c.args.program.now) (jobs c.args.tasks.now) (job c.in-Some.task ∷ jobs c.pop.new.self) (jobs c.step.new.tasks) c.args.config.now c.loop.config c.step.new.config
+      (subst (λ (ts : List Task). Back (program_of c.args.program.now) (jobs c.args.tasks.now) c.args.config.now (jobs ts) c.loop.config) c.in-Some.ensures c.loop.invariant.back) c.in_ok-step.ensures.back;
+  sound = λ s. c.in_ok-step.ensures.sound.by (subst (λ (ts : List Task). Sound (program_of c.args.program.now) (jobs ts) c.loop.config) c.in-Some.ensures (c.loop.invariant.sound s));
+}
+
+pub returns-in_err-step-clause-total : goal.returns-in_err-step-clause-total
+returns-in_err-step-clause-total c = λ s.
+    let m = c.in_err-step.ensures.sound.by (subst (λ (ts : List Task). Sound (program_of c.args.program.now) (jobs ts) c.loop.config) c.in-Some.ensures (c.loop.invariant.sound s)) in search rules

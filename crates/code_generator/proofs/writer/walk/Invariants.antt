@@ -1,6 +1,10 @@
 use Rattle.program_meaning.specs.Programs.{program_of}
 use Rattle.code_generator.specs.Jobs.{Back, jobs}
+use Rattle.code_generator.specs.Sound.{Sound}
 use Rattle.code_generator.proofs.writer.walk.Given as goal
 
 abbrev pub invariant-loop : goal.invariant-loop
-invariant-loop l = Back (program_of l.fn.program) (jobs l.fn.tasks) l.fn.config (jobs l.tasks) l.config
+invariant-loop l = record {
+  back : Back (program_of l.fn.program) (jobs l.fn.tasks) l.fn.config (jobs l.tasks) l.config;
+  sound : Sound (program_of l.fn.program) (jobs l.fn.tasks) l.fn.config → Sound (program_of l.fn.program) (jobs l.tasks) l.config;
+}
