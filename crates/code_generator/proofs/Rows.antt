@@ -10,7 +10,7 @@ use Rattle.typed_tree.specs.declared.statement.TypedStatement.{TypedStatement}
 use Rattle.typed_tree.specs.declared.statement.TypedVariable.{TypedVariable}
 use Rattle.program_meaning.specs.Tree.{Name, Maybe, Missing, Given, Stmts, Finish, Declare, Program}
 use Rattle.program_meaning.specs.Programs.{before, declared, stmts_of, maybe_of}
-use Rattle.program_code.specs.Lying.{lying_of, Absent}
+use Rattle.program_code.specs.Lying.{lying_of, kind_of, Absent}
 use Rattle.program_code.specs.Stands.{Entry}
 use Rattle.code_generator.specs.Checks.{lying}
 use Rattle.code_generator.specs.Jobs.{Job, Run, Declared, Close, Stand, First, IsFirst, keep, entry, scope_in, next_in, Back}
@@ -19,7 +19,7 @@ use Rattle.code_generator.specs.declared.config.Entry as d
 use Rattle.code_generator.specs.declared.labels.Line.{Line}
 use Rattle.code_generator.specs.declared.labels.Line.TheVariants as line
 use Rattle.code_generator.specs.declared.task.Exits.{Exits}
-use Rattle.code_generator.proofs.Back.{before as got_before, one_at, one_longer, back_same}
+use Rattle.code_generator.proofs.Back.{before as got_before, seam, one_at, one_longer, back_same}
 use Rattle.code_generator.proofs.Bodies.{given_plan, default_plan}
 use Rattle.code_generator.proofs.Parts.{drop_one, drop_end}
 
@@ -39,6 +39,14 @@ map_taken f (suc n) (x ∷ xs) = ap (λ ys. f x ∷ ys) (map_taken f n xs)
 pub kept_mapped : {A B : Type 0} (f : A → B) (height : ℕ) (xs : List A) → map f (keep height xs) ≡ keep height (map f xs)
 kept_mapped f height xs = map_reversed f (take height (reverse xs)) ∙ ap reverse (map_taken f height (reverse xs) ∙ ap (take height) (map_reversed f xs))
 
+-- behind a front that is known
+got_behind : (xs ys front : List Slot) (k : ℕ) (o : Option Slot) → xs ≡ front → slice_get ys k ≡ o → slice_get (xs ++ ys) (length front + k) ≡ o
+got_behind xs ys front k o e h = ap (λ (xs : List Slot). slice_get (xs ++ ys) (length front + k)) e ∙ nested front
+  where
+    nested : (xs : List Slot) → slice_get (xs ++ ys) (length xs + k) ≡ o
+    nested [] = let e : 0 + k ≡ k = omega arith in ap (slice_get ys) e ∙ h
+    nested (x ∷ xs) = let e : suc (length xs) + k ≡ suc (length xs + k) = omega arith in ap (slice_get (x ∷ (xs ++ ys))) e ∙ nested xs
+
 module _ (funs : Program) (js : List Job) (c : Config) where
   pub close_back : (height : ℕ) (new : List d.Entry) → new ≡ keep height c.scope → Back funs (Close height ∷ js) c js (record c { scope = new })
   close_back height new e = record {
@@ -48,9 +56,9 @@ module _ (funs : Program) (js : List Job) (c : Config) where
     };
   }
 
-  declare_more : (x : Name) (of : Ty) (y : d.Entry) (slot : Slot) → lying_of of ≢ Absent → entry y ≡ record { name = x; of = of; local = next_in c }
+  declare_more : (x : Name) (of : Ty) (y : d.Entry) (slot : Slot) → slot ≡ kind_of of → lying_of of ≢ Absent → entry y ≡ record { name = x; of = of; local = next_in c }
       → Back funs (Declared x of ∷ js) c js (record c { scope = y ∷ c.scope; locals = c.locals ++ slot ∷ []; lines = c.lines ++ line.Fixed (i.Numbered numbered.Store (next_in c)) ∷ [] })
-  declare_more x of y slot present e = record {
+  declare_more x of y slot kind present e = record {
     by = λ f labels m.
         let long = one_longer c.locals slot in
         record {
@@ -59,10 +67,10 @@ module _ (funs : Program) (js : List Job) (c : Config) where
             traps = m.holds.traps;
             bound = m.holds.bound;
             params = m.holds.params;
-            locals = omega (arith, m.holds.locals, long);
+            locals = λ at k h. m.holds.locals at k (got_before c.locals (slot ∷ []) at k h);
           };
           stand = (
-            (present, record { is = omega (arith, m.holds.locals, m.holds.params, long) }, one_at f labels c.lines (line.Fixed (i.Numbered numbered.Store (next_in c))) [] m.holds.lines m.holds.traps),
+            (present, record { is = got_behind f.params f.locals c.params (length c.locals) (Some slot) m.holds.params (m.holds.locals (length c.locals) slot (seam c.locals slot [])) ∙ ap (λ k. Some k) kind }, one_at f labels c.lines (line.Fixed (i.Numbered numbered.Store (next_in c))) [] m.holds.lines m.holds.traps),
             subst (λ p. Stand funs (lying c.result) f labels js (record { name = x; of = of; local = next_in c } ∷ scope_in c) (suc (next_in c)) p c.flows) (one_longer c.lines (line.Fixed (i.Numbered numbered.Store (next_in c))))
                 (subst (λ n. Stand funs (lying c.result) f labels js (record { name = x; of = of; local = next_in c } ∷ scope_in c) n (length (c.lines ++ line.Fixed (i.Numbered numbered.Store (next_in c)) ∷ [])) c.flows) (omega (arith, long))
                 (subst (λ (z : Entry). Stand funs (lying c.result) f labels js (z ∷ scope_in c) (length c.params + length (c.locals ++ slot ∷ [])) (length (c.lines ++ line.Fixed (i.Numbered numbered.Store (next_in c)) ∷ [])) c.flows) e m.stand)),
@@ -70,16 +78,16 @@ module _ (funs : Program) (js : List Job) (c : Config) where
         };
   }
 
-  pub declare_back : (x : Name) (of : Ty) (y : d.Entry) (slot : Slot) (n : ℕ) (scope : List d.Entry) (locals : List Slot) (lines : List Line) → n ≡ next_in c → lying_of of ≢ Absent → entry y ≡ record { name = x; of = of; local = n }
+  pub declare_back : (x : Name) (of : Ty) (y : d.Entry) (slot : Slot) (n : ℕ) (scope : List d.Entry) (locals : List Slot) (lines : List Line) → n ≡ next_in c → slot ≡ kind_of of → lying_of of ≢ Absent → entry y ≡ record { name = x; of = of; local = n }
       → scope ≡ y ∷ c.scope → locals ≡ c.locals ++ slot ∷ [] → lines ≡ c.lines ++ line.Fixed (i.Numbered numbered.Store n) ∷ []
       → Back funs (Declared x of ∷ js) c js (record c { scope = scope; locals = locals; lines = lines })
-  declare_back x of y slot n scope locals lines en present e es ek ei =
+  declare_back x of y slot n scope locals lines en kind present e es ek ei =
       let whole : entry y ≡ record { name = x; of = of; local = next_in c } = e ∙ ap (λ n. record { name = x; of = of; local = n }) en in
       let lined : lines ≡ c.lines ++ line.Fixed (i.Numbered numbered.Store (next_in c)) ∷ [] = ei ∙ ap (λ n. c.lines ++ line.Fixed (i.Numbered numbered.Store n) ∷ []) en in
       subst (λ scope. Back funs (Declared x of ∷ js) c js (record c { scope = scope; locals = locals; lines = lines })) (sym es)
       (subst (λ locals. Back funs (Declared x of ∷ js) c js (record c { scope = y ∷ c.scope; locals = locals; lines = lines })) (sym ek)
       (subst (λ lines. Back funs (Declared x of ∷ js) c js (record c { scope = y ∷ c.scope; locals = c.locals ++ slot ∷ []; lines = lines })) (sym lined)
-      (declare_more x of y slot present whole)))
+      (declare_more x of y slot kind present whole)))
 
 module _ (funs : Program) (js : List Job) (c : Config) (exits : Option Exits) where
   pub row_go : (all : List TypedStatement) (at : ℕ) (s : TypedStatement) → slice_get all at ≡ Some s

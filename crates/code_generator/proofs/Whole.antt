@@ -1,5 +1,5 @@
 -- The code of a function and of a program.
-use Rattle.std.proofs.Common.{◌≡◌, ◌≢◌, ℕ, zero, suc, ◌+◌, List, [], ◌∷◌, ◌++◌, length, drop, take, refl, sym, ap, ◌∙◌, subst, Some, None, false, arith, add-one}
+use Rattle.std.proofs.Common.{◌≡◌, ◌≢◌, ℕ, zero, suc, ◌+◌, List, [], ◌∷◌, ◌++◌, length, drop, take, refl, sym, ap, ◌∙◌, subst, Some, None, false, arith, add-one, append_assoc, append-nil}
 use Rattle.std.specs.Prelude.{map, slice_get}
 use Rattle.pl_code.specs.declared.kinds.Slot.{Slot}
 use Rattle.pl_code.specs.declared.code.FunCode.{FunCode}
@@ -10,8 +10,8 @@ use Rattle.program_types.specs.Agreeing.{StmtsAgree, HaveValues, FunAgrees}
 use Rattle.program_meaning.specs.Programs.{variable_of, fun_of, program_of}
 use Rattle.typed_tree.specs.declared.program.Program as typed
 use Rattle.typed_tree.specs.declared.program.TypedFunction.{TypedFunction}
-use Rattle.program_code.specs.Lying.{Absent, lying_of}
-use Rattle.program_code.specs.Stands.{StmtsAt, EndAt, ArePresent, Compiled, lyings_of, scope_of, no_jumps, all_fall, end_stmts}
+use Rattle.program_code.specs.Lying.{Absent, lying_of, kind_of}
+use Rattle.program_code.specs.Stands.{StmtsAt, EndAt, ArePresent, Compiled, lyings_of, scope_of, no_jumps, all_fall, end_stmts, end_end, kinds_of}
 use Rattle.code_generator.specs.Checks.{lying}
 use Rattle.code_generator.specs.Labels.{settled_line}
 use Rattle.code_generator.specs.Jobs.{Run, End, Meets, Back, entry, scope_in, next_in}
@@ -27,6 +27,10 @@ got_mapped f [] at x e = absurd cc
 got_mapped f (y ∷ xs) zero x e = let h : y ≡ x = cc in ap (λ x. Some (f x)) h
 got_mapped f (y ∷ xs) (suc at) x e = got_mapped f xs at x e
 
+length_mapped : {A B : Type 0} (f : A → B) (xs : List A) → length (map f xs) ≡ length xs
+length_mapped f [] = refl
+length_mapped f (x ∷ xs) = ap suc (length_mapped f xs)
+
 pub function_stands : (funs : Program) (fun : Fun) (c c' : Config) (code : FunCode) → Begun fun c → Back funs (Run fun.body None ∷ End fun.result ∷ []) c [] c' → Finished c' fun.result code → FunStands funs code fun
 function_stands funs fun c c' code begun back finished =
     let m : Meets funs code c'.labels [] c' = record {
@@ -34,13 +38,13 @@ function_stands funs fun c c' code begun back finished =
         lines = λ at l e. ap (λ ls. slice_get ls at) finished.lines ∙ got_mapped (settled_line c'.labels) c'.lines at l e;
         traps = finished.traps;
         bound = λ label line e. e;
-        params = ap length finished.params;
-        locals = omega (arith, ap length finished.locals);
+        params = finished.params;
+        locals = λ at kind e. ap (λ ls. slice_get ls at) finished.locals ∙ e;
       };
-      stand = tt;
+      stand = ap length finished.lines ∙ length_mapped (settled_line c'.labels) c'.lines;
     } in
     let s = back.by code c'.labels m in
-    let n : next_in c ≡ length fun.params = omega (arith, begun.params, ap length begun.locals) in
+    let n : next_in c ≡ length fun.params = omega (arith, ap length begun.params, length_mapped (λ (x : Variable). kind_of x.of) fun.params, ap length begun.locals) in
     let p : length c.lines ≡ 0 = ap length begun.lines in
     record {
       params = s.holds.params ∙ begun.params;
@@ -51,28 +55,32 @@ function_stands funs fun c c' code begun back finished =
           (subst (λ n. StmtsAt funs code [] (lying_of fun.result) (scope_of fun.params 0 []) n no_jumps (length c.lines) fun.body) n
           (subst (λ g. StmtsAt funs code [] (lying_of fun.result) g (next_in c) no_jumps (length c.lines) fun.body) begun.scope
           (subst (λ k. StmtsAt funs code [] k (scope_in c) (next_in c) no_jumps (length c.lines) fun.body) begun.result s.stand.0)));
-      ends = subst (λ p. EndAt code (all_fall fun.body) (end_stmts p fun.body) fun.result) p s.stand.1.2;
+      ends = subst (λ p. EndAt code (all_fall fun.body) (end_stmts p fun.body) fun.result) p s.stand.1.2.0;
+      lines = s.stand.1.2.1 ∙ ap (λ p. end_end (all_fall fun.body) (end_stmts p fun.body) fun.result) p;
+      traps = finished.traps;
     }
 
 -- ---- parameters
 
 pub record Ahead (all : List Named) (at : ℕ) (old now : List Slot) (scope : List d.Entry) : Type 0 where
   pub names : scope_of (map variable_of (drop at all)) at (map entry scope) ≡ scope_of (map variable_of all) 0 []
-  pub count : length now + length (drop at all) ≡ length old + length all
+  pub kinds : now ++ kinds_of (map variable_of (drop at all)) ≡ old ++ kinds_of (map variable_of all)
   pub present : ArePresent (lyings_of (map variable_of (drop at all))) → ArePresent (lyings_of (map variable_of all))
 
 pub ahead_start : (all : List Named) (old : List Slot) (scope : List d.Entry) → scope ≡ [] → Ahead all 0 old old scope
-ahead_start all old scope e = record { names = ap (λ g. scope_of (map variable_of all) 0 (map entry g)) e; count = refl; present = λ h. h }
+ahead_start all old scope e = record { names = ap (λ g. scope_of (map variable_of all) 0 (map entry g)) e; kinds = refl; present = λ h. h }
 
 pub ahead_more : (all : List Named) (at : ℕ) (old now now' : List Slot) (scope scope' : List d.Entry) (x : Named) → slice_get all at ≡ Some x → Ahead all at old now scope
-    → lying_of x.of ≢ Absent → map entry scope' ≡ record { name = x.name; of = x.of; local = at } ∷ map entry scope → length now' ≡ length now + 1 → Ahead all (at + 1) old now' scope'
-ahead_more all at old now now' scope scope' x is a present names count =
+    → lying_of x.of ≢ Absent → map entry scope' ≡ record { name = x.name; of = x.of; local = at } ∷ map entry scope → now' ≡ now ++ kind_of x.of ∷ [] → Ahead all (at + 1) old now' scope'
+ahead_more all at old now now' scope scope' x is a present names kinds =
     let front = drop_one at all x is in
     record {
       names = ap (λ g. scope_of (map variable_of (drop (at + 1) all)) (at + 1) g) names
           ∙ ap (λ n. scope_of (map variable_of (drop (at + 1) all)) n (record { name = x.name; of = x.of; local = at } ∷ map entry scope)) (add-one at)
           ∙ sym (ap (λ (xs : List Named). scope_of (map variable_of xs) at (map entry scope)) front) ∙ a.names;
-      count = omega (arith, a.count, count, ap length front);
+      kinds =
+          ap (λ ks. ks ++ kinds_of (map variable_of (drop (at + 1) all))) kinds ∙ append_assoc now (kind_of x.of ∷ []) (kinds_of (map variable_of (drop (at + 1) all)))
+          ∙ sym (ap (λ (xs : List Named). now ++ kinds_of (map variable_of xs)) front) ∙ a.kinds;
       present = λ h. a.present (subst (λ (xs : List Named). ArePresent (lyings_of (map variable_of xs))) (sym front) (present, h));
     }
 
@@ -81,18 +89,14 @@ ahead_end all at old now scope is a =
     let none = drop_end at all is in
     record {
       names = sym (ap (λ (xs : List Named). scope_of (map variable_of xs) at (map entry scope)) none) ∙ a.names;
-      count = omega (arith, a.count, ap length none);
+      kinds = sym (append-nil now) ∙ sym (ap (λ (xs : List Named). now ++ kinds_of (map variable_of xs)) none) ∙ a.kinds;
       present = a.present (subst (λ (xs : List Named). ArePresent (lyings_of (map variable_of xs))) (sym none) tt);
     }
-
-length_mapped : {A B : Type 0} (f : A → B) (xs : List A) → length (map f xs) ≡ length xs
-length_mapped f [] = refl
-length_mapped f (x ∷ xs) = ap suc (length_mapped f xs)
 
 pub begun : (f : TypedFunction) (c : Config) (old : List Slot) → old ≡ [] → lying c.result ≡ lying_of f.result → InScope f.parameters old c.params c.scope → c.locals ≡ [] → c.lines ≡ [] → c.labels ≡ [] → c.flows ≡ [] → Begun (fun_of f) c
 begun f c old none result a locals lines labels flows = record {
   result = result;
-  params = omega (arith, a.count, ap length none, length_mapped variable_of f.parameters);
+  params = a.kinds ∙ ap (λ ks. ks ++ kinds_of (map variable_of f.parameters)) none;
   locals = locals;
   lines = lines;
   scope = a.names;
@@ -131,11 +135,18 @@ code_at funs (g ∷ fs) [] w number fun e = absurd w
 code_at funs (g ∷ fs) (x ∷ codes) w zero fun e = let h : g ≡ fun = cc in (x, refl, subst (λ fun. FunStands funs x fun) h w.0)
 code_at funs (g ∷ fs) (x ∷ codes) w (suc number) fun e = code_at funs fs codes w.1 number fun e
 
+as_many : (funs : Program) (fs : List Fun) (codes : List FunCode) → Written funs fs codes → length codes ≡ length fs
+as_many funs [] [] w = refl
+as_many funs [] (x ∷ codes) w = absurd w
+as_many funs (g ∷ fs) [] w = absurd w
+as_many funs (g ∷ fs) (x ∷ codes) w = ap suc (as_many funs fs codes w.1)
+
 pub all_written : (funs : Program) (codes : List FunCode) → Written funs funs codes → Compiled funs codes
 all_written funs codes w = record {
   each = λ number fun e.
       let a = code_at funs funs codes w number fun e in
-      record { body = a.0; is = a.1; params = a.2.params; present = a.2.present; result = a.2.result; stands = a.2.stands; ends = a.2.ends };
+      record { body = a.0; is = a.1; params = a.2.params; present = a.2.present; result = a.2.result; stands = a.2.stands; ends = a.2.ends; lines = a.2.lines; traps = a.2.traps };
+  many = as_many funs funs codes w;
 }
 
 taken_at : {A : Type 0} (at : ℕ) (all : List A) (one : A) → slice_get all at ≡ Some one → take (suc at) all ≡ take at all ++ one ∷ []

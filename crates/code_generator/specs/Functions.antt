@@ -1,11 +1,11 @@
 -- Functions by their numbers, and the code of a function.
-use Rattle.std.specs.Prelude.{◌≡◌, ◌+◌, ℕ, zero, suc, List, [], ◌∷◌, length, map, Option, Some, slice_get}
+use Rattle.std.specs.Prelude.{◌≡◌, ◌++◌, ℕ, zero, suc, List, [], ◌∷◌, length, map, Option, Some, slice_get}
 use Rattle.typed_tree.specs.declared.program.Program as typed
 use Rattle.typed_tree.specs.declared.program.TypedFunction.{TypedFunction}
 use Rattle.pl_code.specs.declared.code.FunCode.{FunCode}
 use Rattle.program_meaning.specs.Tree.{Fun, Program}
 use Rattle.program_code.specs.Lying.{lying_of, result_of}
-use Rattle.program_code.specs.Stands.{ArePresent, StmtsAt, EndAt, lyings_of, scope_of, no_jumps, all_fall, end_stmts}
+use Rattle.program_code.specs.Stands.{ArePresent, StmtsAt, EndAt, lyings_of, scope_of, no_jumps, all_fall, end_stmts, end_end, kinds_of}
 use Rattle.code_generator.specs.Checks.{lying}
 use Rattle.pl_types.specs.declared.ty.Ty.{Ty}
 use Rattle.pl_code.specs.declared.kinds.Slot.{Slot}
@@ -25,18 +25,20 @@ abbrev pub function_at : typed.Program → ℕ → Option TypedFunction
 function_at p zero = Some p.main
 function_at p (suc number) = slice_get p.functions number
 
--- A function's code: its parameters, its result and what its body does.
+-- A function's code: its parameters, its result and what its body does, and no further line.
 pub record FunStands (funs : Program) (body : FunCode) (fun : Fun) : Type 0 where
-  pub params : length body.params ≡ length fun.params
+  pub params : body.params ≡ kinds_of fun.params
   pub present : ArePresent (lyings_of fun.params)
   pub result : body.result ≡ result_of fun.result
   pub stands : StmtsAt funs body [] (lying_of fun.result) (scope_of fun.params 0 []) (length fun.params) no_jumps 0 fun.body
   pub ends : EndAt body (all_fall fun.body) (end_stmts 0 fun.body) fun.result
+  pub lines : length body.lines ≡ end_end (all_fall fun.body) (end_stmts 0 fun.body) fun.result
+  pub traps : body.traps ≡ []
 
 -- nothing is written yet of a function, and its parameters are in scope
 pub record Begun (fun : Fun) (c : Config) : Type 0 where
   pub result : lying c.result ≡ lying_of fun.result
-  pub params : length c.params ≡ length fun.params
+  pub params : c.params ≡ kinds_of fun.params
   pub locals : c.locals ≡ []
   pub lines : c.lines ≡ []
   pub scope : scope_in c ≡ scope_of fun.params 0 []
@@ -62,7 +64,7 @@ pub record Finished (c : Config) (of : Ty) (code : FunCode) : Type 0 where
 -- parameters that are in scope
 pub record InScope (params : List Named) (old new : List Slot) (scope : List d.Entry) : Type 0 where
   pub names : map entry scope ≡ scope_of (map variable_of params) 0 []
-  pub count : length new ≡ length old + length params
+  pub kinds : new ≡ old ++ kinds_of (map variable_of params)
   pub present : ArePresent (lyings_of (map variable_of params))
 
 -- Where a typed program ends at some bound, this code ends alike, from every start.

@@ -1,7 +1,8 @@
 -- What is still to be written, and what it means that it stands in code.
-use Rattle.std.specs.Prelude.{◌≡◌, ◌≢◌, ℕ, suc, ◌+◌, ◌≤◌, ◌&&◌, ◌||◌, Bool, true, false, ◌++◌, reverse, take, List, [], ◌∷◌, length, map, drop, Option, Some, None, slice_get}
+use Rattle.std.specs.Prelude.{◌≡◌, ◌≢◌, ℕ, suc, ◌+◌, ◌&&◌, ◌||◌, Bool, true, false, ◌++◌, reverse, take, List, [], ◌∷◌, length, map, drop, Option, Some, None, slice_get}
 use Rattle.pl_code.specs.declared.kinds.Numbered.{Numbered}
 use Rattle.pl_code.specs.declared.kinds.Numbered.TheVariants as numbered
+use Rattle.pl_code.specs.declared.kinds.Slot.{Slot}
 use Rattle.pl_code.specs.declared.code.FunCode.{FunCode}
 use Rattle.pl_code.specs.declared.code.Instruction.{Instruction}
 use Rattle.pl_code.specs.declared.code.Instruction.TheVariants as i
@@ -10,7 +11,7 @@ use Rattle.std.specs.Borrow.{Bor}
 use Rattle.program_meaning.specs.Tree.{Name, Expr, Exprs, Maybe, Missing, Given, Stmt, Stmts, Finish, Then, Program, type_of}
 use Rattle.program_meaning.specs.Programs.{expr_of, exprs_of, before, declared, stmts_of, maybe_of}
 use Rattle.program_code.specs.Lying.{Lying, Absent, lying_of}
-use Rattle.program_code.specs.Stands.{Entry, Scope, IsEntry, At, AllAt, end_all, end_expr, end_exprs, ExprAt, ExprsAt, AreBare, lyings, falls, all_fall, continues, any_continues, end_skip, end_update, end_test, end_last, end_stmt, end_stmts, next_stmt, next_stmts, Jumps, no_jumps, HasLocal, SkipAt, UpdateAt, TestAt, LastAt, StmtAt, StmtsAt, EndAt}
+use Rattle.program_code.specs.Stands.{Entry, Scope, IsEntry, At, AllAt, end_all, end_expr, end_exprs, ExprAt, ExprsAt, AreBare, lyings, falls, all_fall, continues, any_continues, end_skip, end_update, end_test, end_last, end_stmt, end_stmts, next_stmt, next_stmts, Jumps, no_jumps, HasLocal, SkipAt, UpdateAt, TestAt, LastAt, StmtAt, StmtsAt, EndAt, end_end}
 use Rattle.program_code.specs.Parts.{default_code}
 use Rattle.typed_tree.specs.declared.statement.TypedVariable.{TypedVariable}
 use Rattle.code_generator.specs.Checks.{lying}
@@ -194,10 +195,10 @@ pub record Grown (g later : Scope) : Type 0 where
   pub more : Scope
   pub is : later ≡ more ++ g
 
--- What is still to be written stands in this code, whose labels have these lines.
+-- What is still to be written stands in this code, whose labels have these lines, and no further line.
 module _ (funs : Program) (k : Lying) (f : FunCode) (labels : List (Option ℕ)) where
   abbrev pub Stand : List Job → Scope → ℕ → ℕ → List Flow → Type 0
-  Stand [] g n p flows = Unit {0}
+  Stand [] g n p flows = length f.lines ≡ p
   Stand (Value e ∷ js) g n p flows = ExprAt funs f [] g p e × Stand js g n (end_expr p e) flows
   Stand (Values es wanted ∷ js) g n p flows = (ExprsAt funs f [] g p es × Wants wanted (lyings es)) × Stand js g n (end_exprs p es) flows
   Stand (Put is ∷ js) g n p flows = AllAt f [] p is × Stand js g n (end_all p is) flows
@@ -212,7 +213,7 @@ module _ (funs : Program) (k : Lying) (f : FunCode) (labels : List (Option ℕ))
   Stand (Run body exits ∷ js) g n p flows =
       StmtsAt funs f [] k g n (jumps_of labels exits) p body × ((later : Scope) × Grown g later × Stand js later (next_stmts n body) (end_stmts p body) (flow_of body ∷ flows))
   Stand (Declared x of ∷ js) g n p flows =
-      ((lying_of of ≢ Absent) × HasLocal f n × At f [] p (i.Numbered numbered.Store n)) × Stand js (record { name = x; of = of; local = n } ∷ g) (suc n) (suc p) flows
+      ((lying_of of ≢ Absent) × HasLocal f n of × At f [] p (i.Numbered numbered.Store n)) × Stand js (record { name = x; of = of; local = n } ∷ g) (suc n) (suc p) flows
   Stand (Close height ∷ js) g n p flows = Stand js (keep height g) n p flows
   Stand (Flows x ∷ js) g n p flows = Stand js g n p (x ∷ flows)
   Stand (Both ∷ js) g n p flows = on_two flows (λ x y flows. Stand js g n p (both x y ∷ flows))
@@ -223,15 +224,15 @@ module _ (funs : Program) (k : Lying) (f : FunCode) (labels : List (Option ℕ))
   Stand (Last test label ∷ js) g n p flows =
       on_top flows (λ x flows. LastAt funs f [] g (turns_on x) p test (line_of labels label) × Stand js g n (end_last (turns_on x) p test) (x ∷ flows))
   Stand (Turned ∷ js) g n p flows = on_top flows (λ x flows. Stand js g n p (on ∷ flows))
-  Stand (End of ∷ js) g n p flows = on_top flows (λ x flows. EndAt f x.falls p of)
+  Stand (End of ∷ js) g n p flows = on_top flows (λ x flows. EndAt f x.falls p of × Stand js g n (end_end x.falls p of) (x ∷ flows))
 
 -- What is written so far stands in this code.
 pub record Holds (f : FunCode) (labels : List (Option ℕ)) (c : Config) : Type 0 where
   pub lines : (at : ℕ) (line : Line) → slice_get c.lines at ≡ Some line → slice_get f.lines at ≡ Some (settled_line labels line)
   pub traps : f.traps ≡ []
   pub bound : (label line : ℕ) → slice_get c.labels label ≡ Some (Some line) → slice_get labels label ≡ Some (Some line)
-  pub params : length f.params ≡ length c.params
-  pub locals : length c.locals ≤ length f.locals
+  pub params : f.params ≡ c.params
+  pub locals : (at : ℕ) (kind : Slot) → slice_get c.locals at ≡ Some kind → slice_get f.locals at ≡ Some kind
 
 pub record Meets (funs : Program) (f : FunCode) (labels : List (Option ℕ)) (js : List Job) (c : Config) : Type 0 where
   pub holds : Holds f labels c

@@ -1,11 +1,11 @@
 //! Functions and programs.
 
-ghost use Rattle.std.specs.Prelude.{◌≡◌, ◌≢◌, ◌+◌, ◌∷◌, length, map, IfOk, OnOk};
+ghost use Rattle.std.specs.Prelude.{◌≡◌, ◌≢◌, ◌++◌, [], ◌∷◌, map, IfOk, OnOk};
 ghost use Rattle.code_generator.specs.Functions.{Begun, EndsAsProgram, FunStands, InScope};
 ghost use Rattle.code_generator.specs.Jobs.{entry};
 ghost use Rattle.code_generator.specs.Sound.{OnlyMemory};
 ghost use Rattle.program_code.specs.Correct.{IsCodeOf};
-ghost use Rattle.program_code.specs.Lying.{Absent, lying_of};
+ghost use Rattle.program_code.specs.Lying.{Absent, kind_of, lying_of};
 ghost use Rattle.program_code.specs.Stands.{Compiled};
 ghost use Rattle.program_meaning.specs.Programs.{program_of, fun_of, variable_of};
 ghost use Rattle.program_types.specs.Agreeing.{FunAgrees, HaveValues, WellFormed};
@@ -119,7 +119,7 @@ fn parameter(
 ) -> Result<(), CodeError>
     ensures present { OnOk result (lying_of param.now.of ≢ Absent) }
     ensures scope { OnOk result (map entry scope.new ≡ record { name = param.now.name; of = param.now.of; local = local } ∷ map entry scope.old) }
-    ensures count { OnOk result (length params.new ≡ length params.old + 1) }
+    ensures kinds { OnOk result (params.new ≡ params.old ++ kind_of param.now.of ∷ []) }
     ensures total { HasValues param.now.of → OnlyMemory result }
 {
     present(&param.of)?;

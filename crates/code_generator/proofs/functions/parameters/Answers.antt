@@ -5,7 +5,7 @@ use Rattle.code_generator.proofs.functions.parameters.Goals as goal
 pub loop-at-preserved : goal.loop-at-preserved
 loop-at-preserved c =
     ahead_more c.args.all.now c.loop-at.at c.args.params.now c.loop-at.params c.parameter.new.params c.loop-at.scope c.parameter.new.scope c.in-Some.param.now (sym c.in-Some.ensures.value) c.loop-at.invariant
-    c.in_ok-parameter.ensures.present c.in_ok-parameter.ensures.scope c.in_ok-parameter.ensures.count
+    c.in_ok-parameter.ensures.present c.in_ok-parameter.ensures.scope c.in_ok-parameter.ensures.kinds
 
 pub loop-at-init : goal.loop-at-init
 loop-at-init c = ahead_start _ _ _ c.new-scope.ensures
