@@ -1,6 +1,11 @@
 use Rattle.code_generator.specs.Jobs.{jobs}
 use Rattle.code_generator.proofs.Plans.{local_plan}
+use Rattle.std.proofs.Common.{refl}
+use Rattle.code_generator.proofs.Steps.{instead}
 use Rattle.code_generator.proofs.expressions.local.Goals as goal
 
 pub returns-clause-back : goal.returns-clause-back
 returns-clause-back c = rw c.in_ok-push.ensures (local_plan _ (jobs c.args.tasks.now) c.args.config.now c.args.at c.args.of.now c.args.name.now _ c.lies_of.ensures)
+
+pub returns-clause-sound : goal.returns-clause-sound
+returns-clause-sound c = rw c.in_ok-push.ensures (instead _ _ _ _ (λ of s. (record { of = c.args.of.now; is = s.0; lies_so = c.lies_of.ensures }, s.1)) refl)

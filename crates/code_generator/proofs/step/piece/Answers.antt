@@ -1,5 +1,10 @@
 use Rattle.code_generator.proofs.Back.{put_back}
+use Rattle.std.proofs.Common.{refl}
+use Rattle.code_generator.proofs.Steps.{lined}
 use Rattle.code_generator.proofs.step.piece.Goals as goal
 
 pub returns-clause-back : goal.returns-clause-back
 returns-clause-back c = put_back _ _ _ _ _ c.in_ok-put.ensures
+
+pub returns-clause-sound : goal.returns-clause-sound
+returns-clause-sound c = lined _ _ _ _ _ (λ of s. s) refl
