@@ -1,20 +1,19 @@
 -- What is to be written for statements.
-use Rattle.std.proofs.Common.{◌≡◌, ℕ, suc, List, [], ◌∷◌, ◌++◌, length, take, Bool, true, false, refl, sym, ap, ◌∙◌, subst, Option, Some, append_assoc}
+use Rattle.std.proofs.Common.{◌≡◌, ℕ, suc, List, [], ◌∷◌, ◌++◌, length, take, Bool, refl, sym, ap, ◌∙◌, subst, Option, Some, append_assoc}
 use Rattle.std.specs.Prelude.{map, reverse}
 use Rattle.std.proofs.lemmas.List.{reverse-append, reverse-reverse}
 use Rattle.pl_types.specs.declared.ty.Ty.{Ty}
 use Rattle.pl_code.specs.declared.kinds.Numbered.TheVariants as numbered
-use Rattle.pl_code.specs.declared.kinds.Plain.TheVariants as plain
 use Rattle.pl_code.specs.declared.code.FunCode.{FunCode}
 use Rattle.pl_code.specs.declared.code.Instruction.TheVariants as i
 use Rattle.std.specs.Prelude.{pos}
-use Rattle.program_meaning.specs.Tree.{Name, Expr, Maybe, Missing, Given, Stmt, Do, If, While, DoWhile, Block, Break, Continue, Return, Stmts, Finish, Then, Declare, Program, type_of}
-use Rattle.program_code.specs.Lying.{lying_of, Lying, Bare, Absent}
-use Rattle.program_code.specs.Parts.{pops, default_code}
+use Rattle.program_meaning.specs.Tree.{Name, Expr, Maybe, Missing, Given, If, While, DoWhile, Stmts, Declare, Program, type_of}
+use Rattle.program_code.specs.Lying.{lying_of, Bare}
+use Rattle.program_code.specs.Parts.{default_code}
 use Rattle.program_code.specs.Stands.{Entry, Scope, SkipAt, LastAt, Jumps, StmtsAt, end_expr, end_stmts, end_skip, end_update, end_test, end_last, next_stmts, all_fall, goes_on}
 use Rattle.code_generator.specs.Checks.{lying}
 use Rattle.code_generator.specs.Labels.{line_of}
-use Rattle.code_generator.specs.Jobs.{Job, Value, Put, Jump, Bind, One, Run, Declared, Close, Flows, Both, Either, Skip, Update, Test, Last, Turned, Stand, Grown, keep, flow_of, on, entry, scope_in, next_in, Back}
+use Rattle.code_generator.specs.Jobs.{Job, Value, Put, Jump, Bind, One, Run, Declared, Close, Either, Skip, Update, Test, Last, Turned, Stand, Grown, keep, flow_of, entry, scope_in, next_in, Back}
 use Rattle.code_generator.specs.declared.config.Config.{Config}
 use Rattle.code_generator.specs.declared.task.Exits.{Exits}
 use Rattle.code_generator.proofs.Back.{planned, planned_here}
@@ -61,35 +60,6 @@ skips_to f b p line to e a = subst (λ to. SkipAt f [] b p to) e a
 -- ---- one statement
 
 module _ (funs : Program) (js : List Job) (c : Config) (exits : Option Exits) where
-  pub do_plan : (a : Expr) (lies : Lying) → lying_of (type_of a) ≡ lies → Back funs (One (Do a) exits ∷ js) c (Value a ∷ Put (pops lies) ∷ Flows on ∷ js) c
-  do_plan a lies e =
-      subst (λ lies. Back funs (One (Do a) exits ∷ js) c (Value a ∷ Put (pops lies) ∷ Flows on ∷ js) c) e
-      (planned funs (One (Do a) exits ∷ js) c (Value a ∷ Put (pops (lying_of (type_of a))) ∷ Flows on ∷ js) (λ f labels g n p flows s. ((s.0, s.1.0), s.1.1)))
-
-  pub break_plan : (x : Exits) → exits ≡ Some x → Back funs (One Break exits ∷ js) c (Jump numbered.Goto x.out ∷ Flows (record { falls = false; continues = false }) ∷ js) c
-  break_plan x e =
-      subst (λ exits. Back funs (One Break exits ∷ js) c (Jump numbered.Goto x.out ∷ Flows (record { falls = false; continues = false }) ∷ js) c) (sym e)
-      (planned funs (One Break (Some x) ∷ js) c (Jump numbered.Goto x.out ∷ Flows (record { falls = false; continues = false }) ∷ js) (λ f labels g n p flows s. (s.0, s.1)))
-
-  pub continue_plan : (x : Exits) → exits ≡ Some x → Back funs (One Continue exits ∷ js) c (Jump numbered.Goto x.on ∷ Flows (record { falls = false; continues = true }) ∷ js) c
-  continue_plan x e =
-      subst (λ exits. Back funs (One Continue exits ∷ js) c (Jump numbered.Goto x.on ∷ Flows (record { falls = false; continues = true }) ∷ js) c) (sym e)
-      (planned funs (One Continue (Some x) ∷ js) c (Jump numbered.Goto x.on ∷ Flows (record { falls = false; continues = true }) ∷ js) (λ f labels g n p flows s. (s.0, s.1)))
-
-  pub return_plan : (a : Expr) → lying_of (type_of a) ≡ lying c.result
-      → Back funs (One (Return (Given a)) exits ∷ js) c (Value a ∷ Put (i.Plain plain.Ret ∷ []) ∷ Flows (record { falls = false; continues = false }) ∷ js) c
-  return_plan a e =
-      planned funs (One (Return (Given a)) exits ∷ js) c (Value a ∷ Put (i.Plain plain.Ret ∷ []) ∷ Flows (record { falls = false; continues = false }) ∷ js) (λ f labels g n p flows s. (((s.0, e), s.1.0.0), s.1.1))
-
-  pub nothing_plan : lying c.result ≡ Absent → Back funs (One (Return Missing) exits ∷ js) c (Put (i.Plain plain.Ret ∷ []) ∷ Flows (record { falls = false; continues = false }) ∷ js) c
-  nothing_plan e = planned funs (One (Return Missing) exits ∷ js) c (Put (i.Plain plain.Ret ∷ []) ∷ Flows (record { falls = false; continues = false }) ∷ js) (λ f labels g n p flows s. ((e, s.0.0), s.1))
-
-  pub block_plan : (body : Stmts) (height : ℕ) → height ≡ length c.scope → Back funs (One (Block body) exits ∷ js) c (Run body exits ∷ Close height ∷ js) c
-  block_plan body height e =
-      planned_here funs (One (Block body) exits ∷ js) c (Run body exits ∷ Close height ∷ js) (λ f labels s.
-      let w = closed height (scope_in c) s.1.0 (e ∙ sym (length_mapped c)) s.1.1 in
-      (s.0, subst (λ g. Stand funs (lying c.result) f labels js g (next_stmts (next_in c) body) (end_stmts (length c.lines) body) (flow_of body ∷ c.flows)) w s.1.2))
-
   pub if_plan : (a : Expr) (body other : Stmts) (height over end : ℕ) → height ≡ length c.scope → lying_of (type_of a) ≡ Bare
       → Back funs (One (If a body other) exits ∷ js) c
       (Value a ∷ Jump numbered.IfZero over ∷ Run body exits ∷ Close height ∷ Skip end ∷ Bind over ∷ Run other exits ∷ Close height ∷ Bind end ∷ Either ∷ js) c
@@ -170,12 +140,6 @@ module _ (funs : Program) (js : List Job) (c : Config) (exits : Option Exits) wh
 
   -- ---- statements of a scope
 
-  pub finish_plan : Back funs (Run Finish exits ∷ js) c (Flows on ∷ js) c
-  finish_plan = planned funs (Run Finish exits ∷ js) c (Flows on ∷ js) (λ f labels g n p flows s. (tt, (g, same_scope g, s)))
-
-  pub then_plan : (t : Stmt) (rest : Stmts) → Back funs (Run (Then t rest) exits ∷ js) c (One t exits ∷ Run rest exits ∷ Both ∷ js) c
-  then_plan t rest = planned funs (Run (Then t rest) exits ∷ js) c (One t exits ∷ Run rest exits ∷ Both ∷ js) (λ f labels g n p flows s. ((s.0, s.1.0), s.1.1))
-
   pub given_plan : (x : Name) (of : Ty) (a : Expr) (rest : Stmts) → lying_of (type_of a) ≡ lying_of of
       → Back funs (Run (Declare x of (Given a) rest) exits ∷ js) c (Value a ∷ Declared x of ∷ Run rest exits ∷ js) c
   given_plan x of a rest e =
@@ -187,11 +151,3 @@ module _ (funs : Program) (js : List Job) (c : Config) (exits : Option Exits) wh
   default_plan x of rest =
       planned funs (Run (Declare x of Missing rest) exits ∷ js) c (Put (default_code of) ∷ Declared x of ∷ Run rest exits ∷ js)
       (λ f labels g n p flows s. ((s.0, s.1.0.0, s.1.0.1, s.1.0.2, s.1.1.0), (s.1.1.1.0, grown_one (record { name = x; of = of; local = n }) g s.1.1.1.0 s.1.1.1.1, s.1.1.1.2)))
-
-  -- what is done before a loop, in a scope of its own
-  pub begun_plan : (body rest : Stmts) (height : ℕ) → height ≡ length c.scope → Back funs (Run (Then (Block body) rest) exits ∷ js) c (Run body exits ∷ Close height ∷ Run rest exits ∷ Both ∷ js) c
-  begun_plan body rest height e =
-      planned_here funs (Run (Then (Block body) rest) exits ∷ js) c (Run body exits ∷ Close height ∷ Run rest exits ∷ Both ∷ js) (λ f labels s.
-      let w = closed height (scope_in c) s.1.0 (e ∙ sym (length_mapped c)) s.1.1 in
-      let t = subst (λ g. Stand funs (lying c.result) f labels (Run rest exits ∷ Both ∷ js) g (next_stmts (next_in c) body) (end_stmts (length c.lines) body) (flow_of body ∷ c.flows)) w s.1.2 in
-      ((s.0, t.0), t.1))

@@ -12,11 +12,11 @@ use Rattle.program_meaning.specs.Tree.{Exprs, None', One, Fun, Program, type_of}
 use Rattle.program_types.specs.Agreeing.{types_of, types_in, Calls, Applies}
 use Rattle.program_types.specs.Types.{Casts}
 use Rattle.program_meaning.specs.Programs.{expr_of, exprs_of, fun_of, variable_of, program_of}
-use Rattle.program_code.specs.Lying.{Lying, Bare, lying_of}
+use Rattle.program_code.specs.Lying.{Lying, lying_of}
 use Rattle.program_code.specs.Parts.{cast_takes, cast_gives}
 use Rattle.program_code.specs.Stands.{lyings, lyings_of, Fitting}
 use Rattle.code_generator.specs.Functions.{function_at}
-use Rattle.code_generator.specs.Jobs.{Job, Value, Values, Back, Wanted, Bares, As, Wants, Taken, wanted, parts_from, lyings_in}
+use Rattle.code_generator.specs.Jobs.{Job, Value, Values, Back, Wanted, As, Wants, Taken, wanted, parts_from, lyings_in}
 use Rattle.code_generator.specs.Sound.{Keeps, Refuses}
 use Rattle.code_generator.specs.declared.task.Wanted as dw
 use Rattle.code_generator.specs.declared.task.Wanted.TheVariants as w
@@ -108,9 +108,6 @@ pub wanted_of_others : (kind : dw.Wanted) (at : ℕ) (k : Lying) (ks : List Lyin
 wanted_of_others w.Any at k ks h = tt
 wanted_of_others w.Bares at k ks h = h.1
 wanted_of_others (w.As params) at k ks h = others_lie params.now at k ks h ∙ ap (λ n. lyings_in (drop n params.now)) (sym (add-one at))
-
-pub refuses_bare : (k : Lying) → k ≢ Bare → Refuses Bares k
-refuses_bare k n = record { by = λ ks h. n h.0 }
 
 pub refuses_param : (params : List Named) (at : ℕ) (x : Named) (k : Lying) → slice_get params at ≡ Some x → k ≢ lying_of x.of → Refuses (As (lyings_in (drop at params))) k
 refuses_param params at x k is n = record { by = λ ks h. let e : k ∷ ks ≡ lying_of x.of ∷ lyings_in (drop (at + 1) params) = h ∙ ap lyings_in (drop_one at params x is) in n cc }

@@ -6,18 +6,17 @@ use Rattle.pl_code.specs.declared.kinds.Numbered.TheVariants as numbered
 use Rattle.pl_code.specs.declared.code.FunCode.{FunCode}
 use Rattle.pl_code.specs.declared.code.Instruction.TheVariants as i
 use Rattle.pl_code.specs.declared.kinds.Plain.TheVariants as plain
-use Rattle.typed_tree.specs.declared.operation.Constant.{Constant}
 use Rattle.typed_tree.specs.declared.operation.Operation.{Operation}
 use Rattle.typed_tree.specs.declared.operation.Logical.{Logical}
 use Rattle.typed_tree.specs.declared.operation.Logical.TheVariants.{And, Or}
 use Rattle.typed_tree.specs.declared.operation.Target.TheVariants as target
 use Rattle.typed_tree.specs.declared.operation.Change.{Change}
 use Rattle.typed_tree.specs.declared.operation.Gives.{Gives}
-use Rattle.program_meaning.specs.Tree.{Name, Expr, Literal, Local, Logic, Conditional, Assign, Modify, Apply, Exprs, None', One, Program, type_of}
+use Rattle.program_meaning.specs.Tree.{Name, Expr, Local, Logic, Conditional, Assign, Modify, Apply, Exprs, None', One, Program, type_of}
 use Rattle.program_code.specs.Lying.{lying_of, Lying, Bare}
-use Rattle.program_code.specs.Parts.{constant_code, operation_code, operator_code, cast_code, cast_gives, kept_before, kept_behind}
+use Rattle.program_code.specs.Parts.{operation_code, operator_code, cast_code, cast_gives, kept_before, kept_behind}
 use Rattle.code_generator.specs.Checks.{jump_of}
-use Rattle.program_code.specs.Stands.{Entry, Scope, IsEntry, At, end_expr, literal_lies, settled, settles, Fitting, lyings, change_first, change_last}
+use Rattle.program_code.specs.Stands.{Entry, Scope, IsEntry, At, end_expr, settled, settles, Fitting, lyings, change_first, change_last}
 use Rattle.code_generator.specs.Labels.{line_of}
 use Rattle.code_generator.specs.Jobs.{Job, Value, Values, Put, Jump, Bind, Load, Store, Wanted, Wants, Taken, Back}
 use Rattle.code_generator.specs.declared.config.Config.{Config}
@@ -36,9 +35,6 @@ same_entry : (g : Scope) (x : Name) (y z : Entry) → IsEntry g x y → IsEntry 
 same_entry g x y z a b = let h : Some z ≡ Some y = sym b.is ∙ a.is in cc
 
 module _ (funs : Program) (js : List Job) (c : Config) where
-  pub constant_plan : (at : ℕ) (of : Ty) (it : Constant) → lying_of of ≡ literal_lies it → Back funs (Value (Literal at of it) ∷ js) c (Put (constant_code it ∷ []) ∷ js) c
-  constant_plan at of it e = planned funs (Value (Literal at of it) ∷ js) c (Put (constant_code it ∷ []) ∷ js) (λ f labels g n p flows s. ((s.0.0, e), s.1))
-
   pub local_plan : (at : ℕ) (of : Ty) (x : Name) (lies : Lying) → lies ≡ lying_of of → Back funs (Value (Local at of x) ∷ js) c (Load x lies ∷ js) c
   local_plan at of x lies e = planned funs (Value (Local at of x) ∷ js) c (Load x lies ∷ js) (λ f labels g n p flows s. ((s.0.0, s.0.1, sym e ∙ s.0.2, s.0.3), s.1))
 
