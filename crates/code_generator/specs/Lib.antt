@@ -1,3 +1,4 @@
+pub mod Errors
 pub mod Checks
 pub mod Labels
 pub mod Pieces

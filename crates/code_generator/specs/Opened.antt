@@ -41,7 +41,7 @@ body_if (Some s) = body_of s
 unfoldable pub caught : TypedCatch → Caught
 caught c = fold-TypedCatch Before Caught Before node_before catch_before statement_before c
 
--- a statement that declares nothing, without what is done before a loop; a declaration is none
+-- a statement that declares nothing, without what is done before a loop; a declaration, which never stands so, counts as not built
 abbrev pub opened_statement : StatementNode-F StatementNode TypedCatch TypedStatement → Stmt
 opened_statement (StatementNode-F.Expression value) = Do (expr_of value)
 opened_statement (StatementNode-F.Declare variables) = Try Finish NoCatch

@@ -1,6 +1,6 @@
 -- What is still to be written agrees with the names and the flows that are there, as the parts of a well-formed program do: so it is
 -- written, unless memory runs out.
-use Rattle.std.specs.Prelude.{◌≡◌, ℕ, ◌<◌, ◌++◌, Bool, true, false, List, [], ◌∷◌, length, map, Option, Some, None, slice_get, Result, IsOkUnless, MatchResult}
+use Rattle.std.specs.Prelude.{◌≡◌, ℕ, ◌<◌, ◌++◌, Bool, true, false, List, [], ◌∷◌, length, map, Option, Some, None, slice_get, Result, MatchResult}
 use Rattle.pl_types.specs.declared.ty.Ty.{Ty}
 use Rattle.program_meaning.specs.Tree.{Name, Maybe, Missing, Given, Stmts, Finish, Then, Declare, Variable, Program, type_of}
 use Rattle.program_types.specs.Types.{HasValues}
@@ -14,10 +14,6 @@ use Rattle.code_generator.specs.declared.config.Config.{Config}
 use Rattle.code_generator.specs.declared.config.Flow.{Flow}
 use Rattle.code_generator.specs.declared.error.CodeError.{CodeError}
 use Rattle.code_generator.specs.declared.error.CodeError.TheVariants.{NoMemory}
-
--- the one error is that of memory
-abbrev pub OnlyMemory : {T : Type 0} → Result T CodeError → Type 0
-OnlyMemory result = IsOkUnless result NoMemory
 
 -- ---- names and their types
 

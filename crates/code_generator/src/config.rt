@@ -2,7 +2,7 @@
 
 ghost use Rattle.std.specs.Prelude.{IfOk};
 ghost use Rattle.code_generator.specs.Functions.{Finished};
-ghost use Rattle.code_generator.specs.Sound.{OnlyMemory};
+ghost use Rattle.code_generator.specs.Errors.{OnlyMemory};
 
 use crate::error::CodeError;
 use crate::labels::{Labels, Line, settle};

@@ -3,7 +3,8 @@
 ghost use Rattle.std.specs.Prelude.{◌≡◌, ◌≢◌, [], ◌∷◌, IfOk, OnOk};
 ghost use Rattle.code_generator.specs.Jobs as j;
 ghost use Rattle.code_generator.specs.Jobs.{Back, IsTop, jobs, maybe_in};
-ghost use Rattle.code_generator.specs.Sound.{Keeps, OnlyMemory};
+ghost use Rattle.code_generator.specs.Errors.{OnlyMemory};
+ghost use Rattle.code_generator.specs.Sound.{Keeps};
 ghost use Rattle.program_meaning.specs.Programs.{program_of};
 
 use crate::config::{Config, Flow};

@@ -3,7 +3,7 @@
 ghost use Rattle.std.specs.Prelude.{◌≡◌, ◌≢◌, ◌++◌, [], ◌∷◌, map, IfOk, OnOk};
 ghost use Rattle.code_generator.specs.Functions.{Begun, EndsAsProgram, FunStands, InScope};
 ghost use Rattle.code_generator.specs.Jobs.{entry};
-ghost use Rattle.code_generator.specs.Sound.{OnlyMemory};
+ghost use Rattle.code_generator.specs.Errors.{OnlyMemory};
 ghost use Rattle.program_code.specs.Correct.{IsCodeOf};
 ghost use Rattle.program_code.specs.Lying.{Absent, kind_of, lying_of};
 ghost use Rattle.program_code.specs.Stands.{Compiled};

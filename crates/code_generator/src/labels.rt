@@ -3,7 +3,7 @@
 ghost use Rattle.std.specs.Prelude.{◌≡◌, ◌≢◌, ◌++◌, [], ◌∷◌, length, slice_get, slice_set, map, IfOk, MatchResult, OnOk};
 ghost use Rattle.code_generator.specs.Labels as spec;
 ghost use Rattle.code_generator.specs.Labels.{bound, settled_line};
-ghost use Rattle.code_generator.specs.Sound.{OnlyMemory};
+ghost use Rattle.code_generator.specs.Errors.{OnlyMemory};
 
 use crate::error::CodeError;
 use crate::pile::Pile;

@@ -4,7 +4,8 @@ ghost use Rattle.std.specs.Prelude.{◌≡◌, ◌≢◌, ◌∷◌, drop, IfOk,
 ghost use Rattle.code_generator.specs.Jobs as j;
 ghost use Rattle.code_generator.specs.Jobs.{Back, IsFirst, entry, job, jobs, next_in, tail_of};
 ghost use Rattle.code_generator.specs.Opened.{statement_of, opened_before, loop_before};
-ghost use Rattle.code_generator.specs.Sound.{BeginLies, Keeps, OnlyMemory};
+ghost use Rattle.code_generator.specs.Errors.{OnlyMemory};
+ghost use Rattle.code_generator.specs.Sound.{BeginLies, Keeps};
 ghost use Rattle.typed_tree.specs.declared.statement.StatementNode.{out-StatementNode};
 ghost use Rattle.typed_tree.specs.declared.statement.TypedStatement.{out-TypedStatement};
 ghost use Rattle.program_code.specs.Lying.{Absent, lying_of};

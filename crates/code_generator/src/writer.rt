@@ -2,7 +2,8 @@
 
 ghost use Rattle.std.specs.Prelude.{[], OnOk};
 ghost use Rattle.code_generator.specs.Jobs.{Back, jobs};
-ghost use Rattle.code_generator.specs.Sound.{OnlyMemory, Sound};
+ghost use Rattle.code_generator.specs.Errors.{OnlyMemory};
+ghost use Rattle.code_generator.specs.Sound.{Sound};
 ghost use Rattle.program_meaning.specs.Programs.{program_of};
 
 use crate::config::Config;
