@@ -95,15 +95,19 @@ module _ (allow : AllowList) (code : List FunCode) (limits : Limits) (well : IsW
       let e = ends_in k (left_of code limits c) (step code limits c) (step_moves allow code limits well rows c m.fits) (omega (arith, less, h)) in
       record { end = e.end; ends = e.ends; fits = e.fits }
 
-  pub fitting_ends : (c : Config) (steps : ℕ) → FitsConfig allow code limits c → left_of code limits c ≤ steps → EndsWithin code limits steps (Goes c)
+  fitting_ends : (c : Config) (steps : ℕ) → FitsConfig allow code limits c → left_of code limits c ≤ steps → EndsWithin code limits steps (Goes c)
   fitting_ends c steps fits h = ends_in steps (suc (left_of code limits c)) (Goes c) (record { fits = fits; less = omega arith }) (omega (arith, h))
+
+  -- within the bound
+  pub ends_within : (c : Config) → FitsConfig allow code limits c → EndsWithin code limits (most_steps code limits c.world.ticks) (Goes c)
+  ends_within c fits = fitting_ends c (most_steps code limits c.world.ticks) fits (left_most code limits c fits.within)
 
 pub never_stuck : NeverStuck
 never_stuck c limits from steps s rows fits = stays_fitting c.allow c.code.functions limits (well_shaped c s) rows steps from fits
 
 pub runs_end : RunsEnd
 runs_end c limits from s rows fits =
-    fitting_ends c.allow c.code.functions limits (well_shaped c s) rows from (most_steps c.code.functions limits from.world.ticks) fits (left_most c.code.functions limits from fits.within)
+    ends_within c.allow c.code.functions limits (well_shaped c s) rows from fits
 
 abbrev started : FunCode → List Word → World → Config
 started g words w = record { top = record { text = Script; fun = 0; line = 0; locals = words ++ map start_of g.locals; stack = []; turns = 0; due = [] }; below = []; world = w }
@@ -111,7 +115,7 @@ started g words w = record { top = record { text = Script; fun = 0; line = 0; lo
 start_ends : (allow : AllowList) (code : List FunCode) (limits : Limits) → IsWellShapedCode allow code → HaveRows code → (f : FunCode) (words : List Word) (w : World) (o : Option FunCode) → o ≡ Some f
     → FitsNext allow code limits (start_at o words w) → EndsWithin code limits (most_steps code limits w.ticks) (start_at o words w)
 start_ends allow code limits well rows f words w None is fits = cc
-start_ends allow code limits well rows f words w (Some g) is fits = fitting_ends allow code limits well rows (started g words w) (most_steps code limits w.ticks) fits (left_most code limits (started g words w) fits.within)
+start_ends allow code limits well rows f words w (Some g) is fits = ends_within allow code limits well rows (started g words w) fits
 
 pub starts_end : StartsEnd
 starts_end c limits f words w s rows is params =

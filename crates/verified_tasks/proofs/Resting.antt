@@ -1,0 +1,328 @@
+-- How turns lower what is left of a run of verified code, and that it comes to the same end.
+use Rattle.std.proofs.Common.{◌≡◌, ℕ, zero, suc, ◌+◌, ◌-◌, ◌^◌, ◌<◌, ◌≤◌, Bool, false, List, [], ◌∷◌, Option, Some, None, refl, sym, ap, ◌∙◌, subst, arith}
+use Rattle.std.specs.Prelude.{option_map, is_some, IsTrue, ◌==◌}
+use Rattle.std.proofs.lemmas.Bool.{false≢true}
+use Rattle.std.proofs.Math.Dec.{eqb-suc-zero}
+use Rattle.pl_code.specs.declared.code.FunCode.{FunCode}
+use Rattle.pl_code.specs.declared.code.Code.{Code}
+use Rattle.allowlist.specs.Allow.{AllowList}
+use Rattle.verifier.specs.Shaped.{IsWellShapedCode}
+use Rattle.verified_runs.specs.Rows.{HaveRows}
+use Rattle.verified_runs.specs.Fits.{kinds_of}
+use Rattle.run_world.specs.World.{World, Limits, End}
+use Rattle.object_heap.specs.declared.outcome.Which.TheVariants as which
+use Rattle.code_meaning.specs.declared.word.Word.{Word}
+use Rattle.code_meaning.specs.Machine.{Config, Next, Goes, Ends, Stuck, start, step, after}
+use Rattle.task_core.specs.declared.task.Turn.{Turn}
+use Rattle.task_core.specs.declared.task.Turn.TheVariants as turn
+use Rattle.task_core.specs.Turns.{IsTurn, Turns}
+use Rattle.code_machine.specs.declared.activation.Outcome.{Outcome}
+use Rattle.code_machine.specs.declared.configuration.End as held
+use Rattle.code_machine.specs.declared.configuration.End.TheVariants as end
+use Rattle.code_machine.specs.Seen.{limits_of, ended}
+use Rattle.code_machine.specs.Runs.{steps_taken}
+use Rattle.code_machine.specs.Activations.{Activation, counted, later, goes, is_over, Turned, Leaves}
+use Rattle.code_machine.proofs.Turning.{adds, taken_adds}
+use Rattle.verified_runs.proofs.Runs.{starts_fit, stays_fitting, ends_within}
+use Rattle.verified_tasks.specs.Tasks.{main_params, Keeps, KeepsFrom, IsVerified, most_left, rest_from, rest, outcome_of, outcome_in, ending_from, ending, is_end}
+
+plus_none : (a b : ℕ) → b ≡ 0 → a + b ≡ a
+plus_none a b e = omega (arith, e)
+
+turned_sum : (q m m' : ℕ) → q + (m' + m) ≡ m + (q + m')
+turned_sum q m m' = omega arith
+
+module _ (code : List FunCode) (limits : Limits) where
+  end_stays : (n : ℕ) (r : End (Option Word)) → after code limits n (Ends r) ≡ Ends r
+  end_stays zero r = refl
+  end_stays (suc n) r = refl
+
+  none_behind : (n : ℕ) (r : End (Option Word)) → steps_taken code limits n (Ends r) ≡ 0
+  none_behind zero r = refl
+  none_behind (suc n) r = refl
+
+  -- an end within the bound
+  record EndsAt (n : Next) : Type 0 where
+    end : End (Option Word)
+    ends : after code limits (most_left code limits n) n ≡ Ends end
+
+  ends_at : (steps : ℕ) (n : Next) → Keeps code limits steps n → EndsAt n
+  ends_at steps (Goes c) k =
+      let x = ends_within k.allow code limits k.well k.rows c k.fits in
+      record { end = x.end; ends = x.ends }
+  ends_at steps (Ends r) k = record { end = r; ends = refl }
+  ends_at steps Stuck k = absurd k.fits
+
+  pub left : Next → ℕ
+  left n = steps_taken code limits (most_left code limits n) n
+
+  -- with more steps than are left nothing changes
+  more_taken : (n : Next) → EndsAt n → (more : ℕ) → steps_taken code limits (most_left code limits n + more) n ≡ left n
+  unfolding left
+  more_taken n e more =
+      taken_adds code limits (most_left code limits n) more n
+      ∙ plus_none (steps_taken code limits (most_left code limits n) n) (steps_taken code limits more (after code limits (most_left code limits n) n))
+      (ap (steps_taken code limits more) e.ends ∙ none_behind more e.end)
+
+  same_end : (n : Next) (e : EndsAt n) (more : ℕ) → after code limits (most_left code limits n + more) n ≡ after code limits (most_left code limits n) n
+  same_end n e more =
+      adds code limits (most_left code limits n) more n ∙ ap (after code limits more) e.ends ∙ end_stays more e.end ∙ sym e.ends
+
+  -- what is left is what a turn takes and what is left then
+  turn_left : (q : ℕ) (n : Next) → EndsAt n → EndsAt (after code limits q n) → left n ≡ steps_taken code limits q n + left (after code limits q n)
+  turn_left q n e f =
+      let m = most_left code limits n in
+      let m' = most_left code limits (after code limits q n) in
+      sym (more_taken n e (q + m')) ∙ ap (λ k. steps_taken code limits k n) (sym (turned_sum q m m')) ∙ taken_adds code limits q (m' + m) n
+      ∙ ap (λ k. steps_taken code limits q n + k) (more_taken (after code limits q n) f m)
+
+  turn_end : (q : ℕ) (n : Next) → EndsAt n → EndsAt (after code limits q n)
+      → after code limits (most_left code limits (after code limits q n)) (after code limits q n) ≡ after code limits (most_left code limits n) n
+  turn_end q n e f =
+      let m = most_left code limits n in
+      let m' = most_left code limits (after code limits q n) in
+      sym (same_end (after code limits q n) f m) ∙ sym (adds code limits q (m' + m) n) ∙ ap (λ k. after code limits k n) (turned_sum q m m') ∙ same_end n e (q + m')
+
+  taken_most : (q : ℕ) (n : Next) → steps_taken code limits q n ≤ q
+  taken_most zero n = omega arith
+  taken_most (suc k) (Goes c) = one_more (steps_taken code limits k (step code limits c)) k (taken_most k (step code limits c))
+    where
+      one_more : (a b : ℕ) → a ≤ b → suc a ≤ suc b
+      one_more a b h = omega arith
+  taken_most (suc k) (Ends r) = omega arith
+  taken_most (suc k) Stuck = omega arith
+
+  taken_all : (q : ℕ) (n : Next) (c : Config) → after code limits q n ≡ Goes c → steps_taken code limits q n ≡ q
+  taken_all zero n c e = refl
+  taken_all (suc k) (Goes d) c e = ap suc (taken_all k (step code limits d) c e)
+  taken_all (suc k) (Ends r) c e = cc
+  taken_all (suc k) Stuck c e = cc
+
+  some_taken : (m : ℕ) (c : Config) (r : End (Option Word)) → after code limits m (Goes c) ≡ Ends r → 0 < steps_taken code limits m (Goes c)
+  some_taken zero c r e = cc
+  some_taken (suc k) c r e = omega arith
+
+  some_left : (c : Config) → EndsAt (Goes c) → 0 < left (Goes c)
+  unfolding left
+  some_left c e = some_taken (most_left code limits (Goes c)) c e.end e.ends
+
+  none_left : (r : End (Option Word)) → left (Ends r) ≡ 0
+  unfolding left
+  none_left r = refl
+
+  -- a turn lowers what is left by its instructions, or takes all
+  by_next : (q : ℕ) (n next : Next) → after code limits q n ≡ next → EndsAt next → left n ≡ steps_taken code limits q n + left next → left next ≡ left n - q
+  by_next q n (Goes c) e f sum = let all = taken_all q n c e in all_gone (left n) (steps_taken code limits q n) (left (Goes c)) q all sum
+    where
+      all_gone : (a t b q : ℕ) → t ≡ q → a ≡ t + b → b ≡ a - q
+      all_gone a t b q x y = omega (arith, x, y)
+  by_next q n (Ends r) e f sum = no_more (left n) (steps_taken code limits q n) (left (Ends r)) q (taken_most q n) (none_left r) sum
+    where
+      no_more : (a t b q : ℕ) → t ≤ q → b ≡ 0 → a ≡ t + b → b ≡ a - q
+      no_more a t b q h x y = omega (arith, h, x, y)
+  by_next q n Stuck e f sum = let wrong : Stuck ≡ Ends f.end = f.ends in cc
+
+  keeps_on : (q steps steps' : ℕ) (n : Next) → steps' < 2 ^ 64 → Keeps code limits steps n → Keeps code limits steps' (after code limits q n)
+  keeps_on q steps steps' n h k = record { allow = k.allow; well = k.well; rows = k.rows; fits = stays_fitting k.allow code limits k.well k.rows q n k.fits; counts = h }
+
+  pub lowered : (q steps : ℕ) (n : Next) → Keeps code limits steps n → left (after code limits q n) ≡ left n - q
+  lowered q steps n k =
+      let next = ends_at steps (after code limits q n) (keeps_on q steps steps n k.counts k) in
+      by_next q n (after code limits q n) refl next (turn_left q n (ends_at steps n k) next)
+
+counted_less : (n : ℕ) → counted n < 2 ^ 64
+counted_less n = omega arith
+
+counted_twice : (steps first second sum : ℕ) → sum ≡ first + second → counted (counted (steps + first) + second) ≡ counted (steps + sum)
+counted_twice steps first second sum e = omega (arith, e)
+
+counted_none : (n : ℕ) → n < 2 ^ 64 → counted (n + 0) ≡ n
+counted_none n h = omega (arith, h)
+
+-- ---- activations
+
+abbrev made : Activation → Option Next → Activation
+made a now = record { code = a.code; limits = a.limits; now = now; steps = a.steps }
+
+keeps_from : (a : Activation) (q : ℕ) (now : Option Next) → KeepsFrom a.code (limits_of a.limits) a.steps now → IsVerified (later q (made a now))
+keeps_from a q None k = tt
+keeps_from a q (Some n) k = keeps_on a.code (limits_of a.limits) q a.steps (counted (a.steps + steps_taken a.code (limits_of a.limits) q n)) n (counted_less (a.steps + steps_taken a.code (limits_of a.limits) q n)) k
+
+pub stays_verified : (a : Activation) (q : ℕ) → IsVerified a → IsVerified (later q a)
+stays_verified a q k = keeps_from a q a.now k
+
+-- a run has come to an end where nothing is left
+abbrev some_now : Option Next → Type 0
+some_now None = ⊥
+some_now (Some n) = Unit {0}
+
+turn_from : (a : Activation) (q : ℕ) (now : Option Next) → some_now now → KeepsFrom a.code (limits_of a.limits) a.steps now → IsTurn rest ending q (made a now) (later q (made a now))
+unfolding left
+turn_from a q None some k = absurd some
+turn_from a q (Some n) some k =
+    let code = a.code in
+    let limits = limits_of a.limits in
+    let here = ends_at code limits a.steps n k in
+    let next = ends_at code limits a.steps (after code limits q n) (keeps_on code limits q a.steps a.steps n k.counts k) in
+    let steps = counted_twice a.steps (steps_taken code limits q n) (left code limits (after code limits q n)) (left code limits n) (turn_left code limits q n here next) in
+    record {
+      lowered = lowered code limits q a.steps n k;
+      kept = (λ i. outcome_in a.limits.ticks (steps i) (turn_end code limits q n here next i));
+    }
+
+-- a run that goes on has something left, and one that is over has nothing
+goes_left : (code : List FunCode) (limits : Limits) (steps : ℕ) (now : Option Next) → IsTrue (goes now) → KeepsFrom code limits steps now → 0 < rest_from code limits now
+unfolding left
+goes_left code limits steps None g k = absurd (false≢true g)
+goes_left code limits steps (Some (Goes c)) g k = some_left code limits c (ends_at code limits steps (Goes c) k)
+goes_left code limits steps (Some (Ends r)) g k = absurd (false≢true g)
+goes_left code limits steps (Some Stuck) g k = absurd (false≢true g)
+
+over_left : (code : List FunCode) (limits : Limits) (steps : ℕ) (now : Option Next) → IsTrue (is_over now) → KeepsFrom code limits steps now → rest_from code limits now ≡ 0
+over_left code limits steps None g k = absurd (false≢true g)
+over_left code limits steps (Some (Goes c)) g k = absurd (false≢true g)
+over_left code limits steps (Some (Ends r)) g k = refl
+over_left code limits steps (Some Stuck) g k = absurd k.fits
+
+some_not_none : (n : ℕ) → 0 < n → (n == 0) ≡ false
+some_not_none zero h = absurd (omega arith)
+some_not_none (suc n) h = eqb-suc-zero n
+
+over_is : (code : List FunCode) (limits : Limits) (steps : ℕ) (now : Option Next) → KeepsFrom code limits steps now → is_over now ≡ (rest_from code limits now == 0)
+unfolding left
+over_is code limits steps None k = refl
+over_is code limits steps (Some (Goes c)) k = sym (some_not_none (left code limits (Goes c)) (some_left code limits c (ends_at code limits steps (Goes c) k)))
+over_is code limits steps (Some (Ends r)) k = refl
+over_is code limits steps (Some Stuck) k = absurd k.fits
+
+-- whether a run is over is whether nothing is left
+pub done_is : (a : Activation) → IsVerified a → is_over a.now ≡ (rest a == 0)
+done_is a k = over_is a.code (limits_of a.limits) a.steps a.now k
+
+-- a turn behind which it goes on
+pub turn_goes_on : (a : Activation) (q : ℕ) → IsVerified a → IsTrue (goes (later q a).now) → IsTurn rest ending q a (later q a) × (0 < rest (later q a))
+turn_goes_on a q k g = (turn_from a q a.now (some_before a.now g) k, goes_left a.code (limits_of a.limits) (later q a).steps (later q a).now g (stays_verified a q k))
+  where
+    some_before : (now : Option Next) → IsTrue (goes (option_map (after a.code (limits_of a.limits) q) now)) → some_now now
+    some_before None g = false≢true g
+    some_before (Some n) g = tt
+
+-- a turn with which it ends
+pub turn_ends : (a : Activation) (q : ℕ) → IsVerified a → IsTrue (is_over (later q a).now) → IsTurn rest ending q a (later q a) × (rest (later q a) ≡ 0)
+turn_ends a q k g = (turn_from a q a.now (some_before a.now g) k, over_left a.code (limits_of a.limits) (later q a).steps (later q a).now g (stays_verified a q k))
+  where
+    some_before : (now : Option Next) → IsTrue (is_over (option_map (after a.code (limits_of a.limits) q) now)) → some_now now
+    some_before None g = false≢true g
+    some_before (Some n) g = tt
+
+none_lowered : (r q : ℕ) → r ≡ 0 → r ≡ r - q
+none_lowered r q e = omega (arith, e)
+
+-- a turn of a run that is over takes nothing
+pub turn_over : (a : Activation) (q : ℕ) → IsVerified a → IsTrue (is_over a.now) → IsTurn rest ending q a a × (rest a ≡ 0)
+turn_over a q k g =
+    let gone = over_left a.code (limits_of a.limits) a.steps a.now g k in
+    (record { lowered = none_lowered (rest a) q gone; kept = refl }, gone)
+
+-- ---- what a turn answers
+
+goes_not_over : (now : Option Next) → IsTrue (goes now) → false ≡ is_over now
+goes_not_over None g = refl
+goes_not_over (Some (Goes c)) g = refl
+goes_not_over (Some (Ends r)) g = absurd (false≢true g)
+goes_not_over (Some Stuck) g = absurd (false≢true g)
+
+is_nothing : (now : Option Next) → is_some now ≡ false → now ≡ None
+is_nothing None e = refl
+is_nothing (Some n) e = absurd (false≢true (sym e))
+
+no_memory : (new : Activation) → new.now ≡ None → IsVerified new × (false ≡ is_over new.now)
+no_memory new e = (subst (KeepsFrom new.code (limits_of new.limits) new.steps) (sym e) tt, sym (ap is_over e))
+
+-- behind a turn it is a run of verified code, which is over where the turn was its last
+pub turned_keeps : (a new : Activation) (q : ℕ) (t : Turn) → IsVerified a → Turned q a new t → IsVerified new × (is_end t ≡ is_over new.now)
+turned_keeps a new q turn.More k h = (subst IsVerified (sym h.0) (stays_verified a q k), goes_not_over new.now h.1)
+turned_keeps a new q turn.Done k h = (subst IsVerified (sym h.0) (stays_verified a q k), sym h.1)
+turned_keeps a new q turn.NoMemory k h = no_memory new (is_nothing new.now h)
+
+pub turned_is : (a new : Activation) (q : ℕ) (t : Turn) → IsVerified a → Turned q a new t → Turns rest ending q a new t
+turned_is a new q turn.More k h =
+    subst (λ new. IsTurn rest ending q a new × (0 < rest new)) (sym h.0) (turn_goes_on a q k (subst (λ (new : Activation). IsTrue (goes new.now)) h.0 h.1))
+turned_is a new q turn.Done k h =
+    subst (λ new. IsTurn rest ending q a new × (rest new ≡ 0)) (sym h.0) (turn_ends a q k (subst (λ (new : Activation). IsTrue (is_over new.now)) h.0 h.1))
+turned_is a new q turn.NoMemory k h = tt
+
+-- ---- outcomes
+
+some_outcome : (ticks steps : ℕ) (r : End (Option Word)) (o : Outcome) → outcome_of ticks steps r ≡ o → outcome_in ticks steps (Ends r) ≡ Some o
+some_outcome ticks steps r o e = ap (λ o. Some o) e
+
+ended_so : (ticks left steps : ℕ) (w : World) (e : held.End) → w.ticks ≡ left → (next : Next) → next ≡ ended e w → (next ≡ Stuck → ⊥)
+    → outcome_in ticks steps next ≡ Some (record { end = e; heap = w.store; ticks = ticks - left; steps = steps; reached = w.reached })
+ended_so ticks left steps w (end.Result word) same next is stuck = ap (outcome_in ticks steps) is ∙ ap (λ n. Some (record { end = end.Result word; heap = w.store; ticks = ticks - n; steps = steps; reached = w.reached })) same
+ended_so ticks left steps w (end.Thrown id) same next is stuck = ap (outcome_in ticks steps) is ∙ ap (λ n. Some (record { end = end.Thrown id; heap = w.store; ticks = ticks - n; steps = steps; reached = w.reached })) same
+ended_so ticks left steps w (end.Limit which.Loop) same next is stuck = ap (outcome_in ticks steps) is ∙ ap (λ n. Some (record { end = end.Limit which.Loop; heap = w.store; ticks = ticks - n; steps = steps; reached = w.reached })) same
+ended_so ticks left steps w (end.Limit which.Depth) same next is stuck = ap (outcome_in ticks steps) is ∙ ap (λ n. Some (record { end = end.Limit which.Depth; heap = w.store; ticks = ticks - n; steps = steps; reached = w.reached })) same
+ended_so ticks left steps w (end.Limit which.Ticks) same next is stuck = ap (outcome_in ticks steps) is ∙ ap (λ n. Some (record { end = end.Limit which.Ticks; heap = w.store; ticks = ticks - n; steps = steps; reached = w.reached })) same
+ended_so ticks left steps w (end.Limit which.Room) same next is stuck = ap (outcome_in ticks steps) is ∙ ap (λ n. Some (record { end = end.Limit which.Room; heap = w.store; ticks = ticks - n; steps = steps; reached = w.reached })) same
+ended_so ticks left steps w end.Stuck same next is stuck = absurd (stuck is)
+
+not_goes : (e : held.End) (w : World) (c : Config) → Goes c ≡ ended e w → ⊥
+not_goes (end.Result word) w c e = cc
+not_goes (end.Thrown id) w c e = cc
+not_goes (end.Limit limit) w c e = cc
+not_goes end.Stuck w c e = cc
+
+not_stuck : (r : End (Option Word)) → Ends r ≡ Stuck → ⊥
+not_stuck r e = cc
+
+some_next : (n m : Next) → Some n ≡ Some m → n ≡ m
+some_next n m e = cc
+
+-- the world that an outcome has
+abbrev world_left : Outcome → ℕ → World
+world_left o left = record { store = o.heap; ticks = left; reached = o.reached }
+
+leaves_from : (a : Activation) (o : Outcome) (now : Option Next) (left : ℕ) → KeepsFrom a.code (limits_of a.limits) a.steps now → now ≡ Some (ended o.end (world_left o left)) → o.ticks ≡ a.limits.ticks - left → o.steps ≡ a.steps
+    → Some o ≡ ending_from a now
+leaves_from a o None left k is ticks steps = cc
+leaves_from a o (Some (Goes c)) left k is ticks steps = absurd (not_goes o.end (world_left o left) c (some_next (Goes c) (ended o.end (world_left o left)) is))
+leaves_from a o (Some (Ends r)) left k is ticks steps =
+    let counts = counted_none a.steps k.counts in
+    let same : o.steps ≡ counted (a.steps + 0) = steps ∙ sym counts in
+    let given = ended_so a.limits.ticks left (counted (a.steps + 0)) (world_left o left) o.end refl (Ends r) (some_next (Ends r) (ended o.end (world_left o left)) is) (not_stuck r) in
+    let fields : Some o ≡ Some (record { end = o.end; heap = o.heap; ticks = a.limits.ticks - left; steps = counted (a.steps + 0); reached = o.reached }) =
+    (λ i. Some (record { end = o.end; heap = o.heap; ticks = ticks i; steps = same i; reached = o.reached })) in
+    fields ∙ sym given
+leaves_from a o (Some Stuck) left k is ticks steps = absurd k.fits
+
+none_is_over : (b : Bool) (n : ℕ) → b ≡ false → b ≡ (n == 0) → n ≡ 0 → ⊥
+none_is_over b n e g z = false≢true (sym e ∙ g ∙ ap (λ n. n == 0) z)
+
+-- what a run leaves once nothing is left is what it comes to
+pub leaves_ending : (a : Activation) (o : Option Outcome) → IsVerified a → rest a ≡ 0 → Leaves a o → o ≡ ending a
+leaves_ending a None k none l = absurd (none_is_over (is_over a.now) (rest a) l (done_is a k) none)
+leaves_ending a (Some o) k none l = leaves_from a o a.now l.0 k l.1 l.2 l.3
+
+-- ---- where a run begins
+
+begins : (allow : AllowList) (code : List FunCode) (limits : Limits) (args : List Word) (w : World) → IsWellShapedCode allow code → HaveRows code → kinds_of args ≡ main_params code
+    → Keeps code limits 0 (start code args w) × (false ≡ is_over (Some (start code args w)))
+begins allow [] limits args w well rows params = let some = well.some in absurd (omega (arith, some))
+begins allow (f ∷ fs) limits args w well rows params = (
+  record { allow = allow; well = well; rows = rows; fits = starts_fit allow (f ∷ fs) limits f args w well refl params; counts = omega arith },
+  refl,
+)
+
+-- an activation of code that was verified, and is lent
+pub starts : (allow : AllowList) (kept lent : Code) (args : List Word) (w : World) (made a : Activation) → IsWellShapedCode allow kept.functions → HaveRows kept.functions → kinds_of args ≡ main_params kept.functions
+    → lent ≡ kept → a ≡ made → made.code ≡ lent.functions → made.now ≡ Some (start lent.functions args w) → made.steps ≡ 0 → IsVerified a × (false ≡ is_over a.now)
+starts allow kept lent args w made a well rows params same is code now steps =
+    let x = begins allow kept.functions (limits_of made.limits) args w well rows params in
+    let here : made.now ≡ Some (start kept.functions args w) = now ∙ ap (λ (k : Code). Some (start k.functions args w)) same in
+    let kept_so : made.code ≡ kept.functions = code ∙ ap (λ (k : Code). k.functions) same in
+    let keeps : IsVerified made =
+    subst (λ fs. KeepsFrom fs (limits_of made.limits) made.steps made.now) (sym kept_so)
+    (subst (λ n. KeepsFrom kept.functions (limits_of made.limits) n made.now) (sym steps)
+    (subst (λ now. KeepsFrom kept.functions (limits_of made.limits) 0 now) (sym here) x.0)) in
+    subst (λ (a : Activation). IsVerified a × (false ≡ is_over a.now)) (sym is) (keeps, x.1 ∙ ap is_over (sym here))
