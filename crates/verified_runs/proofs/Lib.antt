@@ -9,3 +9,4 @@ mod Calling
 mod Plains
 mod Steps
 pub mod Runs
+mod Rowless

@@ -3,13 +3,8 @@ use Rattle.std.proofs.Common.{◌≡◌, ℕ, zero, suc, ◌+◌, ◌-◌, ◌*�
 use Rattle.std.specs.Prelude.{slice_get}
 use Rattle.std.proofs.lemmas.List.{map-append}
 use Rattle.object_values.specs.declared.object.Owner.TheVariants.{Script}
-use Rattle.pl_code.specs.declared.kinds.Plain.{Plain}
-use Rattle.pl_code.specs.declared.kinds.Plain.TheVariants as plain
-use Rattle.pl_code.specs.declared.kinds.Numbered.{Numbered}
-use Rattle.pl_code.specs.declared.kinds.Numbered.TheVariants as numbered
 use Rattle.pl_code.specs.declared.kinds.Slot.{Slot}
 use Rattle.pl_code.specs.declared.code.FunCode.{FunCode}
-use Rattle.pl_code.specs.declared.code.Instruction.TheVariants as i
 use Rattle.allowlist.specs.Allow.{AllowList}
 use Rattle.verifier.specs.Shaped.{IsWellShapedCode}
 use Rattle.verifier.specs.Fits.{FitBelow, bottom, below as one_below}
@@ -18,11 +13,11 @@ use Rattle.verifier.proofs.Whole.{sound_is_well_shaped}
 use Rattle.run_world.specs.World.{World, Limits, End}
 use Rattle.code_meaning.specs.declared.word.Word.{Word}
 use Rattle.code_meaning.specs.Words.{start_of}
-use Rattle.code_meaning.specs.Machine.{Frame, Config, Next, Goes, Ends, Stuck, start, start_at, plain_act, numbered_act, step, after}
-use Rattle.verified_runs.specs.Rows.{HasPlainRow, HasNumberedRow, HaveRows}
+use Rattle.code_meaning.specs.Machine.{Frame, Config, Next, Goes, Ends, Stuck, start, start_at, step, after}
+use Rattle.verified_runs.specs.Rows.{HaveRows}
 use Rattle.verified_runs.specs.Fits.{kind_of, kinds_of, frame_kinds, main_result, BelowFits, FitsConfig, FitsNext}
 use Rattle.verified_runs.specs.Bounds.{most_steps, EndsWithin}
-use Rattle.verified_runs.specs.Laws.{StartsFit, NeverStuck, RunsEnd, StartsEnd, FramesFit, NoOtherRows}
+use Rattle.verified_runs.specs.Laws.{StartsFit, NeverStuck, RunsEnd, StartsEnd, FramesFit}
 use Rattle.verified_runs.proofs.Words.{starts_are}
 use Rattle.verified_runs.proofs.Standing.{begins_fit}
 use Rattle.verified_runs.proofs.Lowering.{lines_in, left_of, left_most, tick_worth, lines_below, something_left}
@@ -129,62 +124,3 @@ below_fit allow code (f ∷ fs) result fits = one_below fits.0 (frame_kinds f) (
 
 pub frames_fit : FramesFit
 frames_fit allow code limits c fits = below_fit allow code c.below fits.function.result fits.below
-
--- ---- what has no row
-
-plain_stuck : (code : List FunCode) (limits : Limits) (p : Plain) (f : Frame) (below : List Frame) (w : World) → ¬ (HasPlainRow p) → plain_act code limits p f below w ≡ Stuck
-plain_stuck code limits plain.Null f below w none = absurd (none tt)
-plain_stuck code limits plain.Pop f below w none = absurd (none tt)
-plain_stuck code limits plain.Dup f below w none = absurd (none tt)
-plain_stuck code limits plain.Dup2 f below w none = absurd (none tt)
-plain_stuck code limits plain.DupX1 f below w none = absurd (none tt)
-plain_stuck code limits plain.DupX2 f below w none = absurd (none tt)
-plain_stuck code limits plain.IntToLong f below w none = absurd (none tt)
-plain_stuck code limits plain.LongToInt f below w none = absurd (none tt)
-plain_stuck code limits plain.IntToByte f below w none = absurd (none tt)
-plain_stuck code limits plain.IntToShort f below w none = absurd (none tt)
-plain_stuck code limits plain.IntToChar f below w none = absurd (none tt)
-plain_stuck code limits plain.Ret f below w none = absurd (none tt)
-plain_stuck code limits plain.Concat f below w none = refl
-plain_stuck code limits plain.Same f below w none = refl
-plain_stuck code limits plain.Equal f below w none = refl
-plain_stuck code limits plain.ArrayLength f below w none = refl
-plain_stuck code limits plain.GetIndex f below w none = refl
-plain_stuck code limits plain.PutIndex f below w none = refl
-plain_stuck code limits plain.Iter f below w none = refl
-plain_stuck code limits plain.Has f below w none = refl
-plain_stuck code limits plain.Next f below w none = refl
-plain_stuck code limits plain.Throw f below w none = refl
-
-numbered_stuck : (code : List FunCode) (limits : Limits) (n : Numbered) (k : ℕ) (f : Frame) (below : List Frame) (w : World) → ¬ (HasNumberedRow n) → numbered_act code limits n k f below w ≡ Stuck
-numbered_stuck code limits numbered.Load k f below w none = absurd (none tt)
-numbered_stuck code limits numbered.Store k f below w none = absurd (none tt)
-numbered_stuck code limits numbered.Goto k f below w none = absurd (none tt)
-numbered_stuck code limits numbered.IfZero k f below w none = absurd (none tt)
-numbered_stuck code limits numbered.IfNotZero k f below w none = absurd (none tt)
-numbered_stuck code limits numbered.Loop k f below w none = absurd (none tt)
-numbered_stuck code limits numbered.Call k f below w none = absurd (none tt)
-numbered_stuck code limits numbered.IfNull k f below w none = refl
-numbered_stuck code limits numbered.List k f below w none = refl
-numbered_stuck code limits numbered.Map k f below w none = refl
-
-pub no_other_rows : NoOtherRows
-no_other_rows code limits (i.Plain p) f below w none = plain_stuck code limits p f below w none
-no_other_rows code limits (i.Arithmetic o width) f below w none = absurd (none tt)
-no_other_rows code limits (i.Int a) f below w none = absurd (none tt)
-no_other_rows code limits (i.Long a) f below w none = absurd (none tt)
-no_other_rows code limits (i.Numbered n k) f below w none = numbered_stuck code limits n k f below w none
-no_other_rows code limits (i.Boxing p) f below w none = absurd (none tt)
-no_other_rows code limits (i.Unboxing p way) f below w none = absurd (none tt)
-no_other_rows code limits (i.Dynamic o) f below w none = refl
-no_other_rows code limits (i.Quoted q text) f below w none = refl
-no_other_rows code limits (i.Cast to way) f below w none = refl
-no_other_rows code limits (i.Typed t of) f below w none = refl
-no_other_rows code limits (i.Sized t of n) f below w none = refl
-no_other_rows code limits (i.DefCall word n) f below w none = refl
-no_other_rows code limits (i.Invoke m) f below w none = refl
-no_other_rows code limits (i.New m) f below w none = refl
-no_other_rows code limits (i.Field m) f below w none = refl
-no_other_rows code limits (i.Lambda interface k n) f below w none = refl
-no_other_rows code limits (i.Ref interface of word) f below w none = refl
-no_other_rows code limits (i.NewRef interface of) f below w none = refl

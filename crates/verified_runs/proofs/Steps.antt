@@ -1,5 +1,6 @@
 -- A step from a configuration that fits, a family of instructions at a time.
-use Rattle.std.proofs.Common.{◌≡◌, ℕ, suc, List, [], ◌∷◌, Some, refl, sym, ap, ◌∙◌, subst}
+use Rattle.std.proofs.Common.{◌≡◌, ℕ, true, suc, List, [], ◌∷◌, Some, refl, sym, ap, ◌∙◌, subst}
+use Rattle.std.proofs.lemmas.Bool.{false≢true}
 use Rattle.std.specs.Prelude.{slice_get, pos}
 use Rattle.std.specs.Int.{w8, w16, w32}
 use Rattle.arithmetic.specs.Arithmetic.{wrapped, low_bits}
@@ -24,7 +25,7 @@ use Rattle.run_world.specs.World.{World, Limits, acts_in}
 use Rattle.code_meaning.specs.declared.word.Word.TheVariants.{I, J, R}
 use Rattle.code_meaning.specs.Words.{calculation, unboxed}
 use Rattle.code_meaning.specs.Machine.{Frame, Config, Next, to_line, on_outcome, is_written, plain_act, numbered_act, act, acts, lines_of, step}
-use Rattle.verified_runs.specs.Rows.{HasPlainRow, HasNumberedRow, HasRow, HaveRows}
+use Rattle.verified_runs.specs.Rows.{plain_has_row, numbered_has_row, has_row, HaveRows}
 use Rattle.verified_runs.specs.Fits.{kinds_of, frame_kinds, FitsConfig}
 use Rattle.verified_runs.proofs.Words.{on_one_int, on_one_long, on_one_reference}
 use Rattle.verified_runs.proofs.Operators.{calculates}
@@ -43,7 +44,7 @@ module _ (allow : AllowList) (code : List FunCode) (limits : Limits) (well : IsW
   abbrev At : Instruction → Type 0
   At instruction = StandsIn allow code function (frame_kinds f) instruction
 
-  plain_moves : (p : Plain) → HasPlainRow p → At (i.Plain p) → Moved (plain_act code limits p f below w)
+  plain_moves : (p : Plain) → plain_has_row p ≡ true → At (i.Plain p) → Moved (plain_act code limits p f below w)
   unfolding effect_of flow_of left_by
   plain_moves plain.Null row s = puts allow code limits well function f below w (i.Plain plain.Null) s here (R v.Null) refl s.leaves
   plain_moves plain.Pop row s = copies allow code limits well function f below w (i.Plain plain.Pop) s here plain.Pop copying.Drop pops refl s.leaves
@@ -67,22 +68,22 @@ module _ (allow : AllowList) (code : List FunCode) (limits : Limits) (well : IsW
       on_one_int Moved (slot.I ∷ []) s.left f.stack (λ a stack. to_line f below w (suc f.line) (I (pos (low_bits 16 a)) ∷ stack)) s.leaves
       (λ a stack kinds. next_with allow code limits well function f below w (i.Plain plain.IntToChar) s here (I (pos (low_bits 16 a)) ∷ stack) refl kinds)
   plain_moves plain.Ret row s = return_moves allow code limits well function f below w s.left here s.leaves
-  plain_moves plain.Concat row s = absurd row
-  plain_moves plain.Same row s = absurd row
-  plain_moves plain.Equal row s = absurd row
-  plain_moves plain.ArrayLength row s = absurd row
-  plain_moves plain.GetIndex row s = absurd row
-  plain_moves plain.PutIndex row s = absurd row
-  plain_moves plain.Iter row s = absurd row
-  plain_moves plain.Has row s = absurd row
-  plain_moves plain.Next row s = absurd row
-  plain_moves plain.Throw row s = absurd row
+  plain_moves plain.Concat row s = absurd (false≢true row)
+  plain_moves plain.Same row s = absurd (false≢true row)
+  plain_moves plain.Equal row s = absurd (false≢true row)
+  plain_moves plain.ArrayLength row s = absurd (false≢true row)
+  plain_moves plain.GetIndex row s = absurd (false≢true row)
+  plain_moves plain.PutIndex row s = absurd (false≢true row)
+  plain_moves plain.Iter row s = absurd (false≢true row)
+  plain_moves plain.Has row s = absurd (false≢true row)
+  plain_moves plain.Next row s = absurd (false≢true row)
+  plain_moves plain.Throw row s = absurd (false≢true row)
 
   local_is : (k : ℕ) → slice_get (kinds_of f.locals) k ≡ local_kind function k
   unfolding local_kind
   local_is k = ap (λ ks. slice_get ks k) here.fits.locals
 
-  numbered_moves : (n : Numbered) (k : ℕ) → HasNumberedRow n → At (i.Numbered n k) → Moved (numbered_act code limits n k f below w)
+  numbered_moves : (n : Numbered) (k : ℕ) → numbered_has_row n ≡ true → At (i.Numbered n k) → Moved (numbered_act code limits n k f below w)
   unfolding effect_of flow_of left_by
   numbered_moves numbered.Load k row s = loads_local allow code limits well function f below w (i.Numbered numbered.Load k) s here k (local_kind function k) refl (local_is k) s.leaves
   numbered_moves numbered.Store k row s = stores_local allow code limits well function f below w (i.Numbered numbered.Store k) s here k (local_kind function k) refl (local_is k) s.leaves
@@ -91,11 +92,11 @@ module _ (allow : AllowList) (code : List FunCode) (limits : Limits) (well : IsW
   numbered_moves numbered.IfNotZero k row s = branches_at_others allow code limits well function f below w (i.Numbered numbered.IfNotZero k) s here k refl s.leaves
   numbered_moves numbered.Loop k row s = loops allow code limits well function f below w (i.Numbered numbered.Loop k) s here k refl s.leaves
   numbered_moves numbered.Call k row s = call_moves allow code limits well function f below w (i.Numbered numbered.Call k) s here k (slice_get code k) refl refl s.leaves
-  numbered_moves numbered.IfNull k row s = absurd row
-  numbered_moves numbered.List k row s = absurd row
-  numbered_moves numbered.Map k row s = absurd row
+  numbered_moves numbered.IfNull k row s = absurd (false≢true row)
+  numbered_moves numbered.List k row s = absurd (false≢true row)
+  numbered_moves numbered.Map k row s = absurd (false≢true row)
 
-  act_moves : (instruction : Instruction) → HasRow instruction → At instruction → Moved (act code limits instruction f below w)
+  act_moves : (instruction : Instruction) → has_row instruction ≡ true → At instruction → Moved (act code limits instruction f below w)
   unfolding effect_of flow_of left_by
   act_moves (i.Plain p) row s = plain_moves p row s
   act_moves (i.Arithmetic o width) row s =
@@ -109,18 +110,18 @@ module _ (allow : AllowList) (code : List FunCode) (limits : Limits) (well : IsW
       (λ value stack. on_outcome code limits (acts_in w (effect w.store (cast_at_run_time w.store.objects value (ty.Prim p) (is_written way)))) unboxed f below w stack) s.leaves
       (λ value stack kinds. effect_moves allow code limits well function f below w (i.Unboxing p way) s here (kind_of_primitive p) stack
       (effect w.store (cast_at_run_time w.store.objects value (ty.Prim p) (is_written way))) refl kinds (cast_is p w.store value (is_written way)))
-  act_moves (i.Dynamic o) row s = absurd row
-  act_moves (i.Quoted q text) row s = absurd row
-  act_moves (i.Cast to way) row s = absurd row
-  act_moves (i.Typed t of) row s = absurd row
-  act_moves (i.Sized t of n) row s = absurd row
-  act_moves (i.DefCall word n) row s = absurd row
-  act_moves (i.Invoke m) row s = absurd row
-  act_moves (i.New m) row s = absurd row
-  act_moves (i.Field m) row s = absurd row
-  act_moves (i.Lambda interface k n) row s = absurd row
-  act_moves (i.Ref interface of word) row s = absurd row
-  act_moves (i.NewRef interface of) row s = absurd row
+  act_moves (i.Dynamic o) row s = absurd (false≢true row)
+  act_moves (i.Quoted q text) row s = absurd (false≢true row)
+  act_moves (i.Cast to way) row s = absurd (false≢true row)
+  act_moves (i.Typed t of) row s = absurd (false≢true row)
+  act_moves (i.Sized t of n) row s = absurd (false≢true row)
+  act_moves (i.DefCall word n) row s = absurd (false≢true row)
+  act_moves (i.Invoke m) row s = absurd (false≢true row)
+  act_moves (i.New m) row s = absurd (false≢true row)
+  act_moves (i.Field m) row s = absurd (false≢true row)
+  act_moves (i.Lambda interface k n) row s = absurd (false≢true row)
+  act_moves (i.Ref interface of word) row s = absurd (false≢true row)
+  act_moves (i.NewRef interface of) row s = absurd (false≢true row)
 
 -- A configuration that fits takes a step to one that fits, of which less is left, or ends.
 pub step_moves : (allow : AllowList) (code : List FunCode) (limits : Limits) → IsWellShapedCode allow code → HaveRows code → (c : Config) → FitsConfig allow code limits c

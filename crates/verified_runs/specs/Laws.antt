@@ -1,5 +1,5 @@
 -- What holds of every run of verified code whose instructions have rows.
-use Rattle.std.specs.Prelude.{◌≡◌, ℕ, List, map, Some, slice_get}
+use Rattle.std.specs.Prelude.{◌≡◌, ℕ, false, List, map, Some, slice_get}
 use Rattle.pl_code.specs.declared.code.FunCode.{FunCode}
 use Rattle.pl_code.specs.declared.code.Instruction.{Instruction}
 use Rattle.allowlist.specs.Allow.{AllowList}
@@ -8,7 +8,7 @@ use Rattle.verifier.specs.Verified.{CodeUnder, IsSound}
 use Rattle.run_world.specs.World.{World, Limits}
 use Rattle.code_meaning.specs.declared.word.Word.{Word}
 use Rattle.code_meaning.specs.Machine.{Frame, Config, Next, Goes, Stuck, start, act, after}
-use Rattle.verified_runs.specs.Rows.{HasRow, HaveRows}
+use Rattle.verified_runs.specs.Rows.{has_row, HaveRows}
 use Rattle.verified_runs.specs.Fits.{kinds_of, frame_kinds, FitsConfig, FitsNext}
 use Rattle.verified_runs.specs.Bounds.{most_steps, EndsWithin}
 
@@ -43,4 +43,4 @@ FramesFit = (allow : AllowList) (code : List FunCode) (limits : Limits) (c : Con
 -- What has no row is stuck wherever it stands: the rows that are listed are all.
 abbrev pub NoOtherRows : Type 0
 NoOtherRows =
-    (code : List FunCode) (limits : Limits) (instruction : Instruction) (f : Frame) (below : List Frame) (w : World) → ¬ (HasRow instruction) → act code limits instruction f below w ≡ Stuck
+    (code : List FunCode) (limits : Limits) (instruction : Instruction) (f : Frame) (below : List Frame) (w : World) → has_row instruction ≡ false → act code limits instruction f below w ≡ Stuck

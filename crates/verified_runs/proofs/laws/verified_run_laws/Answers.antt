@@ -1,4 +1,5 @@
-use Rattle.verified_runs.proofs.Runs.{all_starts_fit, never_stuck, runs_end, starts_end, frames_fit, no_other_rows}
+use Rattle.verified_runs.proofs.Runs.{all_starts_fit, never_stuck, runs_end, starts_end, frames_fit}
+use Rattle.verified_runs.proofs.Rowless.{no_other_rows}
 use Rattle.verified_runs.proofs.laws.verified_run_laws.Goals as goal
 
 pub returns : goal.returns
