@@ -10,3 +10,4 @@ mod Plains
 mod Steps
 pub mod Runs
 mod Rowless
+mod Testing

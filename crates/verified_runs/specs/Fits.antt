@@ -21,6 +21,11 @@ kinds_of words = map kind_of words
 abbrev pub frame_kinds : Frame → FrameKinds
 frame_kinds f = record { function = f.fun; line = f.line; locals = kinds_of f.locals; stack = kinds_of f.stack }
 
+-- the kinds of what function 0 takes
+abbrev pub main_params : List FunCode → List Slot
+main_params [] = []
+main_params (f ∷ fs) = f.params
+
 -- what the code gives: the result of function 0
 abbrev pub main_result : List FunCode → Option Slot
 main_result [] = None

@@ -1,5 +1,6 @@
 -- Which instructions have a row: the others are Stuck wherever they stand. Each row that is built is listed here.
 use Rattle.std.specs.Prelude.{◌≡◌, ℕ, Bool, true, false, List, Some, slice_get}
+use Rattle.std.specs.List.{list_all}
 use Rattle.pl_code.specs.declared.kinds.Plain.{Plain}
 use Rattle.pl_code.specs.declared.kinds.Plain.TheVariants as plain
 use Rattle.pl_code.specs.declared.kinds.Numbered.{Numbered}
@@ -42,6 +43,9 @@ has_row (i.Numbered n k) = numbered_has_row n
 has_row (i.Boxing p) = true
 has_row (i.Unboxing p way) = true
 has_row other = false
+
+abbrev pub function_has_rows : FunCode → Bool
+function_has_rows f = list_all has_row f.lines
 
 -- each instruction of code has a row
 pub record HaveRows (code : List FunCode) : Type 0 where

@@ -8,7 +8,7 @@ use Rattle.pl_code.specs.declared.code.Code.{Code}
 use Rattle.allowlist.specs.Allow.{AllowList}
 use Rattle.verifier.specs.Shaped.{IsWellShapedCode}
 use Rattle.verified_runs.specs.Rows.{HaveRows}
-use Rattle.verified_runs.specs.Fits.{kinds_of}
+use Rattle.verified_runs.specs.Fits.{kinds_of, main_params}
 use Rattle.run_world.specs.World.{World, Limits, End}
 use Rattle.object_heap.specs.declared.outcome.Which.TheVariants as which
 use Rattle.code_meaning.specs.declared.word.Word.{Word}
@@ -24,7 +24,7 @@ use Rattle.code_machine.specs.Runs.{steps_taken}
 use Rattle.code_machine.specs.Activations.{Activation, counted, later, goes, is_over, Turned, Leaves}
 use Rattle.code_machine.proofs.Turning.{adds, taken_adds}
 use Rattle.verified_runs.proofs.Runs.{starts_fit, stays_fitting, ends_within}
-use Rattle.verified_tasks.specs.Tasks.{main_params, Keeps, KeepsFrom, IsVerified, most_left, rest_from, rest, outcome_of, outcome_in, ending_from, ending, is_end}
+use Rattle.verified_tasks.specs.Tasks.{Keeps, KeepsFrom, IsVerified, most_left, rest_from, rest, outcome_of, outcome_in, ending_from, ending, is_end}
 
 plus_none : (a b : ℕ) → b ≡ 0 → a + b ≡ a
 plus_none a b e = omega (arith, e)

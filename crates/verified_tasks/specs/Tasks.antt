@@ -1,8 +1,7 @@
 -- Runs of verified code as tasks: how many instructions are left, and what they come to.
-use Rattle.std.specs.Prelude.{ℕ, ◌+◌, ◌-◌, ◌^◌, ◌<◌, Bool, true, false, List, [], ◌∷◌, Option, Some, None}
+use Rattle.std.specs.Prelude.{ℕ, ◌+◌, ◌-◌, ◌^◌, ◌<◌, Bool, true, false, List, Option, Some, None}
 use Rattle.object_heap.specs.declared.outcome.Which.{Which}
 use Rattle.object_heap.specs.declared.outcome.Which.TheVariants as which
-use Rattle.pl_code.specs.declared.kinds.Slot.{Slot}
 use Rattle.pl_code.specs.declared.code.FunCode.{FunCode}
 use Rattle.allowlist.specs.Allow.{AllowList}
 use Rattle.verifier.specs.Shaped.{IsWellShapedCode}
@@ -19,11 +18,6 @@ use Rattle.code_machine.specs.Activations.{Activation, counted}
 use Rattle.verified_runs.specs.Rows.{HaveRows}
 use Rattle.verified_runs.specs.Fits.{FitsNext}
 use Rattle.verified_runs.specs.Bounds.{most_steps}
-
--- the kinds of what function 0 takes
-abbrev pub main_params : List FunCode → List Slot
-main_params [] = []
-main_params (f ∷ fs) = f.params
 
 -- ---- which activations are runs of verified code
 

@@ -3,8 +3,8 @@ ghost use Rattle.std.specs.Prelude.{◌≡◌, [], Some, IfOk};
 ghost use Rattle.code_meaning.specs.Machine.{start};
 ghost use Rattle.code_machine.specs.Activations.{Leaves};
 ghost use Rattle.verified_runs.specs.Rows.{HaveRows};
-ghost use Rattle.verified_runs.specs.Fits.{kinds_of};
-ghost use Rattle.verified_tasks.specs.Tasks.{main_params, rest, ending, is_end};
+ghost use Rattle.verified_runs.specs.Fits.{kinds_of, main_params};
+ghost use Rattle.verified_tasks.specs.Tasks.{rest, ending, is_end};
 
 use code_machine::{Activation, Limits, Outcome};
 use code_meaning::Word;
