@@ -1,5 +1,5 @@
 -- Runs of verified code as tasks: how many instructions are left, and what they come to.
-use Rattle.std.specs.Prelude.{ℕ, ◌+◌, ◌-◌, ◌^◌, ◌<◌, Bool, true, false, List, Option, Some, None}
+use Rattle.std.specs.Prelude.{ℕ, ◌+◌, ◌-◌, ◌^◌, ◌<◌, Bool, true, false, List, Option, Some, None, ◌≡◌, option_map}
 use Rattle.object_heap.specs.declared.outcome.Which.{Which}
 use Rattle.object_heap.specs.declared.outcome.Which.TheVariants as which
 use Rattle.pl_code.specs.declared.code.FunCode.{FunCode}
@@ -11,12 +11,13 @@ use Rattle.code_meaning.specs.Machine.{Next, Goes, Ends, Stuck, after}
 use Rattle.task_core.specs.declared.task.Turn.{Turn}
 use Rattle.task_core.specs.declared.task.Turn.TheVariants as turn
 use Rattle.code_machine.specs.declared.activation.Outcome.{Outcome}
+use Rattle.code_machine.specs.declared.configuration.End as held
 use Rattle.code_machine.specs.declared.configuration.End.TheVariants as end
 use Rattle.code_machine.specs.Seen.{limits_of}
 use Rattle.code_machine.specs.Runs.{steps_taken}
 use Rattle.code_machine.specs.Activations.{Activation, counted}
 use Rattle.verified_runs.specs.Rows.{HaveRows}
-use Rattle.verified_runs.specs.Fits.{FitsNext}
+use Rattle.verified_runs.specs.Fits.{kind_of, main_result, FitsNext}
 use Rattle.verified_runs.specs.Bounds.{most_steps}
 
 -- ---- which activations are runs of verified code
@@ -36,6 +37,13 @@ KeepsFrom code limits steps (Some n) = Keeps code limits steps n
 
 abbrev pub IsVerified : Activation → Type 0
 IsVerified a = KeepsFrom a.code (limits_of a.limits) a.steps a.now
+
+-- an end of a run of verified code: its result is what the code gives, and it is not stuck
+abbrev pub EndFits : List FunCode → held.End → Type 0
+EndFits code (end.Result result) = option_map kind_of result ≡ main_result code
+EndFits code (end.Thrown id) = Unit {0}
+EndFits code (end.Limit limit) = Unit {0}
+EndFits code end.Stuck = ⊥
 
 -- ---- what is left
 

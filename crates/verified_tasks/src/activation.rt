@@ -1,10 +1,12 @@
 //! A run of verified code, which takes turns and ends.
-ghost use Rattle.std.specs.Prelude.{◌≡◌, [], Some, IfOk};
+ghost use Rattle.std.specs.Prelude.{◌≡◌, ◌≤◌, [], Some, IfOk, IfSome};
 ghost use Rattle.code_meaning.specs.Machine.{start};
+ghost use Rattle.code_machine.specs.Seen.{limits_of};
 ghost use Rattle.code_machine.specs.Activations.{Leaves};
 ghost use Rattle.verified_runs.specs.Rows.{HaveRows};
 ghost use Rattle.verified_runs.specs.Fits.{kinds_of, main_params};
-ghost use Rattle.verified_tasks.specs.Tasks.{rest, ending, is_end};
+ghost use Rattle.verified_runs.specs.Bounds.{most_steps};
+ghost use Rattle.verified_tasks.specs.Tasks.{EndFits, rest, ending, is_end};
 
 use code_machine::{Activation, Limits, Outcome};
 use code_meaning::Word;
@@ -52,7 +54,8 @@ impl<'c> VerifiedActivation<'c> {
     ) -> Result<VerifiedActivation<'c>, AllocError>
         requires rows { HaveRows code.now.code.functions }
         requires args { kinds_of args ≡ main_params code.now.code.functions }
-        ensures { IfOk result (λ a. a ≡ record { code = code.now.code.functions; limits = limits; now = Some (start code.now.code.functions args (record { store = heap; ticks = limits.ticks; reached = [] })); steps = 0 }) }
+        ensures started { IfOk result (λ a. a ≡ record { code = code.now.code.functions; limits = limits; now = Some (start code.now.code.functions args (record { store = heap; ticks = limits.ticks; reached = [] })); steps = 0 }) }
+        ensures bound { IfOk result (λ a. rest a ≤ most_steps code.now.code.functions (limits_of limits) limits.ticks) }
     {
         let run = Activation::start(code.code(), heap, args, limits)?;
         Ok(VerifiedActivation { run, done: false })
@@ -61,6 +64,7 @@ impl<'c> VerifiedActivation<'c> {
     /// What the run leaves, once it has ended: what it would have come to alone.
     pub fn outcome(self) -> Option<Outcome>
         ensures leaves { Leaves self.entry result }
+        ensures never_stuck { IfSome result (λ o. EndFits self.entry.code o.end) }
         ensures alone { rest self.entry ≡ 0 → result ≡ ending self.entry }
     {
         self.run.outcome()
