@@ -21,7 +21,7 @@ use Rattle.verified_runs.specs.Fits.{kind_of, kinds_of, frame_kinds}
 use Rattle.verified_runs.proofs.Words.{exchanged, exchange_of, take_kinds, on_one, starts_are}
 use Rattle.verified_runs.proofs.Standing.{StandsIn, begins_fit}
 use Rattle.verified_runs.proofs.Lowering.{lines_in, left_at, lines_below, tick_worth, paid_is_less, below_is_less, something_left, frames_most}
-use Rattle.verified_runs.proofs.Moves.{Moves, Here, EntersSo, call_is_paid, lines_are, fits_with}
+use Rattle.verified_runs.proofs.Moves.{same_reached, Moves, Here, EntersSo, call_is_paid, lines_are, fits_with}
 
 abbrev pub callee_effect : Option FunCode → Option Effect
 callee_effect o = option_map calls o
@@ -37,9 +37,9 @@ module _ (allow : AllowList) (code : List FunCode) (limits : Limits) (well : IsW
   begin_locals : (g : FunCode) (args : List Word) → kinds_of args ≡ g.params → kinds_of (args ++ map start_of g.locals) ≡ g.params ++ g.locals
   begin_locals g args e = map-append kind_of args (map start_of g.locals) ∙ (λ i. e i ++ starts_are g.locals i)
 
-  entered : (function g : FunCode) (k : ℕ) (f : Frame) (below : List Frame) (w : World) (args others : List Word) → Here allow code limits function f below → Entering function g k f below args others
+  entered : (function g : FunCode) (k : ℕ) (f : Frame) (below : List Frame) (w : World) (args others : List Word) → Here allow code limits function f below w → Entering function g k f below args others
       → (c : Counted) → EntersSo limits (depth_of below) w c → Moves allow code limits (left_at code limits f below w) (on_enter code limits c k g [] f below w args others)
-  entered function g k f below w args others here x (Passes limit) so = tt
+  entered function g k f below w args others here x (Passes limit) so = here.reached
   entered function g k f below w args others here x (Counts w') so =
       let good = well.each k g x.is in
       let lines = lines_are allow code limits function (frame_kinds f) here.fits in
@@ -49,16 +49,17 @@ module _ (allow : AllowList) (code : List FunCode) (limits : Limits) (well : IsW
           top = begins_fit allow code g k (kinds_of (args ++ map start_of g.locals)) good x.is (begin_locals g args x.params);
           due = refl;
           below = (function, x.awaits, here.due, here.belows);
-          within = so.1;
+          within = so.2;
+          reached = same_reached allow code limits w w' so.1 here.reached;
         };
         less = paid_is_less (tick_worth code limits) w.ticks w'.ticks ((lines_in code f.fun - f.line) + lines_below code below) ((lines_in code k - 0) + lines_below code (record f { stack = others } ∷ below)) so.0
-            (frames_most code limits k 0 (record f { stack = others } ∷ below) so.1) (something_left (lines_in code f.fun) f.line (lines_below code below) lines);
+            (frames_most code limits k 0 (record f { stack = others } ∷ below) so.2) (something_left (lines_in code f.fun) f.line (lines_below code below) lines);
       }
 
   same_line : (way : Flow) (line : ℕ) → way ≡ flow.GoesOn → goes_to way line (line + 1) ≡ true
   same_line way line e = ap (λ way. goes_to way line (line + 1)) e ∙ eq-eqb (line + 1) (line + 1) refl
 
-  pub call_moves : (function : FunCode) (f : Frame) (below : List Frame) (w : World) (i : Instruction) (s : StandsIn allow code function (frame_kinds f) i) → Here allow code limits function f below
+  pub call_moves : (function : FunCode) (f : Frame) (below : List Frame) (w : World) (i : Instruction) (s : StandsIn allow code function (frame_kinds f) i) → Here allow code limits function f below w
       → (k : ℕ) (o : Option FunCode) → flow_of i ≡ flow.GoesOn → slice_get code k ≡ o → left_in (callee_effect o) (kinds_of f.stack) ≡ Some s.left
       → Moves allow code limits (left_at code limits f below w) (on_call code limits o k f below w)
   unfolding calls left_by
@@ -81,9 +82,9 @@ module _ (allow : AllowList) (code : List FunCode) (limits : Limits) (well : IsW
   with_result (Some word) kind stack e = ap (λ k. result_kinds k ++ kinds_of stack) e
 
   -- what is given goes to the frame below, or ends the run
-  given : (function : FunCode) (f : Frame) (w : World) (result : Option Word) (below : List Frame) → Here allow code limits function f below → option_map kind_of result ≡ function.result
+  given : (function : FunCode) (f : Frame) (w : World) (result : Option Word) (below : List Frame) → Here allow code limits function f below w → option_map kind_of result ≡ function.result
       → Moves allow code limits (left_at code limits f below w) (gives_back code limits below [] result w)
-  given function f w result [] here is = is ∙ here.belows
+  given function f w result [] here is = (is ∙ here.belows, here.reached)
   given function f w result (g ∷ fs) here is =
       let b = here.belows in
       let lines = lines_are allow code limits function (frame_kinds f) here.fits in
@@ -97,6 +98,7 @@ module _ (allow : AllowList) (code : List FunCode) (limits : Limits) (well : IsW
           due = b.2;
           below = b.3;
           within = omega (arith, within);
+          reached = here.reached;
         };
         less = below_is_less (tick_worth code limits) w.ticks w.ticks (lines_in code f.fun) f.line (lines_in code g.fun) g.line (suc g.line) (lines_below code fs) refl lines (omega arith);
       }
@@ -104,12 +106,12 @@ module _ (allow : AllowList) (code : List FunCode) (limits : Limits) (well : IsW
       one_on : (n : ℕ) → n + 1 ≡ suc n
       one_on n = omega arith
 
-  given_due : (function : FunCode) (f : Frame) (below : List Frame) (w : World) (result : Option Word) → Here allow code limits function f below → option_map kind_of result ≡ function.result
+  given_due : (function : FunCode) (f : Frame) (below : List Frame) (w : World) (result : Option Word) → Here allow code limits function f below w → option_map kind_of result ≡ function.result
       → Moves allow code limits (left_at code limits f below w) (gives_back code limits below f.due result w)
   given_due function f below w result here is =
       subst (λ due. Moves allow code limits (left_at code limits f below w) (gives_back code limits below due result w)) (sym here.due) (given function f w result below here is)
 
-  returned : (function : FunCode) (f : Frame) (below : List Frame) (w : World) (left : List Slot) → Here allow code limits function f below
+  returned : (function : FunCode) (f : Frame) (below : List Frame) (w : World) (left : List Slot) → Here allow code limits function f below w
       → (kind : Option Slot) → function.result ≡ kind → exchanged (result_kinds kind) [] (kinds_of f.stack) ≡ Some left
       → Moves allow code limits (left_at code limits f below w) (returns_of code limits kind f.stack (λ result. gives_back code limits below f.due result w))
   returned function f below w left here None is leaves = given_due function f below w None here (sym is)
@@ -117,7 +119,7 @@ module _ (allow : AllowList) (code : List FunCode) (limits : Limits) (well : IsW
       on_one (Moves allow code limits (left_at code limits f below w)) k [] left f.stack (λ word rest. gives_back code limits below f.due (Some word) w) leaves
       (λ word rest kind q. given_due function f below w (Some word) here (ap Some kind ∙ sym is))
 
-  pub return_moves : (function : FunCode) (f : Frame) (below : List Frame) (w : World) (left : List Slot) → Here allow code limits function f below
+  pub return_moves : (function : FunCode) (f : Frame) (below : List Frame) (w : World) (left : List Slot) → Here allow code limits function f below w
       → exchanged (result_kinds function.result) [] (kinds_of f.stack) ≡ Some left
       → Moves allow code limits (left_at code limits f below w) (returns code limits (slice_get code f.fun) f.stack (λ result. gives_back code limits below f.due result w))
   return_moves function f below w left here leaves =

@@ -33,7 +33,7 @@ use Rattle.verified_runs.proofs.Operators.{CalculatesTo}
 use Rattle.verified_runs.proofs.Casts.{divisor_is}
 use Rattle.verified_runs.proofs.Standing.{StandsIn}
 use Rattle.verified_runs.proofs.Lowering.{lines_in, left_at, lines_below, tick_worth, later_is_less, paid_is_less, something_left, frames_most}
-use Rattle.verified_runs.proofs.Moves.{Moves, Here, CountsSo, turn_is_paid, lines_are, fits_with, goes_on, goes_next, next_line}
+use Rattle.verified_runs.proofs.Moves.{GoesTo, stays, same_reached, Moves, Here, CountsSo, turn_is_paid, lines_are, fits_with, goes_on, goes_next, next_line}
 use Rattle.verified_runs.proofs.Throwing.{effect_moves}
 
 -- ---- copies
@@ -143,17 +143,20 @@ only_int P (I a ∷ b ∷ stack) left next e h = cc
 only_int P (J a ∷ stack) left next e h = cc
 only_int P (R a ∷ stack) left next e h = cc
 
-module _ (allow : AllowList) (code : List FunCode) (limits : Limits) (well : IsWellShapedCode allow code) (function : FunCode) (f : Frame) (below : List Frame) (w : World) (i : Instruction) (s : StandsIn allow code function (frame_kinds f) i) (here : Here allow code limits function f below) where
+module _ (allow : AllowList) (code : List FunCode) (limits : Limits) (well : IsWellShapedCode allow code) (function : FunCode) (f : Frame) (below : List Frame) (w : World) (i : Instruction) (s : StandsIn allow code function (frame_kinds f) i) (here : Here allow code limits function f below w) where
   abbrev Moved : Next → Type 0
   Moved next = Moves allow code limits (left_at code limits f below w) next
 
+  same : GoesTo allow code limits w w
+  same = stays allow code limits function f below w here
+
   -- a word more
   pub puts : (word : Word) → flow_of i ≡ flow.GoesOn → exchanged [] (kind_of word ∷ []) (kinds_of f.stack) ≡ Some s.left → Moved (to_line f below w (suc f.line) (word ∷ f.stack))
-  puts word goes leaves = goes_next allow code limits function f below w w i s here (word ∷ f.stack) refl goes (left_is (kind_of word ∷ []) (kinds_of f.stack) s.left leaves)
+  puts word goes leaves = goes_next allow code limits function f below w w i s here (word ∷ f.stack) same goes (left_is (kind_of word ∷ []) (kinds_of f.stack) s.left leaves)
 
   -- the next line, with another stack
   pub next_with : (stack : List Word) → flow_of i ≡ flow.GoesOn → kinds_of stack ≡ s.left → Moved (to_line f below w (suc f.line) stack)
-  next_with stack goes kinds = goes_next allow code limits function f below w w i s here stack refl goes kinds
+  next_with stack goes kinds = goes_next allow code limits function f below w w i s here stack same goes kinds
 
   pub copies : (p : Plain) (c : Copying) → CopiesAs p c → flow_of i ≡ flow.GoesOn → copied c (kinds_of f.stack) ≡ Some s.left → Moved (on_stack (machine.copied p f.stack) (λ stack. to_line f below w (suc f.line) stack))
   copies p c copied_so goes leaves =
@@ -183,6 +186,7 @@ module _ (allow : AllowList) (code : List FunCode) (limits : Limits) (well : IsW
           due = here.due;
           below = here.belows;
           within = here.within;
+          reached = here.reached;
         };
         less = later_is_less (tick_worth code limits) w.ticks w.ticks (lines_in code f.fun) f.line (suc f.line) (lines_below code below) refl (lines_are allow code limits function (frame_kinds f) here.fits) (s.later (suc f.line) next);
       }
@@ -212,13 +216,13 @@ module _ (allow : AllowList) (code : List FunCode) (limits : Limits) (well : IsW
   -- ---- jumps and loops
 
   pub jumps : (to : ℕ) → flow_of i ≡ flow.Jumps to → exchanged [] [] (kinds_of f.stack) ≡ Some s.left → Moved (to_line f below w to f.stack)
-  jumps to goes leaves = goes_on allow code limits function f below w w i s here to f.stack refl (jump_goes (flow_of i) f.line to goes) (left_is [] (kinds_of f.stack) s.left leaves)
+  jumps to goes leaves = goes_on allow code limits function f below w w i s here to f.stack same (jump_goes (flow_of i) f.line to goes) (left_is [] (kinds_of f.stack) s.left leaves)
 
   -- at one number it goes on, and at the others it jumps
   branches_on : (to : ℕ) (stack : List Word) → flow_of i ≡ flow.Branches to → kinds_of stack ≡ s.left → Moved (to_line f below w (suc f.line) stack) × Moved (to_line f below w to stack)
   branches_on to stack goes kinds = (
-    goes_on allow code limits function f below w w i s here (suc f.line) stack refl (branch_next (flow_of i) f.line to goes) kinds,
-    goes_on allow code limits function f below w w i s here to stack refl (branch_goes (flow_of i) f.line to goes) kinds,
+    goes_on allow code limits function f below w w i s here (suc f.line) stack same (branch_next (flow_of i) f.line to goes) kinds,
+    goes_on allow code limits function f below w w i s here to stack same (branch_goes (flow_of i) f.line to goes) kinds,
   )
 
   pub branches_at_zero : (to : ℕ) → flow_of i ≡ flow.Branches to → exchanged (slot.I ∷ []) [] (kinds_of f.stack) ≡ Some s.left
@@ -235,7 +239,7 @@ module _ (allow : AllowList) (code : List FunCode) (limits : Limits) (well : IsW
 
   -- a turn goes back, and pays a tick
   turned : (to : ℕ) (c : Counted) → flow_of i ≡ flow.Turns to → CountsSo w c → Moved (on_turn code limits c to f below w [])
-  turned to (Passes limit) goes so = tt
+  turned to (Passes limit) goes so = here.reached
   turned to (Counts w') goes so =
       let lines = lines_are allow code limits function (frame_kinds f) here.fits in
       record {
@@ -245,8 +249,9 @@ module _ (allow : AllowList) (code : List FunCode) (limits : Limits) (well : IsW
           due = here.due;
           below = here.belows;
           within = here.within;
+          reached = same_reached allow code limits w w' so.1 here.reached;
         };
-        less = paid_is_less (tick_worth code limits) w.ticks w'.ticks ((lines_in code f.fun - f.line) + lines_below code below) ((lines_in code f.fun - to) + lines_below code below) so
+        less = paid_is_less (tick_worth code limits) w.ticks w'.ticks ((lines_in code f.fun - f.line) + lines_below code below) ((lines_in code f.fun - to) + lines_below code below) so.0
             (frames_most code limits f.fun to below here.within) (something_left (lines_in code f.fun) f.line (lines_below code below) lines);
       }
 
@@ -256,4 +261,4 @@ module _ (allow : AllowList) (code : List FunCode) (limits : Limits) (well : IsW
       only_int Moved f.stack s.left (λ a stack. unless_zero a (on_turn code limits (take_turn limits f.turns w) to f below w stack) (to_line f below w (suc f.line) stack)) leaves
       (λ a kinds. by_zero Moved a (on_turn code limits (take_turn limits f.turns w) to f below w []) (to_line f below w (suc f.line) [])
       (turned to (take_turn limits f.turns w) goes (turn_is_paid limits f.turns w))
-      (goes_on allow code limits function f below w w i s here (suc f.line) [] refl (turn_next (flow_of i) f.line to goes) kinds))
+      (goes_on allow code limits function f below w w i s here (suc f.line) [] same (turn_next (flow_of i) f.line to goes) kinds))

@@ -15,7 +15,7 @@ use Rattle.code_meaning.specs.declared.word.Word.{Word}
 use Rattle.code_meaning.specs.Words.{start_of}
 use Rattle.code_meaning.specs.Machine.{Frame, Config, Next, Goes, Ends, Stuck, start, start_at, step, after}
 use Rattle.verified_runs.specs.Rows.{HaveRows}
-use Rattle.verified_runs.specs.Fits.{kind_of, kinds_of, frame_kinds, main_result, BelowFits, FitsConfig, FitsNext}
+use Rattle.verified_runs.specs.Fits.{kind_of, kinds_of, frame_kinds, main_result, ReachesAllowed, BelowFits, FitsConfig, FitsNext}
 use Rattle.verified_runs.specs.Bounds.{most_steps, EndsWithin}
 use Rattle.verified_runs.specs.Laws.{StartsFit, NeverStuck, RunsEnd, StartsEnd, FramesFit}
 use Rattle.verified_runs.proofs.Words.{starts_are}
@@ -33,9 +33,9 @@ gives_main : (code : List FunCode) (f : FunCode) → slice_get code 0 ≡ Some f
 gives_main [] f e = let wrong : None ≡ Some f = e in cc
 gives_main (g ∷ fs) f e = let same : g ≡ f = cc in ap (λ (f : FunCode). f.result) (sym same)
 
-pub starts_fit : (allow : AllowList) (code : List FunCode) (limits : Limits) (f : FunCode) (words : List Word) (w : World) → IsWellShapedCode allow code → slice_get code 0 ≡ Some f → kinds_of words ≡ f.params
+pub starts_fit : (allow : AllowList) (code : List FunCode) (limits : Limits) (f : FunCode) (words : List Word) (w : World) → IsWellShapedCode allow code → slice_get code 0 ≡ Some f → kinds_of words ≡ f.params → ReachesAllowed allow w
     → FitsNext allow code limits (start code words w)
-starts_fit allow code limits f words w well is params =
+starts_fit allow code limits f words w well is params reached =
     subst (λ o. FitsNext allow code limits (start_at o words w)) (sym is)
     (record {
       function = f;
@@ -43,10 +43,11 @@ starts_fit allow code limits f words w well is params =
       due = refl;
       below = gives_main code f is;
       within = omega arith;
+      reached = reached;
     })
 
 pub all_starts_fit : StartsFit
-all_starts_fit c limits f words w s is params = starts_fit c.allow c.code.functions limits f words w (well_shaped c s) is params
+all_starts_fit c limits f words w s is params reached = starts_fit c.allow c.code.functions limits f words w (well_shaped c s) is params reached
 
 -- ---- never stuck
 
@@ -81,7 +82,7 @@ module _ (allow : AllowList) (code : List FunCode) (limits : Limits) (well : IsW
   nothing_left left from less h some = omega (arith, less, h, some)
 
   -- with less left than so many steps it ends in them
-  ends_in : (steps from : ℕ) (n : Next) → Moves allow code limits from n → from ≤ suc steps → EndsWithin code limits steps n
+  ends_in : (steps from : ℕ) (n : Next) → Moves allow code limits from n → from ≤ suc steps → EndsWithin allow code limits steps n
   ends_in steps from Stuck m h = absurd m
   ends_in steps from (Ends r) m h = record { end = r; ends = end_stays steps r; fits = m }
   ends_in zero from (Goes c) m h = absurd (nothing_left (left_of code limits c) from m.less h (some_left c m.fits))
@@ -90,11 +91,11 @@ module _ (allow : AllowList) (code : List FunCode) (limits : Limits) (well : IsW
       let e = ends_in k (left_of code limits c) (step code limits c) (step_moves allow code limits well rows c m.fits) (omega (arith, less, h)) in
       record { end = e.end; ends = e.ends; fits = e.fits }
 
-  fitting_ends : (c : Config) (steps : ℕ) → FitsConfig allow code limits c → left_of code limits c ≤ steps → EndsWithin code limits steps (Goes c)
+  fitting_ends : (c : Config) (steps : ℕ) → FitsConfig allow code limits c → left_of code limits c ≤ steps → EndsWithin allow code limits steps (Goes c)
   fitting_ends c steps fits h = ends_in steps (suc (left_of code limits c)) (Goes c) (record { fits = fits; less = omega arith }) (omega (arith, h))
 
   -- within the bound
-  pub ends_within : (c : Config) → FitsConfig allow code limits c → EndsWithin code limits (most_steps code limits c.world.ticks) (Goes c)
+  pub ends_within : (c : Config) → FitsConfig allow code limits c → EndsWithin allow code limits (most_steps code limits c.world.ticks) (Goes c)
   ends_within c fits = fitting_ends c (most_steps code limits c.world.ticks) fits (left_most code limits c fits.within)
 
 pub never_stuck : NeverStuck
@@ -108,13 +109,13 @@ abbrev started : FunCode → List Word → World → Config
 started g words w = record { top = record { text = Script; fun = 0; line = 0; locals = words ++ map start_of g.locals; stack = []; turns = 0; due = [] }; below = []; world = w }
 
 start_ends : (allow : AllowList) (code : List FunCode) (limits : Limits) → IsWellShapedCode allow code → HaveRows code → (f : FunCode) (words : List Word) (w : World) (o : Option FunCode) → o ≡ Some f
-    → FitsNext allow code limits (start_at o words w) → EndsWithin code limits (most_steps code limits w.ticks) (start_at o words w)
+    → FitsNext allow code limits (start_at o words w) → EndsWithin allow code limits (most_steps code limits w.ticks) (start_at o words w)
 start_ends allow code limits well rows f words w None is fits = cc
 start_ends allow code limits well rows f words w (Some g) is fits = ends_within allow code limits well rows (started g words w) fits
 
 pub starts_end : StartsEnd
-starts_end c limits f words w s rows is params =
-    start_ends c.allow c.code.functions limits (well_shaped c s) rows f words w (slice_get c.code.functions 0) is (all_starts_fit c limits f words w s is params)
+starts_end c limits f words w s rows is params reached =
+    start_ends c.allow c.code.functions limits (well_shaped c s) rows f words w (slice_get c.code.functions 0) is (all_starts_fit c limits f words w s is params reached)
 
 -- ---- frames below
 

@@ -37,7 +37,7 @@ use Rattle.verified_runs.proofs.Throwing.{effect_moves}
 use Rattle.verified_runs.proofs.Calling.{call_moves, return_moves}
 use Rattle.verified_runs.proofs.Plains.{puts, next_with, copies, pops, dups, dups_two, dups_under_one, dups_under_two, loads_local, stores_local, calculated, boxes, jumps, branches_at_zero, branches_at_others, loops}
 
-module _ (allow : AllowList) (code : List FunCode) (limits : Limits) (well : IsWellShapedCode allow code) (function : FunCode) (f : Frame) (below : List Frame) (w : World) (here : Here allow code limits function f below) where
+module _ (allow : AllowList) (code : List FunCode) (limits : Limits) (well : IsWellShapedCode allow code) (function : FunCode) (f : Frame) (below : List Frame) (w : World) (here : Here allow code limits function f below w) where
   abbrev Moved : Next → Type 0
   Moved next = Moves allow code limits (left_at code limits f below w) next
 
@@ -127,7 +127,7 @@ module _ (allow : AllowList) (code : List FunCode) (limits : Limits) (well : IsW
 pub step_moves : (allow : AllowList) (code : List FunCode) (limits : Limits) → IsWellShapedCode allow code → HaveRows code → (c : Config) → FitsConfig allow code limits c
     → Moves allow code limits (left_of code limits c) (step code limits c)
 step_moves allow code limits well rows c fits =
-    let here : Here allow code limits fits.function c.top c.below = record { fits = fits.top; due = fits.due; belows = fits.below; within = fits.within } in
+    let here : Here allow code limits fits.function c.top c.below c.world = record { fits = fits.top; due = fits.due; belows = fits.below; within = fits.within; reached = fits.reached } in
     let st = standing allow code fits.function (frame_kinds c.top) well fits.top in
     let row = rows.each c.top.fun c.top.line fits.function st.instruction fits.top.is st.is in
     let there : slice_get (lines_of code limits (slice_get code c.top.fun)) c.top.line ≡ Some st.instruction = ap (λ o. slice_get (lines_of code limits o) c.top.line) fits.top.is ∙ st.is in

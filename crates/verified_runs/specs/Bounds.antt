@@ -1,6 +1,7 @@
 -- How many instructions a run of verified code takes at most.
 use Rattle.std.specs.Prelude.{◌≡◌, ℕ, ◌+◌, ◌*◌, max, List, [], ◌∷◌, Option, length}
 use Rattle.pl_code.specs.declared.code.FunCode.{FunCode}
+use Rattle.allowlist.specs.Allow.{AllowList}
 use Rattle.run_world.specs.World.{Limits, End}
 use Rattle.code_meaning.specs.declared.word.Word.{Word}
 use Rattle.code_meaning.specs.Machine.{Next, Ends, after}
@@ -16,7 +17,7 @@ abbrev pub most_steps : List FunCode → Limits → ℕ → ℕ
 most_steps code limits ticks = (ticks + 1) * (limits.depth + 1) * longest code
 
 -- It has ended after so many steps, in an end that fits.
-pub record EndsWithin (code : List FunCode) (limits : Limits) (steps : ℕ) (from : Next) : Type 0 where
+pub record EndsWithin (allow : AllowList) (code : List FunCode) (limits : Limits) (steps : ℕ) (from : Next) : Type 0 where
   pub end : End (Option Word)
   pub ends : after code limits steps from ≡ Ends end
-  pub fits : FitsEnd code end
+  pub fits : FitsEnd allow code end

@@ -1,11 +1,12 @@
 -- What fits verified code: configurations whose frames hold, at their lines, words of the kinds that the code was verified for.
-use Rattle.std.specs.Prelude.{◌≡◌, ◌≤◌, List, [], ◌∷◌, map, Option, None, option_map}
+use Rattle.std.specs.List.{list_all}
+use Rattle.std.specs.Prelude.{◌≡◌, ◌≤◌, true, List, [], ◌∷◌, map, Option, None, option_map}
 use Rattle.pl_code.specs.declared.kinds.Slot.{Slot}
 use Rattle.pl_code.specs.declared.kinds.Slot.TheVariants as slot
 use Rattle.pl_code.specs.declared.code.FunCode.{FunCode}
-use Rattle.allowlist.specs.Allow.{AllowList}
+use Rattle.allowlist.specs.Allow.{AllowList, flag}
 use Rattle.verifier.specs.Fits.{FrameKinds, FitsLine, Awaits}
-use Rattle.run_world.specs.World.{Limits, End, Result, Uncaught, Limited}
+use Rattle.run_world.specs.World.{World, Limits, End, Result, Uncaught, Limited}
 use Rattle.code_meaning.specs.declared.word.Word.{Word}
 use Rattle.code_meaning.specs.declared.word.Word.TheVariants.{I, J, R}
 use Rattle.code_meaning.specs.Machine.{Frame, Config, Next, Goes, Ends, Stuck, depth_of}
@@ -31,11 +32,9 @@ abbrev pub main_result : List FunCode → Option Slot
 main_result [] = None
 main_result (f ∷ fs) = f.result
 
--- an end fits where its result is what the code gives
-abbrev pub FitsEnd : List FunCode → End (Option Word) → Type 0
-FitsEnd code (Result result w) = option_map kind_of result ≡ main_result code
-FitsEnd code (Uncaught id w) = Unit {0}
-FitsEnd code (Limited limit w) = Unit {0}
+-- each member that was reached is one of the list
+abbrev pub ReachesAllowed : AllowList → World → Type 0
+ReachesAllowed allow w = list_all (flag allow.members) w.reached ≡ true
 
 module _ (allow : AllowList) (code : List FunCode) where
   -- The frames below one that gives this: each waits at the line of its call for what the one above it gives, and no cast is due. The
@@ -44,16 +43,23 @@ module _ (allow : AllowList) (code : List FunCode) where
   BelowFits [] result = result ≡ main_result code
   BelowFits (f ∷ fs) result = (g : FunCode) × Awaits allow code g (frame_kinds f) result × (f.due ≡ []) × BelowFits fs g.result
 
-  -- A configuration fits: its frames do, and they are no more than the limit of depth allows.
+  -- A configuration fits: its frames do, they are no more than the limit of depth allows, and members of the list alone were reached.
   pub record FitsConfig (limits : Limits) (c : Config) : Type 0 where
     pub function : FunCode
     pub top : FitsLine allow code function (frame_kinds c.top)
     pub due : c.top.due ≡ []
     pub below : BelowFits c.below function.result
     pub within : depth_of c.below ≤ limits.depth
+    pub reached : ReachesAllowed allow c.world
+
+  -- an end fits where its result is what the code gives, and members of the list alone were reached
+  abbrev pub FitsEnd : End (Option Word) → Type 0
+  FitsEnd (Result result w) = (option_map kind_of result ≡ main_result code) × ReachesAllowed allow w
+  FitsEnd (Uncaught id w) = ReachesAllowed allow w
+  FitsEnd (Limited limit w) = ReachesAllowed allow w
 
   -- What comes of a step fits: nothing that is stuck does.
   abbrev pub FitsNext : Limits → Next → Type 0
   FitsNext limits (Goes c) = FitsConfig limits c
-  FitsNext limits (Ends r) = FitsEnd code r
+  FitsNext limits (Ends r) = FitsEnd r
   FitsNext limits Stuck = ⊥

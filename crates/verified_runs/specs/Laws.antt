@@ -9,16 +9,16 @@ use Rattle.run_world.specs.World.{World, Limits}
 use Rattle.code_meaning.specs.declared.word.Word.{Word}
 use Rattle.code_meaning.specs.Machine.{Frame, Config, Next, Goes, Stuck, start, act, after}
 use Rattle.verified_runs.specs.Rows.{has_row, HaveRows}
-use Rattle.verified_runs.specs.Fits.{kinds_of, frame_kinds, FitsConfig, FitsNext}
+use Rattle.verified_runs.specs.Fits.{kinds_of, frame_kinds, ReachesAllowed, FitsConfig, FitsNext}
 use Rattle.verified_runs.specs.Bounds.{most_steps, EndsWithin}
 
--- Where a run begins on words of the kinds of function 0's parameters it fits.
+-- Where a run begins on words of the kinds of function 0's parameters it fits, where no members but of the list were reached before.
 abbrev pub StartsFit : Type 0
 StartsFit =
-    (c : CodeUnder) (limits : Limits) (f : FunCode) (words : List Word) (w : World) → IsSound c → slice_get c.code.functions 0 ≡ Some f → kinds_of words ≡ f.params
+    (c : CodeUnder) (limits : Limits) (f : FunCode) (words : List Word) (w : World) → IsSound c → slice_get c.code.functions 0 ≡ Some f → kinds_of words ≡ f.params → ReachesAllowed c.allow w
     → FitsNext c.allow c.code.functions limits (start c.code.functions words w)
 
--- A run that fits goes on fitting, however many steps it takes, until it ends: it is never stuck.
+-- A run that fits goes on fitting, however many steps it takes, until it ends: it is never stuck, and reaches members of the list alone.
 abbrev pub NeverStuck : Type 0
 NeverStuck =
     (c : CodeUnder) (limits : Limits) (from : Next) (steps : ℕ) → IsSound c → HaveRows c.code.functions → FitsNext c.allow c.code.functions limits from
@@ -28,13 +28,13 @@ NeverStuck =
 abbrev pub RunsEnd : Type 0
 RunsEnd =
     (c : CodeUnder) (limits : Limits) (from : Config) → IsSound c → HaveRows c.code.functions → FitsConfig c.allow c.code.functions limits from
-    → EndsWithin c.code.functions limits (most_steps c.code.functions limits from.world.ticks) (Goes from)
+    → EndsWithin c.allow c.code.functions limits (most_steps c.code.functions limits from.world.ticks) (Goes from)
 
 -- So a run of function 0 on words of its parameters' kinds ends, within that bound.
 abbrev pub StartsEnd : Type 0
 StartsEnd =
-    (c : CodeUnder) (limits : Limits) (f : FunCode) (words : List Word) (w : World) → IsSound c → HaveRows c.code.functions → slice_get c.code.functions 0 ≡ Some f → kinds_of words ≡ f.params
-    → EndsWithin c.code.functions limits (most_steps c.code.functions limits w.ticks) (start c.code.functions words w)
+    (c : CodeUnder) (limits : Limits) (f : FunCode) (words : List Word) (w : World) → IsSound c → HaveRows c.code.functions → slice_get c.code.functions 0 ≡ Some f → kinds_of words ≡ f.params → ReachesAllowed c.allow w
+    → EndsWithin c.allow c.code.functions limits (most_steps c.code.functions limits w.ticks) (start c.code.functions words w)
 
 -- The frames below the top of a configuration that fits are such that verified code goes on with them.
 abbrev pub FramesFit : Type 0
