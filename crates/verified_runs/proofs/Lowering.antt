@@ -55,9 +55,6 @@ later_is_less worth ticks after lines line to under same within later =
     subst (λ t. weight worth t lines to under < weight worth ticks lines line under) (sym same)
     (plus_less (ticks * worth) ((lines - to) + under) ((lines - line) + under) (lines_less lines line to under within later))
 
-some_line : (lines line under rest : ℕ) → line < lines → rest < (lines - line) + (rest + under)
-some_line lines line under rest h = omega arith
-
 -- a frame less: its lines are gone, and the one below goes on behind its call or later
 pub below_is_less : (worth ticks after lines line lines' line' to under : ℕ) → after ≡ ticks → line < lines → suc line' ≤ to
     → weight worth after lines' to under < weight worth ticks lines line ((lines' - suc line') + under)

@@ -20,9 +20,6 @@ use Rattle.verified_runs.proofs.Lowering.{lines_in, lines_so, left_at, left_of, 
 
 -- ---- ticks
 
-pub record Pays (w w' : World) : Type 0 where
-  pub less : suc w'.ticks ≡ w.ticks
-
 -- what is counted pays a tick, where the limit is not passed
 abbrev pub CountsSo : World → Counted → Type 0
 CountsSo w (Passes limit) = Unit {0}

@@ -4,6 +4,7 @@ use Rattle.std.specs.Prelude.{option_map, is_some, IsTrue, ◌==◌}
 use Rattle.std.proofs.lemmas.Bool.{false≢true}
 use Rattle.std.proofs.Math.Dec.{eqb-suc-zero}
 use Rattle.pl_code.specs.declared.code.FunCode.{FunCode}
+use Rattle.allowlist.specs.Allow.{AllowList}
 use Rattle.run_world.specs.World.{Limits, End}
 use Rattle.code_meaning.specs.declared.word.Word.{Word}
 use Rattle.code_meaning.specs.Machine.{Config, Next, Goes, Ends, Stuck, step, after}
@@ -15,7 +16,7 @@ use Rattle.code_machine.specs.Runs.{steps_taken}
 use Rattle.code_machine.specs.Activations.{Activation, counted, later, goes, is_over, Turned}
 use Rattle.code_machine.proofs.Turning.{adds, taken_adds}
 use Rattle.verified_runs.proofs.Runs.{stays_fitting, ends_within}
-use Rattle.verified_tasks.specs.Tasks.{Keeps, KeepsFrom, IsVerified, most_left, rest_from, rest, outcome_in, ending, is_end}
+use Rattle.verified_tasks.specs.Tasks.{Keeps, KeepsFrom, IsVerified, RunUnder, most_left, rest_from, rest, outcome_in, ending, is_end}
 
 plus_none : (a b : ℕ) → b ≡ 0 → a + b ≡ a
 plus_none a b e = omega (arith, e)
@@ -37,12 +38,12 @@ module _ (code : List FunCode) (limits : Limits) where
     end : End (Option Word)
     ends : after code limits (most_left code limits n) n ≡ Ends end
 
-  ends_at : (steps : ℕ) (n : Next) → Keeps code limits steps n → EndsAt n
-  ends_at steps (Goes c) k =
-      let x = ends_within k.allow code limits k.well k.rows c k.fits in
+  ends_at : (allow : AllowList) (steps : ℕ) (n : Next) → Keeps allow code limits steps n → EndsAt n
+  ends_at allow steps (Goes c) k =
+      let x = ends_within allow code limits k.well k.rows c k.fits in
       record { end = x.end; ends = x.ends }
-  ends_at steps (Ends r) k = record { end = r; ends = refl }
-  ends_at steps Stuck k = absurd k.fits
+  ends_at allow steps (Ends r) k = record { end = r; ends = refl }
+  ends_at allow steps Stuck k = absurd k.fits
 
   pub left : Next → ℕ
   left n = steps_taken code limits (most_left code limits n) n
@@ -113,13 +114,13 @@ module _ (code : List FunCode) (limits : Limits) where
       no_more a t b q h x y = omega (arith, h, x, y)
   by_next q n Stuck e f sum = let wrong : Stuck ≡ Ends f.end = f.ends in cc
 
-  keeps_on : (q steps steps' : ℕ) (n : Next) → steps' < 2 ^ 64 → Keeps code limits steps n → Keeps code limits steps' (after code limits q n)
-  keeps_on q steps steps' n h k = record { allow = k.allow; well = k.well; rows = k.rows; fits = stays_fitting k.allow code limits k.well k.rows q n k.fits; counts = h }
+  keeps_on : (allow : AllowList) (q steps steps' : ℕ) (n : Next) → steps' < 2 ^ 64 → Keeps allow code limits steps n → Keeps allow code limits steps' (after code limits q n)
+  keeps_on allow q steps steps' n h k = record { well = k.well; rows = k.rows; fits = stays_fitting allow code limits k.well k.rows q n k.fits; counts = h }
 
-  pub lowered : (q steps : ℕ) (n : Next) → Keeps code limits steps n → left (after code limits q n) ≡ left n - q
-  lowered q steps n k =
-      let next = ends_at steps (after code limits q n) (keeps_on q steps steps n k.counts k) in
-      by_next q n (after code limits q n) refl next (turn_left q n (ends_at steps n k) next)
+  pub lowered : (allow : AllowList) (q steps : ℕ) (n : Next) → Keeps allow code limits steps n → left (after code limits q n) ≡ left n - q
+  lowered allow q steps n k =
+      let next = ends_at allow steps (after code limits q n) (keeps_on allow q steps steps n k.counts k) in
+      by_next q n (after code limits q n) refl next (turn_left q n (ends_at allow steps n k) next)
 
 counted_less : (n : ℕ) → counted n < 2 ^ 64
 counted_less n = omega arith
@@ -135,110 +136,114 @@ counted_none n h = omega (arith, h)
 abbrev made : Activation → Option Next → Activation
 made a now = record { code = a.code; limits = a.limits; now = now; steps = a.steps }
 
-keeps_from : (a : Activation) (q : ℕ) (now : Option Next) → KeepsFrom a.code (limits_of a.limits) a.steps now → IsVerified (later q (made a now))
-keeps_from a q None k = tt
-keeps_from a q (Some n) k = keeps_on a.code (limits_of a.limits) q a.steps (counted (a.steps + steps_taken a.code (limits_of a.limits) q n)) n (counted_less (a.steps + steps_taken a.code (limits_of a.limits) q n)) k
+module _ (allow : AllowList) where
+  keeps_from : (a : Activation) (q : ℕ) (now : Option Next) → KeepsFrom allow a.code (limits_of a.limits) a.steps now → IsVerified allow (later q (made a now))
+  keeps_from a q None k = tt
+  keeps_from a q (Some n) k = keeps_on a.code (limits_of a.limits) allow q a.steps (counted (a.steps + steps_taken a.code (limits_of a.limits) q n)) n (counted_less (a.steps + steps_taken a.code (limits_of a.limits) q n)) k
 
-pub stays_verified : (a : Activation) (q : ℕ) → IsVerified a → IsVerified (later q a)
-stays_verified a q k = keeps_from a q a.now k
+  pub stays_verified : (a : Activation) (q : ℕ) → IsVerified allow a → IsVerified allow (later q a)
+  stays_verified a q k = keeps_from a q a.now k
 
--- a run has come to an end where nothing is left
-abbrev some_now : Option Next → Type 0
-some_now None = ⊥
-some_now (Some n) = Unit {0}
+  -- a run has come to an end where nothing is left
+  abbrev some_now : Option Next → Type 0
+  some_now None = ⊥
+  some_now (Some n) = Unit {0}
 
-turn_from : (a : Activation) (q : ℕ) (now : Option Next) → some_now now → KeepsFrom a.code (limits_of a.limits) a.steps now → IsTurn rest ending q (made a now) (later q (made a now))
-unfolding left
-turn_from a q None some k = absurd some
-turn_from a q (Some n) some k =
-    let code = a.code in
-    let limits = limits_of a.limits in
-    let here = ends_at code limits a.steps n k in
-    let next = ends_at code limits a.steps (after code limits q n) (keeps_on code limits q a.steps a.steps n k.counts k) in
-    let steps = counted_twice a.steps (steps_taken code limits q n) (left code limits (after code limits q n)) (left code limits n) (turn_left code limits q n here next) in
-    record {
-      lowered = lowered code limits q a.steps n k;
-      kept = (λ i. outcome_in a.limits.ticks (steps i) (turn_end code limits q n here next i));
-    }
+  turn_from : (a : Activation) (q : ℕ) (now : Option Next) → some_now now → KeepsFrom allow a.code (limits_of a.limits) a.steps now → IsTurn rest ending q (made a now) (later q (made a now))
+  unfolding left
+  turn_from a q None some k = absurd some
+  turn_from a q (Some n) some k =
+      let code = a.code in
+      let limits = limits_of a.limits in
+      let here = ends_at code limits allow a.steps n k in
+      let next = ends_at code limits allow a.steps (after code limits q n) (keeps_on code limits allow q a.steps a.steps n k.counts k) in
+      let steps = counted_twice a.steps (steps_taken code limits q n) (left code limits (after code limits q n)) (left code limits n) (turn_left code limits q n here next) in
+      record {
+        lowered = lowered code limits allow q a.steps n k;
+        kept = (λ i. outcome_in a.limits.ticks (steps i) (turn_end code limits q n here next i));
+      }
 
--- a run that goes on has something left, and one that is over has nothing
-goes_left : (code : List FunCode) (limits : Limits) (steps : ℕ) (now : Option Next) → IsTrue (goes now) → KeepsFrom code limits steps now → 0 < rest_from code limits now
-unfolding left
-goes_left code limits steps None g k = absurd (false≢true g)
-goes_left code limits steps (Some (Goes c)) g k = some_left code limits c (ends_at code limits steps (Goes c) k)
-goes_left code limits steps (Some (Ends r)) g k = absurd (false≢true g)
-goes_left code limits steps (Some Stuck) g k = absurd (false≢true g)
+  -- a run that goes on has something left, and one that is over has nothing
+  goes_left : (code : List FunCode) (limits : Limits) (steps : ℕ) (now : Option Next) → IsTrue (goes now) → KeepsFrom allow code limits steps now → 0 < rest_from code limits now
+  unfolding left
+  goes_left code limits steps None g k = absurd (false≢true g)
+  goes_left code limits steps (Some (Goes c)) g k = some_left code limits c (ends_at code limits allow steps (Goes c) k)
+  goes_left code limits steps (Some (Ends r)) g k = absurd (false≢true g)
+  goes_left code limits steps (Some Stuck) g k = absurd (false≢true g)
 
-over_left : (code : List FunCode) (limits : Limits) (steps : ℕ) (now : Option Next) → IsTrue (is_over now) → KeepsFrom code limits steps now → rest_from code limits now ≡ 0
-over_left code limits steps None g k = absurd (false≢true g)
-over_left code limits steps (Some (Goes c)) g k = absurd (false≢true g)
-over_left code limits steps (Some (Ends r)) g k = refl
-over_left code limits steps (Some Stuck) g k = absurd k.fits
+  over_left : (code : List FunCode) (limits : Limits) (steps : ℕ) (now : Option Next) → IsTrue (is_over now) → KeepsFrom allow code limits steps now → rest_from code limits now ≡ 0
+  over_left code limits steps None g k = absurd (false≢true g)
+  over_left code limits steps (Some (Goes c)) g k = absurd (false≢true g)
+  over_left code limits steps (Some (Ends r)) g k = refl
+  over_left code limits steps (Some Stuck) g k = absurd k.fits
 
-some_not_none : (n : ℕ) → 0 < n → (n == 0) ≡ false
-some_not_none zero h = absurd (omega arith)
-some_not_none (suc n) h = eqb-suc-zero n
+  some_not_none : (n : ℕ) → 0 < n → (n == 0) ≡ false
+  some_not_none zero h = absurd (omega arith)
+  some_not_none (suc n) h = eqb-suc-zero n
 
-over_is : (code : List FunCode) (limits : Limits) (steps : ℕ) (now : Option Next) → KeepsFrom code limits steps now → is_over now ≡ (rest_from code limits now == 0)
-unfolding left
-over_is code limits steps None k = refl
-over_is code limits steps (Some (Goes c)) k = sym (some_not_none (left code limits (Goes c)) (some_left code limits c (ends_at code limits steps (Goes c) k)))
-over_is code limits steps (Some (Ends r)) k = refl
-over_is code limits steps (Some Stuck) k = absurd k.fits
+  over_is : (code : List FunCode) (limits : Limits) (steps : ℕ) (now : Option Next) → KeepsFrom allow code limits steps now → is_over now ≡ (rest_from code limits now == 0)
+  unfolding left
+  over_is code limits steps None k = refl
+  over_is code limits steps (Some (Goes c)) k = sym (some_not_none (left code limits (Goes c)) (some_left code limits c (ends_at code limits allow steps (Goes c) k)))
+  over_is code limits steps (Some (Ends r)) k = refl
+  over_is code limits steps (Some Stuck) k = absurd k.fits
 
--- whether a run is over is whether nothing is left
-pub done_is : (a : Activation) → IsVerified a → is_over a.now ≡ (rest a == 0)
-done_is a k = over_is a.code (limits_of a.limits) a.steps a.now k
+  -- whether a run is over is whether nothing is left
+  pub done_is : (a : Activation) → IsVerified allow a → is_over a.now ≡ (rest a == 0)
+  done_is a k = over_is a.code (limits_of a.limits) a.steps a.now k
 
--- a turn behind which it goes on
-pub turn_goes_on : (a : Activation) (q : ℕ) → IsVerified a → IsTrue (goes (later q a).now) → IsTurn rest ending q a (later q a) × (0 < rest (later q a))
-turn_goes_on a q k g = (turn_from a q a.now (some_before a.now g) k, goes_left a.code (limits_of a.limits) (later q a).steps (later q a).now g (stays_verified a q k))
-  where
-    some_before : (now : Option Next) → IsTrue (goes (option_map (after a.code (limits_of a.limits) q) now)) → some_now now
-    some_before None g = false≢true g
-    some_before (Some n) g = tt
+  -- a turn behind which it goes on
+  pub turn_goes_on : (a : Activation) (q : ℕ) → IsVerified allow a → IsTrue (goes (later q a).now) → IsTurn rest ending q a (later q a) × (0 < rest (later q a))
+  turn_goes_on a q k g = (turn_from a q a.now (some_before a.now g) k, goes_left a.code (limits_of a.limits) (later q a).steps (later q a).now g (stays_verified a q k))
+    where
+      some_before : (now : Option Next) → IsTrue (goes (option_map (after a.code (limits_of a.limits) q) now)) → some_now now
+      some_before None g = false≢true g
+      some_before (Some n) g = tt
 
--- a turn with which it ends
-pub turn_ends : (a : Activation) (q : ℕ) → IsVerified a → IsTrue (is_over (later q a).now) → IsTurn rest ending q a (later q a) × (rest (later q a) ≡ 0)
-turn_ends a q k g = (turn_from a q a.now (some_before a.now g) k, over_left a.code (limits_of a.limits) (later q a).steps (later q a).now g (stays_verified a q k))
-  where
-    some_before : (now : Option Next) → IsTrue (is_over (option_map (after a.code (limits_of a.limits) q) now)) → some_now now
-    some_before None g = false≢true g
-    some_before (Some n) g = tt
+  -- a turn with which it ends
+  pub turn_ends : (a : Activation) (q : ℕ) → IsVerified allow a → IsTrue (is_over (later q a).now) → IsTurn rest ending q a (later q a) × (rest (later q a) ≡ 0)
+  turn_ends a q k g = (turn_from a q a.now (some_before a.now g) k, over_left a.code (limits_of a.limits) (later q a).steps (later q a).now g (stays_verified a q k))
+    where
+      some_before : (now : Option Next) → IsTrue (is_over (option_map (after a.code (limits_of a.limits) q) now)) → some_now now
+      some_before None g = false≢true g
+      some_before (Some n) g = tt
 
-none_lowered : (r q : ℕ) → r ≡ 0 → r ≡ r - q
-none_lowered r q e = omega (arith, e)
+  -- ---- what a turn answers
 
--- a turn of a run that is over takes nothing
-pub turn_over : (a : Activation) (q : ℕ) → IsVerified a → IsTrue (is_over a.now) → IsTurn rest ending q a a × (rest a ≡ 0)
-turn_over a q k g =
-    let gone = over_left a.code (limits_of a.limits) a.steps a.now g k in
-    (record { lowered = none_lowered (rest a) q gone; kept = refl }, gone)
+  goes_not_over : (now : Option Next) → IsTrue (goes now) → false ≡ is_over now
+  goes_not_over None g = refl
+  goes_not_over (Some (Goes c)) g = refl
+  goes_not_over (Some (Ends r)) g = absurd (false≢true g)
+  goes_not_over (Some Stuck) g = absurd (false≢true g)
 
--- ---- what a turn answers
+  is_nothing : (now : Option Next) → is_some now ≡ false → now ≡ None
+  is_nothing None e = refl
+  is_nothing (Some n) e = absurd (false≢true (sym e))
 
-goes_not_over : (now : Option Next) → IsTrue (goes now) → false ≡ is_over now
-goes_not_over None g = refl
-goes_not_over (Some (Goes c)) g = refl
-goes_not_over (Some (Ends r)) g = absurd (false≢true g)
-goes_not_over (Some Stuck) g = absurd (false≢true g)
+  no_memory : (new : Activation) → new.now ≡ None → IsVerified allow new × (false ≡ is_over new.now)
+  no_memory new e = (subst (KeepsFrom allow new.code (limits_of new.limits) new.steps) (sym e) tt, sym (ap is_over e))
 
-is_nothing : (now : Option Next) → is_some now ≡ false → now ≡ None
-is_nothing None e = refl
-is_nothing (Some n) e = absurd (false≢true (sym e))
+  -- behind a turn it is a run of verified code, which is over where the turn was its last
+  pub turned_keeps : (a new : Activation) (q : ℕ) (t : Turn) → IsVerified allow a → Turned q a new t → IsVerified allow new × (is_end t ≡ is_over new.now)
+  turned_keeps a new q turn.More k h = (subst (IsVerified allow) (sym h.0) (stays_verified a q k), goes_not_over new.now h.1)
+  turned_keeps a new q turn.Done k h = (subst (IsVerified allow) (sym h.0) (stays_verified a q k), sym h.1)
+  turned_keeps a new q turn.NoMemory k h = no_memory new (is_nothing new.now h)
 
-no_memory : (new : Activation) → new.now ≡ None → IsVerified new × (false ≡ is_over new.now)
-no_memory new e = (subst (KeepsFrom new.code (limits_of new.limits) new.steps) (sym e) tt, sym (ap is_over e))
+  turned_is : (a new : Activation) (q : ℕ) (t : Turn) → IsVerified allow a → Turned q a new t → Turns rest ending q a new t
+  turned_is a new q turn.More k h =
+      subst (λ new. IsTurn rest ending q a new × (0 < rest new)) (sym h.0) (turn_goes_on a q k (subst (λ (new : Activation). IsTrue (goes new.now)) h.0 h.1))
+  turned_is a new q turn.Done k h =
+      subst (λ new. IsTurn rest ending q a new × (rest new ≡ 0)) (sym h.0) (turn_ends a q k (subst (λ (new : Activation). IsTrue (is_over new.now)) h.0 h.1))
+  turned_is a new q turn.NoMemory k h = tt
 
--- behind a turn it is a run of verified code, which is over where the turn was its last
-pub turned_keeps : (a new : Activation) (q : ℕ) (t : Turn) → IsVerified a → Turned q a new t → IsVerified new × (is_end t ≡ is_over new.now)
-turned_keeps a new q turn.More k h = (subst IsVerified (sym h.0) (stays_verified a q k), goes_not_over new.now h.1)
-turned_keeps a new q turn.Done k h = (subst IsVerified (sym h.0) (stays_verified a q k), sym h.1)
-turned_keeps a new q turn.NoMemory k h = no_memory new (is_nothing new.now h)
+  -- the same of a run and the list under which its code was verified
+  abbrev under : Activation → RunUnder
+  under a = record { run = a; allow = allow }
 
-pub turned_is : (a new : Activation) (q : ℕ) (t : Turn) → IsVerified a → Turned q a new t → Turns rest ending q a new t
-turned_is a new q turn.More k h =
-    subst (λ new. IsTurn rest ending q a new × (0 < rest new)) (sym h.0) (turn_goes_on a q k (subst (λ (new : Activation). IsTrue (goes new.now)) h.0 h.1))
-turned_is a new q turn.Done k h =
-    subst (λ new. IsTurn rest ending q a new × (rest new ≡ 0)) (sym h.0) (turn_ends a q k (subst (λ (new : Activation). IsTrue (is_over new.now)) h.0 h.1))
-turned_is a new q turn.NoMemory k h = tt
+  turn_under : (a new : Activation) (q : ℕ) → IsTurn rest ending q a new → IsTurn (λ (r : RunUnder). rest r.run) (λ (r : RunUnder). ending r.run) q (under a) (under new)
+  turn_under a new q t = record { lowered = t.lowered; kept = t.kept }
+
+  pub turns_under : (a new : Activation) (q : ℕ) (t : Turn) → IsVerified allow a → Turned q a new t → Turns (λ (r : RunUnder). rest r.run) (λ (r : RunUnder). ending r.run) q (under a) (under new) t
+  turns_under a new q turn.More k h = let x = turned_is a new q turn.More k h in (turn_under a new q x.0, x.1)
+  turns_under a new q turn.Done k h = let x = turned_is a new q turn.Done k h in (turn_under a new q x.0, x.1)
+  turns_under a new q turn.NoMemory k h = tt

@@ -1,9 +1,10 @@
 -- Runs of verified code as tasks: how many instructions are left, and what they come to.
+use Rattle.std.specs.List.{list_all}
 use Rattle.std.specs.Prelude.{ℕ, ◌+◌, ◌-◌, ◌^◌, ◌<◌, Bool, true, false, List, Option, Some, None, ◌≡◌, option_map}
 use Rattle.object_heap.specs.declared.outcome.Which.{Which}
 use Rattle.object_heap.specs.declared.outcome.Which.TheVariants as which
 use Rattle.pl_code.specs.declared.code.FunCode.{FunCode}
-use Rattle.allowlist.specs.Allow.{AllowList}
+use Rattle.allowlist.specs.Allow.{AllowList, flag}
 use Rattle.verifier.specs.Shaped.{IsWellShapedCode}
 use Rattle.run_world.specs.World.{Limits, Limit, Loop, Depth, Ticks, Room, End, Result, Uncaught, Limited}
 use Rattle.code_meaning.specs.declared.word.Word.{Word}
@@ -23,20 +24,24 @@ use Rattle.verified_runs.specs.Bounds.{most_steps}
 -- ---- which activations are runs of verified code
 
 -- The code is well shaped under a list, its instructions have rows, where the run stands fits, and 64 bits count its steps.
-pub record Keeps (code : List FunCode) (limits : Limits) (steps : ℕ) (n : Next) : Type 0 where
-  pub allow : AllowList
+pub record Keeps (allow : AllowList) (code : List FunCode) (limits : Limits) (steps : ℕ) (n : Next) : Type 0 where
   pub well : IsWellShapedCode allow code
   pub rows : HaveRows code
   pub fits : FitsNext allow code limits n
   pub counts : steps < 2 ^ 64
 
 -- after want of memory nothing is known
-abbrev pub KeepsFrom : List FunCode → Limits → ℕ → Option Next → Type 0
-KeepsFrom code limits steps None = Unit {0}
-KeepsFrom code limits steps (Some n) = Keeps code limits steps n
+abbrev pub KeepsFrom : AllowList → List FunCode → Limits → ℕ → Option Next → Type 0
+KeepsFrom allow code limits steps None = Unit {0}
+KeepsFrom allow code limits steps (Some n) = Keeps allow code limits steps n
 
-abbrev pub IsVerified : Activation → Type 0
-IsVerified a = KeepsFrom a.code (limits_of a.limits) a.steps a.now
+abbrev pub IsVerified : AllowList → Activation → Type 0
+IsVerified allow a = KeepsFrom allow a.code (limits_of a.limits) a.steps a.now
+
+-- a run of verified code, and the list under which the code was verified
+pub record RunUnder : Type 0 where
+  pub run : Activation
+  pub allow : AllowList
 
 -- an end of a run of verified code: its result is what the code gives, and it is not stuck
 abbrev pub EndFits : List FunCode → held.End → Type 0
@@ -44,6 +49,11 @@ EndFits code (end.Result result) = option_map kind_of result ≡ main_result cod
 EndFits code (end.Thrown id) = Unit {0}
 EndFits code (end.Limit limit) = Unit {0}
 EndFits code end.Stuck = ⊥
+
+-- what a run of verified code leaves: an end that fits, and members of the list alone were reached
+pub record LeavesFitting (r : RunUnder) (o : Outcome) : Type 0 where
+  pub end : EndFits r.run.code o.end
+  pub reached : list_all (flag r.allow.members) o.reached ≡ true
 
 -- ---- what is left
 

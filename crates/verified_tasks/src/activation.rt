@@ -6,7 +6,7 @@ ghost use Rattle.code_machine.specs.Activations.{Leaves};
 ghost use Rattle.verified_runs.specs.Rows.{HaveRows};
 ghost use Rattle.verified_runs.specs.Fits.{kinds_of, main_params};
 ghost use Rattle.verified_runs.specs.Bounds.{most_steps};
-ghost use Rattle.verified_tasks.specs.Tasks.{EndFits, rest, ending, is_end};
+ghost use Rattle.verified_tasks.specs.Tasks.{LeavesFitting, rest, ending, is_end};
 
 use code_machine::{Activation, Limits, Outcome};
 use code_meaning::Word;
@@ -20,24 +20,25 @@ use verifier::Verified;
 /// A run of verified code. It is never stuck, and ends however its instructions are cut into turns.
 #[derive(Drop)]
 pub struct VerifiedActivation<'c> {
+    code: &'c Verified,
     run: Activation<'c>,
     done: bool,
 }
 
 impl<'c> Model for VerifiedActivation<'c> {
-    ghost use Rattle.code_machine.specs.Activations.{Activation, is_over};
+    ghost use Rattle.code_machine.specs.Activations.{is_over};
     ghost use Rattle.pl_types.specs.contracts.ty.Ty as ty;
     ghost use Rattle.std.specs.Coded.{codes};
     ghost use Rattle.std.specs.Prelude.{◌≡◌};
-    ghost use Rattle.verified_tasks.specs.Tasks.{IsVerified};
+    ghost use Rattle.verified_tasks.specs.Tasks.{IsVerified, RunUnder};
 
-    ghost Value = { Activation };
+    ghost Value = { RunUnder };
 
     ghost coded = { Prim.hlevel (codes, ty.the_row.coded) };
 
-    ghost view = { λ a. a.run };
+    ghost view = { λ a. record { run = a.run; allow = a.code.now.allow } };
 
-    ghost invariant = { λ a. IsVerified a.run × (a.done ≡ is_over a.run.now) };
+    ghost invariant = { λ a. IsVerified a.code.now.allow a.run × (a.done ≡ is_over a.run.now) };
 }
 
 impl<'c> VerifiedActivation<'c> {
@@ -54,18 +55,22 @@ impl<'c> VerifiedActivation<'c> {
     ) -> Result<VerifiedActivation<'c>, AllocError>
         requires rows { HaveRows code.now.code.functions }
         requires args { kinds_of args ≡ main_params code.now.code.functions }
-        ensures started { IfOk result (λ a. a ≡ record { code = code.now.code.functions; limits = limits; now = Some (start code.now.code.functions args (record { store = heap; ticks = limits.ticks; reached = [] })); steps = 0 }) }
-        ensures bound { IfOk result (λ a. rest a ≤ most_steps code.now.code.functions (limits_of limits) limits.ticks) }
+        ensures started { IfOk result (λ a. a ≡ record { run = record { code = code.now.code.functions; limits = limits; now = Some (start code.now.code.functions args (record { store = heap; ticks = limits.ticks; reached = [] })); steps = 0 }; allow = code.now.allow }) }
+        ensures bound { IfOk result (λ a. rest a.run ≤ most_steps code.now.code.functions (limits_of limits) limits.ticks) }
     {
         let run = Activation::start(code.code(), heap, args, limits)?;
-        Ok(VerifiedActivation { run, done: false })
+        Ok(VerifiedActivation {
+            code,
+            run,
+            done: false,
+        })
     }
 
     /// What the run leaves, once it has ended: what it would have come to alone.
     pub fn outcome(self) -> Option<Outcome>
-        ensures leaves { Leaves self.entry result }
-        ensures never_stuck { IfSome result (λ o. EndFits self.entry.code o.end) }
-        ensures alone { rest self.entry ≡ 0 → result ≡ ending self.entry }
+        ensures leaves { Leaves self.entry.run result }
+        ensures fitting { IfSome result (LeavesFitting self.entry) }
+        ensures alone { rest self.entry.run ≡ 0 → result ≡ ending self.entry.run }
     {
         self.run.outcome()
     }
@@ -74,9 +79,9 @@ impl<'c> VerifiedActivation<'c> {
 impl<'c> Task for VerifiedActivation<'c> {
     type Ending = Option<Outcome>;
 
-    ghost rest = { λ a. rest a };
+    ghost rest = { λ a. rest a.run };
 
-    ghost ending = { λ a. ending a };
+    ghost ending = { λ a. ending a.run };
 
     fn is_done(&self) -> bool {
         self.done
