@@ -1,0 +1,13 @@
+mod Words
+mod Operators
+mod Casts
+mod Standing
+mod Lowering
+mod Moves
+mod Throwing
+mod Calling
+mod Plains
+mod Steps
+pub mod Runs
+mod Rowless
+mod Testing

@@ -1,0 +1,135 @@
+-- A step from a configuration that fits, a family of instructions at a time.
+use Rattle.std.proofs.Common.{◌≡◌, ℕ, true, suc, List, [], ◌∷◌, Some, refl, sym, ap, ◌∙◌, subst}
+use Rattle.std.proofs.lemmas.Bool.{false≢true}
+use Rattle.std.specs.Prelude.{slice_get, pos}
+use Rattle.std.specs.Int.{w8, w16, w32}
+use Rattle.arithmetic.specs.Arithmetic.{wrapped, low_bits}
+use Rattle.pl_types.specs.declared.ty.Ty.TheVariants as ty
+use Rattle.object_values.specs.declared.value.Value.TheVariants as v
+use Rattle.number_ops.specs.Outcomes.{effect}
+use Rattle.number_ops.specs.Casts.{cast_at_run_time}
+use Rattle.pl_code.specs.declared.kinds.Plain.{Plain}
+use Rattle.pl_code.specs.declared.kinds.Plain.TheVariants as plain
+use Rattle.pl_code.specs.declared.kinds.Numbered.{Numbered}
+use Rattle.pl_code.specs.declared.kinds.Numbered.TheVariants as numbered
+use Rattle.pl_code.specs.declared.kinds.Slot.TheVariants as slot
+use Rattle.pl_code.specs.declared.code.FunCode.{FunCode}
+use Rattle.pl_code.specs.declared.code.Instruction.{Instruction}
+use Rattle.pl_code.specs.declared.code.Instruction.TheVariants as i
+use Rattle.allowlist.specs.Allow.{AllowList}
+use Rattle.code_shapes.specs.declared.copying.Copying.TheVariants as copying
+use Rattle.code_shapes.specs.Effects.{effect_of, flow_of, left_by, local_kind}
+use Rattle.code_shapes.specs.Types.{kind_of_primitive}
+use Rattle.verifier.specs.Shaped.{IsWellShapedCode}
+use Rattle.run_world.specs.World.{World, Limits, acts_in}
+use Rattle.code_meaning.specs.declared.word.Word.TheVariants.{I, J, R}
+use Rattle.code_meaning.specs.Words.{calculation, unboxed}
+use Rattle.code_meaning.specs.Machine.{Frame, Config, Next, to_line, on_outcome, is_written, plain_act, numbered_act, act, acts, lines_of, step}
+use Rattle.verified_runs.specs.Rows.{plain_has_row, numbered_has_row, has_row, HaveRows}
+use Rattle.verified_runs.specs.Fits.{kinds_of, frame_kinds, FitsConfig}
+use Rattle.verified_runs.proofs.Words.{on_one_int, on_one_long, on_one_reference}
+use Rattle.verified_runs.proofs.Operators.{calculates}
+use Rattle.verified_runs.proofs.Casts.{cast_is}
+use Rattle.verified_runs.proofs.Standing.{StandsIn, standing}
+use Rattle.verified_runs.proofs.Lowering.{left_at, left_of}
+use Rattle.verified_runs.proofs.Moves.{Moves, Here}
+use Rattle.verified_runs.proofs.Throwing.{effect_moves}
+use Rattle.verified_runs.proofs.Calling.{call_moves, return_moves}
+use Rattle.verified_runs.proofs.Plains.{puts, next_with, copies, pops, dups, dups_two, dups_under_one, dups_under_two, loads_local, stores_local, calculated, boxes, jumps, branches_at_zero, branches_at_others, loops}
+
+module _ (allow : AllowList) (code : List FunCode) (limits : Limits) (well : IsWellShapedCode allow code) (function : FunCode) (f : Frame) (below : List Frame) (w : World) (here : Here allow code limits function f below w) where
+  abbrev Moved : Next → Type 0
+  Moved next = Moves allow code limits (left_at code limits f below w) next
+
+  abbrev At : Instruction → Type 0
+  At instruction = StandsIn allow code function (frame_kinds f) instruction
+
+  plain_moves : (p : Plain) → plain_has_row p ≡ true → At (i.Plain p) → Moved (plain_act code limits p f below w)
+  unfolding effect_of flow_of left_by
+  plain_moves plain.Null row s = puts allow code limits well function f below w (i.Plain plain.Null) s here (R v.Null) refl s.leaves
+  plain_moves plain.Pop row s = copies allow code limits well function f below w (i.Plain plain.Pop) s here plain.Pop copying.Drop pops refl s.leaves
+  plain_moves plain.Dup row s = copies allow code limits well function f below w (i.Plain plain.Dup) s here plain.Dup copying.One dups refl s.leaves
+  plain_moves plain.Dup2 row s = copies allow code limits well function f below w (i.Plain plain.Dup2) s here plain.Dup2 copying.Two dups_two refl s.leaves
+  plain_moves plain.DupX1 row s = copies allow code limits well function f below w (i.Plain plain.DupX1) s here plain.DupX1 copying.UnderOne dups_under_one refl s.leaves
+  plain_moves plain.DupX2 row s = copies allow code limits well function f below w (i.Plain plain.DupX2) s here plain.DupX2 copying.UnderTwo dups_under_two refl s.leaves
+  plain_moves plain.IntToLong row s =
+      on_one_int Moved (slot.J ∷ []) s.left f.stack (λ a stack. to_line f below w (suc f.line) (J a ∷ stack)) s.leaves
+      (λ a stack kinds. next_with allow code limits well function f below w (i.Plain plain.IntToLong) s here (J a ∷ stack) refl kinds)
+  plain_moves plain.LongToInt row s =
+      on_one_long Moved (slot.I ∷ []) s.left f.stack (λ a stack. to_line f below w (suc f.line) (I (wrapped w32 a) ∷ stack)) s.leaves
+      (λ a stack kinds. next_with allow code limits well function f below w (i.Plain plain.LongToInt) s here (I (wrapped w32 a) ∷ stack) refl kinds)
+  plain_moves plain.IntToByte row s =
+      on_one_int Moved (slot.I ∷ []) s.left f.stack (λ a stack. to_line f below w (suc f.line) (I (wrapped w8 a) ∷ stack)) s.leaves
+      (λ a stack kinds. next_with allow code limits well function f below w (i.Plain plain.IntToByte) s here (I (wrapped w8 a) ∷ stack) refl kinds)
+  plain_moves plain.IntToShort row s =
+      on_one_int Moved (slot.I ∷ []) s.left f.stack (λ a stack. to_line f below w (suc f.line) (I (wrapped w16 a) ∷ stack)) s.leaves
+      (λ a stack kinds. next_with allow code limits well function f below w (i.Plain plain.IntToShort) s here (I (wrapped w16 a) ∷ stack) refl kinds)
+  plain_moves plain.IntToChar row s =
+      on_one_int Moved (slot.I ∷ []) s.left f.stack (λ a stack. to_line f below w (suc f.line) (I (pos (low_bits 16 a)) ∷ stack)) s.leaves
+      (λ a stack kinds. next_with allow code limits well function f below w (i.Plain plain.IntToChar) s here (I (pos (low_bits 16 a)) ∷ stack) refl kinds)
+  plain_moves plain.Ret row s = return_moves allow code limits well function f below w s.left here s.leaves
+  plain_moves plain.Concat row s = absurd (false≢true row)
+  plain_moves plain.Same row s = absurd (false≢true row)
+  plain_moves plain.Equal row s = absurd (false≢true row)
+  plain_moves plain.ArrayLength row s = absurd (false≢true row)
+  plain_moves plain.GetIndex row s = absurd (false≢true row)
+  plain_moves plain.PutIndex row s = absurd (false≢true row)
+  plain_moves plain.Iter row s = absurd (false≢true row)
+  plain_moves plain.Has row s = absurd (false≢true row)
+  plain_moves plain.Next row s = absurd (false≢true row)
+  plain_moves plain.Throw row s = absurd (false≢true row)
+
+  local_is : (k : ℕ) → slice_get (kinds_of f.locals) k ≡ local_kind function k
+  unfolding local_kind
+  local_is k = ap (λ ks. slice_get ks k) here.fits.locals
+
+  numbered_moves : (n : Numbered) (k : ℕ) → numbered_has_row n ≡ true → At (i.Numbered n k) → Moved (numbered_act code limits n k f below w)
+  unfolding effect_of flow_of left_by
+  numbered_moves numbered.Load k row s = loads_local allow code limits well function f below w (i.Numbered numbered.Load k) s here k (local_kind function k) refl (local_is k) s.leaves
+  numbered_moves numbered.Store k row s = stores_local allow code limits well function f below w (i.Numbered numbered.Store k) s here k (local_kind function k) refl (local_is k) s.leaves
+  numbered_moves numbered.Goto k row s = jumps allow code limits well function f below w (i.Numbered numbered.Goto k) s here k refl s.leaves
+  numbered_moves numbered.IfZero k row s = branches_at_zero allow code limits well function f below w (i.Numbered numbered.IfZero k) s here k refl s.leaves
+  numbered_moves numbered.IfNotZero k row s = branches_at_others allow code limits well function f below w (i.Numbered numbered.IfNotZero k) s here k refl s.leaves
+  numbered_moves numbered.Loop k row s = loops allow code limits well function f below w (i.Numbered numbered.Loop k) s here k refl s.leaves
+  numbered_moves numbered.Call k row s = call_moves allow code limits well function f below w (i.Numbered numbered.Call k) s here k (slice_get code k) refl refl s.leaves
+  numbered_moves numbered.IfNull k row s = absurd (false≢true row)
+  numbered_moves numbered.List k row s = absurd (false≢true row)
+  numbered_moves numbered.Map k row s = absurd (false≢true row)
+
+  act_moves : (instruction : Instruction) → has_row instruction ≡ true → At instruction → Moved (act code limits instruction f below w)
+  unfolding effect_of flow_of left_by
+  act_moves (i.Plain p) row s = plain_moves p row s
+  act_moves (i.Arithmetic o width) row s =
+      calculated allow code limits well function f below w (i.Arithmetic o width) s here (calculation o width f.stack) refl (calculates o width f.stack s.left s.leaves)
+  act_moves (i.Int a) row s = puts allow code limits well function f below w (i.Int a) s here (I a) refl s.leaves
+  act_moves (i.Long a) row s = puts allow code limits well function f below w (i.Long a) s here (J a) refl s.leaves
+  act_moves (i.Numbered n k) row s = numbered_moves n k row s
+  act_moves (i.Boxing p) row s = boxes allow code limits well function f below w (i.Boxing p) s here p refl s.leaves
+  act_moves (i.Unboxing p way) row s =
+      on_one_reference Moved (kind_of_primitive p ∷ []) s.left f.stack
+      (λ value stack. on_outcome code limits (acts_in w (effect w.store (cast_at_run_time w.store.objects value (ty.Prim p) (is_written way)))) unboxed f below w stack) s.leaves
+      (λ value stack kinds. effect_moves allow code limits well function f below w (i.Unboxing p way) s here (kind_of_primitive p) stack
+      (effect w.store (cast_at_run_time w.store.objects value (ty.Prim p) (is_written way))) refl kinds (cast_is p w.store value (is_written way)))
+  act_moves (i.Dynamic o) row s = absurd (false≢true row)
+  act_moves (i.Quoted q text) row s = absurd (false≢true row)
+  act_moves (i.Cast to way) row s = absurd (false≢true row)
+  act_moves (i.Typed t of) row s = absurd (false≢true row)
+  act_moves (i.Sized t of n) row s = absurd (false≢true row)
+  act_moves (i.DefCall word n) row s = absurd (false≢true row)
+  act_moves (i.Invoke m) row s = absurd (false≢true row)
+  act_moves (i.New m) row s = absurd (false≢true row)
+  act_moves (i.Field m) row s = absurd (false≢true row)
+  act_moves (i.Lambda interface k n) row s = absurd (false≢true row)
+  act_moves (i.Ref interface of word) row s = absurd (false≢true row)
+  act_moves (i.NewRef interface of) row s = absurd (false≢true row)
+
+-- A configuration that fits takes a step to one that fits, of which less is left, or ends.
+pub step_moves : (allow : AllowList) (code : List FunCode) (limits : Limits) → IsWellShapedCode allow code → HaveRows code → (c : Config) → FitsConfig allow code limits c
+    → Moves allow code limits (left_of code limits c) (step code limits c)
+step_moves allow code limits well rows c fits =
+    let here : Here allow code limits fits.function c.top c.below c.world = record { fits = fits.top; due = fits.due; belows = fits.below; within = fits.within; reached = fits.reached } in
+    let st = standing allow code fits.function (frame_kinds c.top) well fits.top in
+    let row = rows.each c.top.fun c.top.line fits.function st.instruction fits.top.is st.is in
+    let there : slice_get (lines_of code limits (slice_get code c.top.fun)) c.top.line ≡ Some st.instruction = ap (λ o. slice_get (lines_of code limits o) c.top.line) fits.top.is ∙ st.is in
+    subst (λ o. Moves allow code limits (left_of code limits c) (acts code limits o c.top c.below c.world)) (sym there)
+    (act_moves allow code limits well fits.function c.top c.below c.world here st.instruction row st.stands)

@@ -1,0 +1,52 @@
+-- Which instructions have a row: the others are Stuck wherever they stand. Each row that is built is listed here.
+use Rattle.std.specs.Prelude.{◌≡◌, ℕ, Bool, true, false, List, Some, slice_get}
+use Rattle.std.specs.List.{list_all}
+use Rattle.pl_code.specs.declared.kinds.Plain.{Plain}
+use Rattle.pl_code.specs.declared.kinds.Plain.TheVariants as plain
+use Rattle.pl_code.specs.declared.kinds.Numbered.{Numbered}
+use Rattle.pl_code.specs.declared.kinds.Numbered.TheVariants as numbered
+use Rattle.pl_code.specs.declared.code.FunCode.{FunCode}
+use Rattle.pl_code.specs.declared.code.Instruction.{Instruction}
+use Rattle.pl_code.specs.declared.code.Instruction.TheVariants as i
+
+abbrev pub plain_has_row : Plain → Bool
+plain_has_row plain.Null = true
+plain_has_row plain.Pop = true
+plain_has_row plain.Dup = true
+plain_has_row plain.Dup2 = true
+plain_has_row plain.DupX1 = true
+plain_has_row plain.DupX2 = true
+plain_has_row plain.IntToLong = true
+plain_has_row plain.LongToInt = true
+plain_has_row plain.IntToByte = true
+plain_has_row plain.IntToShort = true
+plain_has_row plain.IntToChar = true
+plain_has_row plain.Ret = true
+plain_has_row other = false
+
+abbrev pub numbered_has_row : Numbered → Bool
+numbered_has_row numbered.Load = true
+numbered_has_row numbered.Store = true
+numbered_has_row numbered.Goto = true
+numbered_has_row numbered.IfZero = true
+numbered_has_row numbered.IfNotZero = true
+numbered_has_row numbered.Loop = true
+numbered_has_row numbered.Call = true
+numbered_has_row other = false
+
+abbrev pub has_row : Instruction → Bool
+has_row (i.Plain p) = plain_has_row p
+has_row (i.Arithmetic o width) = true
+has_row (i.Int a) = true
+has_row (i.Long a) = true
+has_row (i.Numbered n k) = numbered_has_row n
+has_row (i.Boxing p) = true
+has_row (i.Unboxing p way) = true
+has_row other = false
+
+abbrev pub function_has_rows : FunCode → Bool
+function_has_rows f = list_all has_row f.lines
+
+-- each instruction of code has a row
+pub record HaveRows (code : List FunCode) : Type 0 where
+  pub each : (function line : ℕ) (f : FunCode) (instruction : Instruction) → slice_get code function ≡ Some f → slice_get f.lines line ≡ Some instruction → has_row instruction ≡ true

@@ -1,0 +1,82 @@
+//! Which code has rows for all of its instructions.
+ghost use Rattle.std.specs.Prelude.{◌≡◌, ◌↔◌, IsTrue};
+ghost use Rattle.std.specs.List.{list_all};
+ghost use Rattle.verified_runs.specs.Rows as rows;
+ghost use Rattle.verified_runs.specs.Rows.{HaveRows};
+
+use pl_code::{Code, FunCode, Instruction, Numbered, Plain};
+
+/// Whether each instruction of code has a row.
+pub fn have_rows(code: &Code) -> bool
+    ensures { IsTrue result ↔ HaveRows code.now.functions }
+{
+    all_have_rows(code.functions.as_slice())
+}
+
+fn all_have_rows(functions: &[FunCode]) -> bool
+    ensures { result ≡ list_all rows.function_has_rows functions.now }
+{
+    functions.iter().all(|function| function_has_rows(function))
+}
+
+fn function_has_rows(function: &FunCode) -> bool
+    ensures { result ≡ rows.function_has_rows function.now }
+{
+    lines_have_rows(function.lines.as_slice())
+}
+
+fn lines_have_rows(lines: &[Instruction]) -> bool
+    ensures { result ≡ list_all rows.has_row lines.now }
+{
+    lines.iter().all(|instruction| has_row(instruction))
+}
+
+fn has_row(instruction: &Instruction) -> bool
+    ensures { result ≡ rows.has_row instruction.now }
+{
+    match instruction {
+        Instruction::Plain(kind) => plain_has_row(*kind),
+        Instruction::Numbered(kind, _) => numbered_has_row(*kind),
+        Instruction::Arithmetic(_, _)
+        | Instruction::Int(_)
+        | Instruction::Long(_)
+        | Instruction::Boxing(_)
+        | Instruction::Unboxing(_, _) => true,
+        _ => false,
+    }
+}
+
+fn plain_has_row(kind: Plain) -> bool
+    ensures { result ≡ rows.plain_has_row kind }
+{
+    match kind {
+        Plain::Null
+        | Plain::Pop
+        | Plain::Dup
+        | Plain::Dup2
+        | Plain::DupX1
+        | Plain::DupX2
+        | Plain::IntToLong
+        | Plain::LongToInt
+        | Plain::IntToByte
+        | Plain::IntToShort
+        | Plain::IntToChar
+        | Plain::Ret => true,
+        _ => false,
+    }
+}
+
+fn numbered_has_row(kind: Numbered) -> bool
+    ensures { result ≡ rows.numbered_has_row kind }
+{
+    match kind {
+        Numbered::Load
+        | Numbered::Store
+        | Numbered::Goto
+        | Numbered::IfZero
+        | Numbered::IfNotZero
+        | Numbered::Loop
+        | Numbered::Call => true,
+        _ => false,
+    }
+}

@@ -1,0 +1,127 @@
+-- Where a run of verified code begins, and what it leaves once it has ended.
+use Rattle.std.proofs.Common.{◌≡◌, ℕ, ◌+◌, ◌-◌, ◌≤◌, Bool, false, List, [], ◌∷◌, Option, Some, None, refl, sym, ap, ◌∙◌, subst, arith}
+use Rattle.std.specs.Prelude.{IfSome, ◌==◌}
+use Rattle.std.proofs.lemmas.Bool.{false≢true}
+use Rattle.pl_code.specs.declared.code.FunCode.{FunCode}
+use Rattle.pl_code.specs.declared.code.Code.{Code}
+use Rattle.allowlist.specs.Allow.{AllowList}
+use Rattle.verifier.specs.Shaped.{IsWellShapedCode}
+use Rattle.verified_runs.specs.Rows.{HaveRows}
+use Rattle.verified_runs.specs.Fits.{kinds_of, main_params, ReachesAllowed, FitsNext}
+use Rattle.run_world.specs.World.{World, Limits, End}
+use Rattle.object_heap.specs.declared.outcome.Which.TheVariants as which
+use Rattle.code_meaning.specs.declared.word.Word.{Word}
+use Rattle.code_meaning.specs.Machine.{Config, Next, Goes, Ends, Stuck, start}
+use Rattle.code_machine.specs.declared.activation.Outcome.{Outcome}
+use Rattle.code_machine.specs.declared.configuration.Limits as machine
+use Rattle.code_machine.specs.declared.configuration.End as held
+use Rattle.code_machine.specs.declared.configuration.End.TheVariants as end
+use Rattle.code_machine.specs.Seen.{limits_of, ended}
+use Rattle.code_machine.specs.Activations.{Activation, counted, is_over, Leaves}
+use Rattle.verified_runs.specs.Bounds.{most_steps}
+use Rattle.verified_runs.proofs.Runs.{starts_fit}
+use Rattle.verified_tasks.specs.Tasks.{Keeps, KeepsFrom, IsVerified, RunUnder, EndFits, LeavesFitting, rest_from, rest, outcome_in, ending_from, ending}
+use Rattle.verified_tasks.proofs.Resting.{taken_most, done_is, counted_none}
+
+ended_so : (ticks left steps : ℕ) (w : World) (e : held.End) → w.ticks ≡ left → (next : Next) → next ≡ ended e w → (next ≡ Stuck → ⊥)
+    → outcome_in ticks steps next ≡ Some (record { end = e; heap = w.store; ticks = ticks - left; steps = steps; reached = w.reached })
+ended_so ticks left steps w (end.Result word) same next is stuck = ap (outcome_in ticks steps) is ∙ ap (λ n. Some (record { end = end.Result word; heap = w.store; ticks = ticks - n; steps = steps; reached = w.reached })) same
+ended_so ticks left steps w (end.Thrown id) same next is stuck = ap (outcome_in ticks steps) is ∙ ap (λ n. Some (record { end = end.Thrown id; heap = w.store; ticks = ticks - n; steps = steps; reached = w.reached })) same
+ended_so ticks left steps w (end.Limit which.Loop) same next is stuck = ap (outcome_in ticks steps) is ∙ ap (λ n. Some (record { end = end.Limit which.Loop; heap = w.store; ticks = ticks - n; steps = steps; reached = w.reached })) same
+ended_so ticks left steps w (end.Limit which.Depth) same next is stuck = ap (outcome_in ticks steps) is ∙ ap (λ n. Some (record { end = end.Limit which.Depth; heap = w.store; ticks = ticks - n; steps = steps; reached = w.reached })) same
+ended_so ticks left steps w (end.Limit which.Ticks) same next is stuck = ap (outcome_in ticks steps) is ∙ ap (λ n. Some (record { end = end.Limit which.Ticks; heap = w.store; ticks = ticks - n; steps = steps; reached = w.reached })) same
+ended_so ticks left steps w (end.Limit which.Room) same next is stuck = ap (outcome_in ticks steps) is ∙ ap (λ n. Some (record { end = end.Limit which.Room; heap = w.store; ticks = ticks - n; steps = steps; reached = w.reached })) same
+ended_so ticks left steps w end.Stuck same next is stuck = absurd (stuck is)
+
+not_goes : (e : held.End) (w : World) (c : Config) → Goes c ≡ ended e w → ⊥
+not_goes (end.Result word) w c e = cc
+not_goes (end.Thrown id) w c e = cc
+not_goes (end.Limit limit) w c e = cc
+not_goes end.Stuck w c e = cc
+
+not_stuck : (r : End (Option Word)) → Ends r ≡ Stuck → ⊥
+not_stuck r e = cc
+
+some_next : (n m : Next) → Some n ≡ Some m → n ≡ m
+some_next n m e = cc
+
+-- the world that an outcome has
+abbrev world_left : Outcome → ℕ → World
+world_left o left = record { store = o.heap; ticks = left; reached = o.reached }
+
+module _ (allow : AllowList) where
+  leaves_from : (a : Activation) (o : Outcome) (now : Option Next) (left : ℕ) → KeepsFrom allow a.code (limits_of a.limits) a.steps now → now ≡ Some (ended o.end (world_left o left)) → o.ticks ≡ a.limits.ticks - left → o.steps ≡ a.steps
+      → Some o ≡ ending_from a now
+  leaves_from a o None left k is ticks steps = cc
+  leaves_from a o (Some (Goes c)) left k is ticks steps = absurd (not_goes o.end (world_left o left) c (some_next (Goes c) (ended o.end (world_left o left)) is))
+  leaves_from a o (Some (Ends r)) left k is ticks steps =
+      let counts = counted_none a.steps k.counts in
+      let same : o.steps ≡ counted (a.steps + 0) = steps ∙ sym counts in
+      let given = ended_so a.limits.ticks left (counted (a.steps + 0)) (world_left o left) o.end refl (Ends r) (some_next (Ends r) (ended o.end (world_left o left)) is) (not_stuck r) in
+      let fields : Some o ≡ Some (record { end = o.end; heap = o.heap; ticks = a.limits.ticks - left; steps = counted (a.steps + 0); reached = o.reached }) =
+      (λ i. Some (record { end = o.end; heap = o.heap; ticks = ticks i; steps = same i; reached = o.reached })) in
+      fields ∙ sym given
+  leaves_from a o (Some Stuck) left k is ticks steps = absurd k.fits
+
+  none_is_over : (b : Bool) (n : ℕ) → b ≡ false → b ≡ (n == 0) → n ≡ 0 → ⊥
+  none_is_over b n e g z = false≢true (sym e ∙ g ∙ ap (λ n. n == 0) z)
+
+  -- what a run leaves once nothing is left is what it comes to
+  pub leaves_ending : (a : Activation) (o : Option Outcome) → IsVerified allow a → rest a ≡ 0 → Leaves a o → o ≡ ending a
+  leaves_ending a None k none l = absurd (none_is_over (is_over a.now) (rest a) l (done_is allow a k) none)
+  leaves_ending a (Some o) k none l = leaves_from a o a.now l.0 k l.1 l.2 l.3
+
+-- ---- where a run begins
+
+begins : (allow : AllowList) (code : List FunCode) (limits : Limits) (args : List Word) (w : World) → IsWellShapedCode allow code → HaveRows code → kinds_of args ≡ main_params code → ReachesAllowed allow w
+    → Keeps allow code limits 0 (start code args w) × (false ≡ is_over (Some (start code args w)))
+begins allow [] limits args w well rows params reached = let some = well.some in absurd (omega (arith, some))
+begins allow (f ∷ fs) limits args w well rows params reached = (
+  record { well = well; rows = rows; fits = starts_fit allow (f ∷ fs) limits f args w well refl params reached; counts = omega arith },
+  refl,
+)
+
+-- an activation of code that was verified, and is lent
+pub starts : (allow : AllowList) (kept lent : Code) (args : List Word) (w : World) (made a : Activation) → IsWellShapedCode allow kept.functions → HaveRows kept.functions → kinds_of args ≡ main_params kept.functions → ReachesAllowed allow w
+    → lent ≡ kept → a ≡ made → made.code ≡ lent.functions → made.now ≡ Some (start lent.functions args w) → made.steps ≡ 0 → IsVerified allow a × (false ≡ is_over a.now)
+starts allow kept lent args w made a well rows params reached same is code now steps =
+    let x = begins allow kept.functions (limits_of made.limits) args w well rows params reached in
+    let here : made.now ≡ Some (start kept.functions args w) = now ∙ ap (λ (k : Code). Some (start k.functions args w)) same in
+    let kept_so : made.code ≡ kept.functions = code ∙ ap (λ (k : Code). k.functions) same in
+    let keeps : IsVerified allow made =
+    subst (λ fs. KeepsFrom allow fs (limits_of made.limits) made.steps made.now) (sym kept_so)
+    (subst (λ n. KeepsFrom allow kept.functions (limits_of made.limits) n made.now) (sym steps)
+    (subst (λ now. KeepsFrom allow kept.functions (limits_of made.limits) 0 now) (sym here) x.0)) in
+    subst (λ (a : Activation). IsVerified allow a × (false ≡ is_over a.now)) (sym is) (keeps, x.1 ∙ ap is_over (sym here))
+
+-- no more is left where it begins than the bound
+pub begins_bounded : (code : List FunCode) (limits : Limits) (args : List Word) (w : World) → rest_from code limits (Some (start code args w)) ≤ most_steps code limits w.ticks
+begins_bounded [] limits args w = omega arith
+begins_bounded (f ∷ fs) limits args w = taken_most (f ∷ fs) limits (most_steps (f ∷ fs) limits w.ticks) (start (f ∷ fs) args w)
+
+-- of an activation of code that was verified, and is lent
+pub starts_bounded : (kept lent : Code) (limits : machine.Limits) (args : List Word) (w : World) (a : Activation) → lent ≡ kept
+    → a ≡ record { code = lent.functions; limits = limits; now = Some (start lent.functions args w); steps = 0 } → rest a ≤ most_steps kept.functions (limits_of limits) w.ticks
+starts_bounded kept lent limits args w a same is =
+    subst (λ (k : Code). rest a ≤ most_steps k.functions (limits_of limits) w.ticks) same
+    (subst (λ (a : Activation). rest a ≤ most_steps lent.functions (limits_of limits) w.ticks) (sym is) (begins_bounded lent.functions (limits_of limits) args w))
+
+-- ---- how it ends
+
+end_fits : (allow : AllowList) (code : List FunCode) (limits : Limits) (e : held.End) (w : World) → FitsNext allow code limits (ended e w) → EndFits code e × ReachesAllowed allow w
+end_fits allow code limits (end.Result result) w fits = fits
+end_fits allow code limits (end.Thrown id) w fits = (tt, fits)
+end_fits allow code limits (end.Limit limit) w fits = (tt, fits)
+end_fits allow code limits end.Stuck w fits = absurd fits
+
+ends_fitting : (allow : AllowList) (code : List FunCode) (limits : Limits) (steps : ℕ) (e : held.End) (w : World) (now : Option Next) → now ≡ Some (ended e w) → KeepsFrom allow code limits steps now
+    → EndFits code e × ReachesAllowed allow w
+ends_fitting allow code limits steps e w now is k =
+    let keeps : Keeps allow code limits steps (ended e w) = subst (KeepsFrom allow code limits steps) is k in
+    end_fits allow code limits e w keeps.fits
+
+pub leaves_fitting : (r : RunUnder) (o : Option Outcome) → IsVerified r.allow r.run → Leaves r.run o → IfSome o (LeavesFitting r)
+leaves_fitting r None k l = tt
+leaves_fitting r (Some o) k l =
+    let x = ends_fitting r.allow r.run.code (limits_of r.run.limits) r.run.steps o.end (world_left o l.0) r.run.now l.1 k in
+    record { end = x.0; reached = x.1 }

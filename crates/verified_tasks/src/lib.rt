@@ -1,0 +1,6 @@
+//! Runs of verified code, as tasks that come to an end of their own.
+#![tactic(auto)]
+
+mod activation;
+
+pub use activation::VerifiedActivation;
