@@ -1,0 +1,5 @@
+pub mod Stages
+pub mod Compiling
+pub mod Ends
+pub mod Running
+pub mod Laws
