@@ -3,3 +3,4 @@ pub mod Placed
 pub mod Compiled
 pub mod Ends
 pub mod Runs
+pub mod Texts

@@ -12,7 +12,7 @@ use Rattle.pl_code.specs.declared.code.FunCode.{FunCode}
 use Rattle.run_world.specs.World as run
 use Rattle.run_world.specs.World.{World, Limit, End, Result, Uncaught, Limited}
 use Rattle.typed_tree.specs.declared.program.Program.{Program}
-use Rattle.program_meaning.specs.Programs.{fun_of, program_of}
+use Rattle.program_meaning.specs.Programs.{fun_of, program_of, variable_of}
 use Rattle.program_meaning.specs.Tree.{Variable, Fun}
 use Rattle.program_meaning.specs.Meaning.{Env, Out, Done, Thrown, Over, More, Flow, entry, returned, meaning}
 use Rattle.object_values.specs.declared.object.Owner.TheVariants.{Script as script_text}
@@ -146,12 +146,14 @@ have_none (x ∷ params) none = cc
 pub runs_as_its_program : (script : Script) (store : Store) (limits : Limits) (a : Activation) (q : ℕ) (o : Outcome)
     → a ≡ record { code = script.code.functions; limits = limits; now = Some (start script.code.functions [] (world_at store limits)); steps = 0 }
     → IsTrue (is_over (later q a).now) → LeftBy (later q a) o → RunsAsItsProgram script store limits o
-runs_as_its_program script store limits a q o begun over by p is none reference =
+runs_as_its_program script store limits a q o begun over by context p is none reference =
     let main = fun_of p.main in
     let functions = script.code.functions in
+    let no_params : main.params ≡ [] = is.variables ∙ ap (map variable_of) none in
+    let refers : IsReference main.result = subst IsReference (sym is.result) reference in
     let w = world_at store limits in
-    let out = programs_end p functions is.formed is.code (limits_of limits) [] (have_none main.params none) w in
-    let words : out.words ≡ [] = no_words out.words main.params none out.are.are in
+    let out = programs_end p functions is.formed is.code (limits_of limits) [] (have_none main.params no_params) w in
+    let words : out.words ≡ [] = no_words out.words main.params no_params out.are.are in
     let b : Activation = record { code = functions; limits = limits; now = Some (start functions [] w); steps = 0 } in
     let stands : (later q b).now ≡ Some (Ends out.end) =
     ends_there b (start functions [] w) out.end refl (subst (λ ws. EndsAs functions (limits_of limits) (start functions ws w) out.end) words out.code_ends) q
@@ -163,7 +165,7 @@ runs_as_its_program script store limits a q o begun over by p is none reference 
       left = by.left;
       ends = record {
         bound = bound;
-        is = end_read p (limits_of limits) bound main (whole_layer (out-Ty main.result) reference) (entry main.params [] []) w by.end o.end (world_left o by.left) by.read out.end (out.ends.always bound (omega arith)) same;
+        is = end_read p (limits_of limits) bound main (whole_layer (out-Ty main.result) refers) (entry main.params [] []) w by.end o.end (world_left o by.left) by.read out.end (out.ends.always bound (omega arith)) same;
       };
       ticks = by.ticks ∙ ap (λ x. (later q x).limits.ticks - by.left) begun;
     }

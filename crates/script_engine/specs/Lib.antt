@@ -1,4 +1,5 @@
 pub mod Stages
+pub mod Programs
 pub mod Compiling
 pub mod Ends
 pub mod Running

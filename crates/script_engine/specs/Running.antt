@@ -8,7 +8,7 @@ use Rattle.object_heap.specs.declared.outcome.End.TheVariants as l
 use Rattle.object_heap.specs.declared.outcome.Outcome.{Outcome}
 use Rattle.run_world.specs.World.{World, End, Result, Uncaught, Limited}
 use Rattle.typed_tree.specs.declared.program.Program.{Program}
-use Rattle.program_meaning.specs.Programs.{fun_of}
+use Rattle.typing_rules.specs.declared.header.ContextTypes.{ContextTypes}
 use Rattle.program_types.specs.Types.{IsReference}
 use Rattle.code_meaning.specs.declared.word.Word.{Word}
 use Rattle.code_meaning.specs.declared.word.Word.TheVariants.{I, J, R}
@@ -62,7 +62,7 @@ pub record IsOutcome (p : Program) (store : Store) (limits : Limits) (o : Outcom
   pub ends : RunsTo p (limits_of limits) [] (world_at store limits) (end_seen o.end (world_left o left))
   pub ticks : o.ticks ≡ limits.ticks - left
 
--- A script without variables, whose result is a reference, runs as each program does that it is of.
+-- A script of a context without variables, whose result is a reference, runs as its program does.
 abbrev pub RunsAsItsProgram : Script → Store → Limits → Outcome → Type 0
 RunsAsItsProgram script store limits o =
-    (p : Program) → IsScriptOf p script → (fun_of p.main).params ≡ [] → IsReference (fun_of p.main).result → IsOutcome p store limits o
+    (context : ContextTypes) (p : Program) → IsScriptOf context p script → context.variables ≡ [] → IsReference context.result → IsOutcome p store limits o

@@ -1,12 +1,13 @@
 //! From a text to its script.
 
-ghost use Rattle.std.specs.Prelude.{◌≡◌, ◌≤◌, List, ℕ, Result, length, map};
+ghost use Rattle.std.specs.Prelude.{◌≡◌, ◌≤◌, Result, length};
 ghost use Rattle.pl_types.specs.Answers.{Answers};
 ghost use Rattle.pl_types.specs.declared.refusal.Refusal.{Refusal};
 ghost use Rattle.pl_grammar.specs.Lexeme.{AllLieIn};
 ghost use Rattle.typed_tree.specs.declared.program.Program as typed;
 ghost use Rattle.typing_laws.specs.Laws.{IsContext};
-ghost use Rattle.script_engine.specs.Compiling.{TypesTree, TypesTokens, IsProgramOf, Compiles};
+ghost use Rattle.script_engine.specs.Programs.{TypesTree, TypesTokens, IsProgramOf};
+ghost use Rattle.script_engine.specs.Compiling.{Compiles};
 
 use allowlist::Allow;
 use code_generator::generate;
@@ -18,7 +19,6 @@ use pl_types::Fail;
 use static_types::{ContextTypes, elaborate};
 use std::alloc::Global;
 use typed_tree::Program;
-use typing_laws::typed_programs_are_well_formed;
 
 /// A script that was compiled.
 pub struct Script {
@@ -87,10 +87,9 @@ pub fn compile(
     context: &ContextTypes,
 ) -> Result<Script, Fail>
     requires context { IsContext context.now }
-    ensures exact { Compiles (IsProgramOf allow.now context.now text.now) result }
-    ensures only { (reading : Result typed.Program Refusal) → IsProgramOf allow.now context.now text.now reading → Compiles (λ a. a ≡ reading) result }
+    ensures exact { Compiles context.now (IsProgramOf allow.now context.now text.now) result }
+    ensures only { (reading : Result typed.Program Refusal) → IsProgramOf allow.now context.now text.now reading → Compiles context.now (λ a. a ≡ reading) result }
 {
-    typed_programs_are_well_formed();
     let program = program_of(alloc, allow, context, text)?;
     match generate(alloc, &program) {
         Ok(code) => Ok(Script { code }),

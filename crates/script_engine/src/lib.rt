@@ -6,4 +6,4 @@ mod laws;
 mod running;
 
 pub use compiling::{Script, compile};
-pub use laws::programs_run_to_one_end;
+pub use laws::script_laws;

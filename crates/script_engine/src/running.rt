@@ -11,27 +11,27 @@ use object_values::{Elements, Value};
 use std::alloc::AllocError;
 use task_core::Turn;
 
-/// The value of a word.
-fn value_of(word: Option<Word>) -> Value
-    ensures { result ≡ value_of word }
+/// The value of a word. It takes memory for a text alone.
+fn value_of(word: &Option<Word>) -> Result<Value, AllocError>
+    ensures { IfOk result (λ value. value ≡ value_of word.now) }
 {
     match word {
-        None => Value::Null,
-        Some(Word::I(number)) => Value::Int(number),
-        Some(Word::J(number)) => Value::Long(number),
-        Some(Word::R(value)) => value,
+        None => Ok(Value::Null),
+        Some(Word::I(number)) => Ok(Value::Int(*number)),
+        Some(Word::J(number)) => Ok(Value::Long(*number)),
+        Some(Word::R(value)) => value.share(),
     }
 }
 
 /// The end of a run, with its value.
-fn end_left(end: code_machine::End) -> Option<End>
-    ensures { result ≡ end_left end }
+fn end_left(end: &code_machine::End) -> Result<Option<End>, AllocError>
+    ensures { IfOk result (λ left. left ≡ end_left end.now) }
 {
     match end {
-        code_machine::End::Result(word) => Some(End::Value(value_of(word))),
-        code_machine::End::Thrown(id) => Some(End::Thrown(id)),
-        code_machine::End::Limit(which) => Some(End::Limit(which)),
-        code_machine::End::Stuck => None,
+        code_machine::End::Result(word) => Ok(Some(End::Value(value_of(word)?))),
+        code_machine::End::Thrown(id) => Ok(Some(End::Thrown(*id))),
+        code_machine::End::Limit(which) => Ok(Some(End::Limit(*which))),
+        code_machine::End::Stuck => Ok(None),
     }
 }
 
@@ -49,7 +49,7 @@ fn left(activation: Activation<'_>) -> Result<Outcome, AllocError>
         steps,
         reached,
     } = ran;
-    match end_left(end) {
+    match end_left(&end)? {
         Some(end) => Ok(Outcome {
             end,
             heap,
