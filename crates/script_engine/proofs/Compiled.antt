@@ -1,12 +1,10 @@
 -- Programs that typing gives, and their scripts.
-use Rattle.std.proofs.Common.{◌≡◌, ℕ, List, [], true, false, map, Result, Ok, Err, refl, sym, ap, ◌∙◌, subst}
+use Rattle.std.proofs.Common.{◌≡◌, ℕ, List, [], true, false, map, Result, Ok, Err, refl, sym, ◌∙◌}
 use Rattle.pl_types.specs.Answers.{Answers}
 use Rattle.pl_types.specs.declared.refusal.Refusal.{Refusal}
 use Rattle.pl_types.specs.declared.refusal.Fail.{Fail}
 use Rattle.pl_types.specs.declared.refusal.Fail.TheVariants.{Refused, NoMemory}
 use Rattle.pl_lexer.specs.declared.token.Token.{Token}
-use Rattle.pl_lexer.specs.Tokens.{Lexes}
-use Rattle.pl_grammar.specs.Parses.{Parses}
 use Rattle.pl_tree.specs.declared.tree.Tree.{Tree}
 use Rattle.typing_rules.specs.Outcomes.{Out, bind, Keeps}
 use Rattle.typing_rules.specs.declared.header.ContextTypes.{ContextTypes}
@@ -19,10 +17,9 @@ use Rattle.program_code.specs.Correct.{IsCodeOf}
 use Rattle.typing_laws.specs.Laws.{IsContext}
 use Rattle.typing_laws.proofs.Parts.{passed, accepted, settled}
 use Rattle.typing_laws.proofs.Functions.{typing_is_sound}
-use Rattle.allowlist.specs.Allow.{AllowList, class_named_of}
+use Rattle.allowlist.specs.Allow.{AllowList}
 use Rattle.script_engine.specs.declared.compiling.Script.{Script}
-use Rattle.script_engine.specs.Stages.{GoesOn, Then}
-use Rattle.script_engine.specs.Programs.{TypesTree, TypesTokens, IsProgramOf}
+use Rattle.script_engine.specs.Programs.{TypesTokens, IsProgramOf}
 use Rattle.script_engine.specs.Compiling.{IsScriptOf, Compiles}
 
 -- what keeps to a definition answers it, and nothing else
@@ -73,3 +70,9 @@ is_script allow context text p script good h code =
     let tree = typed_from allow context text p h in
     let has = has_context context tree.0 p tree.1 in
     record { formed = typing_is_sound context tree.0 p good tree.1; code = code; variables = has.variables; result = has.result }
+
+-- a text without a program has no script
+pub fails_only : (context : ContextTypes) (fail : Fail) (reading : Result Program Refusal) → Answers {X = Program} (λ p. p) (Err fail) (λ a. a ≡ reading)
+    → Compiles context (λ a. a ≡ reading) (Err fail)
+fails_only context (Refused refusal) reading h = h
+fails_only context NoMemory reading h = tt

@@ -1,5 +1,5 @@
 -- A run of a script is that of its program.
-use Rattle.std.proofs.Common.{◌≡◌, ℕ, ◌+◌, ◌-◌, ◌≤◌, ◌<◌, List, [], ◌∷◌, map, Option, Some, None, option_map, IsTrue, inl, inr, ◌⊎◌, refl, sym, subst, ap, ◌∙◌, arith}
+use Rattle.std.proofs.Common.{◌≡◌, ℕ, ◌-◌, ◌≤◌, ◌<◌, List, [], ◌∷◌, map, Option, Some, None, option_map, IsTrue, inl, inr, ◌⊎◌, refl, sym, subst, ap, ◌∙◌, arith}
 use Rattle.std.proofs.lemmas.Bool.{cases_order}
 use Rattle.pl_types.specs.declared.ty.Ty.{Ty, out-Ty}
 use Rattle.pl_types.specs.declared.ty.Ty.TheOpen.{Ty-F}
@@ -8,7 +8,6 @@ use Rattle.object_heap.specs.Store.{Store}
 use Rattle.object_heap.specs.declared.outcome.End as left_end
 use Rattle.object_heap.specs.declared.outcome.End.TheVariants as l
 use Rattle.object_heap.specs.declared.outcome.Outcome.{Outcome}
-use Rattle.pl_code.specs.declared.code.FunCode.{FunCode}
 use Rattle.run_world.specs.World as run
 use Rattle.run_world.specs.World.{World, Limit, End, Result, Uncaught, Limited}
 use Rattle.typed_tree.specs.declared.program.Program.{Program}
@@ -19,10 +18,9 @@ use Rattle.object_values.specs.declared.object.Owner.TheVariants.{Script as scri
 use Rattle.program_types.specs.Types.{IsReference, is_reference_layer, HaveAll}
 use Rattle.program_types.specs.Agreeing.{types_in}
 use Rattle.program_types.specs.Enough.{enough}
-use Rattle.program_code.specs.Lying.{Lying, Whole, lying_of, lying_of_layer, low}
+use Rattle.program_code.specs.Lying.{Whole, lying_of, lying_of_layer, low}
 use Rattle.program_code.specs.Correct as code
 use Rattle.program_code.specs.Correct.{EndsAs, Words}
-use Rattle.program_outcome.specs.Outcome as outcome
 use Rattle.program_outcome.proofs.Outcome.{programs_end}
 use Rattle.code_meaning.specs.declared.word.Word.{Word}
 use Rattle.code_meaning.specs.Machine as code_config
@@ -31,12 +29,12 @@ use Rattle.code_machine.specs.declared.configuration.Limits.{Limits}
 use Rattle.code_machine.specs.declared.configuration.End as run_end
 use Rattle.code_machine.specs.declared.configuration.End.TheVariants as r
 use Rattle.code_machine.specs.Seen.{limits_of, limit_of, ended}
-use Rattle.code_machine.specs.Activations.{Activation, later, is_over}
+use Rattle.task_core.specs.declared.task.Turn.TheVariants as turn
+use Rattle.code_machine.specs.Activations.{Activation, later, is_over, Turned}
 use Rattle.code_machine.proofs.Turning.{comes_to_its_end}
 use Rattle.script_engine.specs.declared.compiling.Script.{Script}
-use Rattle.script_engine.specs.Compiling.{IsScriptOf}
-use Rattle.script_engine.specs.Ends.{end_of, end_in, end_with, RunsTo}
-use Rattle.script_engine.specs.Running.{value_of, end_left, end_seen, world_left, world_at, LeftBy, IsOutcome, RunsAsItsProgram}
+use Rattle.script_engine.specs.Ends.{end_of, end_in, end_with}
+use Rattle.script_engine.specs.Running.{value_of, end_left, end_seen, world_left, world_at, LeftBy, RunsAsItsProgram}
 
 -- ---- where a run of code stands that has ended
 
@@ -51,10 +49,10 @@ first_or_last n m = elim (cases_order n m) [
 
 ends_there : (a : Activation) (from : Next) (end : End (Option Word)) → a.now ≡ Some from → EndsAs a.code (limits_of a.limits) from end → (q : ℕ)
     → IsTrue (is_over (later q a).now) → (later q a).now ≡ Some (Ends end)
-ends_there a from end stands as q over = elim (first_or_last as.steps q) [
-  | inl within ↦ comes_to_its_end a from as.steps q end stands as.ends within
+ends_there a from end stands ran q over = elim (first_or_last ran.steps q) [
+  | inl within ↦ comes_to_its_end a from ran.steps q end stands ran.ends within
   | inr early ↦
-    (let c = as.before q early in
+    (let c = ran.before q early in
     let goes : (later q a).now ≡ Some (Goes c.0) = ap (option_map (after a.code (limits_of a.limits) q)) stands ∙ ap (λ n. Some n) c.1 in
     absurd (not_going c.0 (subst (λ now. IsTrue (is_over now)) goes over)))
 ]
@@ -91,8 +89,11 @@ not_thrown : (of : Ty) (value : Option Value) (s w : World) (id : ℕ) → code.
 not_thrown of None s w id is = cc
 not_thrown of (Some value) s w id is = cc
 
-thrown_at : (id other : ℕ) (s w : World) → id ≡ other → s ≡ w → Some (Uncaught {A = Value} id s) ≡ Some (Uncaught other w)
-thrown_at id other s w i e = ap (λ x. Some (Uncaught x s)) i ∙ ap (λ x. Some (Uncaught other x)) e
+abbrev uncaught : ℕ → World → Option (End Value)
+uncaught id w = Some (Uncaught id w)
+
+thrown_at : (id other : ℕ) (s w : World) → id ≡ other → s ≡ w → uncaught id s ≡ uncaught other w
+thrown_at id other s w i e = ap (λ x. uncaught x s) i ∙ ap (uncaught other) e
 
 thrown_end : (of : Ty) (o : Out Flow) (id : ℕ) (w : World) → code.end_of of o ≡ Some (Uncaught id w) → end_of of o ≡ Some (Uncaught id w)
 thrown_end of (Done flow s e) id w is = absurd (not_thrown of (returned of flow) s.world w id is)
@@ -104,8 +105,11 @@ not_limited : (of : Ty) (value : Option Value) (s w : World) (limit : Limit) →
 not_limited of None s w limit is = cc
 not_limited of (Some value) s w limit is = cc
 
-limited_at : (limit other : Limit) (s w : World) → limit ≡ other → s ≡ w → Some (Limited {A = Value} limit s) ≡ Some (Limited other w)
-limited_at limit other s w l e = ap (λ x. Some (Limited x s)) l ∙ ap (λ x. Some (Limited other x)) e
+abbrev limited : Limit → World → Option (End Value)
+limited limit w = Some (Limited limit w)
+
+limited_at : (limit other : Limit) (s w : World) → limit ≡ other → s ≡ w → limited limit s ≡ limited other w
+limited_at limit other s w l e = ap (λ x. limited x s) l ∙ ap (limited other) e
 
 limited_end : (of : Ty) (o : Out Flow) (limit : Limit) (w : World) → code.end_of of o ≡ Some (Limited limit w) → end_of of o ≡ Some (Limited limit w)
 limited_end of (Done flow s e) limit w is = absurd (not_limited of (returned of flow) s.world w limit is)
@@ -169,3 +173,10 @@ runs_as_its_program script store limits a q o begun over by context p is none re
       };
       ticks = by.ticks ∙ ap (λ x. (later q x).limits.ticks - by.left) begun;
     }
+
+-- .. and so does what a turn that came to the end has left
+pub turned_runs : (script : Script) (store : Store) (limits : Limits) (a new : Activation) (q : ℕ) (o : Outcome)
+    → a ≡ record { code = script.code.functions; limits = limits; now = Some (start script.code.functions [] (world_at store limits)); steps = 0 }
+    → Turned q a new turn.Done → LeftBy new o → RunsAsItsProgram script store limits o
+turned_runs script store limits a new q o begun turned by =
+    runs_as_its_program script store limits a q o begun (subst (λ x. IsTrue (is_over x.now)) turned.0 turned.1) (subst (λ x. LeftBy x o) turned.0 by)

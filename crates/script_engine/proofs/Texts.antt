@@ -8,7 +8,6 @@ use Rattle.pl_tree.specs.declared.tree.Tree.{Tree}
 use Rattle.allowlist.specs.Allow.{AllowList, class_named_of}
 use Rattle.typing_rules.specs.declared.header.ContextTypes.{ContextTypes}
 use Rattle.typing_rules.specs.Typing.{typing_of}
-use Rattle.typed_tree.specs.declared.program.Program.{Program}
 use Rattle.script_engine.specs.Stages.{GoesOn, Then}
 use Rattle.script_engine.specs.Programs.{TypesTree, TypesTokens, IsProgramOf}
 

@@ -1,5 +1,5 @@
 -- What a run of a script leaves.
-use Rattle.std.specs.Prelude.{◌≡◌, ℕ, ◌-◌, List, [], Option, Some, None, pos}
+use Rattle.std.specs.Prelude.{◌≡◌, ℕ, ◌-◌, [], Option, Some, None}
 use Rattle.object_values.specs.declared.value.Value.{Value}
 use Rattle.object_values.specs.declared.value.Value.TheVariants as v
 use Rattle.object_heap.specs.Store.{Store}
