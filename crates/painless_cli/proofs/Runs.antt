@@ -21,11 +21,11 @@ use Rattle.script_engine.specs.Stages.{GoesOn, Then}
 use Rattle.script_engine.specs.Programs.{IsProgramOf}
 use Rattle.script_engine.specs.Compiling.{IsScriptOf, Compiles}
 use Rattle.script_engine.specs.Ends.{RunsTo}
-use Rattle.script_engine.specs.Running.{end_seen, world_left, IsOutcome}
+use Rattle.script_engine.specs.Running.{end_seen, world_left, IsOutcome, RunsAsItsProgram}
 use Rattle.script_engine.proofs.Ends.{ends_once}
 use Rattle.painless_cli.specs.declared.reply.Answer.{Answer}
 use Rattle.painless_cli.specs.Script.{Decodes, eval_types, eval_limits, eval_world, RunsProgram, MeansText, Means}
-use Rattle.painless_cli.specs.Outcomes.{EndsSo, Comes, RunsAsEval}
+use Rattle.painless_cli.specs.Outcomes.{EndsSo, Comes, machine_limits, RunsAsEval}
 use Rattle.painless_cli.specs.Told.{told_by}
 use Rattle.painless_cli.specs.Whole.{Told, which_of, reply_to, told_of, TellsScript}
 
@@ -109,3 +109,10 @@ pub tells_refusal_only : (script : List ℕ) (refusal : Refusal) (result : Resul
     → IfOk result (λ a. told_by a ≡ told_of (Err refusal)) → (told : Told) → TellsScript script told → IfOk result (λ a. told ≡ told_by a)
 tells_refusal_only script refusal (Ok a) only h told (answer, means, is) = is ∙ ap told_of (sym (only answer means)) ∙ sym h
 tells_refusal_only script refusal (Err error) only h told t = tt
+
+-- ---- the run
+
+-- `eval` has no variables, and its result is a reference
+pub runs_as_eval : (script : Script) (result : Result Outcome AllocError) → IfOk result (RunsAsItsProgram script eval_world.store machine_limits) → IfOk result (RunsAsEval script)
+runs_as_eval script (Ok o) h = λ p is. h eval_types p is refl tt
+runs_as_eval script (Err error) h = tt
