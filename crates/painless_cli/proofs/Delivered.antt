@@ -1,20 +1,17 @@
 -- What a run leaves in its sink.
-use Rattle.std.proofs.Common.{◌≡◌, ℕ, ◌<◌, ◌≤◌, inl, inr, List, [], length, replicate, Option, None, Some, IfSome, Result, Ok, Err, IfOk, refl, sym, ap, subst, ◌∙◌, append-nil, suc, arith}
+use Rattle.std.proofs.Common.{◌≡◌, ℕ, ◌<◌, ◌≤◌, inl, inr, List, [], length, replicate, Option, None, Some, IfSome, Bool, true, false, Result, Ok, Err, refl, sym, ap, subst, ◌∙◌, append-nil, suc, arith}
 use Rattle.std.proofs.lemmas.List.{length-replicate}
-use Rattle.std.specs.declared.alloc.AllocError.{AllocError}
 use Rattle.std.specs.Io.KnownBytes.{Appends}
 use Rattle.outer_io.specs.Front.{AppendsFront}
 use Rattle.painless_cli.specs.declared.status.Status.{Status}
 use Rattle.painless_cli.specs.declared.status.Status.TheVariants as s
 use Rattle.pl_types.specs.declared.refusal.Refusal.{Refusal}
-use Rattle.script_end.specs.declared.end.End.{End}
-use Rattle.script_end.specs.declared.end.End.TheVariants.{Value, Thrown}
-use Rattle.script_end.specs.declared.end.Exception.TheVariants.{DivisionByZero}
-use Rattle.painless_cli.specs.declared.reply.Answer.{Answer}
-use Rattle.painless_cli.specs.Told.{told_by}
+use Rattle.object_values.specs.declared.value.Value.{Value}
+use Rattle.run_world.specs.World.{End}
+use Rattle.json_replies.specs.Replies.{is_error}
 use Rattle.painless_cli.proofs.Once.{same_name}
 use Rattle.painless_cli.specs.Script.{Means}
-use Rattle.painless_cli.specs.Whole.{Told, told_of, silent, TellsScript, TellsFile, IsEval, Tells, file_limit}
+use Rattle.painless_cli.specs.Whole.{Told, reply_to, status_of, told_of, silent, TellsScript, TellsFile, IsEval, Tells, file_limit}
 use Rattle.painless_cli.specs.Delivers.{Delivers}
 
 pub nothing : (old : Option (List ℕ)) → Appends old old []
@@ -61,23 +58,14 @@ pub shown_long : (known : Option (List ℕ → Option (List ℕ))) (name : List 
 shown_long None name h = let long = long_list file_limit in (λ _. Some long.0, tt, (long.0, refl, long.1))
 shown_long (Some k) name h = (k, refl, h)
 
--- where a script has one answer, one thing is told of it
-pub one_told : (script : List ℕ) (answer : Result (Option End) Refusal) (told told' : Told) → ((reading : Result (Option End) Refusal) → Means script reading → answer ≡ reading)
-    → told_of answer ≡ told → TellsScript script told' → told' ≡ told
-one_told script answer told told' one e h = h.2 ∙ ap told_of (sym (one h.0 h.1)) ∙ e
+delivers_reply : (script : List ℕ) (end : End Value) (old new : Option (List ℕ)) → Means script (Ok end) → Appends old new (told_of (Ok end)).bytes
+    → (error : Bool) → is_error (reply_to end) ≡ error → Delivers (TellsScript script) (status_of error) old new
+delivers_reply script end old new m appended true is = (told_of (Ok end), (Ok end, m, refl), ap status_of is, appended)
+delivers_reply script end old new m appended false is = (told_of (Ok end), (Ok end, m, refl), ap status_of is, appended)
 
--- .. and an answer of the code that is told of it is that
-pub only_if_ok : (script : List ℕ) (answer : Result (Option End) Refusal) (result : Result Answer AllocError) → ((reading : Result (Option End) Refusal) → Means script reading → answer ≡ reading)
-    → IfOk result (λ a. told_by a ≡ told_of answer) → (told : Told) → TellsScript script told → IfOk result (λ a. told ≡ told_by a)
-only_if_ok script answer (Ok a) one e told h = one_told script answer (told_by a) told one (sym e) h
-only_if_ok script answer (Err error) one e told h = tt
-
-delivers_answer : (script : List ℕ) (answer : Result (Option End) Refusal) (old new : Option (List ℕ)) → Means script answer → Appends old new (told_of answer).bytes
+delivers_answer : (script : List ℕ) (answer : Result (End Value) Refusal) (old new : Option (List ℕ)) → Means script answer → Appends old new (told_of answer).bytes
     → Delivers (TellsScript script) (told_of answer).status old new
-delivers_answer script (Ok None) old new m appended = (told_of (Ok None), (Ok None, m, refl), refl, appended)
-delivers_answer script (Ok (Some (Value value))) old new m appended = (told_of (Ok (Some (Value value))), (Ok (Some (Value value)), m, refl), refl, appended)
-delivers_answer script (Ok (Some (Thrown DivisionByZero))) old new m appended =
-    (told_of (Ok (Some (Thrown DivisionByZero))), (Ok (Some (Thrown DivisionByZero)), m, refl), refl, appended)
+delivers_answer script (Ok end) old new m appended = delivers_reply script end old new m appended (is_error (reply_to end)) refl
 delivers_answer script (Err refusal) old new m appended = (told_of (Err refusal), (Err refusal, m, refl), refl, appended)
 
 -- what is told of a script was written whole

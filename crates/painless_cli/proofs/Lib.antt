@@ -1,7 +1,6 @@
 pub mod Delivered
 pub mod Once
-pub mod Placed
-pub mod Stages
+pub mod Runs
 pub mod Utf8
 pub mod TwoWords
 pub mod Some

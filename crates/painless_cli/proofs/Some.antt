@@ -6,27 +6,15 @@ use Rattle.std.proofs.lemmas.Str.{IsUtf8-nil, IsUtf8-from_is_utf8, is_utf8-from_
 use Rattle.std.proofs.lemmas.Slice.Eq.{bytes_eq-Decides}
 use Rattle.std.specs.Str.{IsUtf8, is_utf8, IsValidUpTo, bytes_eq}
 use Rattle.pl_types.specs.declared.refusal.Refusal.{Refusal}
-use Rattle.pl_lexer.specs.declared.token.Token.{Token}
-use Rattle.pl_lexer.specs.Tokens.{Lexes}
-use Rattle.pl_grammar.specs.Parses.{Parses}
-use Rattle.pl_tree.specs.declared.tree.Tree.{Tree}
-use Rattle.pl_tree.specs.declared.typed.Typed.{Typed}
-use Rattle.script_end.specs.declared.end.End.{End}
-use Rattle.int_typing.specs.Typing.{typed_of}
+use Rattle.allowlist.specs.Allow.{full_list}
+use Rattle.typed_tree.specs.declared.program.Program.{Program}
+use Rattle.typing_laws.specs.Laws.{IsContext}
+use Rattle.script_engine.specs.Programs.{IsProgramOf}
+use Rattle.script_engine.specs.Laws.{TextsAreAnswered, ProgramsEnd}
+use Rattle.script_engine.proofs.Texts.{Answered, then_some}
 use Rattle.painless_cli.specs.declared.status.Status.TheVariants as s
-use Rattle.painless_cli.specs.Script.{end_of, GoesOn, Then, Decodes, no_classes, MeansTree, MeansTokens, MeansText, Means}
+use Rattle.painless_cli.specs.Script.{Decodes, eval_types, eval_limits, eval_world, MeansText, Means}
 use Rattle.painless_cli.specs.Whole.{Told, told_of, silent, file_limit, TellsScript, TellsFile, IsEval, Tells}
-
--- there is an answer
-abbrev Answered : {A : Type 0} → (A → Type 0) → Type 0
-Answered {A} P = (a : A) × P a
-
-goes_some : {A B : Type 0} (Next : A → Result B Refusal → Type 0) → ((x : A) → Answered (Next x)) → (r : Result A Refusal) → Answered (GoesOn Next r)
-goes_some Next next (Ok x) = next x
-goes_some Next next (Err refusal) = (Err refusal, refl)
-
-then_some : {A B : Type 0} (First : Result A Refusal → Type 0) (Next : A → Result B Refusal → Type 0) → Answered First → ((x : A) → Answered (Next x)) → Answered (Then First Next)
-then_some First Next first next = let n = goes_some Next next first.0 in (n.0, (first.0, first.1, n.1))
 
 contradicts : {b : Bool} → b ≡ true → b ≡ false → ⊥
 contradicts holds fails = cc
@@ -63,10 +51,6 @@ decodes_some bytes = by (is_utf8 bytes) refl
         (λ m from text. contradicts (is_utf8-from_IsUtf8 bytes (subst IsUtf8 (take_all m bytes from) text)) is) in
         (Err (record { number = 1; offset = front.0 }), (refl, front.1))
 
-tree_some : (tree : Tree) → Answered (MeansTree tree)
-tree_some tree = then_some (λ (typed : Result (Option Typed) Refusal). typed ≡ typed_of tree) (λ (typed : Option Typed) (answer : Result (Option End) Refusal). answer ≡ Ok (end_of typed))
-    (typed_of tree, refl) (λ typed. (Ok (end_of typed), refl))
-
 -- the words are the command and a name, or not
 is_eval : (words : List (List ℕ)) → ((name : List ℕ) × IsEval words name) ⊎ ((name : List ℕ) → IsEval words name → ⊥)
 is_eval [] = inr (λ name e. cc)
@@ -81,10 +65,18 @@ is_eval (word ∷ name ∷ []) = by (bytes_eq word (codes "eval")) refl
     by false is = inr (λ other e. (let same : word ≡ codes "eval" = same_first other e in search (rules, bytes_eq-Decides)))
 is_eval (word ∷ name ∷ next ∷ rest) = inr (λ other e. cc)
 
-module _ (lexes : (text : List ℕ) (names : List ℕ → Option ℕ) → Answered (Lexes text names)) (parses : (text : List ℕ) (tokens : List Token) → Answered (Parses text tokens)) where
+is_context : IsContext eval_types
+is_context = record { distinct = tt; present = tt }
+
+module _ (texts : TextsAreAnswered) (ends : ProgramsEnd) where
+  goes_on : (text : List ℕ) (reading : Result Program Refusal) → IsProgramOf full_list eval_types text reading → Answered (MeansText text)
+  goes_on text (Ok p) is =
+      let end = ends full_list eval_types text p is_context is eval_limits [] tt eval_world in
+      (Ok end.0, (Ok p, is, (end.0, end.1, refl)))
+  goes_on text (Err refusal) is = (Err refusal, (Err refusal, is, refl))
+
   text_some : (text : List ℕ) → Answered (MeansText text)
-  text_some text = then_some (Lexes text no_classes) (MeansTokens text) (lexes text no_classes)
-      (λ tokens. then_some (Parses text tokens) MeansTree (parses text tokens) tree_some)
+  text_some text = let read = texts full_list eval_types text in goes_on text read.0 read.1
 
   means_some : (script : List ℕ) → Answered (Means script)
   means_some script = then_some (Decodes script) MeansText (decodes_some script) text_some

@@ -1,5 +1,5 @@
 pub mod Script
-pub mod Reply
 pub mod Whole
 pub mod Told
+pub mod Outcomes
 pub mod Delivers

@@ -1,13 +1,16 @@
 -- What the program is to write, and how it is to end: from the words and from what the files hold.
-use Rattle.std.specs.Prelude.{◌≡◌, ℕ, ◌≤◌, ◌<◌, List, [], ◌∷◌, Option, Some, None, Result, Ok, Err, ◌⊎◌, length, codes}
+use Rattle.std.specs.Prelude.{◌≡◌, ℕ, ◌≤◌, ◌<◌, List, [], ◌∷◌, Bool, if◌then◌else◌, Option, Some, None, Result, Ok, Err, ◌⊎◌, length, codes}
 use Rattle.pl_types.specs.declared.refusal.Refusal.{Refusal}
 use Rattle.painless_cli.specs.declared.status.Status.{Status}
 use Rattle.painless_cli.specs.declared.status.Status.TheVariants as s
-use Rattle.script_end.specs.declared.end.End.{End}
-use Rattle.script_end.specs.declared.end.End.TheVariants.{Value, Thrown}
-use Rattle.script_end.specs.declared.end.Exception.TheVariants.{DivisionByZero}
+use Rattle.serde_json.specs.Data.{Data}
+use Rattle.object_values.specs.declared.value.Value.{Value}
+use Rattle.object_heap.specs.declared.outcome.Which.{Which}
+use Rattle.object_heap.specs.declared.outcome.Which.TheVariants as which
+use Rattle.object_heap.specs.declared.outcome.End.TheVariants as e
+use Rattle.run_world.specs.World.{Limit, Loop, Depth, Ticks, Room, End, Result as Gives, Uncaught, Limited}
+use Rattle.json_replies.specs.Replies.{is_error, line_of, refusal_of, reply_of}
 use Rattle.painless_cli.specs.Script.{Means}
-use Rattle.painless_cli.specs.Reply.{value_line, null_line, division_line, refusal_line}
 
 -- how a run ends, and the bytes that it writes
 pub record Told : Type 0 where
@@ -18,16 +21,29 @@ pub record Told : Type 0 where
 abbrev pub silent : Status → Told
 silent status = record { status = status; bytes = [] }
 
--- what is told of what a script comes to
-abbrev pub told_of : Result (Option End) Refusal → Told
-told_of (Ok None) = record { status = s.Done; bytes = null_line }
-told_of (Ok (Some (Value value))) = record { status = s.Done; bytes = value_line value }
-told_of (Ok (Some (Thrown DivisionByZero))) = record { status = s.SomeErrors; bytes = division_line }
-told_of (Err refusal) = record { status = s.Refused; bytes = refusal_line refusal }
+abbrev pub which_of : Limit → Which
+which_of Loop = which.Loop
+which_of Depth = which.Depth
+which_of Ticks = which.Ticks
+which_of Room = which.Room
+
+-- the reply to an end
+abbrev pub reply_to : End Value → Data
+reply_to (Gives value w) = reply_of (e.Value value) w.store.objects
+reply_to (Uncaught id w) = reply_of (e.Thrown id) w.store.objects
+reply_to (Limited limit w) = reply_of (e.Limit (which_of limit)) w.store.objects
+
+abbrev pub status_of : Bool → Status
+status_of error = if error then s.SomeErrors else s.Done
+
+-- what is told of what a script comes to: its reply, or its refusal
+abbrev pub told_of : Result (End Value) Refusal → Told
+told_of (Ok end) = record { status = status_of (is_error (reply_to end)); bytes = line_of (reply_to end) }
+told_of (Err refusal) = record { status = s.Refused; bytes = line_of (refusal_of refusal) }
 
 -- what is told of a script's bytes
 abbrev pub TellsScript : List ℕ → Told → Type 0
-TellsScript script told = (answer : Result (Option End) Refusal) × Means script answer × (told ≡ told_of answer)
+TellsScript script told = (answer : Result (End Value) Refusal) × Means script answer × (told ≡ told_of answer)
 
 -- the most bytes that a file may have
 abbrev pub file_limit : ℕ

@@ -7,8 +7,7 @@ use crate::report::Report;
 use crate::status::Status;
 use crate::top::painless;
 use outer_io::{Source, SureFiles, SureSink};
-use pl_grammar_laws::grammar_laws;
-use pl_lexer::each_text_has_one_reading;
+use script_engine::script_laws;
 use std::alloc::Global;
 
 /// A law of the definition of the whole, which runs nothing: the words, over files of one content, are told exactly one
@@ -17,8 +16,7 @@ pub fn one_thing_is_told()
     ensures some { (words : List (List ℕ)) (content : List ℕ → Option (List ℕ)) → (told : Told) × Tells words content told }
     ensures once { (words : List (List ℕ)) (content : List ℕ → Option (List ℕ)) (a b : Told) → Tells words content a → Tells words content b → a ≡ b }
 {
-    each_text_has_one_reading();
-    grammar_laws();
+    script_laws();
 }
 
 /// `painless` over files and a sink that never fail: neither is ever said to have failed.

@@ -1,14 +1,17 @@
-//! The lines that a run writes.
+//! The line that a run writes.
 
-ghost use Rattle.std.specs.Prelude.{◌≡◌, ◌≤◌, IfOk, length, string_bytes};
-ghost use Rattle.painless_cli.specs.Reply.{division_line, name_of, null_line, refusal_line, value_line};
-ghost use Rattle.painless_cli.specs.Whole.{TellsScript, Told, told_of, file_limit};
+ghost use Rattle.std.specs.Prelude.{◌≡◌, ◌≤◌, Err, IfOk, Ok, length};
+ghost use Rattle.object_values.specs.declared.value.Value.{Value};
+ghost use Rattle.run_world.specs.World.{End};
+ghost use Rattle.painless_cli.specs.Outcomes.{EndsSo};
+ghost use Rattle.painless_cli.specs.Whole.{TellsScript, Told, told_of, file_limit, status_of};
 ghost use Rattle.painless_cli.specs.Told.{told_by};
 
 use crate::script::run_script;
 use crate::status::Status;
-use pl_types::{Fail, Refusal, name_of_rule, rules};
-use script_end::{End, Exception};
+use json_replies::{refusal_line, reply_line};
+use object_heap::Outcome;
+use pl_types::{Fail, Refusal};
 use std::alloc::{AllocError, Global};
 
 /// A line to write, and the status with which the run ends once it is written.
@@ -18,71 +21,26 @@ pub struct Answer {
     pub line: String,
 }
 
-/// The line of a whole number.
-fn value_line(alloc: Global, value: i32) -> Result<String, AllocError>
-    ensures { IfOk result (λ line. string_bytes line ≡ value_line value) }
+/// The status behind a reply.
+fn status_of(is_error: bool) -> Status
+    ensures { result ≡ status_of is_error }
 {
-    format!(in alloc; "{{\"result\":{value}}}\n")
-}
-
-/// The line of a script that has no statement.
-fn null_line(alloc: Global) -> Result<String, AllocError>
-    ensures { IfOk result (λ line. string_bytes line ≡ null_line) }
-{
-    String::from_str(alloc, "{\"result\":null}\n")
-}
-
-/// The line of a division by zero.
-fn division_line(alloc: Global) -> Result<String, AllocError>
-    ensures { IfOk result (λ line. string_bytes line ≡ division_line) }
-{
-    String::from_str(
-        alloc,
-        "{\"error\":{\"class\":\"ArithmeticException\",\"kind\":\"thrown\",\"message\":\"/ by zero\"}}\n",
-    )
-}
-
-/// The name of the rule of a number, if it is a rule's.
-fn name_of(number: u8) -> &'static str
-    ensures { result.now ≡ name_of number }
-{
-    if 1 <= number && number <= rules::RULE_COUNT {
-        name_of_rule(number)
+    if is_error {
+        Status::SomeErrors
     } else {
-        ""
+        Status::Done
     }
-}
-
-/// The line of a refused script.
-fn refusal_line(alloc: Global, refusal: Refusal) -> Result<String, AllocError>
-    ensures { IfOk result (λ line. string_bytes line ≡ refusal_line refusal) }
-{
-    let name = name_of(refusal.number);
-    let number = refusal.number;
-    let offset = refusal.offset;
-    format!(in alloc;
-        "{{\"refused\":{{\"name\":\"{name}\",\"number\":{number},\"offset\":{offset}}}}}\n"
-    )
 }
 
 /// The reply to a script that has ended.
-fn reply_to(alloc: Global, end: Option<End>) -> Result<Answer, AllocError>
-    ensures { IfOk result (λ answer. told_by answer ≡ told_of (Ok end)) }
+fn reply_to(alloc: Global, outcome: &Outcome) -> Result<Answer, AllocError>
+    ensures { IfOk result (λ answer. (end : End Value) → EndsSo outcome.now end → told_by answer ≡ told_of (Ok end)) }
 {
-    match end {
-        None => Ok(Answer {
-            status: Status::Done,
-            line: null_line(alloc)?,
-        }),
-        Some(End::Value(value)) => Ok(Answer {
-            status: Status::Done,
-            line: value_line(alloc, value)?,
-        }),
-        Some(End::Thrown(Exception::DivisionByZero)) => Ok(Answer {
-            status: Status::SomeErrors,
-            line: division_line(alloc)?,
-        }),
-    }
+    let line = reply_line(alloc, &outcome.end, &outcome.heap)?;
+    Ok(Answer {
+        status: status_of(line.is_error),
+        line: line.text,
+    })
 }
 
 /// The answer to a script that is refused.
@@ -102,7 +60,7 @@ pub fn answer_to(alloc: Global, script: &[u8]) -> Result<Answer, AllocError>
     ensures only { (told : Told) → TellsScript script.now told → IfOk result (λ answer. told ≡ told_by answer) }
 {
     match run_script(alloc, script) {
-        Ok(end) => reply_to(alloc, end),
+        Ok(outcome) => reply_to(alloc, &outcome),
         Err(Fail::Refused(refusal)) => answer_to_refused(alloc, refusal),
         Err(Fail::NoMemory) => Err(AllocError),
     }

@@ -1,34 +1,26 @@
 //! From a script's bytes to what they come to.
 
-ghost use Rattle.std.specs.Prelude.{◌≡◌, ℕ, ◌≤◌, List, Option, Result, length};
+ghost use Rattle.std.specs.Prelude.{◌≡◌, ◌≤◌, ℕ, IfOk, List, Result, length};
 ghost use Rattle.pl_types.specs.Answers.{Answers};
 ghost use Rattle.pl_types.specs.declared.refusal.Refusal.{Refusal};
-ghost use Rattle.script_end.specs.declared.end.End.{End};
-ghost use Rattle.painless_cli.specs.Script.{Decodes, Means, MeansText, MeansTokens, MeansTree};
-ghost use Rattle.pl_grammar.specs.Lexeme.{AllLieIn};
+ghost use Rattle.allowlist.specs.Allow.{full_list};
+ghost use Rattle.object_values.specs.declared.value.Value.{Value};
+ghost use Rattle.run_world.specs.World.{End};
+ghost use Rattle.typed_tree.specs.declared.program.Program.{Program};
+ghost use Rattle.script_engine.specs.Programs.{IsProgramOf};
+ghost use Rattle.script_engine.specs.Compiling.{Compiles};
+ghost use Rattle.painless_cli.specs.Script.{Decodes, Means, MeansText, eval_types};
+ghost use Rattle.painless_cli.specs.Outcomes.{Comes, RunsAsEval};
 ghost use Rattle.painless_cli.specs.Whole.{file_limit};
 
-use codegen::run_typed;
-use int_typing::typed_script;
-use pl_lexer::{Token, lex};
-use pl_parser::parse;
-use pl_tree::Tree;
-use pl_types::{Fail, Refusal, TypeNames, rules};
-use script_end::End;
-use std::alloc::Global;
-
-/// No name means a class.
-struct NoClasses;
-
-impl TypeNames for NoClasses {
-    ghost use Rattle.painless_cli.specs.Script.{no_classes};
-
-    ghost class_of = { λ _. no_classes };
-
-    fn class_named(&self, _name: &str) -> Option<u32> {
-        None
-    }
-}
+use allowlist::Catalogue;
+use code_machine::Limits;
+use object_heap::{Heap, Outcome};
+use pl_types::{Fail, Refusal, Ty, rules};
+use plain_data::Items;
+use script_engine::{Script, compile};
+use static_types::ContextTypes;
+use std::alloc::{AllocError, Global};
 
 /// The text that bytes are. BadToken: they are no UTF-8, from the offset on.
 fn decode(bytes: &[u8]) -> Result<&str, Fail>
@@ -45,48 +37,58 @@ fn decode(bytes: &[u8]) -> Result<&str, Fail>
     }
 }
 
-/// What a tree comes to: none, where it has no statement.
-fn run_tree(alloc: Global, tree: &Tree) -> Result<Option<End>, Fail>
-    ensures exact { Answers (λ end. end) result (MeansTree tree.now) }
-    ensures only { (reading : Result (Option End) Refusal) → MeansTree tree.now reading → Answers (λ end. end) result (λ a. a ≡ reading) }
+/// The context of `eval`: no variables, and any result.
+fn context(alloc: Global) -> ContextTypes
+    ensures { result ≡ eval_types }
 {
-    match typed_script(alloc, tree)? {
-        None => Ok(None),
-        Some(typed) => {
-            let outcome = run_typed(alloc, &typed)?;
-            Ok(Some(outcome.end))
-        }
+    ContextTypes {
+        variables: Items::new(alloc),
+        result: Ty::Def,
     }
 }
 
-/// What the tokens of a text come to.
-fn run_tokens(alloc: Global, text: &str, tokens: &[Token]) -> Result<Option<End>, Fail>
-    requires small { length text.now ≤ file_limit }
-    requires placed { AllLieIn text.now tokens.now }
-    ensures exact { Answers (λ end. end) result (MeansTokens text.now tokens.now) }
-    ensures only { (reading : Result (Option End) Refusal) → MeansTokens text.now tokens.now reading → Answers (λ end. end) result (λ a. a ≡ reading) }
+/// The script of a text.
+fn compiled(alloc: Global, text: &str) -> Result<Script, Fail>
+    ensures exact { Compiles eval_types (IsProgramOf full_list eval_types text.now) result }
+    ensures only { (reading : Result Program Refusal) → IsProgramOf full_list eval_types text.now reading → Compiles eval_types (λ a. a ≡ reading) result }
 {
-    let tree = parse(alloc, text, tokens)?;
-    run_tree(alloc, &tree)
+    let allow = Catalogue::full(alloc)?;
+    let context = context(alloc);
+    compile(alloc, text, &allow, &context)
+}
+
+/// Runs a script with the default limits.
+fn run(alloc: Global, script: &Script) -> Result<Outcome, AllocError>
+    ensures { IfOk result (RunsAsEval script.now) }
+{
+    let heap = Heap::new(alloc, 16_000_000);
+    let limits = Limits {
+        loops: 1_000_000,
+        depth: 256,
+        ticks: 10_000_000,
+    };
+    script.run(heap, limits)
 }
 
 /// What a text comes to.
-fn run_text(alloc: Global, text: &str) -> Result<Option<End>, Fail>
-    requires { length text.now ≤ file_limit }
-    ensures exact { Answers (λ end. end) result (MeansText text.now) }
-    ensures only { (reading : Result (Option End) Refusal) → MeansText text.now reading → Answers (λ end. end) result (λ a. a ≡ reading) }
+fn run_text(alloc: Global, text: &str) -> Result<Outcome, Fail>
+    ensures exact { Comes (MeansText text.now) result }
+    ensures only { (reading : Result (End Value) Refusal) → MeansText text.now reading → Comes (λ a. a ≡ reading) result }
 {
-    let tokens = lex(alloc, text, &NoClasses)?;
-    run_tokens(alloc, text, tokens.as_slice())
+    match compiled(alloc, text) {
+        Ok(script) => Ok(run(alloc, &script)?),
+        Err(fail) => Err(fail),
+    }
 }
 
-/// What a script's bytes come to: a value or a thrown error, none where there is no statement, or the first rule by which
-/// they are refused.
-pub fn run_script(alloc: Global, script: &[u8]) -> Result<Option<End>, Fail>
+/// What a script's bytes come to: how their program's run ends, and what it leaves, or the first rule by which they are refused.
+pub fn run_script(alloc: Global, script: &[u8]) -> Result<Outcome, Fail>
     requires { length script.now ≤ file_limit }
-    ensures exact { Answers (λ end. end) result (Means script.now) }
-    ensures only { (reading : Result (Option End) Refusal) → Means script.now reading → Answers (λ end. end) result (λ a. a ≡ reading) }
+    ensures exact { Comes (Means script.now) result }
+    ensures only { (reading : Result (End Value) Refusal) → Means script.now reading → Comes (λ a. a ≡ reading) result }
 {
-    let text = decode(script)?;
-    run_text(alloc, text)
+    match decode(script) {
+        Ok(text) => run_text(alloc, text),
+        Err(fail) => Err(fail),
+    }
 }

@@ -39,69 +39,31 @@ fn eval(alloc: Global, script: &[u8]) -> Result<(Vec<u8>, Status), AllocError> {
     run(alloc, &["eval", "script"], script, 4096, &[], &[])
 }
 
-#[test]
-fn scripts(rt: HostRuntime) -> Result<(), Fail> {
-    let alloc = rt.alloc();
-    for (script, line, status) in [
-        ("1+2*3", "{\"result\":7}\n", Status::Done),
-        ("8-3-2", "{\"result\":3}\n", Status::Done),
-        ("2147483647 + 1", "{\"result\":-2147483648}\n", Status::Done),
-        ("-2147483648", "{\"result\":-2147483648}\n", Status::Done),
-        ("- 2147483648", "{\"result\":-2147483648}\n", Status::Done),
-        (
-            "-2147483648 / -1",
-            "{\"result\":-2147483648}\n",
-            Status::Done,
-        ),
-        ("-2147483648 % -1", "{\"result\":0}\n", Status::Done),
-        ("7 % -3", "{\"result\":1}\n", Status::Done),
-        ("-7 / 2", "{\"result\":-3}\n", Status::Done),
-        ("-7 % 2", "{\"result\":-1}\n", Status::Done),
-        ("2 * (3 + 4)", "{\"result\":14}\n", Status::Done),
-        ("- -1", "{\"result\":1}\n", Status::Done),
-        ("1- -1", "{\"result\":2}\n", Status::Done),
-        ("\t1\r\n+ 1 ", "{\"result\":2}\n", Status::Done),
-        ("65536 * 65536", "{\"result\":0}\n", Status::Done),
-        ("0x1F + 010", "{\"result\":39}\n", Status::Done),
-        ("1 + 2;", "{\"result\":3}\n", Status::Done),
-        ("((2)) * (3);", "{\"result\":6}\n", Status::Done),
-        ("-0X80000000", "{\"result\":-2147483648}\n", Status::Done),
-        (
-            "100 / 5 / 2 * 3 % 4 - 1 + 2",
-            "{\"result\":3}\n",
-            Status::Done,
-        ),
-    ] {
-        let answer = eval(alloc, script.as_bytes())?;
-        assert_eq!(rt; answer.0.as_slice(), line.as_bytes(), "{script}");
-        assert_eq!(rt; answer.1, status, "{script}");
-    }
-    Ok(())
-}
-
-#[test]
-fn errors(rt: HostRuntime) -> Result<(), Fail> {
-    let alloc = rt.alloc();
-    let line =
-        "{\"error\":{\"class\":\"ArithmeticException\",\"kind\":\"thrown\",\"message\":\"/ by zero\"}}\n";
-    for script in [
-        "1/0",
-        "1 % 0",
-        "1/0*(1/0)",
-        "(1 - 1 / 0) * 2147483647",
-        "-(1 / (2 - 2))",
-    ] {
-        let answer = eval(alloc, script.as_bytes())?;
-        assert_eq!(rt; answer.0.as_slice(), line.as_bytes(), "{script}");
-        assert_eq!(rt; answer.1, Status::SomeErrors, "{script}");
-    }
-    Ok(())
-}
-
 fn refused(alloc: Global, name: &str, number: u8, offset: u32) -> Result<String, AllocError> {
     format!(in alloc;
         "{{\"refused\":{{\"name\":\"{name}\",\"number\":{number},\"offset\":{offset}}}}}\n"
     )
+}
+
+/// Whether a script is answered by this line, and with this status.
+fn answers(alloc: Global, script: &[u8], line: &str, status: Status) -> Result<bool, AllocError> {
+    let answer = eval(alloc, script)?;
+    Ok(answer.0.as_slice() == line.as_bytes() && answer.1 == status)
+}
+
+/// Each script is replied to so, without an error or with one.
+fn are_replied_to(
+    rt: &impl Abort,
+    alloc: Global,
+    rows: &[(&str, &str)],
+    status: Status,
+) -> Result<(), AllocError> {
+    for (script, reply) in rows {
+        let line = format!(in alloc; "{reply}\n")?;
+        let good = answers(alloc, script.as_bytes(), line.as_str(), status)?;
+        assert!(rt; good, "{script}");
+    }
+    Ok(())
 }
 
 /// The script is refused by the rule of this name and number, at the place.
@@ -113,10 +75,9 @@ fn is_refused(
     number: u8,
     offset: u32,
 ) -> Result<(), AllocError> {
-    let answer = eval(alloc, script.as_bytes())?;
     let line = refused(alloc, name, number, offset)?;
-    assert_eq!(rt; answer.0.as_slice(), line.as_bytes(), "{script}");
-    assert_eq!(rt; answer.1, Status::Refused, "{script}");
+    let good = answers(alloc, script.as_bytes(), line.as_str(), Status::Refused)?;
+    assert!(rt; good, "{script}");
     Ok(())
 }
 
@@ -136,39 +97,124 @@ fn are_refused(
 
 /// The script is replied to with this whole number.
 fn is_worth(rt: &impl Abort, alloc: Global, script: &str, value: i32) -> Result<(), AllocError> {
-    let answer = eval(alloc, script.as_bytes())?;
     let line = format!(in alloc; "{{\"result\":{value}}}\n")?;
-    assert_eq!(rt; answer.0.as_slice(), line.as_bytes(), "{script}");
-    assert_eq!(rt; answer.1, Status::Done, "{script}");
+    let good = answers(alloc, script.as_bytes(), line.as_str(), Status::Done)?;
+    assert!(rt; good, "{script}");
     Ok(())
 }
 
-/// A front, a part so many times, and what stands behind.
-fn repeated(
-    alloc: Global,
-    front: &str,
-    part: &str,
-    times: usize,
-    behind: &str,
-) -> Result<String, AllocError> {
-    let parts = part.repeat(alloc, times)?;
-    let middle = parts.as_str();
-    format!(in alloc; "{front}{middle}{behind}")
+#[test]
+fn arithmetic(rt: HostRuntime) -> Result<(), Fail> {
+    are_replied_to(
+        &rt,
+        rt.alloc(),
+        &[
+            ("1+2*3", "{\"result\":7}"),
+            ("8-3-2", "{\"result\":3}"),
+            ("2147483647 + 1", "{\"result\":-2147483648}"),
+            ("-2147483648", "{\"result\":-2147483648}"),
+            ("- 2147483648", "{\"result\":-2147483648}"),
+            ("-2147483648 / -1", "{\"result\":-2147483648}"),
+            ("-2147483648 % -1", "{\"result\":0}"),
+            ("7 % -3", "{\"result\":1}"),
+            ("-7 / 2", "{\"result\":-3}"),
+            ("-7 % 2", "{\"result\":-1}"),
+            ("2 * (3 + 4)", "{\"result\":14}"),
+            ("- -1", "{\"result\":1}"),
+            ("1- -1", "{\"result\":2}"),
+            ("\t1\r\n+ 1 ", "{\"result\":2}"),
+            ("65536 * 65536", "{\"result\":0}"),
+            ("0x1F + 010", "{\"result\":39}"),
+            ("1 + 2;", "{\"result\":3}"),
+            ("((2)) * (3);", "{\"result\":6}"),
+            ("-0X80000000", "{\"result\":-2147483648}"),
+            ("100 / 5 / 2 * 3 % 4 - 1 + 2", "{\"result\":3}"),
+        ],
+        Status::Done,
+    )?;
+    Ok(())
 }
 
-/// What stands inside, between so many openings and as many closings.
-fn nested(
-    alloc: Global,
-    open: &str,
-    inside: &str,
-    shut: &str,
-    times: usize,
-) -> Result<String, AllocError> {
-    let openings = open.repeat(alloc, times)?;
-    let closings = shut.repeat(alloc, times)?;
-    let front = openings.as_str();
-    let behind = closings.as_str();
-    format!(in alloc; "{front}{inside}{behind}")
+#[test]
+fn statements_and_functions(rt: HostRuntime) -> Result<(), Fail> {
+    are_replied_to(
+        &rt,
+        rt.alloc(),
+        &[
+            ("int x = 7; x <<= 33; x", "{\"result\":14}"),
+            ("long y = 1; y << 33", "{\"result\":8589934592}"),
+            ("(char)65601", "{\"result\":\"A\"}"),
+            ("byte b = (byte)200; b", "{\"result\":-56}"),
+            ("byte b = 127; b", "{\"result\":127}"),
+            (
+                "int f(int n) { return n == 0 ? 0 : f(n-1) + 1 } f(255)",
+                "{\"result\":255}",
+            ),
+            (
+                "int s = 0; for (int i = 0; i < 5; i++) { s += i } s",
+                "{\"result\":10}",
+            ),
+            (
+                "int g() { int s = 0; for (int i = 0; i < 600000; i++) { s = 3 } return s } int h() { int s = 0; for (int i = 0; i < 600000; i++) { s = 3 } return s } g() + h()",
+                "{\"result\":6}",
+            ),
+            ("true", "{\"result\":true}"),
+            ("1 < 2 && !(2 < 1)", "{\"result\":true}"),
+            ("-9223372036854775808L", "{\"result\":-9223372036854775808}"),
+            ("(char)55296", "{\"result\":\"\u{fffd}\"}"),
+            ("(char)34", "{\"result\":\"\\\"\"}"),
+            ("return 1", "{\"result\":1}"),
+            ("int x; x", "{\"result\":0}"),
+            ("int x = 1;", "{\"result\":null}"),
+            ("void f() { return; } f()", "{\"result\":null}"),
+            ("int i = 5; i = i++ + ++i; i", "{\"result\":12}"),
+            (
+                "int x = 0; while (x < 10) { if (x == 7) { break } x++ } x",
+                "{\"result\":7}",
+            ),
+            (
+                "int s = 0; for (int i = 0; i < 9; ++i) { if (i % 2 == 0) { continue } s += i } s",
+                "{\"result\":16}",
+            ),
+            ("int x = 3; do { x-- } while (x > 0); x", "{\"result\":0}"),
+        ],
+        Status::Done,
+    )?;
+    Ok(())
+}
+
+#[test]
+fn errors(rt: HostRuntime) -> Result<(), Fail> {
+    let alloc = rt.alloc();
+    let line =
+        "{\"error\":{\"class\":\"ArithmeticException\",\"kind\":\"thrown\",\"message\":\"/ by zero\"}}";
+    for script in [
+        "1/0",
+        "1 % 0",
+        "1/0*(1/0)",
+        "(1 - 1 / 0) * 2147483647",
+        "-(1 / (2 - 2))",
+        "long f(int n) { return n == 0 ? 1L / n : f(n - 1) } f(3)",
+    ] {
+        are_replied_to(&rt, alloc, &[(script, line)], Status::SomeErrors)?;
+    }
+    are_replied_to(
+        &rt,
+        alloc,
+        &[
+            ("for (;;) {}", "{\"error\":{\"kind\":\"limit-loop\"}}"),
+            (
+                "int f() { return f() } f()",
+                "{\"error\":{\"kind\":\"limit-depth\"}}",
+            ),
+            (
+                "int f(int n) { return n == 0 ? 0 : f(n-1) + 1 } f(256)",
+                "{\"error\":{\"kind\":\"limit-depth\"}}",
+            ),
+        ],
+        Status::SomeErrors,
+    )?;
+    Ok(())
 }
 
 #[test]
@@ -181,13 +227,7 @@ fn nothing(rt: HostRuntime) -> Result<(), Fail> {
         "/* nothing */",
         "// nothing\n/* at all */\n",
     ] {
-        let answer = eval(alloc, script.as_bytes())?;
-        assert_eq!(rt;
-            answer.0.as_slice(),
-            b"{\"result\":null}\n".as_slice(),
-            "{script}"
-        );
-        assert_eq!(rt; answer.1, Status::Done, "{script}");
+        are_replied_to(&rt, alloc, &[(script, "{\"result\":null}")], Status::Done)?;
     }
     Ok(())
 }
@@ -215,10 +255,9 @@ fn faults_of_tokens(rt: HostRuntime) -> Result<(), Fail> {
         // U+20AC is text, and begins no token.
         (b"1 + \xe2\x82\xac".as_slice(), 4),
     ] {
-        let answer = eval(alloc, script)?;
         let line = refused(alloc, "BadToken", 1, offset)?;
-        assert_eq!(rt; answer.0.as_slice(), line.as_bytes());
-        assert_eq!(rt; answer.1, Status::Refused);
+        let good = answers(alloc, script, line.as_str(), Status::Refused)?;
+        assert!(rt; good);
     }
     Ok(())
 }
@@ -329,68 +368,30 @@ fn literals_out_of_range(rt: HostRuntime) -> Result<(), Fail> {
 
 #[test]
 fn nodes_that_are_not_built(rt: HostRuntime) -> Result<(), Fail> {
-    let alloc = rt.alloc();
     are_refused(
         &rt,
-        alloc,
+        rt.alloc(),
         "OutOfProfile",
         19,
         &[
-            // Numbers that are no ints.
             ("1.5", 0),
-            ("1 + 1L", 4),
-            ("-99999999999L", 1),
-            // Statements, at their first token, or at the first of their parts that is not built.
-            ("int x;", 0),
-            ("int x, y = 1", 0),
-            ("a b", 0),
-            ("x[] y", 0),
-            ("1; 2", 0),
-            ("return 1", 0),
             ("throw 1", 0),
-            ("break", 0),
-            ("while (1);", 0),
-            ("for (;;);", 0),
-            ("for (;;) {}", 9),
-            ("for (def x : l) x++;", 13),
-            ("for (x in l) { }", 10),
-            ("if (1) {}", 7),
-            ("if (1) 1", 7),
-            ("if (1) 1; else 2", 7),
-            ("if (1) { 1 }", 9),
-            ("try {} catch (Exception e) {}", 4),
-            ("do {} while (1)", 3),
-            // A function, at its result type.
-            ("int f(int x) { return x } f(2147483648)", 0),
-            // Expressions, at the place of their node.
-            ("x", 0),
+            ("for (def x : l) x++;", 5),
+            ("try {} catch (Exception e) {}", 14),
             ("'x'", 0),
-            ("true", 0),
-            ("x + 2147483648", 0),
-            ("1 << 2", 2),
-            ("1 == 1", 2),
-            ("1 instanceof def", 2),
-            ("1 ? 2 : 3", 2),
+            ("null", 0),
+            ("def x = 1", 0),
+            ("1 instanceof def", 13),
             ("1 ?: 2", 2),
-            ("1 = 2", 2),
-            ("1 += 2", 2),
-            ("+1", 0),
-            ("!1", 0),
-            ("1++", 0),
-            ("--1", 0),
-            ("(int)-1", 0),
-            ("(x)-1", 1),
             ("[]", 0),
             ("[:]", 0),
             ("[1, 2]", 0),
             ("[1:2]", 0),
-            ("f(1)", 0),
             ("new int[2]", 0),
             ("int.x", 0),
             ("1.x", 2),
             ("(1).x(2)", 4),
             ("1[2]", 1),
-            // Arguments, at their first token.
             ("f(x -> 1)", 2),
             ("f((x, y) -> 1)", 2),
             ("f(this::g)", 2),
@@ -402,10 +403,53 @@ fn nodes_that_are_not_built(rt: HostRuntime) -> Result<(), Fail> {
 }
 
 #[test]
+fn types(rt: HostRuntime) -> Result<(), Fail> {
+    let alloc = rt.alloc();
+    for (script, name, number, offset) in [
+        ("x", "UnknownVariable", 4, 0),
+        ("y = 1", "UnknownVariable", 4, 0),
+        ("x + 2147483648", "UnknownVariable", 4, 0),
+        ("(x)-1", "UnknownVariable", 4, 1),
+        ("for (x in l) { }", "UnknownVariable", 4, 10),
+        ("int x = 1; int x = 2", "AlreadyDefined", 5, 15),
+        ("a b", "UnknownType", 6, 0),
+        ("Foo x", "UnknownType", 6, 0),
+        ("f(1)", "UnknownFunction", 8, 0),
+        ("g(1)", "UnknownFunction", 8, 0),
+        ("byte b = 200; b", "BadCast", 9, 9),
+        ("while (1);", "BadCast", 9, 7),
+        ("if (1) 1; else 2", "BadCast", 9, 4),
+        ("do {} while (1)", "BadCast", 9, 13),
+        ("1 ? 2 : 3", "BadCast", 9, 0),
+        ("!1", "BadCast", 9, 1),
+        ("1 < true", "BadOperand", 10, 2),
+        ("1; 2", "NotAStatement", 11, 0),
+        ("while (true) { } 1", "Unreachable", 12, 17),
+        (
+            "int f(int n) { if (n > 0) { return 1 } } f(1)",
+            "MissingReturn",
+            13,
+            4,
+        ),
+        ("break", "BadJump", 14, 0),
+        ("1 = 2", "NotAssignable", 15, 2),
+        ("1++", "NotAssignable", 15, 0),
+    ] {
+        is_refused(&rt, alloc, script, name, number, offset)?;
+    }
+    Ok(())
+}
+
+#[test]
 fn brackets(rt: HostRuntime) -> Result<(), Fail> {
     let alloc = rt.alloc();
-    let deepest = nested(alloc, "(", "1", ")", 200)?;
-    is_worth(&rt, alloc, deepest.as_str(), 1)?;
+    for (open, inside, shut, times, value) in [
+        ("(", "1", ")", 200, 1),
+        ("true?1:(", "2", ")", 199, 1),
+    ] {
+        let script = nested(alloc, open, inside, shut, times)?;
+        is_worth(&rt, alloc, script.as_str(), value)?;
+    }
     for (open, inside, shut, times, name, number, offset) in [
         ("(", "1", ")", 201, "NestingDeep", 3, 200),
         // Lists are not built, and the innermost is visited first.
@@ -414,16 +458,16 @@ fn brackets(rt: HostRuntime) -> Result<(), Fail> {
         // No script begins with a block.
         ("{", "1", "}", 200, "Syntax", 2, 0),
         ("{", "1", "}", 201, "NestingDeep", 3, 200),
-        // Nor are loops built.
-        ("while(1){", "1", "}", 200, "OutOfProfile", 19, 1800),
+        ("while(1){", "1", "}", 200, "BadCast", 9, 6),
         ("while(1){", "1", "}", 201, "NestingDeep", 3, 1805),
+        ("if(true){", "1", "}", 200, "NotAStatement", 11, 1800),
         ("([", "1", "])", 100, "OutOfProfile", 19, 199),
         ("([", "1", "])", 101, "NestingDeep", 3, 200),
-        ("[f(x->{", "((1))", "})]", 66, "OutOfProfile", 19, 462),
+        ("[f(x->{", "((1))", "})]", 66, "NotAStatement", 11, 462),
         ("[f(x->{", "1", "})]", 67, "NestingDeep", 3, 468),
         // Near both bounds at once, where productions nest deepest.
-        ("x=-(", "1", ")", 200, "OutOfProfile", 19, 0),
-        ("x?x:(", "1", ")", 199, "OutOfProfile", 19, 0),
+        ("x=-(", "1", ")", 200, "UnknownVariable", 4, 0),
+        ("x?x:(", "1", ")", 199, "UnknownVariable", 4, 0),
     ] {
         let script = nested(alloc, open, inside, shut, times)?;
         is_refused(&rt, alloc, script.as_str(), name, number, offset)?;
@@ -441,6 +485,9 @@ fn reach(rt: HostRuntime) -> Result<(), Fail> {
         ("", "- ", 999, "1", -1),
         // A closing bracket ends its level.
         ("(1)", "+(1)", 300, "", 301),
+        // What ends a statement begins a share anew.
+        ("int a;", "a++;", 10_000, "a", 10_000),
+        ("int a;", "if(true){a++}", 2000, "a", 2000),
     ] {
         let script = repeated(alloc, front, part, times, behind)?;
         is_worth(&rt, alloc, script.as_str(), value)?;
@@ -450,14 +497,13 @@ fn reach(rt: HostRuntime) -> Result<(), Fail> {
         ("1", "+1", 499, "+", "Syntax", 2, 1000),
         ("(1", "+1", 500, ")", "NestingDeep", 3, 1000),
         ("", "- ", 1000, "1", "NestingDeep", 3, 2000),
-        // Commas and what ends a statement begin a share anew.
-        ("int a", ",a", 2000, "", "OutOfProfile", 19, 0),
+        // So do commas.
+        ("int a", ",a", 2000, "", "AlreadyDefined", 5, 6),
         ("[1", ",1", 2000, "]", "OutOfProfile", 19, 0),
-        ("", "1;", 20_000, "", "OutOfProfile", 19, 0),
-        ("", "int f(){}", 6000, "", "OutOfProfile", 19, 0),
-        ("", "if(1){}", 2000, "", "OutOfProfile", 19, 5),
+        ("", "1;", 20_000, "", "NotAStatement", 11, 0),
+        ("", "int f(){}", 6000, "", "AlreadyDefined", 5, 13),
         // What `else` follows does not. This is a reach of 1,000, and these are of 1,001.
-        ("", "if(1)1;else ", 166, "if(1)1", "OutOfProfile", 19, 5),
+        ("", "if(1)1;else ", 166, "if(1)1", "BadCast", 9, 3),
         ("", "if(1)1;else ", 166, "if(1)1;", "NestingDeep", 3, 1998),
         ("", "if(1){}else ", 166, "if(1){}", "NestingDeep", 3, 1998),
         // Nesting is told before the grammar, and tokens before both.
@@ -468,6 +514,34 @@ fn reach(rt: HostRuntime) -> Result<(), Fail> {
         is_refused(&rt, alloc, script.as_str(), name, number, offset)?;
     }
     Ok(())
+}
+
+/// A front, a part so many times, and what stands behind.
+fn repeated(
+    alloc: Global,
+    front: &str,
+    part: &str,
+    times: usize,
+    behind: &str,
+) -> Result<String, AllocError> {
+    let parts = part.repeat(alloc, times)?;
+    let middle = parts.as_str();
+    format!(in alloc; "{front}{middle}{behind}")
+}
+
+/// What stands inside, between so many openings and as many closings.
+fn nested(
+    alloc: Global,
+    open: &str,
+    inside: &str,
+    shut: &str,
+    times: usize,
+) -> Result<String, AllocError> {
+    let openings = open.repeat(alloc, times)?;
+    let closings = shut.repeat(alloc, times)?;
+    let front = openings.as_str();
+    let behind = closings.as_str();
+    format!(in alloc; "{front}{inside}{behind}")
 }
 
 #[test]

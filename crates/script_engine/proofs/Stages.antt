@@ -4,7 +4,7 @@ use Rattle.pl_types.specs.Answers.{Answers}
 use Rattle.pl_types.specs.declared.refusal.Refusal.{Refusal}
 use Rattle.pl_types.specs.declared.refusal.Fail.{Fail}
 use Rattle.pl_types.specs.declared.refusal.Fail.TheVariants.{Refused, NoMemory}
-use Rattle.painless_cli.specs.Script.{GoesOn, Then}
+use Rattle.script_engine.specs.Stages.{GoesOn, Then}
 
 -- a stage of the code has answered, and its one reading is the answer
 pub record Stage {X Y : Type 0} (view : X → Y) (result : Result X Fail) (Reads : Result Y Refusal → Type 0) : Type 0 where

@@ -1,0 +1,61 @@
+-- A program's run ends in one way.
+use Rattle.std.proofs.Common.{◌≡◌, ℕ, ◌≤◌, ◌+◌, List, [], Option, Some, None, refl, ap, ◌∙◌, arith}
+use Rattle.pl_types.specs.declared.ty.Ty.{Ty}
+use Rattle.object_values.specs.declared.value.Value.{Value}
+use Rattle.object_values.specs.declared.object.Owner.TheVariants.{Script}
+use Rattle.run_world.specs.World.{World, Limits, End, Result, Uncaught, Limited}
+use Rattle.typed_tree.specs.declared.program.Program.{Program}
+use Rattle.program_meaning.specs.Programs.{fun_of, program_of}
+use Rattle.program_meaning.specs.Tree.{Fun}
+use Rattle.program_meaning.specs.Meaning.{Env, Out, Done, Thrown, Over, More, Flow, Normal, Broke, Continued, Returned, default_of, entry, meaning}
+use Rattle.program_meaning.specs.Laws.{Stays}
+use Rattle.program_meaning.proofs.Greater.{stays_above}
+use Rattle.program_types.specs.Types.{HaveAll}
+use Rattle.program_types.specs.Agreeing.{types_in, WellFormed}
+use Rattle.program_types.specs.Enough.{enough, IsEnough}
+use Rattle.program_types.proofs.Enough.{comes_to_an_end}
+use Rattle.script_engine.specs.Ends.{end_of, end_in, end_at, RunsTo}
+
+-- what was come to at a bound is come to at every greater one
+stays_end : (of : Ty) (o other : Out Flow) (end : End Value) → Stays o other → end_of of o ≡ Some end → end_of of other ≡ Some end
+stays_end of (Done flow s e) other end x is = ap (end_of of) x ∙ is
+stays_end of (Thrown id s e) other end x is = ap (end_of of) x ∙ is
+stays_end of (Over limit w) other end x is = ap (end_of of) x ∙ is
+stays_end of More other end x is = cc
+
+stays_in : (p : Program) (limits : Limits) (k m : ℕ) → k ≤ m → (main : Fun) (o : Option Env) (w : World) (end : End Value)
+    → end_in p limits k main o w ≡ Some end → end_in p limits m main o w ≡ Some end
+stays_in p limits k m h main None w end is = cc
+stays_in p limits k m h main (Some e) w end is =
+    stays_end main.result _ _ end ((stays_above (program_of p) limits k m h).stmts main.body (record { text = Script; depth = 0 }) (record { world = w; turns = 0 }) e) is
+
+pub ends_once : (p : Program) (limits : Limits) (args : List Value) (w : World) (end other : End Value) → RunsTo p limits args w end → RunsTo p limits args w other → end ≡ other
+ends_once p limits args w end other a b =
+    let main = fun_of p.main in
+    let from = entry main.params args [] in
+    let first : end_at p limits (a.bound + b.bound) args w ≡ Some end = stays_in p limits a.bound (a.bound + b.bound) (omega arith) main from w end a.is in
+    let second : end_at p limits (a.bound + b.bound) args w ≡ Some other = stays_in p limits b.bound (a.bound + b.bound) (omega arith) main from w other b.is in
+    cc
+
+record Comes (of : Ty) (o : Out Flow) : Type 0 where
+  end : End Value
+  is : end_of of o ≡ Some end
+
+comes : (of : Ty) (o : Out Flow) → IsEnough of o → Comes of o
+comes of (Done Normal s e) x = record { end = Result (default_of of) s.world; is = refl }
+comes of (Done Broke s e) x = absurd x
+comes of (Done Continued s e) x = absurd x
+comes of (Done (Returned value) s e) x = record { end = Result value s.world; is = refl }
+comes of (Thrown id s e) x = record { end = Uncaught id s.world; is = refl }
+comes of (Over limit w) x = record { end = Limited limit w; is = refl }
+comes of More x = absurd x
+
+pub ends_some : (p : Program) → WellFormed (program_of p) → (limits : Limits) (args : List Value) → HaveAll (types_in (fun_of p.main).params) args → (w : World)
+    → (end : End Value) × RunsTo p limits args w end
+ends_some p formed limits args have w =
+    let funs = program_of p in
+    let main = fun_of p.main in
+    let bound = enough funs w in
+    let ran = comes_to_an_end funs formed limits main refl args have w bound (omega arith) in
+    let last = comes main.result ((meaning funs limits bound).stmts (record { text = Script; depth = 0 }) (record { world = w; turns = 0 }) ran.0 main.body) ran.2 in
+    (last.end, record { bound = bound; is = ap (λ o. end_in p limits bound main o w) ran.1 ∙ last.is })

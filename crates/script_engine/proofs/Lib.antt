@@ -1,0 +1,6 @@
+pub mod Stages
+pub mod Placed
+pub mod Compiled
+pub mod Ends
+pub mod Runs
+pub mod Texts

@@ -1,0 +1,17 @@
+-- Each stage has one answer, and a program one end.
+use Rattle.script_engine.proofs.Compiled.{formed_from}
+use Rattle.script_engine.proofs.Ends.{ends_some, ends_once}
+use Rattle.script_engine.proofs.Texts.{text_once, text_some}
+use Rattle.script_engine.proofs.laws.script_laws.Goals as goal
+
+pub returns-clause-answered : goal.returns-clause-answered
+returns-clause-answered c = text_some c.each_text_has_one_reading.ensures.some c.grammar_laws.ensures.answered
+
+pub returns-clause-answered_once : goal.returns-clause-answered_once
+returns-clause-answered_once c = text_once c.each_text_has_one_reading.ensures.once c.grammar_laws.ensures.unique
+
+pub returns-clause-ends : goal.returns-clause-ends
+returns-clause-ends c allow context text p good is = ends_some p (formed_from allow context text p good is)
+
+pub returns-clause-ends_once : goal.returns-clause-ends_once
+returns-clause-ends_once c = ends_once

@@ -1,0 +1,35 @@
+-- How the run of a program ends.
+use Rattle.std.specs.Prelude.{◌≡◌, ℕ, List, [], Option, Some, None}
+use Rattle.object_values.specs.declared.value.Value.{Value}
+use Rattle.object_values.specs.declared.object.Owner.TheVariants.{Script}
+use Rattle.pl_types.specs.declared.ty.Ty.{Ty}
+use Rattle.run_world.specs.World.{World, Limits, End, Result, Uncaught, Limited}
+use Rattle.typed_tree.specs.declared.program.Program.{Program}
+use Rattle.program_meaning.specs.Programs.{fun_of, program_of}
+use Rattle.program_meaning.specs.Tree.{Fun}
+use Rattle.program_meaning.specs.Meaning.{Env, Out, Done, Thrown, Over, More, Flow, entry, returned, meaning}
+
+abbrev pub end_with : Option Value → World → Option (End Value)
+end_with None w = None
+end_with (Some value) w = Some (Result value w)
+
+-- the end of a function of this result type; nothing where it is More
+abbrev pub end_of : Ty → Out Flow → Option (End Value)
+end_of of (Done flow s e) = end_with (returned of flow) s.world
+end_of of (Thrown id s e) = Some (Uncaught id s.world)
+end_of of (Over limit w) = Some (Limited limit w)
+end_of of More = None
+
+abbrev pub end_in : Program → Limits → ℕ → Fun → Option Env → World → Option (End Value)
+end_in p limits bound main None w = None
+end_in p limits bound main (Some e) w =
+    end_of main.result ((meaning (program_of p) limits bound).stmts (record { text = Script; depth = 0 }) (record { world = w; turns = 0 }) e main.body)
+
+-- how the main script's run on these arguments ends at a bound
+abbrev pub end_at : Program → Limits → ℕ → List Value → World → Option (End Value)
+end_at p limits bound args w = end_in p limits bound (fun_of p.main) (entry (fun_of p.main).params args []) w
+
+-- A program's run ends so: at some bound, and so at every greater one.
+pub record RunsTo (p : Program) (limits : Limits) (args : List Value) (w : World) (end : End Value) : Type 0 where
+  pub bound : ℕ
+  pub is : end_at p limits bound args w ≡ Some end

@@ -1,0 +1,33 @@
+-- What holds of all texts and of their programs.
+use Rattle.std.specs.Prelude.{◌≡◌, ℕ, List, Result, Ok}
+use Rattle.pl_types.specs.declared.refusal.Refusal.{Refusal}
+use Rattle.object_values.specs.declared.value.Value.{Value}
+use Rattle.allowlist.specs.Allow.{AllowList}
+use Rattle.run_world.specs.World.{World, Limits, End}
+use Rattle.typing_rules.specs.declared.header.ContextTypes.{ContextTypes}
+use Rattle.typed_tree.specs.declared.program.Program.{Program}
+use Rattle.program_meaning.specs.Programs.{fun_of}
+use Rattle.program_types.specs.Types.{HaveAll}
+use Rattle.program_types.specs.Agreeing.{types_in}
+use Rattle.typing_laws.specs.Laws.{IsContext}
+use Rattle.script_engine.specs.Programs.{IsProgramOf}
+use Rattle.script_engine.specs.Ends.{RunsTo}
+
+-- A text is a program or is refused,
+abbrev pub TextsAreAnswered : Type 0
+TextsAreAnswered = (allow : AllowList) (context : ContextTypes) (text : List ℕ) → (reading : Result Program Refusal) × IsProgramOf allow context text reading
+
+-- .. and in one way.
+abbrev pub TextsAreAnsweredOnce : Type 0
+TextsAreAnsweredOnce =
+    (allow : AllowList) (context : ContextTypes) (text : List ℕ) (a b : Result Program Refusal) → IsProgramOf allow context text a → IsProgramOf allow context text b → a ≡ b
+
+-- The run of a text's program ends, on all arguments of its parameters' types,
+abbrev pub ProgramsEnd : Type 0
+ProgramsEnd =
+    (allow : AllowList) (context : ContextTypes) (text : List ℕ) (p : Program) → IsContext context → IsProgramOf allow context text (Ok p)
+    → (limits : Limits) (args : List Value) → HaveAll (types_in (fun_of p.main).params) args → (w : World) → (end : End Value) × RunsTo p limits args w end
+
+-- .. and in one way.
+abbrev pub ProgramsEndOnce : Type 0
+ProgramsEndOnce = (p : Program) (limits : Limits) (args : List Value) (w : World) (end other : End Value) → RunsTo p limits args w end → RunsTo p limits args w other → end ≡ other

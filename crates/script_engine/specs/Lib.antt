@@ -1,0 +1,6 @@
+pub mod Stages
+pub mod Programs
+pub mod Compiling
+pub mod Ends
+pub mod Running
+pub mod Laws

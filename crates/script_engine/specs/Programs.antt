@@ -1,0 +1,24 @@
+-- Which program a text is, or the first rule that it breaks: its tokens come first, then its tree, then its types.
+use Rattle.std.specs.Prelude.{◌≡◌, ℕ, List, Result}
+use Rattle.pl_types.specs.declared.refusal.Refusal.{Refusal}
+use Rattle.pl_lexer.specs.declared.token.Token.{Token}
+use Rattle.pl_lexer.specs.Tokens.{Lexes}
+use Rattle.pl_grammar.specs.Parses.{Parses}
+use Rattle.pl_tree.specs.declared.tree.Tree.{Tree}
+use Rattle.allowlist.specs.Allow.{AllowList, class_named_of}
+use Rattle.typing_rules.specs.declared.header.ContextTypes.{ContextTypes}
+use Rattle.typing_rules.specs.Typing.{typing_of}
+use Rattle.typed_tree.specs.declared.program.Program.{Program}
+use Rattle.script_engine.specs.Stages.{Then}
+
+-- which program a tree is
+abbrev pub TypesTree : ContextTypes → Tree → Result Program Refusal → Type 0
+TypesTree context tree answer = answer ≡ typing_of context tree
+
+-- which program the tokens of a text are
+abbrev pub TypesTokens : ContextTypes → List ℕ → List Token → Result Program Refusal → Type 0
+TypesTokens context text tokens = Then (Parses text tokens) (TypesTree context)
+
+-- which program a text is, where names mean the classes of a list
+abbrev pub IsProgramOf : AllowList → ContextTypes → List ℕ → Result Program Refusal → Type 0
+IsProgramOf allow context text = Then (Lexes text (class_named_of allow)) (TypesTokens context text)

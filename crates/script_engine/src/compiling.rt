@@ -1,0 +1,98 @@
+//! From a text to its script.
+
+ghost use Rattle.std.specs.Prelude.{◌≡◌, ◌≤◌, Result, length};
+ghost use Rattle.pl_types.specs.Answers.{Answers};
+ghost use Rattle.pl_types.specs.declared.refusal.Refusal.{Refusal};
+ghost use Rattle.pl_grammar.specs.Lexeme.{AllLieIn};
+ghost use Rattle.typed_tree.specs.declared.program.Program as typed;
+ghost use Rattle.typing_laws.specs.Laws.{IsContext};
+ghost use Rattle.script_engine.specs.Programs.{TypesTree, TypesTokens, IsProgramOf};
+ghost use Rattle.script_engine.specs.Compiling.{Compiles};
+
+use allowlist::Allow;
+use code_generator::generate;
+use pl_code::Code;
+use pl_lexer::{Token, lex};
+use pl_parser::parse;
+use pl_tree::Tree;
+use pl_types::Fail;
+use static_types::{ContextTypes, elaborate};
+use std::alloc::Global;
+use typed_tree::Program;
+
+/// A script that was compiled.
+pub struct Script {
+    pub(crate) code: Code,
+}
+
+impl Drop for Script {
+    fn drop(self) {
+        let Script { code: _code } = self;
+    }
+}
+
+/// The program of a tree.
+fn program_of_tree(
+    alloc: Global,
+    allow: &Allow,
+    context: &ContextTypes,
+    tree: &Tree,
+) -> Result<Program, Fail>
+    ensures exact { Answers (λ p. p) result (TypesTree context.now tree.now) }
+    ensures only { (reading : Result typed.Program Refusal) → TypesTree context.now tree.now reading → Answers (λ p. p) result (λ a. a ≡ reading) }
+{
+    elaborate(alloc, allow, context, tree)
+}
+
+/// The program of the tokens of a text.
+fn program_of_tokens(
+    alloc: Global,
+    allow: &Allow,
+    context: &ContextTypes,
+    text: &str,
+    tokens: &[Token],
+) -> Result<Program, Fail>
+    requires short { length text.now ≤ 1048576 }
+    requires placed { AllLieIn text.now tokens.now }
+    ensures exact { Answers (λ p. p) result (TypesTokens context.now text.now tokens.now) }
+    ensures only { (reading : Result typed.Program Refusal) → TypesTokens context.now text.now tokens.now reading → Answers (λ p. p) result (λ a. a ≡ reading) }
+{
+    let tree = parse(alloc, text, tokens)?;
+    program_of_tree(alloc, allow, context, &tree)
+}
+
+/// The program of a text.
+fn program_of(
+    alloc: Global,
+    allow: &Allow,
+    context: &ContextTypes,
+    text: &str,
+) -> Result<Program, Fail>
+    ensures exact { Answers (λ p. p) result (IsProgramOf allow.now context.now text.now) }
+    ensures only { (reading : Result typed.Program Refusal) → IsProgramOf allow.now context.now text.now reading → Answers (λ p. p) result (λ a. a ≡ reading) }
+{
+    let tokens = lex(alloc, text, allow)?;
+    program_of_tokens(alloc, allow, context, text, tokens.as_slice())
+}
+
+/// The script of a text, whose names mean the classes of a list, by the variables and the result of a context.
+///
+/// # Errors
+///
+/// Refused by the first rule that the text breaks: of tokens, then of the grammar, then of types. `NoMemory`.
+pub fn compile(
+    alloc: Global,
+    text: &str,
+    allow: &Allow,
+    context: &ContextTypes,
+) -> Result<Script, Fail>
+    requires context { IsContext context.now }
+    ensures exact { Compiles context.now (IsProgramOf allow.now context.now text.now) result }
+    ensures only { (reading : Result typed.Program Refusal) → IsProgramOf allow.now context.now text.now reading → Compiles context.now (λ a. a ≡ reading) result }
+{
+    let program = program_of(alloc, allow, context, text)?;
+    match generate(alloc, &program) {
+        Ok(code) => Ok(Script { code }),
+        Err(_) => Err(Fail::NoMemory),
+    }
+}

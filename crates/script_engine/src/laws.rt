@@ -1,0 +1,16 @@
+//! What holds of all texts and of their programs.
+ghost use Rattle.script_engine.specs.Laws.{TextsAreAnswered, TextsAreAnsweredOnce, ProgramsEnd, ProgramsEndOnce};
+
+use pl_grammar_laws::grammar_laws;
+use pl_lexer::each_text_has_one_reading;
+
+/// A text is a program or is refused by one rule, and the run of its program comes to one end.
+pub fn script_laws()
+    ensures answered { TextsAreAnswered }
+    ensures answered_once { TextsAreAnsweredOnce }
+    ensures ends { ProgramsEnd }
+    ensures ends_once { ProgramsEndOnce }
+{
+    each_text_has_one_reading();
+    grammar_laws();
+}
