@@ -19,25 +19,26 @@ use Rattle.number_ops.specs.Casts.{cast_at_run_time, to_primitive, given, from_b
 use Rattle.number_ops.specs.declared.casts.Casted.{Casted}
 use Rattle.number_ops.specs.declared.casts.Casted.TheVariants.{Kept, To, Text, Refused}
 use Rattle.code_shapes.specs.Types.{kind_of_primitive}
+use Rattle.code_meaning.specs.declared.word.Word.{Word}
 use Rattle.code_meaning.specs.Words.{unboxed}
 use Rattle.verified_runs.specs.Fits.{kind_of}
 
--- what an effect gives is a word of a kind
-abbrev pub EffectIs : Slot → Effect → Type 0
-EffectIs k (Gives value store) = kind_of (unboxed value) ≡ k
-EffectIs k (Throws id store) = Unit {0}
-EffectIs k NoRoom = Unit {0}
+-- what an effect gives stands in a word of a kind
+abbrev pub EffectIs : (Value → Word) → Slot → Effect → Type 0
+EffectIs word k (Gives value store) = kind_of (word value) ≡ k
+EffectIs word k (Throws id store) = Unit {0}
+EffectIs word k NoRoom = Unit {0}
 
-pays : (k : Slot) (o : Option Store) (next : Store → Effect) → ((store : Store) → EffectIs k (next store)) → EffectIs k (after_paying o next)
-pays k None next h = tt
-pays k (Some store) next h = h store
+pays : (word : Value → Word) (k : Slot) (o : Option Store) (next : Store → Effect) → ((store : Store) → EffectIs word k (next store)) → EffectIs word k (after_paying o next)
+pays word k None next h = tt
+pays word k (Some store) next h = h store
 
-pub throws_is : (k : Slot) (store : Store) (class : ℕ) (message : Option (List ℕ)) → EffectIs k (throws store class message)
-throws_is k store class message = pays k (paid store (store.objects ++ o.Exc class message ∷ []) 0) (λ paid. Throws (length store.objects) paid) (λ paid. tt)
+pub throws_is : (word : Value → Word) (k : Slot) (store : Store) (class : ℕ) (message : Option (List ℕ)) → EffectIs word k (throws store class message)
+throws_is word k store class message = pays word k (paid store (store.objects ++ o.Exc class message ∷ []) 0) (λ paid. Throws (length store.objects) paid) (λ paid. tt)
 
-pub divisor_is : (k : Slot) (store : Store) → EffectIs k (effect store zero_divisor)
+pub divisor_is : (word : Value → Word) (k : Slot) (store : Store) → EffectIs word k (effect store zero_divisor)
 unfolding says
-divisor_is k store = throws_is k store ARITHMETIC_EXCEPTION (Some (units (codes "/ by zero")))
+divisor_is word k store = throws_is word k store ARITHMETIC_EXCEPTION (Some (units (codes "/ by zero")))
 
 -- a cast that is not refused gives a value of a kind; nothing is made a text
 abbrev CastIs : Slot → Value → Casted → Type 0
@@ -46,12 +47,12 @@ CastIs k value (To made) = kind_of (unboxed made) ≡ k
 CastIs k value (Text unit) = ⊥
 CastIs k value Refused = Unit {0}
 
-given_is : (k : Slot) (store : Store) (value : Value) (to : Ty) (c : Casted) → CastIs k value c → EffectIs k (effect store (given store.objects value to c))
+given_is : (k : Slot) (store : Store) (value : Value) (to : Ty) (c : Casted) → CastIs k value c → EffectIs unboxed k (effect store (given store.objects value to c))
 unfolding says
 given_is k store value to Kept is = is
 given_is k store value to (To made) is = is
 given_is k store value to (Text unit) is = absurd is
-given_is k store value to Refused is = throws_is k store CLASS_CAST_EXCEPTION (Some (units (cast_message store.objects value to)))
+given_is k store value to Refused is = throws_is unboxed k store CLASS_CAST_EXCEPTION (Some (units (cast_message store.objects value to)))
 
 -- ---- what is in no box: a text of one unit goes to char
 
@@ -144,9 +145,9 @@ from_long a prim.Long explicit = refl
 
 -- ---- the cast
 
-pub cast_is : (p : Primitive) (store : Store) (value : Value) (explicit : Bool) → EffectIs (kind_of_primitive p) (effect store (cast_at_run_time store.objects value (ty.Prim p) explicit))
+pub cast_is : (p : Primitive) (store : Store) (value : Value) (explicit : Bool) → EffectIs unboxed (kind_of_primitive p) (effect store (cast_at_run_time store.objects value (ty.Prim p) explicit))
 unfolding out-Ty denote.Hole.Carrier.out
-cast_is p store v.Null explicit = throws_is (kind_of_primitive p) store NULL_POINTER_EXCEPTION None
+cast_is p store v.Null explicit = throws_is unboxed (kind_of_primitive p) store NULL_POINTER_EXCEPTION None
 cast_is p store (v.Bool a) explicit = given_is (kind_of_primitive p) store (v.Bool a) (ty.Prim p) (to_primitive p explicit (v.Bool a)) (from_flag p explicit a)
 cast_is p store (v.Byte a) explicit = given_is (kind_of_primitive p) store (v.Byte a) (ty.Prim p) (to_primitive p explicit (v.Byte a)) (from_byte a p explicit)
 cast_is p store (v.Short a) explicit = given_is (kind_of_primitive p) store (v.Short a) (ty.Prim p) (to_primitive p explicit (v.Short a)) (from_short a p explicit)

@@ -24,7 +24,7 @@ use Rattle.verifier.specs.Shaped.{IsWellShapedCode}
 use Rattle.run_world.specs.World.{World, Limits, Counted, Counts, Passes, take_turn}
 use Rattle.code_meaning.specs.declared.word.Word.{Word}
 use Rattle.code_meaning.specs.declared.word.Word.TheVariants.{I, J, R}
-use Rattle.code_meaning.specs.Words.{Calculation, NoRow, Calculates, boxed, word_of}
+use Rattle.code_meaning.specs.Words.{Calculation, NoRow, Calculates, boxed, unboxed, word_of}
 use Rattle.code_meaning.specs.Machine as machine
 use Rattle.code_meaning.specs.Machine.{Frame, Next, Goes, on_top, on_int, on_value, on_local, on_stack, on_turn, on_calculation, unless_zero, to_line, depth_of}
 use Rattle.verified_runs.specs.Fits.{kind_of, kinds_of, frame_kinds}
@@ -204,7 +204,7 @@ module _ (allow : AllowList) (code : List FunCode) (limits : Limits) (well : IsW
 
   pub calculated : (c : Calculation) → flow_of i ≡ flow.GoesOn → CalculatesTo c s.left → Moved (on_calculation code limits c f below w)
   calculated NoRow goes to = absurd to
-  calculated (Calculates None stack) goes to = effect_moves allow code limits well function f below w i s here to.0 stack (effect w.store zero_divisor) goes to.1 (divisor_is to.0 w.store)
+  calculated (Calculates None stack) goes to = effect_moves allow code limits well function f below w i s here unboxed to.0 stack (effect w.store zero_divisor) goes to.1 (divisor_is unboxed to.0 w.store)
   calculated (Calculates (Some number) stack) goes to = next_with (word_of number ∷ stack) goes to
 
   pub boxes : (p : Primitive) → flow_of i ≡ flow.GoesOn → exchanged (kind_of_primitive p ∷ []) (slot.R ∷ []) (kinds_of f.stack) ≡ Some s.left

@@ -113,9 +113,13 @@ start_ends : (allow : AllowList) (code : List FunCode) (limits : Limits) → IsW
 start_ends allow code limits well rows f words w None is fits = cc
 start_ends allow code limits well rows f words w (Some g) is fits = ends_within allow code limits well rows (started g words w) fits
 
+pub run_ends : (allow : AllowList) (code : List FunCode) (limits : Limits) → IsWellShapedCode allow code → HaveRows code → (f : FunCode) (words : List Word) (w : World) → slice_get code 0 ≡ Some f → kinds_of words ≡ f.params
+    → ReachesAllowed allow w → EndsWithin allow code limits (most_steps code limits w.ticks) (start code words w)
+run_ends allow code limits well rows f words w is params reached =
+    start_ends allow code limits well rows f words w (slice_get code 0) is (starts_fit allow code limits f words w well is params reached)
+
 pub starts_end : StartsEnd
-starts_end c limits f words w s rows is params reached =
-    start_ends c.allow c.code.functions limits (well_shaped c s) rows f words w (slice_get c.code.functions 0) is (all_starts_fit c limits f words w s is params reached)
+starts_end c limits f words w s rows is params reached = run_ends c.allow c.code.functions limits (well_shaped c s) rows f words w is params reached
 
 -- ---- frames below
 

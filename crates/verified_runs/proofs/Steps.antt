@@ -108,7 +108,7 @@ module _ (allow : AllowList) (code : List FunCode) (limits : Limits) (well : IsW
   act_moves (i.Unboxing p way) row s =
       on_one_reference Moved (kind_of_primitive p ∷ []) s.left f.stack
       (λ value stack. on_outcome code limits (acts_in w (effect w.store (cast_at_run_time w.store.objects value (ty.Prim p) (is_written way)))) unboxed f below w stack) s.leaves
-      (λ value stack kinds. effect_moves allow code limits well function f below w (i.Unboxing p way) s here (kind_of_primitive p) stack
+      (λ value stack kinds. effect_moves allow code limits well function f below w (i.Unboxing p way) s here unboxed (kind_of_primitive p) stack
       (effect w.store (cast_at_run_time w.store.objects value (ty.Prim p) (is_written way))) refl kinds (cast_is p w.store value (is_written way)))
   act_moves (i.Dynamic o) row s = absurd (false≢true row)
   act_moves (i.Quoted q text) row s = absurd (false≢true row)

@@ -17,7 +17,6 @@ use Rattle.verifier.specs.Shaped.{IsWellShapedCode}
 use Rattle.run_world.specs.World.{World, Limits, Outcome, Given, Raised, Full, acts_in}
 use Rattle.code_meaning.specs.declared.word.Word.{Word}
 use Rattle.code_meaning.specs.declared.word.Word.TheVariants as word
-use Rattle.code_meaning.specs.Words.{unboxed}
 use Rattle.code_meaning.specs.Machine.{Frame, Next, Goes, traps_at, traps_of, is_instance, lands, unwind, on_outcome, depth_of}
 use Rattle.verified_runs.specs.Fits.{ReachesAllowed, kind_of, kinds_of, frame_kinds, BelowFits}
 use Rattle.verified_runs.proofs.Casts.{EffectIs}
@@ -110,26 +109,26 @@ module _ (allow : AllowList) (code : List FunCode) (limits : Limits) (well : IsW
 
   -- ---- what an operation on the store comes to
 
-  abbrev OutcomeIs : Slot → World → Outcome Value → Type 0
-  OutcomeIs k w (Given value w') = (kind_of (unboxed value) ≡ k) × GoesTo allow code limits w w'
-  OutcomeIs k w (Raised id w') = GoesTo allow code limits w w'
-  OutcomeIs k w Full = Unit {0}
+  abbrev OutcomeIs : (Value → Word) → Slot → World → Outcome Value → Type 0
+  OutcomeIs to k w (Given value w') = (kind_of (to value) ≡ k) × GoesTo allow code limits w w'
+  OutcomeIs to k w (Raised id w') = GoesTo allow code limits w w'
+  OutcomeIs to k w Full = Unit {0}
 
-  acts_so : (k : Slot) (w : World) (e : Effect) → ReachesAllowed allow w → EffectIs k e → OutcomeIs k w (acts_in w e)
+  acts_so : (to : Value → Word) (k : Slot) (w : World) (e : Effect) → ReachesAllowed allow w → EffectIs to k e → OutcomeIs to k w (acts_in w e)
   unfolding acts_in
-  acts_so k w (Gives value store) reached is = (is, record { ticks = refl; reached = reached })
-  acts_so k w (Throws id store) reached is = record { ticks = refl; reached = reached }
-  acts_so k w NoRoom reached is = tt
+  acts_so to k w (Gives value store) reached is = (is, record { ticks = refl; reached = reached })
+  acts_so to k w (Throws id store) reached is = record { ticks = refl; reached = reached }
+  acts_so to k w NoRoom reached is = tt
 
   outcome_moves : (function : FunCode) (f : Frame) (below : List Frame) (w : World) (i : Instruction) (s : StandsIn allow code function (frame_kinds f) i) → Here allow code limits function f below w
-      → (k : Slot) (stack : List Word) (o : Outcome Value) → flow_of i ≡ flow.GoesOn → k ∷ kinds_of stack ≡ s.left → OutcomeIs k w o
-      → Moves allow code limits (left_at code limits f below w) (on_outcome code limits o unboxed f below w stack)
-  outcome_moves function f below w i s here k stack (Given value w') goes kinds is =
-      goes_next allow code limits function f below w w' i s here (unboxed value ∷ stack) is.1 goes (ap (λ k. k ∷ kinds_of stack) is.0 ∙ kinds)
-  outcome_moves function f below w i s here k stack (Raised id w') goes kinds is = thrown function f below w w' id here is
-  outcome_moves function f below w i s here k stack Full goes kinds is = here.reached
+      → (to : Value → Word) (k : Slot) (stack : List Word) (o : Outcome Value) → flow_of i ≡ flow.GoesOn → k ∷ kinds_of stack ≡ s.left → OutcomeIs to k w o
+      → Moves allow code limits (left_at code limits f below w) (on_outcome code limits o to f below w stack)
+  outcome_moves function f below w i s here to k stack (Given value w') goes kinds is =
+      goes_next allow code limits function f below w w' i s here (to value ∷ stack) is.1 goes (ap (λ k. k ∷ kinds_of stack) is.0 ∙ kinds)
+  outcome_moves function f below w i s here to k stack (Raised id w') goes kinds is = thrown function f below w w' id here is
+  outcome_moves function f below w i s here to k stack Full goes kinds is = here.reached
 
   pub effect_moves : (function : FunCode) (f : Frame) (below : List Frame) (w : World) (i : Instruction) (s : StandsIn allow code function (frame_kinds f) i) → Here allow code limits function f below w
-      → (k : Slot) (stack : List Word) (e : Effect) → flow_of i ≡ flow.GoesOn → k ∷ kinds_of stack ≡ s.left → EffectIs k e
-      → Moves allow code limits (left_at code limits f below w) (on_outcome code limits (acts_in w e) unboxed f below w stack)
-  effect_moves function f below w i s here k stack e goes kinds is = outcome_moves function f below w i s here k stack (acts_in w e) goes kinds (acts_so k w e here.reached is)
+      → (to : Value → Word) (k : Slot) (stack : List Word) (e : Effect) → flow_of i ≡ flow.GoesOn → k ∷ kinds_of stack ≡ s.left → EffectIs to k e
+      → Moves allow code limits (left_at code limits f below w) (on_outcome code limits (acts_in w e) to f below w stack)
+  effect_moves function f below w i s here to k stack e goes kinds is = outcome_moves function f below w i s here to k stack (acts_in w e) goes kinds (acts_so to k w e here.reached is)

@@ -42,7 +42,8 @@ impl<'c> Model for VerifiedActivation<'c> {
 }
 
 impl<'c> VerifiedActivation<'c> {
-    /// A run of function 0 of this code on these arguments, which are of the kinds of its parameters.
+    /// A run of function 0 of this code on these arguments, which are of the kinds of its parameters (`fit_main` tests it). Each
+    /// instruction of the code has a row (`have_rows` tests it).
     ///
     /// # Errors
     ///
