@@ -5,6 +5,8 @@ use Rattle.pl_types.specs.Answers.{Answers}
 use Rattle.pl_types.specs.declared.refusal.Refusal.{Refusal}
 use Rattle.pl_types.specs.declared.refusal.Fail.{Fail}
 use Rattle.pl_types.specs.declared.refusal.Fail.TheVariants.{Refused, NoMemory}
+use Rattle.pl_types.specs.declared.ty.Ty.{out-Ty}
+use Rattle.program_types.specs.Types.{IsReference}
 use Rattle.allowlist.specs.Allow.{full_list}
 use Rattle.object_values.specs.declared.value.Value.{Value}
 use Rattle.object_heap.specs.declared.outcome.Which.{Which}
@@ -112,7 +114,11 @@ tells_refusal_only script refusal (Err error) only h told t = tt
 
 -- ---- the run
 
+def_is_reference : IsReference eval_types.result
+unfolding out-Ty denote.Hole.Carrier.out
+def_is_reference = tt
+
 -- `eval` has no variables, and its result is a reference
 pub runs_as_eval : (script : Script) (result : Result Outcome AllocError) → IfOk result (RunsAsItsProgram script eval_world.store machine_limits) → IfOk result (RunsAsEval script)
-runs_as_eval script (Ok o) h = λ p is. h eval_types p is refl tt
+runs_as_eval script (Ok o) h = λ p is. h eval_types p is refl def_is_reference
 runs_as_eval script (Err error) h = tt

@@ -13,10 +13,11 @@ use Rattle.typing_rules.specs.Typing.{doer, statements, ran, functions, main_of,
 use Rattle.typed_tree.specs.declared.program.Program.{Program}
 use Rattle.program_meaning.specs.Programs.{fun_of, program_of, variable_of}
 use Rattle.program_types.specs.Agreeing.{WellFormed}
+use Rattle.program_types.specs.Reached.{Reached}
 use Rattle.program_code.specs.Correct.{IsCodeOf}
 use Rattle.typing_laws.specs.Laws.{IsContext}
 use Rattle.typing_laws.proofs.Parts.{passed, accepted, settled}
-use Rattle.typing_laws.proofs.Functions.{typing_is_sound}
+use Rattle.typing_laws.proofs.Functions.{typing_is_sound, typing_reaches}
 use Rattle.allowlist.specs.Allow.{AllowList}
 use Rattle.script_engine.specs.declared.compiling.Script.{Script}
 use Rattle.script_engine.specs.Programs.{TypesTokens, IsProgramOf}
@@ -62,6 +63,15 @@ typed_from allow context text p (Err refusal, h, k) = cc
 
 pub formed_from : (allow : AllowList) (context : ContextTypes) (text : List ℕ) (p : Program) → IsContext context → IsProgramOf allow context text (Ok p) → WellFormed (program_of p)
 formed_from allow context text p good h = let tree = typed_from allow context text p h in typing_is_sound context tree.0 p good tree.1
+
+-- the parameters of a text's program are the context's variables
+pub variables_from : (allow : AllowList) (context : ContextTypes) (text : List ℕ) (p : Program) → IsProgramOf allow context text (Ok p)
+    → (fun_of p.main).params ≡ map variable_of context.variables
+variables_from allow context text p h = let tree = typed_from allow context text p h in (has_context context tree.0 p tree.1).variables
+
+-- each statement of a text's program is reached
+pub reached_from : (allow : AllowList) (context : ContextTypes) (text : List ℕ) (p : Program) → IsContext context → IsProgramOf allow context text (Ok p) → Reached (program_of p)
+reached_from allow context text p good h = let tree = typed_from allow context text p h in typing_reaches context tree.0 p good tree.1
 
 -- code of a text's program is its script
 pub is_script : (allow : AllowList) (context : ContextTypes) (text : List ℕ) (p : Program) (script : Script) → IsContext context → IsProgramOf allow context text (Ok p)

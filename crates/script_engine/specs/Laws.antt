@@ -6,7 +6,7 @@ use Rattle.allowlist.specs.Allow.{AllowList}
 use Rattle.run_world.specs.World.{World, Limits, End}
 use Rattle.typing_rules.specs.declared.header.ContextTypes.{ContextTypes}
 use Rattle.typed_tree.specs.declared.program.Program.{Program}
-use Rattle.program_meaning.specs.Programs.{fun_of}
+use Rattle.program_meaning.specs.Programs.{variable_of}
 use Rattle.program_types.specs.Types.{HaveAll}
 use Rattle.program_types.specs.Agreeing.{types_in}
 use Rattle.typing_laws.specs.Laws.{IsContext}
@@ -22,11 +22,11 @@ abbrev pub TextsAreAnsweredOnce : Type 0
 TextsAreAnsweredOnce =
     (allow : AllowList) (context : ContextTypes) (text : List ℕ) (a b : Result Program Refusal) → IsProgramOf allow context text a → IsProgramOf allow context text b → a ≡ b
 
--- The run of a text's program ends, on all arguments of its parameters' types,
+-- The run of a text's program ends, on all arguments of the types of the context's variables,
 abbrev pub ProgramsEnd : Type 0
 ProgramsEnd =
     (allow : AllowList) (context : ContextTypes) (text : List ℕ) (p : Program) → IsContext context → IsProgramOf allow context text (Ok p)
-    → (limits : Limits) (args : List Value) → HaveAll (types_in (fun_of p.main).params) args → (w : World) → (end : End Value) × RunsTo p limits args w end
+    → (limits : Limits) (args : List Value) → HaveAll (types_in (map variable_of context.variables)) args → (w : World) → (end : End Value) × RunsTo p limits args w end
 
 -- .. and in one way.
 abbrev pub ProgramsEndOnce : Type 0

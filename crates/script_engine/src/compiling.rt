@@ -1,6 +1,8 @@
 //! From a text to its script.
 
-ghost use Rattle.std.specs.Prelude.{◌≡◌, ◌≤◌, Result, length};
+ghost use Rattle.std.specs.Prelude.{◌≡◌, ◌≤◌, IfOk, None, Result, length, string_bytes};
+ghost use Rattle.pl_code.specs.Listing.{written};
+ghost use Rattle.verifier.specs.Faults.{shape_fault};
 ghost use Rattle.pl_types.specs.Answers.{Answers};
 ghost use Rattle.pl_types.specs.declared.refusal.Refusal.{Refusal};
 ghost use Rattle.pl_grammar.specs.Lexeme.{AllLieIn};
@@ -11,13 +13,14 @@ ghost use Rattle.script_engine.specs.Compiling.{Compiles};
 
 use allowlist::Allow;
 use code_generator::generate;
-use pl_code::Code;
+use pl_code::{Code, listing};
 use pl_lexer::{Token, lex};
 use pl_parser::parse;
 use pl_tree::Tree;
 use pl_types::Fail;
+use program_shapes::code_is_well_shaped;
 use static_types::{ContextTypes, elaborate};
-use std::alloc::Global;
+use std::alloc::{AllocError, Global};
 use typed_tree::Program;
 
 /// A script that was compiled.
@@ -28,6 +31,15 @@ pub struct Script {
 impl Drop for Script {
     fn drop(self) {
         let Script { code: _code } = self;
+    }
+}
+
+impl Script {
+    /// The listing of the code.
+    pub fn listing(&self, alloc: Global) -> Result<String, AllocError>
+        ensures { IfOk result (λ text. string_bytes text ≡ written self.now.code) }
+    {
+        listing(alloc, &self.code)
     }
 }
 
@@ -89,7 +101,10 @@ pub fn compile(
     requires context { IsContext context.now }
     ensures exact { Compiles context.now (IsProgramOf allow.now context.now text.now) result }
     ensures only { (reading : Result typed.Program Refusal) → IsProgramOf allow.now context.now text.now reading → Compiles context.now (λ a. a ≡ reading) result }
+    // The verifier finds no fault in the code.
+    ensures sound { IfOk result (λ script. shape_fault allow.now script.code ≡ None) }
 {
+    code_is_well_shaped();
     let program = program_of(alloc, allow, context, text)?;
     match generate(alloc, &program) {
         Ok(code) => Ok(Script { code }),

@@ -1,6 +1,6 @@
 -- A text's program has a script, and is the text's only one.
 use Rattle.std.proofs.lemmas.Result.{err_from_is_err_and}
-use Rattle.script_engine.proofs.Compiled.{fails_only, is_script}
+use Rattle.script_engine.proofs.Compiled.{fails_only, formed_from, is_script, reached_from}
 use Rattle.script_engine.proofs.compiling.compile.Goals as goal
 
 pub returns-in_err-program-clause-only : goal.returns-in_err-program-clause-only
@@ -19,3 +19,9 @@ returns-in-Ok-clause-only c reading is =
     let p = c.in_ok-program.program in
     let made = is_script c.args.allow.now c.args.context.now c.args.text.now p (record { code = c.in-Ok.code }) c.requires.context c.in_ok-program.ensures.exact c.in-Ok.ensures.code in
     (p, c.in_ok-program.ensures.only reading is, made)
+
+pub returns-in-Ok-clause-sound : goal.returns-in-Ok-clause-sound
+returns-in-Ok-clause-sound c =
+    let p = c.in_ok-program.program in
+    c.code_is_well_shaped.ensures.sound c.args.allow.now p c.in-Ok.code (formed_from c.args.allow.now c.args.context.now c.args.text.now p c.requires.context c.in_ok-program.ensures.exact)
+    (reached_from c.args.allow.now c.args.context.now c.args.text.now p c.requires.context c.in_ok-program.ensures.exact) c.in-Ok.ensures.code

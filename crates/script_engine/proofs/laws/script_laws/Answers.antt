@@ -1,5 +1,8 @@
 -- Each stage has one answer, and a program one end.
-use Rattle.script_engine.proofs.Compiled.{formed_from}
+use Rattle.std.proofs.Common.{subst, sym}
+use Rattle.program_types.specs.Types.{HaveAll}
+use Rattle.program_types.specs.Agreeing.{types_in}
+use Rattle.script_engine.proofs.Compiled.{formed_from, variables_from}
 use Rattle.script_engine.proofs.Ends.{ends_some, ends_once}
 use Rattle.script_engine.proofs.Texts.{text_once, text_some}
 use Rattle.script_engine.proofs.laws.script_laws.Goals as goal
@@ -11,7 +14,8 @@ pub returns-clause-answered_once : goal.returns-clause-answered_once
 returns-clause-answered_once c = text_once c.each_text_has_one_reading.ensures.once c.grammar_laws.ensures.unique
 
 pub returns-clause-ends : goal.returns-clause-ends
-returns-clause-ends c allow context text p good is = ends_some p (formed_from allow context text p good is)
+returns-clause-ends c allow context text p good is limits args have =
+    ends_some p (formed_from allow context text p good is) limits args (subst (λ xs. HaveAll (types_in xs) args) (sym (variables_from allow context text p is)) have)
 
 pub returns-clause-ends_once : goal.returns-clause-ends_once
 returns-clause-ends_once c = ends_once
