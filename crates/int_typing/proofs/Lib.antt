@@ -1,4 +1,0 @@
-pub mod Firsts
-pub mod Refusals
-pub mod Shapes
-pub mod Joins

@@ -1,4 +1,0 @@
-pub mod Typing
-pub mod Visits
-pub mod Steps
-pub mod Spines
