@@ -1,40 +1,14 @@
 //! What an object may be replaced by, what is gone when a script ends, and the parts of objects.
 
-use crate::making::{array, builder, constructor, exception, lambda, list, map, reference, set};
+use crate::making::{Shape, placed, renew};
 use object_heap::Heap;
-use object_values::{Elements, Guard, Object, Owner, Target};
+use object_values::{Owner, Target};
+use pl_types::Ty;
 use pl_types::classes::{
     ARRAY_LIST, COMPARATOR, EXCEPTION, FUNCTION, HASH_MAP, HASH_SET, LINKED_HASH_MAP,
     LINKED_HASH_SET, SCRIPT_DOC_VALUES,
 };
-use pl_types::{Primitive, Ty};
-use std::alloc::{AllocError, Global};
 use std::test::Fail;
-
-#[derive(Clone, Copy)]
-enum Shape {
-    List(u32, i32),
-    Map(u32, i32),
-    Set(u32, i32),
-    Ints(i32),
-    Longs(i32),
-    Function(Option<u32>, i32),
-    Builder(usize),
-    Exception(u32, &'static str),
-}
-
-fn object(alloc: Global, shape: Shape) -> Result<Object, AllocError> {
-    match shape {
-        Shape::List(class, count) => list(alloc, class, count, Guard::Open),
-        Shape::Map(class, count) => map(alloc, class, count, Guard::Open),
-        Shape::Set(class, count) => set(alloc, class, count, Guard::Open),
-        Shape::Ints(count) => array(alloc, Ty::Prim(Primitive::Int), count),
-        Shape::Longs(count) => array(alloc, Ty::Prim(Primitive::Long), count),
-        Shape::Function(iface, count) => lambda(alloc, Owner::Script, iface, count),
-        Shape::Builder(count) => builder(alloc, count),
-        Shape::Exception(class, text) => exception(alloc, class, Some(text)),
-    }
-}
 
 // How much an object holds, in whichever part it holds it.
 fn held(heap: &Heap) -> usize {
@@ -87,23 +61,22 @@ const RENEWALS: [(Shape, Shape, usize); 18] = [
     ),
     (Shape::Builder(1), Shape::Builder(5), 5),
     (
-        Shape::Exception(EXCEPTION, "a"),
-        Shape::Exception(EXCEPTION, "ab"),
+        Shape::Exception(EXCEPTION, Some("a")),
+        Shape::Exception(EXCEPTION, Some("ab")),
         2,
     ),
-    (Shape::Exception(EXCEPTION, "a"), Shape::Builder(5), 1),
+    (Shape::Exception(EXCEPTION, Some("a")), Shape::Builder(5), 1),
 ];
 
 #[test]
 fn renewals(rt: HostRuntime) -> Result<(), Fail> {
     for (before, after, left) in &RENEWALS {
-        let mut heap = Heap::new(rt.alloc(), 50);
-        heap.place(object(rt.alloc(), *before)?)?;
-        let went = heap.renew(0, object(rt.alloc(), *after)?);
+        let mut heap = placed(rt.alloc(), 50, &[*before])?;
+        let went = renew(&mut heap, 0, *after)?;
         assert!(rt; went);
         let count = held(&heap);
         assert!(rt; count == *left);
-        let went = heap.renew(1, object(rt.alloc(), *after)?);
+        let went = renew(&mut heap, 1, *after)?;
         assert!(rt; went);
         let count = heap.len();
         assert!(rt; count == 1);
@@ -122,7 +95,15 @@ fn called(target: Option<&Target>) -> u8 {
     }
 }
 
-// What the function values call, before and after the script has ended.
+const FUNCTIONS: [Shape; 5] = [
+    Shape::Function(None, 1),
+    Shape::Given(1),
+    Shape::Reference(ARRAY_LIST),
+    Shape::Constructor,
+    Shape::Function(Some(FUNCTION), 2),
+];
+
+// What they call, before and after the script has ended.
 const CALLED: [(u32, u8, u8); 6] = [
     (0, 1, 5),
     (1, 2, 2),
@@ -134,12 +115,7 @@ const CALLED: [(u32, u8, u8); 6] = [
 
 #[test]
 fn lambdas_are_gone(rt: HostRuntime) -> Result<(), Fail> {
-    let mut heap = Heap::new(rt.alloc(), 0);
-    heap.place(lambda(rt.alloc(), Owner::Script, None, 1)?)?;
-    heap.place(lambda(rt.alloc(), Owner::Prelude, None, 1)?)?;
-    heap.place(reference(rt.alloc(), ARRAY_LIST)?)?;
-    heap.place(constructor(rt.alloc()))?;
-    heap.place(lambda(rt.alloc(), Owner::Script, Some(FUNCTION), 2)?)?;
+    let mut heap = placed(rt.alloc(), 0, &FUNCTIONS)?;
     for (id, before, _) in &CALLED {
         let target = called(heap.target(*id));
         assert!(rt; target == *before);
@@ -156,41 +132,40 @@ fn lambdas_are_gone(rt: HostRuntime) -> Result<(), Fail> {
     Ok(())
 }
 
-fn guard(alloc: Global, number: u8) -> Guard {
-    match number {
-        0 => Guard::Open,
-        1 => Guard::Frozen,
-        2 => Guard::Keys(Elements::new(alloc)),
-        _ => Guard::Mapped,
-    }
-}
+const GUARDED: [Shape; 5] = [
+    Shape::Guarded(0),
+    Shape::Guarded(1),
+    Shape::Guarded(2),
+    Shape::Guarded(3),
+    Shape::Defs(0),
+];
 
-// Guards, and whether nothing may change what they guard.
-const GUARDS: [(u8, bool); 4] = [(0, false), (1, true), (2, false), (3, true)];
+// Objects, whether nothing may change them, and whether they have a guard.
+const GUARDS: [(u32, bool, bool); 5] = [
+    (0, false, true),
+    (1, true, true),
+    (2, false, true),
+    (3, true, true),
+    (4, false, false),
+];
 
 #[test]
 fn guards(rt: HostRuntime) -> Result<(), Fail> {
-    let mut heap = Heap::new(rt.alloc(), 0);
-    for (number, frozen) in &GUARDS {
-        let id = heap.place(map(rt.alloc(), HASH_MAP, 0, guard(rt.alloc(), *number))?)?;
-        let found = heap.is_frozen(id);
+    let heap = placed(rt.alloc(), 0, &GUARDED)?;
+    for (id, frozen, guarded) in &GUARDS {
+        let found = heap.is_frozen(*id);
         assert!(rt; found == *frozen);
-        let there = heap.guard(id).is_some();
-        assert!(rt; there);
+        let there = heap.guard(*id).is_some();
+        assert!(rt; there == *guarded);
     }
-    let id = heap.place(array(rt.alloc(), Ty::Def, 0)?)?;
-    let found = heap.is_frozen(id);
-    assert!(rt; !found);
-    let there = heap.guard(id).is_some();
-    assert!(rt; !there);
-    let typed = match heap.elem(id) {
+    let typed = match heap.elem(4) {
         Some(elem) => elem.is(&Ty::Def),
         None => false,
     };
     assert!(rt; typed);
     let there = heap.pairs(0).is_some();
     assert!(rt; there);
-    let there = heap.get(id).is_some();
+    let there = heap.get(4).is_some();
     assert!(rt; there);
     Ok(())
 }

@@ -1,10 +1,9 @@
 //! Lists and arrays, step by step.
 
-use crate::making::{array, list, number, taken};
+use crate::making::{Shape, number, placed, taken};
 use object_heap::{Heap, HeapErr};
-use object_values::{Guard, Value};
+use object_values::Value;
 use pl_types::classes::ARRAY_LIST;
-use pl_types::{Primitive, Ty};
 use std::test::Fail;
 
 #[derive(Clone, Copy)]
@@ -13,6 +12,8 @@ enum Step {
     Grow,
     Cut,
 }
+
+const OBJECTS: [Shape; 2] = [Shape::List(ARRAY_LIST, 3), Shape::Ints(2)];
 
 // Object 0 is a list of 0, 1, 2, object 1 an array of 0, 1, and there is no object 2. A growth answers no value.
 const ROWS: [(u32, Step, usize, i32, i32, usize, u64, u64); 15] = [
@@ -56,11 +57,7 @@ const LEFT: [(u32, usize, i32); 6] = [
 
 #[test]
 fn lists_and_arrays(rt: HostRuntime) -> Result<(), Fail> {
-    let mut heap = Heap::new(rt.alloc(), 10);
-    let items = list(rt.alloc(), ARRAY_LIST, 3, Guard::Open)?;
-    heap.place(items)?;
-    let items = array(rt.alloc(), Ty::Prim(Primitive::Int), 2)?;
-    heap.place(items)?;
+    let mut heap = placed(rt.alloc(), 10, &OBJECTS)?;
     for (id, step, at, value, before, size, room, changes) in &ROWS {
         let found = taken_step(&mut heap, *id, *step, *at, *value)?;
         assert!(rt; found == *before);

@@ -1,7 +1,9 @@
 //! Values and objects of the rows.
 
+use object_heap::{Heap, HeapErr};
 use object_values::{Elements, Guard, Object, Owner, Pairs, Part, Target, Value};
-use pl_types::Ty;
+use pl_types::classes::HASH_MAP;
+use pl_types::{Primitive, Ty};
 use pl_units::UText;
 use plain_data::Text;
 use std::alloc::{AllocError, Global};
@@ -65,19 +67,43 @@ fn pairs(alloc: Global, count: i32, value: Plain) -> Result<Pairs, AllocError> {
     Ok(pairs)
 }
 
-/// A list of the ints from 0.
-pub fn list(alloc: Global, class: u32, count: i32, guard: Guard) -> Result<Object, AllocError> {
+/// An object, as a row writes it: often its class, and how much it holds.
+#[derive(Clone, Copy)]
+pub enum Shape {
+    /// A list of the ints from 0.
+    List(u32, i32),
+    /// A map with the keys from 0, each with the value 7.
+    Map(u32, i32),
+    /// An empty map with one of the guards.
+    Guarded(u8),
+    Set(u32, i32),
+    Ints(i32),
+    Longs(i32),
+    Defs(i32),
+    View,
+    Entry,
+    Iterator,
+    Builder(usize),
+    /// A function value of the script, perhaps of an interface.
+    Function(Option<u32>, i32),
+    /// One of the prelude.
+    Given(i32),
+    Reference(u32),
+    Constructor,
+    Exception(u32, Option<&'static str>),
+}
+
+fn list(alloc: Global, class: u32, count: i32) -> Result<Object, AllocError> {
     let items = values(alloc, count)?;
     Ok(Object::List {
         class,
         items,
-        guard,
+        guard: Guard::Open,
         changes: 0,
     })
 }
 
-/// A map with the keys from 0, each with the value 7.
-pub fn map(alloc: Global, class: u32, count: i32, guard: Guard) -> Result<Object, AllocError> {
+fn map(alloc: Global, class: u32, count: i32, guard: Guard) -> Result<Object, AllocError> {
     let pairs = pairs(alloc, count, Plain::Int(7))?;
     Ok(Object::Map {
         class,
@@ -87,42 +113,31 @@ pub fn map(alloc: Global, class: u32, count: i32, guard: Guard) -> Result<Object
     })
 }
 
-pub fn set(alloc: Global, class: u32, count: i32, guard: Guard) -> Result<Object, AllocError> {
+fn guard(alloc: Global, number: u8) -> Guard {
+    match number {
+        0 => Guard::Open,
+        1 => Guard::Frozen,
+        2 => Guard::Keys(Elements::new(alloc)),
+        _ => Guard::Mapped,
+    }
+}
+
+fn set(alloc: Global, class: u32, count: i32) -> Result<Object, AllocError> {
     let items = pairs(alloc, count, Plain::Null)?;
     Ok(Object::Set {
         class,
         items,
-        guard,
+        guard: Guard::Open,
         changes: 0,
     })
 }
 
-pub fn array(alloc: Global, elem: Ty, count: i32) -> Result<Object, AllocError> {
+fn array(alloc: Global, elem: Ty, count: i32) -> Result<Object, AllocError> {
     let items = values(alloc, count)?;
     Ok(Object::Array { elem, items })
 }
 
-pub fn entry(key: i32) -> Object {
-    Object::Entry {
-        map: 0,
-        key: Value::Int(key),
-    }
-}
-
-pub fn view(part: Part) -> Object {
-    Object::View { map: 0, part }
-}
-
-pub fn iterator(cursor: u64) -> Object {
-    Object::Iter {
-        over: 0,
-        cursor,
-        seen: 0,
-        last: None,
-    }
-}
-
-pub fn builder(alloc: Global, count: usize) -> Result<Object, AllocError> {
+fn builder(alloc: Global, count: usize) -> Result<Object, AllocError> {
     let mut units = Elements::new(alloc);
     for _ in 0..count {
         units.push(65)?;
@@ -130,7 +145,7 @@ pub fn builder(alloc: Global, count: usize) -> Result<Object, AllocError> {
     Ok(Object::Builder { units })
 }
 
-pub fn lambda(
+fn function(
     alloc: Global,
     owner: Owner,
     iface: Option<u32>,
@@ -144,7 +159,7 @@ pub fn lambda(
     })
 }
 
-pub fn reference(alloc: Global, class: u32) -> Result<Object, AllocError> {
+fn reference(alloc: Global, class: u32) -> Result<Object, AllocError> {
     let name = Text::new(alloc, "size")?;
     Ok(Object::Fun {
         iface: None,
@@ -153,18 +168,76 @@ pub fn reference(alloc: Global, class: u32) -> Result<Object, AllocError> {
     })
 }
 
-pub fn constructor(alloc: Global) -> Object {
-    Object::Fun {
-        iface: None,
-        target: Target::New(Ty::Def),
-        captures: Elements::new(alloc),
-    }
-}
-
-pub fn exception(alloc: Global, class: u32, message: Option<&str>) -> Result<Object, AllocError> {
+fn exception(alloc: Global, class: u32, message: Option<&str>) -> Result<Object, AllocError> {
     let message = match message {
         Some(text) => Some(UText::from_utf8(alloc, text)?),
         None => None,
     };
     Ok(Object::Exc { class, message })
+}
+
+/// The object of a row.
+fn object(alloc: Global, shape: Shape) -> Result<Object, AllocError> {
+    match shape {
+        Shape::List(class, count) => list(alloc, class, count),
+        Shape::Map(class, count) => map(alloc, class, count, Guard::Open),
+        Shape::Guarded(number) => map(alloc, HASH_MAP, 0, guard(alloc, number)),
+        Shape::Set(class, count) => set(alloc, class, count),
+        Shape::Ints(count) => array(alloc, Ty::Prim(Primitive::Int), count),
+        Shape::Longs(count) => array(alloc, Ty::Prim(Primitive::Long), count),
+        Shape::Defs(count) => array(alloc, Ty::Def, count),
+        Shape::View => Ok(Object::View {
+            map: 0,
+            part: Part::Entries,
+        }),
+        Shape::Entry => Ok(Object::Entry {
+            map: 0,
+            key: Value::Int(1),
+        }),
+        Shape::Iterator => Ok(Object::Iter {
+            over: 0,
+            cursor: 9,
+            seen: 0,
+            last: None,
+        }),
+        Shape::Builder(count) => builder(alloc, count),
+        Shape::Function(iface, count) => function(alloc, Owner::Script, iface, count),
+        Shape::Given(count) => function(alloc, Owner::Prelude, None, count),
+        Shape::Reference(class) => reference(alloc, class),
+        Shape::Constructor => Ok(Object::Fun {
+            iface: None,
+            target: Target::New(Ty::Def),
+            captures: Elements::new(alloc),
+        }),
+        Shape::Exception(class, message) => exception(alloc, class, message),
+    }
+}
+
+/// The number of a new object, which is not charged.
+pub fn place(heap: &mut Heap, shape: Shape) -> Result<u32, AllocError> {
+    let made = object(heap.alloc(), shape)?;
+    heap.place(made)
+}
+
+/// A heap of these objects, which are not charged, with so much room left.
+pub fn placed(alloc: Global, room: u64, shapes: &[Shape]) -> Result<Heap, AllocError> {
+    let mut heap = Heap::new(alloc, room);
+    for shape in shapes {
+        place(&mut heap, *shape)?;
+    }
+    Ok(heap)
+}
+
+/// The number of a new object, which is charged.
+pub fn add(heap: &mut Heap, shape: Shape) -> Result<u32, HeapErr> {
+    match object(heap.alloc(), shape) {
+        Ok(made) => heap.add(made),
+        Err(_) => Err(HeapErr::NoMemory),
+    }
+}
+
+/// Puts an object in the place of one that is there, and says whether there was room for it.
+pub fn renew(heap: &mut Heap, id: u32, shape: Shape) -> Result<bool, AllocError> {
+    let made = object(heap.alloc(), shape)?;
+    Ok(heap.renew(id, made))
 }

@@ -1,14 +1,15 @@
 //! A map with many keys.
 
-use crate::making::{map, number, taken};
+use crate::making::{Shape, add, number, taken};
 use object_heap::{Heap, HeapErr};
-use object_values::{Guard, Value};
+use object_values::Value;
 use pl_types::classes::HASH_MAP;
 use std::test::Fail;
 
 const KEYS: i32 = 400_000;
 
 fn fill(heap: &mut Heap) -> Result<(), HeapErr> {
+    add(heap, Shape::Map(HASH_MAP, 0))?;
     for key in 0..KEYS {
         heap.map_put(0, Value::Int(key), Value::Int(key))?;
     }
@@ -27,10 +28,25 @@ fn thin_out(heap: &mut Heap) -> u32 {
     found
 }
 
+const KEYS_LEFT: [(usize, i32); 5] = [
+    (0, 0),
+    (99, 99),
+    (100, 101),
+    (399_899, 399_999),
+    (399_900, -1),
+];
+
+const VALUES_LEFT: [(i32, i32); 5] = [
+    (99, 99),
+    (100, -1),
+    (10_000, -1),
+    (10_100, 10_100),
+    (399_999, 399_999),
+];
+
 #[test]
 fn many_keys(rt: HostRuntime) -> Result<(), Fail> {
     let mut heap = Heap::new(rt.alloc(), 1_000_000);
-    heap.add(map(rt.alloc(), HASH_MAP, 0, Guard::Open)?)?;
     fill(&mut heap)?;
     let size = heap.size(0);
     assert!(rt; size == 400_000);
@@ -44,25 +60,13 @@ fn many_keys(rt: HostRuntime) -> Result<(), Fail> {
     assert!(rt; left == 199_999);
     let changes = heap.changes(0);
     assert!(rt; changes == 400_100);
-    for (at, key) in [
-        (0, 0),
-        (99, 99),
-        (100, 101),
-        (399_899, 399_999),
-        (399_900, -1),
-    ] {
-        let there = number(heap.key_at(0, at));
-        assert!(rt; there == key);
+    for (at, key) in &KEYS_LEFT {
+        let there = number(heap.key_at(0, *at));
+        assert!(rt; there == *key);
     }
-    for (key, value) in [
-        (99, 99),
-        (100, -1),
-        (10_000, -1),
-        (10_100, 10_100),
-        (399_999, 399_999),
-    ] {
-        let there = number(heap.map_get(0, &Value::Int(key)));
-        assert!(rt; there == value);
+    for (key, value) in &VALUES_LEFT {
+        let there = number(heap.map_get(0, &Value::Int(*key)));
+        assert!(rt; there == *value);
     }
     Ok(())
 }

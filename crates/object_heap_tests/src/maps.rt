@@ -1,9 +1,10 @@
 //! Maps and sets, step by step.
 
-use crate::making::{Plain, made, map, number, set, taken};
+use crate::making::{Plain, Shape, made, number, placed, taken};
 use object_heap::{Heap, HeapErr};
-use object_values::{Guard, Value};
+use object_values::Value;
 use pl_types::classes::{HASH_MAP, HASH_SET};
+use std::alloc::AllocError;
 use std::test::Fail;
 
 #[derive(Clone, Copy)]
@@ -14,6 +15,8 @@ enum Step {
     /// The pair at the place that the value says.
     CutAt,
 }
+
+const OBJECTS: [Shape; 2] = [Shape::Map(HASH_MAP, 0), Shape::Set(HASH_SET, 0)];
 
 // The map is object 0 and the set object 1; a put of a new key costs 2 in the map and 1 in the set.
 const ROWS: [(u32, Step, Plain, i32, i32, usize, u64, u64); 35] = [
@@ -95,26 +98,6 @@ fn taken_step(
     }
 }
 
-#[test]
-fn maps_and_sets(rt: HostRuntime) -> Result<(), Fail> {
-    let mut heap = Heap::new(rt.alloc(), 100);
-    let table = map(rt.alloc(), HASH_MAP, 0, Guard::Open)?;
-    heap.place(table)?;
-    let table = set(rt.alloc(), HASH_SET, 0, Guard::Open)?;
-    heap.place(table)?;
-    for (id, step, key, value, before, size, room, changes) in &ROWS {
-        let found = taken_step(&mut heap, *id, *step, *key, *value)?;
-        assert!(rt; found == *before);
-        let found = heap.size(*id);
-        assert!(rt; found == *size);
-        let left = heap.room_left();
-        assert!(rt; left == *room);
-        let count = heap.changes(*id);
-        assert!(rt; count == *changes);
-    }
-    Ok(())
-}
-
 // The keys of the map in their order: those that were there kept their places, and the one that was put anew came last.
 const ORDER: [(usize, Plain, i32); 9] = [
     (0, Plain::Null, 10),
@@ -135,19 +118,26 @@ fn is_key(found: Option<&Value>, key: &Value) -> bool {
     }
 }
 
+fn is_key_at(heap: &Heap, at: usize, key: Plain) -> Result<bool, AllocError> {
+    let key = made(heap.alloc(), key)?;
+    Ok(is_key(heap.key_at(0, at), &key))
+}
+
 #[test]
-fn keys_in_order(rt: HostRuntime) -> Result<(), Fail> {
-    let mut heap = Heap::new(rt.alloc(), 100);
-    let table = map(rt.alloc(), HASH_MAP, 0, Guard::Open)?;
-    heap.place(table)?;
-    for (id, step, key, value, _, _, _, _) in &ROWS {
-        if *id == 0 {
-            taken_step(&mut heap, *id, *step, *key, *value)?;
-        }
+fn maps_and_sets(rt: HostRuntime) -> Result<(), Fail> {
+    let mut heap = placed(rt.alloc(), 100, &OBJECTS)?;
+    for (id, step, key, value, before, size, room, changes) in &ROWS {
+        let found = taken_step(&mut heap, *id, *step, *key, *value)?;
+        assert!(rt; found == *before);
+        let found = heap.size(*id);
+        assert!(rt; found == *size);
+        let left = heap.room_left();
+        assert!(rt; left == *room);
+        let count = heap.changes(*id);
+        assert!(rt; count == *changes);
     }
     for (at, key, value) in &ORDER {
-        let key = made(rt.alloc(), *key)?;
-        let there = is_key(heap.key_at(0, *at), &key);
+        let there = is_key_at(&heap, *at, *key)?;
         assert!(rt; there == (*at < 8));
         let found = number(heap.value_at(0, *at));
         assert!(rt; found == *value);

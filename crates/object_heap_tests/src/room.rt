@@ -1,67 +1,40 @@
 //! What each kind of object weighs, and room at its exact edge.
 
-use crate::making::{array, builder, entry, exception, iterator, lambda, list, map, set, view};
+use crate::making::{Shape, add, place, placed, renew};
 use object_heap::{Answer, Heap, HeapErr, throw};
-use object_values::{Guard, Object, Owner, Part, Value};
-use pl_types::Ty;
+use object_values::Value;
 use pl_types::classes::{ARITHMETIC_EXCEPTION, ARRAY_LIST, HASH_MAP, HASH_SET};
 use pl_units::UText;
-use std::alloc::{AllocError, Global};
+use std::alloc::AllocError;
 use std::test::Fail;
 
-#[derive(Clone, Copy)]
-enum Shape {
-    List(i32),
-    Map(i32),
-    Set(i32),
-    Array(i32),
-    View,
-    Entry,
-    Iterator,
-    Builder(usize),
-    Function(i32),
-    Exception,
-    Message(&'static str),
-}
-
-fn object(alloc: Global, shape: Shape) -> Result<Object, AllocError> {
-    match shape {
-        Shape::List(count) => list(alloc, ARRAY_LIST, count, Guard::Open),
-        Shape::Map(count) => map(alloc, HASH_MAP, count, Guard::Open),
-        Shape::Set(count) => set(alloc, HASH_SET, count, Guard::Open),
-        Shape::Array(count) => array(alloc, Ty::Def, count),
-        Shape::View => Ok(view(Part::Entries)),
-        Shape::Entry => Ok(entry(1)),
-        Shape::Iterator => Ok(iterator(9)),
-        Shape::Builder(count) => builder(alloc, count),
-        Shape::Function(count) => lambda(alloc, Owner::Script, None, count),
-        Shape::Exception => exception(alloc, ARITHMETIC_EXCEPTION, None),
-        Shape::Message(text) => exception(alloc, ARITHMETIC_EXCEPTION, Some(text)),
-    }
-}
-
 const WEIGHTS: [(Shape, u64); 15] = [
-    (Shape::List(0), 1),
-    (Shape::List(3), 4),
-    (Shape::Map(0), 1),
-    (Shape::Map(3), 7),
-    (Shape::Set(0), 1),
-    (Shape::Set(3), 4),
-    (Shape::Array(2), 3),
+    (Shape::List(ARRAY_LIST, 0), 1),
+    (Shape::List(ARRAY_LIST, 3), 4),
+    (Shape::Map(HASH_MAP, 0), 1),
+    (Shape::Map(HASH_MAP, 3), 7),
+    (Shape::Set(HASH_SET, 0), 1),
+    (Shape::Set(HASH_SET, 3), 4),
+    (Shape::Defs(2), 3),
     (Shape::View, 1),
     (Shape::Entry, 3),
     (Shape::Iterator, 1),
     (Shape::Builder(0), 1),
     (Shape::Builder(5), 6),
-    (Shape::Function(2), 3),
-    (Shape::Exception, 1),
-    (Shape::Message("a\u{1F600}b"), 5),
+    (Shape::Function(None, 2), 3),
+    (Shape::Exception(ARITHMETIC_EXCEPTION, None), 1),
+    (
+        Shape::Exception(ARITHMETIC_EXCEPTION, Some("a\u{1F600}b")),
+        5,
+    ),
 ];
 
-fn is_room(answer: Result<u32, HeapErr>) -> bool {
+// The number of the object that was added, or -1 where there is no room for it.
+fn number_of(answer: Result<u32, HeapErr>) -> i64 {
     match answer {
-        Err(HeapErr::Room) => true,
-        _ => false,
+        Ok(id) => i64::from(id),
+        Err(HeapErr::Room) => -1,
+        Err(_) => -2,
     }
 }
 
@@ -70,21 +43,20 @@ fn weights(rt: HostRuntime) -> Result<(), Fail> {
     for (shape, weight) in &WEIGHTS {
         assert!(rt; *weight > 0);
         let mut heap = Heap::new(rt.alloc(), *weight - 1);
-        let refused = heap.add(object(rt.alloc(), *shape)?);
-        let refused = is_room(refused);
-        assert!(rt; refused);
+        let id = number_of(add(&mut heap, *shape));
+        assert!(rt; id == -1);
         let left = heap.room_left();
         assert!(rt; left == *weight - 1);
         let count = heap.len();
         assert!(rt; count == 0);
         heap.refill(*weight);
-        let id = heap.add(object(rt.alloc(), *shape)?)?;
+        let id = number_of(add(&mut heap, *shape));
         assert!(rt; id == 0);
         let left = heap.room_left();
         assert!(rt; left == 0);
         let count = heap.len();
         assert!(rt; count == 1);
-        let id = heap.place(object(rt.alloc(), *shape)?)?;
+        let id = place(&mut heap, *shape)?;
         assert!(rt; id == 1);
     }
     Ok(())
@@ -110,10 +82,7 @@ fn pay(heap: &mut Heap, paid: Paid) -> Result<bool, AllocError> {
         Paid::Append => Ok(
             is_ok(heap.append(2, &[97, 98, 99])) && is_ok(heap.append(0, &[97, 98, 99])),
         ),
-        Paid::Renew(count) => {
-            let after = list(heap.alloc(), ARRAY_LIST, count, Guard::Open)?;
-            Ok(heap.renew(0, after))
-        }
+        Paid::Renew(count) => renew(heap, 0, Shape::List(ARRAY_LIST, count)),
     }
 }
 
@@ -123,6 +92,12 @@ fn is_ok(answer: Result<(), HeapErr>) -> bool {
         Err(_) => false,
     }
 }
+
+const OBJECTS: [Shape; 3] = [
+    Shape::List(ARRAY_LIST, 2),
+    Shape::Map(HASH_MAP, 2),
+    Shape::Builder(1),
+];
 
 // Object 0 is a list of two, object 1 a map of the keys 0 and 1, object 2 a builder. Each row starts with so much room.
 const EDGES: [(Paid, u64, bool, u64, usize, usize); 16] = [
@@ -147,10 +122,7 @@ const EDGES: [(Paid, u64, bool, u64, usize, usize); 16] = [
 #[test]
 fn edges(rt: HostRuntime) -> Result<(), Fail> {
     for (paid, room, goes, left, listed, mapped) in &EDGES {
-        let mut heap = Heap::new(rt.alloc(), *room);
-        heap.place(list(rt.alloc(), ARRAY_LIST, 2, Guard::Open)?)?;
-        heap.place(map(rt.alloc(), HASH_MAP, 2, Guard::Open)?)?;
-        heap.place(builder(rt.alloc(), 1)?)?;
+        let mut heap = placed(rt.alloc(), *room, &OBJECTS)?;
         let went = pay(&mut heap, *paid)?;
         assert!(rt; went == *goes);
         let after = heap.room_left();
@@ -173,8 +145,8 @@ fn thrown(answer: Answer) -> i64 {
 
 #[test]
 fn throws(rt: HostRuntime) -> Result<(), Fail> {
-    let mut heap = Heap::new(rt.alloc(), 10);
     let message = UText::from_utf8(rt.alloc(), "/ by zero")?;
+    let mut heap = Heap::new(rt.alloc(), 10);
     let id = thrown(throw(&mut heap, ARITHMETIC_EXCEPTION, Some(message)));
     assert!(rt; id == 0);
     let left = heap.room_left();

@@ -47,7 +47,3 @@ asked at of c = one c.parts (λ x rest. with_part c rest (bind (type_of of) (λ 
 -- a call of a function with the arguments above a height
 abbrev pub call : List Header → ℕ → List ℕ → ℕ → Config → Out Config
 call headers at name height c = above height c.parts (λ xs rest. with_part c rest (calls.call_of headers at name xs))
-
--- a part that was only looked through
-abbrev pub drop_part : Config → Out Config
-drop_part c = one c.parts (λ x rest. Ok (record c { parts = rest }))

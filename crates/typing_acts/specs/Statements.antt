@@ -60,13 +60,6 @@ break_loop at c = with_step c (rules.break_of at c.state)
 abbrev pub continue_loop : ℕ → Config → Out Config
 continue_loop at c = with_step c (rules.continue_of at c.state)
 
--- whether a statement is behind one that escapes: the first of a list is not
-abbrev pub reached_first : ℕ → Config → Out Config
-reached_first at c = Ok c
-
-abbrev pub reached_next : ℕ → Config → Out Config
-reached_next at c = two c.steps (λ x y rest. bind (rules.reached x.escapes at y) (λ y. Ok (record c { steps = y ∷ x ∷ rest })))
-
 abbrev pub block : ℕ → ℕ → Config → Out Config
 block at height c = above height c.steps (λ ys rest. Ok (record c { steps = rules.block_of at ys ∷ rest }))
 

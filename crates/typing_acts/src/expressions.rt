@@ -133,16 +133,6 @@ pub fn asked(alloc: Global, config: &mut Config, at: u32, of: &TypeName) -> Resu
     Ok(())
 }
 
-/// A part that was only looked through.
-pub fn drop_part(config: &mut Config) -> Result<(), Fail>
-    ensures { KeepsIn (spec.drop_part config.old) result config.new }
-{
-    match config.parts.pop() {
-        Some(_part) => Ok(()),
-        None => Err(Fail::NoMemory),
-    }
-}
-
 /// A call of a function of the script with the arguments above a height.
 pub fn call(
     alloc: Global,

@@ -157,22 +157,6 @@ pub fn continue_loop(alloc: Global, config: &mut Config, at: u32) -> Result<(), 
     Ok(())
 }
 
-/// A statement that is behind another.
-pub fn reached_next(config: &mut Config, at: u32) -> Result<(), Fail>
-    ensures { KeepsIn (spec.reached_next at config.old) result config.new }
-{
-    let Some(y) = config.steps.pop() else {
-        return Err(Fail::NoMemory);
-    };
-    let Some(x) = config.steps.pop() else {
-        return Err(Fail::NoMemory);
-    };
-    let y = statements::reached(x.escapes, at, y)?;
-    config.steps.push(x)?;
-    config.steps.push(y)?;
-    Ok(())
-}
-
 /// A block of the statements above a height.
 pub fn block(alloc: Global, config: &mut Config, at: u32, height: usize) -> Result<(), Fail>
     ensures { KeepsIn (spec.block at height config.old) result config.new }

@@ -1,6 +1,2 @@
-pub mod Job
-pub mod Jobs
-pub mod Folds
-pub mod Machine
-pub mod Plans
-pub mod Going
+pub use Rattle.typing_tasks.specs.Job
+pub use Rattle.typing_tasks.specs.Machine

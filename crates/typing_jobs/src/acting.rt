@@ -1,23 +1,23 @@
 //! What is done once parts are typed, before the tasks that are left.
 
-ghost use Rattle.std.specs.Prelude.{◌≡◌, ◌∷◌};
-ghost use Rattle.typing_jobs.specs.Going.{Goes};
-ghost use Rattle.typing_jobs.specs.Job as j;
-ghost use Rattle.typing_jobs.specs.Machine.{run};
+ghost use Rattle.std.specs.Prelude.{◌≡◌, ◌∷◌, OnOk};
+ghost use Rattle.typing_acts.specs.Bodies as bodies;
+ghost use Rattle.typing_tasks.specs.Going.{Goes};
+ghost use Rattle.typing_tasks.specs.Job as j;
+ghost use Rattle.typing_tasks.specs.Machine.{run};
 
 use crate::acts::{does, does_statement};
-use crate::task::{Act, StatementAct, Tasks};
-use crate::unbuilt::note;
 use pl_tree::{Spelled, TypeName};
 use pl_types::{Fail, Ty};
 use plain_data::Text;
-use std::alloc::Global;
+use std::alloc::{AllocError, Global};
 use typing_acts::{Config, expressions, places, statements};
-use typing_rules::Header;
 use typing_rules::rules::types::type_of;
+use typing_rules::{Entry as Declared, Header, Standing};
+use typing_tasks::{Act, StatementAct, Tasks};
 
 /// A call whose arguments are typed.
-#[tactic(auto, unfolding(crate::specs::Machine::run))]
+#[tactic(auto, unfolding(typing_tasks::specs::Machine::run))]
 pub fn called<'a>(
     alloc: Global,
     _headers: &[Header],
@@ -34,7 +34,7 @@ pub fn called<'a>(
 }
 
 /// An integer literal.
-#[tactic(auto, unfolding(crate::specs::Machine::run))]
+#[tactic(auto, unfolding(typing_tasks::specs::Machine::run))]
 pub fn integer<'a>(
     alloc: Global,
     _headers: &[Header],
@@ -50,7 +50,7 @@ pub fn integer<'a>(
 }
 
 /// One directly behind a minus.
-#[tactic(auto, unfolding(crate::specs::Machine::run))]
+#[tactic(auto, unfolding(typing_tasks::specs::Machine::run))]
 pub fn negated_integer<'a>(
     alloc: Global,
     _headers: &[Header],
@@ -67,7 +67,7 @@ pub fn negated_integer<'a>(
 }
 
 /// A name's value.
-#[tactic(auto, unfolding(crate::specs::Machine::run))]
+#[tactic(auto, unfolding(typing_tasks::specs::Machine::run))]
 pub fn name<'a>(
     alloc: Global,
     _headers: &[Header],
@@ -83,7 +83,7 @@ pub fn name<'a>(
 }
 
 /// A name as what is written to.
-#[tactic(auto, unfolding(crate::specs::Machine::run))]
+#[tactic(auto, unfolding(typing_tasks::specs::Machine::run))]
 pub fn written<'a>(
     alloc: Global,
     _headers: &[Header],
@@ -99,7 +99,7 @@ pub fn written<'a>(
 }
 
 /// A cast that is written, whose operand is typed.
-#[tactic(auto, unfolding(crate::specs::Machine::run))]
+#[tactic(auto, unfolding(typing_tasks::specs::Machine::run))]
 pub fn asked<'a>(
     alloc: Global,
     _headers: &[Header],
@@ -115,7 +115,7 @@ pub fn asked<'a>(
 }
 
 /// What is done with an expression.
-#[tactic(auto, unfolding(crate::specs::Machine::run))]
+#[tactic(auto, unfolding(typing_tasks::specs::Machine::run))]
 pub fn act<'a>(
     alloc: Global,
     _headers: &[Header],
@@ -130,7 +130,7 @@ pub fn act<'a>(
 }
 
 /// A type, which is only looked at.
-#[tactic(auto, unfolding(crate::specs::Machine::run))]
+#[tactic(auto, unfolding(typing_tasks::specs::Machine::run))]
 pub fn type_is<'a>(
     _headers: &[Header],
     _config: &Config,
@@ -144,7 +144,7 @@ pub fn type_is<'a>(
 }
 
 /// What a variable begins with, which is typed.
-#[tactic(auto, unfolding(crate::specs::Machine::run))]
+#[tactic(auto, unfolding(typing_tasks::specs::Machine::run))]
 pub fn cast_initial<'a>(
     alloc: Global,
     _headers: &[Header],
@@ -159,7 +159,7 @@ pub fn cast_initial<'a>(
 }
 
 /// A variable, whose value is typed.
-#[tactic(auto, unfolding(crate::specs::Machine::run))]
+#[tactic(auto, unfolding(typing_tasks::specs::Machine::run))]
 pub fn declare<'a>(
     alloc: Global,
     _headers: &[Header],
@@ -175,7 +175,7 @@ pub fn declare<'a>(
 }
 
 /// What is done with a statement.
-#[tactic(auto, unfolding(crate::specs::Machine::run))]
+#[tactic(auto, unfolding(typing_tasks::specs::Machine::run))]
 pub fn statement_act<'a>(
     alloc: Global,
     _headers: &[Header],
@@ -189,8 +189,24 @@ pub fn statement_act<'a>(
     Ok(())
 }
 
+/// A name that a construct which is not built declares.
+fn note(alloc: Global, config: &mut Config, name: &Text, of: Ty) -> Result<(), AllocError>
+    ensures { OnOk result (config.new ≡ bodies.note name.now of config.old) }
+{
+    if config.state.scopes.find(name).is_some() {
+        return Ok(());
+    }
+    let name = Text::new(alloc, name.as_str())?;
+    config.state.scopes.push(Declared {
+        name,
+        of,
+        standing: Standing::Variable,
+    })?;
+    Ok(())
+}
+
 /// A name of a type that a construct which is not built declares.
-#[tactic(auto, unfolding(crate::specs::Machine::run))]
+#[tactic(auto, unfolding(typing_tasks::specs::Machine::run))]
 pub fn noted<'a>(
     alloc: Global,
     _headers: &[Header],
@@ -207,7 +223,7 @@ pub fn noted<'a>(
 }
 
 /// One without a type.
-#[tactic(auto, unfolding(crate::specs::Machine::run))]
+#[tactic(auto, unfolding(typing_tasks::specs::Machine::run))]
 pub fn noted_def<'a>(
     alloc: Global,
     _headers: &[Header],

@@ -3,12 +3,12 @@
 ghost use Rattle.std.specs.Prelude.{◌≡◌};
 ghost use Rattle.pl_types.specs.declared.rules.TheConstants.{OUT_OF_PROFILE};
 ghost use Rattle.typing_rules.specs.Outcomes.{KeepsIn, refusal};
-ghost use Rattle.typing_jobs.specs.Machine as spec;
+ghost use Rattle.typing_tasks.specs.Machine as spec;
 
-use crate::task::{Act, StatementAct};
 use pl_types::{Fail, Refusal, rules};
 use std::alloc::Global;
 use typing_acts::{Config, bodies, expressions, places, statements};
+use typing_tasks::{Act, StatementAct};
 
 /// What is not built is refused here.
 fn unbuilt(at: u32) -> Fail

@@ -4,13 +4,7 @@
 
 mod acting;
 mod acts;
-mod expressions;
-mod first;
-mod goes;
 mod pass;
-mod statements;
-mod task;
-mod unbuilt;
 
 pub use pass::run;
-pub use task::{Act, StatementAct, Task, Tasks};
+pub use typing_tasks::{Act, StatementAct, Task, Tasks};

@@ -1,19 +1,21 @@
 //! The pass: tasks until none is left.
 
 ghost use Rattle.std.specs.Prelude.{◌≡◌, ◌∷◌};
-ghost use Rattle.typing_jobs.specs.Going.{Goes};
-ghost use Rattle.typing_jobs.specs.Jobs.{job};
-ghost use Rattle.typing_jobs.specs.Machine as spec;
+ghost use Rattle.typing_tasks.specs.Going.{Goes};
+ghost use Rattle.typing_tasks.specs.Jobs.{job};
+ghost use Rattle.typing_tasks.specs.Machine as spec;
 
-use crate::task::{Task, Tasks};
-use crate::{acting, expressions, goes, statements, unbuilt};
+use crate::acting;
 use pl_types::Fail;
 use std::alloc::Global;
 use typing_acts::Config;
+use typing_order::goes;
+use typing_plans::{expressions, statements, unbuilt};
 use typing_rules::Header;
+use typing_tasks::{Task, Tasks};
 
 /// Goes on with a task.
-#[tactic(auto, using(crate::proofs::ValuePlans::value_planned, crate::proofs::ValuePlans::negated_planned, crate::proofs::ValuePlans::target_planned, crate::proofs::PartPlans::argument_planned, crate::proofs::PartPlans::inner_planned, crate::proofs::PartPlans::body_planned, crate::proofs::PartPlans::first_planned, crate::proofs::PartPlans::loop_body_planned, crate::proofs::PartPlans::first_if_planned, crate::proofs::PartPlans::condition_planned, crate::proofs::PartPlans::update_if_planned, crate::proofs::PartPlans::otherwise_planned, crate::proofs::PartPlans::returned_planned, crate::proofs::PartPlans::initial_planned, crate::proofs::PartPlans::for_planned, crate::proofs::StatementPlans::statement_planned, crate::proofs::Goings::variable_goes))]
+#[tactic(auto, using(typing_tasks::proofs::ValuePlans::value_planned, typing_tasks::proofs::ValuePlans::negated_planned, typing_tasks::proofs::ValuePlans::target_planned, typing_tasks::proofs::PartPlans::argument_planned, typing_tasks::proofs::PartPlans::inner_planned, typing_tasks::proofs::PartPlans::body_planned, typing_tasks::proofs::PartPlans::first_planned, typing_tasks::proofs::PartPlans::loop_body_planned, typing_tasks::proofs::PartPlans::first_if_planned, typing_tasks::proofs::PartPlans::condition_planned, typing_tasks::proofs::PartPlans::update_if_planned, typing_tasks::proofs::PartPlans::otherwise_planned, typing_tasks::proofs::PartPlans::returned_planned, typing_tasks::proofs::PartPlans::initial_planned, typing_tasks::proofs::PartPlans::for_planned, typing_tasks::proofs::StatementPlans::statement_planned, typing_tasks::proofs::Goings::variable_goes))]
 fn step<'a>(
     alloc: Global,
     headers: &[Header],
@@ -158,7 +160,7 @@ fn step<'a>(
 }
 
 /// Does tasks until none is left. More of them than a number counts want memory first.
-#[tactic(auto, using(crate::proofs::Runs::run_none))]
+#[tactic(auto, using(typing_tasks::proofs::Runs::run_none))]
 pub fn run<'a>(
     alloc: Global,
     headers: &[Header],

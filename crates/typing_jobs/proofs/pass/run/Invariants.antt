@@ -1,5 +1,5 @@
 use Rattle.std.proofs.Common.{◌≡◌}
-use Rattle.typing_jobs.specs.Machine.{run}
+use Rattle.typing_tasks.specs.Machine.{run}
 use Rattle.typing_jobs.proofs.pass.run.Given as goal
 
 -- what is left comes to what the whole comes to

@@ -29,13 +29,13 @@ use Rattle.typing_acts.specs.Expressions as expressions
 use Rattle.typing_acts.specs.Places as places
 use Rattle.typing_acts.specs.Statements as deeds
 use Rattle.typing_acts.specs.Bodies as bodies
-use Rattle.typing_jobs.specs.declared.task.Act.{Act}
-use Rattle.typing_jobs.specs.declared.task.Act.TheVariants as a
-use Rattle.typing_jobs.specs.declared.task.StatementAct.{StatementAct}
-use Rattle.typing_jobs.specs.declared.task.StatementAct.TheVariants as s
-use Rattle.typing_jobs.specs.Folds.{first, inner, handler, declaration, entry, variable, reading_if, argument_if, body_if, first_if}
-use Rattle.typing_jobs.specs.Job as j
-use Rattle.typing_jobs.specs.Job.{Job}
+use Rattle.typing_tasks.specs.declared.task.Act.{Act}
+use Rattle.typing_tasks.specs.declared.task.Act.TheVariants as a
+use Rattle.typing_tasks.specs.declared.task.StatementAct.{StatementAct}
+use Rattle.typing_tasks.specs.declared.task.StatementAct.TheVariants as s
+use Rattle.typing_tasks.specs.Folds.{first, inner, handler, declaration, entry, variable, reading_if, argument_if, body_if, first_if}
+use Rattle.typing_tasks.specs.Job as j
+use Rattle.typing_tasks.specs.Job.{Job}
 
 abbrev pub does : Act → Config → Out Config
 does (a.Unbuilt at) c = refuse OUT_OF_PROFILE at

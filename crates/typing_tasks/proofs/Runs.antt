@@ -2,7 +2,7 @@
 use Rattle.std.proofs.Common.{◌≡◌, [], List, refl}
 use Rattle.typing_rules.specs.declared.header.Header.{Header}
 use Rattle.typing_acts.specs.declared.config.Config.{Config}
-use Rattle.typing_jobs.specs.Machine.{run, ended}
+use Rattle.typing_tasks.specs.Machine.{run, ended}
 
 pub run_none : (hs : List Header) (c : Config) → run hs [] c ≡ ended c
 unfolding run

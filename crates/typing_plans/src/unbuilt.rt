@@ -1,24 +1,21 @@
 //! Parts of what is not built: they are looked through, and then the node is refused.
 
 ghost use Rattle.std.specs.Prelude.{◌≡◌, ◌∷◌, ◌++◌, OnOk};
-ghost use Rattle.pl_types.specs.declared.ty.Ty.TheVariants as ty;
-ghost use Rattle.typing_acts.specs.Bodies as bodies;
-ghost use Rattle.typing_jobs.specs.Going.{Goes};
-ghost use Rattle.typing_jobs.specs.Job as j;
-ghost use Rattle.typing_jobs.specs.Machine.{run};
-ghost use Rattle.typing_jobs.specs.Plans as spec;
-ghost use Rattle.std.specs.Prelude.{IfOk};
+ghost use Rattle.typing_tasks.specs.Going.{Goes};
+ghost use Rattle.typing_tasks.specs.Job as j;
+ghost use Rattle.typing_tasks.specs.Machine.{run};
+ghost use Rattle.typing_tasks.specs.Plans as spec;
 
-use crate::task::{Act, StatementAct, Task, Tasks};
 use pl_tree::{Argument, Catch, Entry, Expr, Parameter};
-use pl_types::{Fail, Ty};
-use plain_data::{Items, Subtree, Text};
-use std::alloc::{AllocError, Global};
+use pl_types::Fail;
+use plain_data::{Items, Subtree};
+use std::alloc::AllocError;
 use typing_acts::Config;
-use typing_rules::{Entry as Declared, Header, Standing};
+use typing_rules::Header;
+use typing_tasks::{Act, StatementAct, Task, Tasks};
 
 /// Expressions from one on.
-#[tactic(auto, using(crate::proofs::Goings::values_go, crate::proofs::Goings::values_end))]
+#[tactic(auto, using(typing_tasks::proofs::Goings::values_go, typing_tasks::proofs::Goings::values_end))]
 pub fn values<'a>(
     _headers: &[Header],
     _config: &Config,
@@ -39,7 +36,7 @@ pub fn values<'a>(
 }
 
 /// Arguments from one on.
-#[tactic(auto, using(crate::proofs::Goings::unbuilt_arguments_go, crate::proofs::Goings::unbuilt_arguments_end))]
+#[tactic(auto, using(typing_tasks::proofs::Goings::unbuilt_arguments_go, typing_tasks::proofs::Goings::unbuilt_arguments_end))]
 pub fn arguments<'a>(
     _headers: &[Header],
     _config: &Config,
@@ -60,7 +57,7 @@ pub fn arguments<'a>(
 }
 
 /// Entries of a map from one on.
-#[tactic(auto, using(crate::proofs::Goings::entries_go, crate::proofs::Goings::entries_end))]
+#[tactic(auto, using(typing_tasks::proofs::Goings::entries_go, typing_tasks::proofs::Goings::entries_end))]
 pub fn entries<'a>(
     _headers: &[Header],
     _config: &Config,
@@ -85,7 +82,7 @@ pub fn entries<'a>(
 }
 
 /// Handlers of a `try` from one on.
-#[tactic(auto, using(crate::proofs::Goings::catches_go, crate::proofs::Goings::catches_end))]
+#[tactic(auto, using(typing_tasks::proofs::Goings::catches_go, typing_tasks::proofs::Goings::catches_end))]
 pub fn catches<'a>(
     _headers: &[Header],
     _config: &Config,
@@ -106,7 +103,7 @@ pub fn catches<'a>(
 }
 
 /// A handler, whose name is in sight in its block.
-#[tactic(auto, using(crate::proofs::Goings::catch_goes))]
+#[tactic(auto, using(typing_tasks::proofs::Goings::catch_goes))]
 pub fn catch<'a>(
     _headers: &[Header],
     config: &Config,
@@ -135,7 +132,7 @@ fn parameter<'a>(tasks: &mut Tasks<'a>, e: &'a Parameter) -> Result<(), AllocErr
 }
 
 /// Parameters of a function value from one on.
-#[tactic(auto, using(crate::proofs::Goings::parameters_go, crate::proofs::Goings::parameters_end))]
+#[tactic(auto, using(typing_tasks::proofs::Goings::parameters_go, typing_tasks::proofs::Goings::parameters_end))]
 pub fn parameters<'a>(
     _headers: &[Header],
     _config: &Config,
@@ -151,21 +148,5 @@ pub fn parameters<'a>(
     };
     tasks.push(Task::Parameters(all, at + 1))?;
     parameter(tasks, one)?;
-    Ok(())
-}
-
-/// A name that a construct which is not built declares.
-pub fn note(alloc: Global, config: &mut Config, name: &Text, of: Ty) -> Result<(), AllocError>
-    ensures { OnOk result (config.new ≡ bodies.note name.now of config.old) }
-{
-    if config.state.scopes.find(name).is_some() {
-        return Ok(());
-    }
-    let name = Text::new(alloc, name.as_str())?;
-    config.state.scopes.push(Declared {
-        name,
-        of,
-        standing: Standing::Variable,
-    })?;
     Ok(())
 }

@@ -16,13 +16,13 @@ use Rattle.pl_tree.specs.declared.tree.Entry.{Entry}
 use Rattle.pl_tree.specs.declared.tree.Variable.{Variable, out-Variable}
 use Rattle.pl_tree.specs.declared.tree.Argument.TheOpen.{Argument-F, Body-F, Expr-F, First-F, LambdaBody-F, Statement-F, Block-F, Catch-F, Declaration-F, Entry-F, Variable-F}
 use Rattle.typed_tree.specs.declared.operation.Gives.TheVariants as g
-use Rattle.typing_jobs.specs.declared.task.Act.TheVariants as a
-use Rattle.typing_jobs.specs.declared.task.StatementAct.TheVariants as s
+use Rattle.typing_tasks.specs.declared.task.Act.TheVariants as a
+use Rattle.typing_tasks.specs.declared.task.StatementAct.TheVariants as s
 use Rattle.typing_rules.specs.declared.header.Header.{Header}
 use Rattle.typing_rules.specs.Typing.{doer}
-use Rattle.typing_jobs.specs.Going.{is_there, none_left}
-use Rattle.typing_jobs.specs.Job as j
-use Rattle.typing_jobs.specs.Job.{Job}
+use Rattle.typing_tasks.specs.Going.{is_there, none_left}
+use Rattle.typing_tasks.specs.Job as j
+use Rattle.typing_tasks.specs.Job.{Job}
 
 -- a node over the trees of its parts
 abbrev pub Open : (Type 0 → Type 0 → Type 0 → Type 0 → Type 0 → Type 0 → Type 0 → Type 0 → Type 0 → Type 0 → Type 0 → Type 0) → Type 0

@@ -3,7 +3,7 @@ use Rattle.std.proofs.Common.{◌≡◌, ℕ, zero, suc, ◌+◌, ◌-◌, List,
 use Rattle.std.proofs.lemmas.Grind.{common_steps}
 use Rattle.typing_rules.specs.Outcomes.{Out}
 use Rattle.typing_acts.specs.Piles.{gathered, some_gathered, above}
-use Rattle.typing_jobs.specs.Machine.{piled}
+use Rattle.typing_tasks.specs.Machine.{piled}
 
 pub piled_length : {A : Type 0} (xs below : List A) → length (piled xs below) ≡ length xs + length below
 piled_length [] below = omega arith

@@ -3,13 +3,12 @@
 ghost use Rattle.std.specs.Prelude.{◌≡◌, ◌∷◌, ◌++◌, ◌&&◌, slice_get, OnOk};
 ghost use Rattle.pl_tree.specs.declared.tree.Variable.{out-Variable};
 ghost use Rattle.typing_rules.specs.Typing.{doer};
-ghost use Rattle.typing_jobs.specs.Going.{Goes, none_left};
-ghost use Rattle.typing_jobs.specs.Job as j;
-ghost use Rattle.typing_jobs.specs.Machine.{run};
-ghost use Rattle.typing_jobs.specs.Plans as spec;
+ghost use Rattle.typing_tasks.specs.Going.{Goes, none_left};
+ghost use Rattle.typing_tasks.specs.Job as j;
+ghost use Rattle.typing_tasks.specs.Machine.{run};
+ghost use Rattle.typing_tasks.specs.Plans as spec;
 
 use crate::first::first_of;
-use crate::task::{StatementAct, Task, Tasks};
 use pl_tree::{Argument, Block, Body, Declaration, Expr, First, Statement, TypeName, Variable};
 use pl_types::Fail;
 use plain_data::{Items, Subtree, Text};
@@ -17,9 +16,10 @@ use std::alloc::AllocError;
 use typing_acts::{Config, bodies};
 use typing_rules::Header;
 use typing_rules::rules::statements::reached;
+use typing_tasks::{StatementAct, Task, Tasks};
 
 /// Arguments from one on: this one, and then the rest.
-#[tactic(auto, using(crate::proofs::Goings::arguments_go, crate::proofs::Goings::arguments_end))]
+#[tactic(auto, using(typing_tasks::proofs::Goings::arguments_go, typing_tasks::proofs::Goings::arguments_end))]
 pub fn arguments<'a>(
     _headers: &[Header],
     _config: &Config,
@@ -38,7 +38,7 @@ pub fn arguments<'a>(
 }
 
 /// A call of a function: its arguments, and then the call.
-#[tactic(auto, using(crate::proofs::Goings::call_goes))]
+#[tactic(auto, using(typing_tasks::proofs::Goings::call_goes))]
 pub fn call<'a>(
     _headers: &[Header],
     config: &Config,
@@ -55,7 +55,7 @@ pub fn call<'a>(
 }
 
 /// A statement in a scope of its own.
-#[tactic(auto, using(crate::proofs::Goings::scoped_goes))]
+#[tactic(auto, using(typing_tasks::proofs::Goings::scoped_goes))]
 pub fn scoped<'a>(
     _headers: &[Header],
     config: &Config,
@@ -73,7 +73,7 @@ pub fn scoped<'a>(
 }
 
 /// A block in a scope of its own.
-#[tactic(auto, using(crate::proofs::Goings::block_goes))]
+#[tactic(auto, using(typing_tasks::proofs::Goings::block_goes))]
 pub fn block<'a>(
     _headers: &[Header],
     config: &Config,
@@ -93,7 +93,7 @@ pub fn block<'a>(
 }
 
 /// A body with a loop around it.
-#[tactic(auto, using(crate::proofs::Goings::looping_goes))]
+#[tactic(auto, using(typing_tasks::proofs::Goings::looping_goes))]
 pub fn looping<'a>(
     _headers: &[Header],
     config: &mut Config,
@@ -112,7 +112,7 @@ pub fn looping<'a>(
 }
 
 /// A block with a loop around it.
-#[tactic(auto, using(crate::proofs::Goings::loop_block_goes))]
+#[tactic(auto, using(typing_tasks::proofs::Goings::loop_block_goes))]
 pub fn loop_block<'a>(
     _headers: &[Header],
     config: &mut Config,
@@ -131,7 +131,7 @@ pub fn loop_block<'a>(
 }
 
 /// A `for` in a scope of its own.
-#[tactic(auto, using(crate::proofs::Goings::for_goes))]
+#[tactic(auto, using(typing_tasks::proofs::Goings::for_goes))]
 pub fn for_loop<'a>(
     _headers: &[Header],
     config: &Config,
@@ -153,7 +153,7 @@ pub fn for_loop<'a>(
 }
 
 /// What a `for` begins with.
-#[tactic(auto, using(crate::proofs::Goings::deed_goes))]
+#[tactic(auto, using(typing_tasks::proofs::Goings::deed_goes))]
 pub fn deed<'a>(
     headers: &[Header],
     _config: &Config,
@@ -171,7 +171,7 @@ pub fn deed<'a>(
 }
 
 /// What it goes on with.
-#[tactic(auto, using(crate::proofs::Goings::update_goes))]
+#[tactic(auto, using(typing_tasks::proofs::Goings::update_goes))]
 pub fn update<'a>(
     headers: &[Header],
     _config: &Config,
@@ -240,7 +240,7 @@ fn following<'a>(
 }
 
 /// Statements from one on: this one, and then what is behind it.
-#[tactic(auto, using(crate::proofs::Goings::statements_go, crate::proofs::Goings::statements_end))]
+#[tactic(auto, using(typing_tasks::proofs::Goings::statements_go, typing_tasks::proofs::Goings::statements_end))]
 pub fn statements<'a>(
     headers: &[Header],
     _config: &Config,
@@ -261,7 +261,7 @@ pub fn statements<'a>(
 }
 
 /// What is behind a statement that is typed.
-#[tactic(auto, unfolding(crate::specs::Machine::run))]
+#[tactic(auto, unfolding(typing_tasks::specs::Machine::run))]
 pub fn behind<'a>(
     _headers: &[Header],
     config: &mut Config,
@@ -285,7 +285,7 @@ pub fn behind<'a>(
 }
 
 /// A declaration: its variables, and then the statement.
-#[tactic(auto, using(crate::proofs::Goings::declaration_goes))]
+#[tactic(auto, using(typing_tasks::proofs::Goings::declaration_goes))]
 pub fn declaration<'a>(
     _headers: &[Header],
     config: &Config,
@@ -303,7 +303,7 @@ pub fn declaration<'a>(
 }
 
 /// Variables from one on: this one, and then the rest.
-#[tactic(auto, using(crate::proofs::Goings::variables_go, crate::proofs::Goings::variables_end))]
+#[tactic(auto, using(typing_tasks::proofs::Goings::variables_go, typing_tasks::proofs::Goings::variables_end))]
 pub fn variables<'a>(
     _headers: &[Header],
     _config: &Config,

@@ -1,9 +1,9 @@
 -- The tasks of the code, as plain data.
 use Rattle.std.specs.Prelude.{◌≡◌, List, [], ◌∷◌, Option, Some, None}
-use Rattle.typing_jobs.specs.declared.task.Task.{Task}
-use Rattle.typing_jobs.specs.declared.task.Task.TheVariants as t
-use Rattle.typing_jobs.specs.Job as j
-use Rattle.typing_jobs.specs.Job.{Job}
+use Rattle.typing_tasks.specs.declared.task.Task.{Task}
+use Rattle.typing_tasks.specs.declared.task.Task.TheVariants as t
+use Rattle.typing_tasks.specs.Job as j
+use Rattle.typing_tasks.specs.Job.{Job}
 
 abbrev pub job : Task → Job
 job (t.Value e) = j.Value e.now

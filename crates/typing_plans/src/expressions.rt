@@ -4,12 +4,12 @@ ghost use Rattle.std.specs.Prelude.{◌≡◌, ◌++◌, OnOk};
 ghost use Rattle.pl_tree.specs.declared.tree.Argument.{out-Argument};
 ghost use Rattle.pl_tree.specs.declared.tree.Expr.{out-Expr};
 ghost use Rattle.pl_tree.specs.declared.tree.LambdaBody.{out-LambdaBody};
-ghost use Rattle.typing_jobs.specs.Plans as spec;
+ghost use Rattle.typing_tasks.specs.Plans as spec;
 
-use crate::task::{Act, Task, Tasks};
 use pl_tree::{Argument, Expr, LambdaBody, UnaryOperator};
 use std::alloc::AllocError;
 use typed_tree::Gives;
+use typing_tasks::{Act, Task, Tasks};
 
 /// Puts on what is to be done for an operator before its operand.
 fn unary<'a>(

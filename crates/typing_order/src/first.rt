@@ -4,7 +4,7 @@ ghost use Rattle.std.specs.Prelude.{◌≡◌, Some, None, Ok, MatchOption};
 ghost use Rattle.pl_tree.specs.declared.tree.Expr.{out-Expr};
 ghost use Rattle.typing_rules.specs.Outcomes.{Keeps};
 ghost use Rattle.typing_rules.specs.Typing.{reading};
-ghost use Rattle.typing_jobs.specs.Plans as spec;
+ghost use Rattle.typing_tasks.specs.Plans as spec;
 
 use pl_tree::Expr;
 use pl_types::Fail;
@@ -105,7 +105,7 @@ fn place_of(e: &Expr) -> u32
 }
 
 /// The first token of an expression: that of the expression at its left end.
-#[tactic(auto, using(crate::proofs::Firsts::first_is))]
+#[tactic(auto, using(typing_tasks::proofs::Firsts::first_is))]
 pub fn first_of(_headers: &[Header], e: &Expr) -> Result<u32, Fail>
     ensures { Keeps (Ok (reading _headers.now e.now).first) result }
 {

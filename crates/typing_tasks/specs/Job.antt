@@ -14,8 +14,8 @@ use Rattle.pl_tree.specs.declared.tree.LambdaBody.{LambdaBody}
 use Rattle.pl_tree.specs.declared.tree.Parameter.{Parameter}
 use Rattle.pl_tree.specs.declared.tree.Statement.{Statement}
 use Rattle.pl_tree.specs.declared.tree.TypeName.{TypeName}
-use Rattle.typing_jobs.specs.declared.task.Act.{Act}
-use Rattle.typing_jobs.specs.declared.task.StatementAct.{StatementAct}
+use Rattle.typing_tasks.specs.declared.task.Act.{Act}
+use Rattle.typing_tasks.specs.declared.task.StatementAct.{StatementAct}
 
 pub data Job : Type 0 where
   -- expressions

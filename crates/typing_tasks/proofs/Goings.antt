@@ -34,16 +34,16 @@ use Rattle.typing_acts.specs.declared.config.Config.{Config}
 use Rattle.typing_acts.specs.Piles.{above, one}
 use Rattle.typing_acts.specs.Bodies as bodies
 use Rattle.typing_acts.specs.Expressions as expressions
-use Rattle.typing_jobs.specs.declared.task.Act.TheVariants as a
-use Rattle.typing_jobs.specs.declared.task.StatementAct.TheVariants as sa
-use Rattle.typing_jobs.specs.Folds.{handler, declaration, entry, variable, argument_if}
-use Rattle.typing_jobs.specs.Going.{none_left}
-use Rattle.typing_jobs.specs.Job as j
-use Rattle.typing_jobs.specs.Job.{Job}
-use Rattle.typing_jobs.specs.Machine.{run, piled, part_to, parts_to, step_to, steps_to, block_to, variable_to, variables_to, nothing_to, refused_at}
-use Rattle.typing_jobs.specs.Plans.{parameter_plan, following}
-use Rattle.typing_jobs.proofs.Above.{above_piled}
-use Rattle.typing_jobs.proofs.Behind.{behind, behind_with, behind_two, again, again_with}
+use Rattle.typing_tasks.specs.declared.task.Act.TheVariants as a
+use Rattle.typing_tasks.specs.declared.task.StatementAct.TheVariants as sa
+use Rattle.typing_tasks.specs.Folds.{handler, declaration, entry, variable, argument_if}
+use Rattle.typing_tasks.specs.Going.{none_left}
+use Rattle.typing_tasks.specs.Job as j
+use Rattle.typing_tasks.specs.Job.{Job}
+use Rattle.typing_tasks.specs.Machine.{run, piled, part_to, parts_to, step_to, steps_to, block_to, variable_to, variables_to, nothing_to, refused_at}
+use Rattle.typing_tasks.specs.Plans.{parameter_plan, following}
+use Rattle.typing_tasks.proofs.Above.{above_piled}
+use Rattle.typing_tasks.proofs.Behind.{behind, behind_with, behind_two, again, again_with}
 
 drop_at : {A : Type 0} (i : ℕ) (all : List A) (one : A) → slice_get all i ≡ Some one → drop i all ≡ one ∷ drop (suc i) all
 drop_at zero [] one is = absurd cc

@@ -4,13 +4,13 @@ ghost use Rattle.std.specs.Prelude.{◌≡◌, ◌++◌, OnOk};
 ghost use Rattle.pl_tree.specs.declared.tree.Body.{out-Body};
 ghost use Rattle.pl_tree.specs.declared.tree.First.{out-First};
 ghost use Rattle.pl_tree.specs.declared.tree.Statement.{out-Statement};
-ghost use Rattle.typing_jobs.specs.Going.{is_there};
-ghost use Rattle.typing_jobs.specs.Plans as spec;
+ghost use Rattle.typing_tasks.specs.Going.{is_there};
+ghost use Rattle.typing_tasks.specs.Plans as spec;
 
-use crate::task::{Act, StatementAct, Task, Tasks};
 use pl_tree::{Argument, Body, Expr, First, Statement, TypeName};
 use plain_data::Subtree;
 use std::alloc::AllocError;
+use typing_tasks::{Act, StatementAct, Task, Tasks};
 
 fn has_body(e: &Option<Body>) -> bool
     ensures { result ≡ is_there e.now }

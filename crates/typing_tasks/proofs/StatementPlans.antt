@@ -32,14 +32,14 @@ use Rattle.typing_rules.specs.Rules.Statements as rules
 use Rattle.typing_rules.specs.Typing.{Reading, Doer, Braces, Seen, reading, argument, body, doer, braces, argument_step, body_step, expression_step, first_step, lambda_step, statement_step, block_step, catch_step, declaration_step, entry_step, variable_step, scoped, looping}
 use Rattle.typing_acts.specs.declared.config.Config.{Config}
 use Rattle.typing_acts.specs.Expressions as expressions
-use Rattle.typing_jobs.specs.declared.task.Act.TheVariants as a
-use Rattle.typing_jobs.specs.declared.task.StatementAct.TheVariants as sa
-use Rattle.typing_jobs.specs.Going.{is_there}
-use Rattle.typing_jobs.specs.Job as j
-use Rattle.typing_jobs.specs.Job.{Job}
-use Rattle.typing_jobs.specs.Machine.{run, part_to, place_to, step_to, steps_to, refused_at}
-use Rattle.typing_jobs.specs.Plans.{Open, value_plan, negated_plan, target_plan, argument_plan, inner_plan, statement_plan, body_plan, first_plan, loop_body_plan, first_if_plan, condition_plan, update_if_plan, otherwise_plan, returned_plan, initial_plan, for_plan}
-use Rattle.typing_jobs.proofs.Behind.{behind, behind_with, behind_two, again}
+use Rattle.typing_tasks.specs.declared.task.Act.TheVariants as a
+use Rattle.typing_tasks.specs.declared.task.StatementAct.TheVariants as sa
+use Rattle.typing_tasks.specs.Going.{is_there}
+use Rattle.typing_tasks.specs.Job as j
+use Rattle.typing_tasks.specs.Job.{Job}
+use Rattle.typing_tasks.specs.Machine.{run, part_to, place_to, step_to, steps_to, refused_at}
+use Rattle.typing_tasks.specs.Plans.{Open, value_plan, negated_plan, target_plan, argument_plan, inner_plan, statement_plan, body_plan, first_plan, loop_body_plan, first_if_plan, condition_plan, update_if_plan, otherwise_plan, returned_plan, initial_plan, for_plan}
+use Rattle.typing_tasks.proofs.Behind.{behind, behind_with, behind_two, again}
 
 module _ (hs : List Header) (js : List Job) (c : Config) where
   pub statement_rolled : (last : Bool) (y : Open Statement-F) → run hs (j.Statement_ (roll-Statement y) last ∷ js) c ≡ run hs (statement_plan last y ++ js) c

@@ -1,7 +1,7 @@
 //! What is still to be typed.
 
 ghost use Rattle.std.specs.Prelude.{◌≡◌, ◌∷◌, [], OnOk};
-ghost use Rattle.typing_jobs.specs.Jobs.{job, Pops};
+ghost use Rattle.typing_tasks.specs.Jobs.{job, Pops};
 
 use pl_tree::{
     Argument, BinaryOperator, Block, Body, Catch, Constant, Declaration, Entry, Expr, First,
@@ -150,8 +150,8 @@ impl<'a> Drop for Tasks<'a> {
 
 impl<'a> Model for Tasks<'a> {
     ghost use Rattle.std.specs.Prelude.{List, reverse, map};
-    ghost use Rattle.typing_jobs.specs.Job.{Job};
-    ghost use Rattle.typing_jobs.specs.Jobs.{job};
+    ghost use Rattle.typing_tasks.specs.Job.{Job};
+    ghost use Rattle.typing_tasks.specs.Jobs.{job};
     ghost use Rattle.std.specs.Coded.{codes};
     ghost use Rattle.pl_tree.specs.contracts.tree.Argument as r0;
     ghost use Rattle.pl_tree.specs.contracts.tree.Block as r1;

@@ -1,0 +1,6 @@
+//! What is still to be typed: the tasks of the pass of typing, and the definition of what they come to.
+#![tactic(auto)]
+
+mod task;
+
+pub use task::{Act, StatementAct, Task, Tasks};
