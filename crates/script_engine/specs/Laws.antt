@@ -1,5 +1,5 @@
 -- What holds of all texts and of their programs.
-use Rattle.std.specs.Prelude.{◌≡◌, ℕ, List, Result, Ok}
+use Rattle.std.specs.Prelude.{◌≡◌, ℕ, List, map, Result, Ok}
 use Rattle.pl_types.specs.declared.refusal.Refusal.{Refusal}
 use Rattle.object_values.specs.declared.value.Value.{Value}
 use Rattle.allowlist.specs.Allow.{AllowList}
