@@ -12,56 +12,79 @@ pub enum Detail {
     Places,
 }
 
-/// A script's functions and statements, with a blank between two.
-pub fn printed(alloc: Global, detail: Detail, tree: &Tree) -> Result<String, AllocError> {
-    let mut line = String::new(alloc);
-    let mut left = Pieces::new(alloc);
-    left.put(&[
-        Piece::Functions(tree.functions.as_slice()),
-        Piece::Statements(tree.statements.as_slice()),
-    ])?;
-    for _ in 0..u64::MAX {
-        let Some(piece) = left.next() else {
-            return Ok(line);
-        };
-        if !write(alloc, detail, piece, &mut line)? {
-            left.open(piece)?;
-        }
-    }
-    Ok(line)
+/// What is written so far, and whether no blank follows it.
+#[derive(Drop)]
+struct Line {
+    text: String,
+    joined: bool,
 }
 
-/// Writes a piece that is no node, and says whether it is none.
+impl Line {
+    fn write(&mut self, word: &str, joined: bool) -> Result<(), AllocError> {
+        self.joined = joined;
+        self.text.push_str(word)
+    }
+
+    /// Writes what stands between two pieces, unless none does.
+    fn separate(&mut self, word: &str) -> Result<(), AllocError> {
+        if self.joined {
+            return Ok(());
+        }
+        self.write(word, true)
+    }
+
+    fn place(&mut self, alloc: Global, detail: Detail, at: u32) -> Result<(), AllocError> {
+        match detail {
+            Detail::Shape => Ok(()),
+            Detail::Places => {
+                let place = format!(in alloc; "@{at}")?;
+                self.write(place.as_str(), false)
+            }
+        }
+    }
+}
+
+/// A script's functions and statements, with a blank between two.
+pub fn printed(alloc: Global, detail: Detail, tree: &Tree) -> Result<String, AllocError> {
+    let mut line = Line {
+        text: String::new(alloc),
+        joined: true,
+    };
+    let mut pieces = Pieces::new(alloc);
+    pieces.statements(&tree.statements)?;
+    pieces.functions(&tree.functions)?;
+    for _ in 0..u64::MAX {
+        let Some(piece) = pieces.next() else {
+            break;
+        };
+        write(alloc, detail, piece, &mut pieces, &mut line)?;
+    }
+    let Line { text, joined: _ } = line;
+    Ok(text)
+}
+
+/// Writes a word, or puts the parts of a node before what is left.
 fn write(
     alloc: Global,
     detail: Detail,
-    piece: Piece<'_>,
-    line: &mut String,
-) -> Result<bool, AllocError> {
-    match piece {
-        Piece::Word(word) => line.push_str(word)?,
-        Piece::Place(at) => write_place(alloc, detail, at, line)?,
-        Piece::Blank => {
-            if !line.is_empty() {
-                line.push_str(" ")?;
-            }
-        }
-        _ => return Ok(false),
-    }
-    Ok(true)
-}
-
-fn write_place(
-    alloc: Global,
-    detail: Detail,
-    at: u32,
-    line: &mut String,
+    piece: Piece,
+    pieces: &mut Pieces<'_>,
+    line: &mut Line,
 ) -> Result<(), AllocError> {
-    match detail {
-        Detail::Shape => Ok(()),
-        Detail::Places => {
-            let place = format!(in alloc; "@{at}")?;
-            line.push_str(place.as_str())
+    match piece {
+        Piece::Word(word) => line.write(word, false),
+        Piece::Open(word) => line.write(word, true),
+        Piece::Place(at) => line.place(alloc, detail, at),
+        Piece::Bracket(at) => {
+            line.write("[]", false)?;
+            line.place(alloc, detail, at)
         }
+        Piece::Blank => line.separate(" "),
+        Piece::Comma => line.separate(", "),
+        Piece::Spelling => match pieces.spelling() {
+            Some(spelling) => line.write(spelling.as_str(), false),
+            None => Ok(()),
+        },
+        node => pieces.open(node),
     }
 }

@@ -62,7 +62,9 @@ fn reads_as(
 ) -> Result<bool, AllocError> {
     match tree_of(rt, alloc, text) {
         Ok(tree) => {
-            let line = printed(alloc, detail, &tree)?;
+            let line = printed(alloc, detail, &tree);
+            tree.discard();
+            let line = line?;
             Ok(line.as_str() == expected)
         }
         Err(_) => Ok(false),
@@ -72,7 +74,10 @@ fn reads_as(
 /// Whether a script is refused by this rule at this place.
 fn is_refused(rt: &impl Abort, alloc: Global, text: &str, number: u8, place: u32) -> bool {
     match tree_of(rt, alloc, text) {
-        Ok(_) => false,
+        Ok(tree) => {
+            tree.discard();
+            false
+        }
         Err(Fail::Refused(refusal)) => refusal.number == number && refusal.offset == place,
         Err(Fail::NoMemory) => false,
     }
@@ -87,7 +92,11 @@ pub fn has_parts(
     statements: usize,
 ) -> bool {
     match tree_of(rt, alloc, text) {
-        Ok(tree) => tree.functions.len() == functions && tree.statements.len() == statements,
+        Ok(tree) => {
+            let holds = tree.functions.len() == functions && tree.statements.len() == statements;
+            tree.discard();
+            holds
+        }
         Err(_) => false,
     }
 }
