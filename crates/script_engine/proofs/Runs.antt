@@ -52,9 +52,9 @@ ends_there : (a : Activation) (from : Next) (end : End (Option Word)) → a.now 
 ends_there a from end stands ran q over = elim (first_or_last ran.steps q) [
   | inl within ↦ comes_to_its_end a from ran.steps q end stands ran.ends within
   | inr early ↦
-    (let c = ran.before q early in
-    let goes : (later q a).now ≡ Some (Goes c.0) = ap (option_map (after a.code (limits_of a.limits) q)) stands ∙ ap (λ n. Some n) c.1 in
-    absurd (not_going c.0 (subst (λ now. IsTrue (is_over now)) goes over)))
+      (let c = ran.before q early in
+      let goes : (later q a).now ≡ Some (Goes c.0) = ap (option_map (after a.code (limits_of a.limits) q)) stands ∙ ap (λ n. Some n) c.1 in
+      absurd (not_going c.0 (subst (λ now. IsTrue (is_over now)) goes over)))
 ]
 
 -- ---- the end with its value
@@ -161,7 +161,7 @@ runs_as_its_program script store limits a q o begun over by context p is none re
     let b : Activation = record { code = functions; limits = limits; now = Some (start functions [] w); steps = 0 } in
     let stands : (later q b).now ≡ Some (Ends out.end) =
     ends_there b (start functions [] w) out.end refl (subst (λ ws. EndsAs functions (limits_of limits) (start functions ws w) out.end) words out.code_ends) q
-        (subst (λ x. IsTrue (is_over (later q x).now)) begun over) in
+    (subst (λ x. IsTrue (is_over (later q x).now)) begun over) in
     let there : Some (Ends out.end) ≡ Some (ended by.end (world_left o by.left)) = sym stands ∙ sym (ap (λ x. (later q x).now) begun) ∙ by.stands in
     let same : Ends out.end ≡ ended by.end (world_left o by.left) = cc in
     let bound = enough (program_of p) w in
