@@ -1,7 +1,5 @@
 //! How the tests compile scripts and run them.
 
-ghost use Rattle.typing_laws.specs.Laws.{IsContext};
-
 use allowlist::{Allow, Catalogue};
 use code_machine::Limits;
 use object_heap::{End, Heap, Outcome, Which};
