@@ -7,7 +7,7 @@ use object_values::Value;
 use pl_types::classes::CLASS_COUNT;
 use pl_types::{Fail, Ty, class_short};
 use plain_data::Items;
-use script_engine::compile;
+use script_engine::{Script, compile};
 use static_types::ContextTypes;
 use std::alloc::{AllocError, Global};
 use std::process::Abort;
@@ -42,32 +42,40 @@ impl Compiler {
         Ok(Compiler { alloc, allow })
     }
 
-    fn run(&self, script: &str, bounds: Bounds) -> Result<Outcome, Fail> {
+    fn compiled(&self, script: &str) -> Result<Script, Fail> {
         let context = ContextTypes {
             variables: Items::new(self.alloc),
             result: Ty::Def,
         };
-        let compiled = compile(self.alloc, script, &self.allow, &context)?;
-        let heap = Heap::new(self.alloc, bounds.room);
-        let limits = Limits {
-            loops: bounds.loops,
-            depth: bounds.depth,
-            ticks: bounds.ticks,
-        };
-        Ok(compiled.run(heap, limits)?)
+        compile(self.alloc, script, &self.allow, &context)
     }
 }
 
-/// A value, after a letter for its type.
+fn run(alloc: Global, script: &Script, bounds: Bounds) -> Result<Outcome, AllocError> {
+    let heap = Heap::new(alloc, bounds.room);
+    let limits = Limits {
+        loops: bounds.loops,
+        depth: bounds.depth,
+        ticks: bounds.ticks,
+    };
+    script.run(heap, limits)
+}
+
+fn number_text(alloc: Global, letter: &str, number: i64) -> Result<String, AllocError> {
+    format!(in alloc; "{letter} {number}")
+}
+
+/// A value, a number after a letter for its type.
 fn value_text(alloc: Global, value: &Value) -> Result<String, AllocError> {
     match value {
         Value::Null => String::from_str(alloc, "null"),
-        Value::Bool(flag) => format!(in alloc; "{flag}"),
-        Value::Byte(number) => format!(in alloc; "B {number}"),
-        Value::Short(number) => format!(in alloc; "S {number}"),
-        Value::Char(unit) => format!(in alloc; "C {unit}"),
-        Value::Int(number) => format!(in alloc; "I {number}"),
-        Value::Long(number) => format!(in alloc; "J {number}"),
+        Value::Bool(true) => String::from_str(alloc, "true"),
+        Value::Bool(false) => String::from_str(alloc, "false"),
+        Value::Byte(number) => number_text(alloc, "B", i64::from(*number)),
+        Value::Short(number) => number_text(alloc, "S", i64::from(*number)),
+        Value::Char(unit) => number_text(alloc, "C", i64::from(*unit)),
+        Value::Int(number) => number_text(alloc, "I", i64::from(*number)),
+        Value::Long(number) => number_text(alloc, "J", *number),
         _ => String::from_str(alloc, "another value"),
     }
 }
@@ -127,8 +135,11 @@ fn ends(
     bounds: Bounds,
     wanted: &str,
 ) -> Result<bool, AllocError> {
-    match compiler.run(script, bounds) {
-        Ok(outcome) => ended(&outcome, wanted),
+    match compiler.compiled(script) {
+        Ok(compiled) => {
+            let outcome = run(compiler.alloc, &compiled, bounds)?;
+            ended(&outcome, wanted)
+        }
         Err(_) => Ok(false),
     }
 }
