@@ -1,0 +1,48 @@
+mod operators;
+mod rows;
+mod running;
+
+use running::{Compiler, USUAL, all_cells_end, all_end};
+use std::test::Fail;
+
+#[test]
+fn operators_over_each_pair_of_types(rt: HostRuntime) -> Result<(), Fail> {
+    let compiler = Compiler::new(rt.alloc())?;
+    for table in [
+        operators::BYTES,
+        operators::SHORTS,
+        operators::CHARS,
+        operators::INTS,
+        operators::LONGS,
+        operators::UNARY,
+        operators::BOOLEANS,
+    ] {
+        all_cells_end(&rt, &compiler, table)?;
+    }
+    Ok(())
+}
+
+#[test]
+fn scripts_end(rt: HostRuntime) -> Result<(), Fail> {
+    let compiler = Compiler::new(rt.alloc())?;
+    for table in [
+        rows::VALUES,
+        rows::SHORT_CIRCUITS,
+        rows::ZERO_DIVISORS,
+        rows::BRANCHES,
+        rows::LOOPS,
+        rows::FUNCTIONS,
+    ] {
+        all_end(&rt, &compiler, USUAL, table)?;
+    }
+    Ok(())
+}
+
+#[test]
+fn scripts_end_within_bounds(rt: HostRuntime) -> Result<(), Fail> {
+    let compiler = Compiler::new(rt.alloc())?;
+    for (bounds, table) in rows::BOUNDED {
+        all_end(&rt, &compiler, bounds, table)?;
+    }
+    Ok(())
+}

@@ -1,0 +1,193 @@
+//! How the tests compile scripts and run them.
+
+use allowlist::{Allow, Catalogue};
+use code_machine::Limits;
+use object_heap::{End, Heap, Outcome, Which};
+use object_values::Value;
+use pl_types::classes::CLASS_COUNT;
+use pl_types::{Fail, Ty, class_short};
+use plain_data::Items;
+use script_engine::{Script, compile};
+use static_types::ContextTypes;
+use std::alloc::{AllocError, Global};
+use std::process::Abort;
+
+/// What a run is bounded by: the turns of a frame's loops, the depth of calls, the ticks, and the room of the heap.
+#[derive(Clone, Copy)]
+pub struct Bounds {
+    pub loops: u64,
+    pub depth: u32,
+    pub ticks: u64,
+    pub room: u64,
+}
+
+/// The bounds that a run has where nothing else is said.
+pub const USUAL: Bounds = Bounds {
+    loops: 1_000_000,
+    depth: 256,
+    ticks: 10_000_000,
+    room: 16_000_000,
+};
+
+/// What scripts are compiled by: every class, no variable, and any result.
+#[derive(Drop)]
+pub struct Compiler {
+    alloc: Global,
+    allow: Allow,
+}
+
+impl Compiler {
+    pub fn new(alloc: Global) -> Result<Compiler, AllocError> {
+        let allow = Catalogue::full(alloc)?;
+        Ok(Compiler { alloc, allow })
+    }
+
+    fn compiled(&self, script: &str) -> Result<Script, Fail> {
+        let context = ContextTypes {
+            variables: Items::new(self.alloc),
+            result: Ty::Def,
+        };
+        compile(self.alloc, script, &self.allow, &context)
+    }
+}
+
+fn run(alloc: Global, script: &Script, bounds: Bounds) -> Result<Outcome, AllocError> {
+    let heap = Heap::new(alloc, bounds.room);
+    let limits = Limits {
+        loops: bounds.loops,
+        depth: bounds.depth,
+        ticks: bounds.ticks,
+    };
+    script.run(heap, limits)
+}
+
+fn number_text(alloc: Global, letter: &str, number: i64) -> Result<String, AllocError> {
+    format!(in alloc; "{letter} {number}")
+}
+
+/// A value, a number after a letter for its type.
+fn value_text(alloc: Global, value: &Value) -> Result<String, AllocError> {
+    match value {
+        Value::Null => String::from_str(alloc, "null"),
+        Value::Bool(true) => String::from_str(alloc, "true"),
+        Value::Bool(false) => String::from_str(alloc, "false"),
+        Value::Byte(number) => number_text(alloc, "B", i64::from(*number)),
+        Value::Short(number) => number_text(alloc, "S", i64::from(*number)),
+        Value::Char(unit) => number_text(alloc, "C", i64::from(*unit)),
+        Value::Int(number) => number_text(alloc, "I", i64::from(*number)),
+        Value::Long(number) => number_text(alloc, "J", *number),
+        _ => String::from_str(alloc, "another value"),
+    }
+}
+
+fn class_text(class: Option<u32>) -> &'static str {
+    match class {
+        Some(class) if class < CLASS_COUNT => class_short(class),
+        _ => "nothing",
+    }
+}
+
+fn thrown_text(heap: &Heap, id: u32) -> Result<String, AllocError> {
+    let alloc = heap.alloc();
+    let class = class_text(heap.class(id));
+    match heap.message(id) {
+        None => format!(in alloc; "thrown {class}"),
+        Some(message) => {
+            let message = message.to_utf8()?;
+            let text = message.as_str();
+            format!(in alloc; "thrown {class} {text}")
+        }
+    }
+}
+
+fn limit_text(which: Which) -> &'static str {
+    match which {
+        Which::Loop => "limit loop",
+        Which::Depth => "limit depth",
+        Which::Ticks => "limit ticks",
+        Which::Room => "limit room",
+    }
+}
+
+fn end_text(outcome: &Outcome) -> Result<String, AllocError> {
+    let alloc = outcome.heap.alloc();
+    match &outcome.end {
+        End::Value(value) => value_text(alloc, value),
+        End::Thrown(id) => thrown_text(&outcome.heap, *id),
+        End::Limit(which) => String::from_str(alloc, limit_text(*which)),
+    }
+}
+
+/// Whether a run ended as a row says: `END`, or `END, N ticks`.
+fn ended(outcome: &Outcome, wanted: &str) -> Result<bool, AllocError> {
+    let alloc = outcome.heap.alloc();
+    let text = end_text(outcome)?;
+    let end = text.as_str();
+    let ticks = outcome.ticks;
+    let paid = format!(in alloc; "{end}, {ticks} ticks")?;
+    Ok(wanted == end || wanted == paid.as_str())
+}
+
+/// Whether a script, run within bounds, ends as a row says.
+fn ends(
+    compiler: &Compiler,
+    script: &str,
+    bounds: Bounds,
+    wanted: &str,
+) -> Result<bool, AllocError> {
+    match compiler.compiled(script) {
+        Ok(compiled) => {
+            let outcome = run(compiler.alloc, &compiled, bounds)?;
+            ended(&outcome, wanted)
+        }
+        Err(_) => Ok(false),
+    }
+}
+
+/// Each script of a table ends as its line says, within bounds: `END: SCRIPT`.
+pub fn all_end(
+    rt: &impl Abort,
+    compiler: &Compiler,
+    bounds: Bounds,
+    table: &str,
+) -> Result<(), AllocError> {
+    for line in table.lines() {
+        let (wanted, script) = line.split_once(':').unwrap_or(("", line));
+        let good = ends(compiler, script, bounds, wanted)?;
+        assert!(rt; good, "{line}");
+    }
+    Ok(())
+}
+
+/// Each cell of a line ends as it says behind what is declared: `EXPRESSION: END`.
+fn cells_end(
+    rt: &impl Abort,
+    compiler: &Compiler,
+    declared: &str,
+    line: &str,
+) -> Result<(), AllocError> {
+    for cell in line.split(',') {
+        let (expression, wanted) = cell.rsplit_once(": ").unwrap_or((cell, ""));
+        let script = format!(in compiler.alloc; "{declared} {expression}")?;
+        let good = ends(compiler, script.as_str(), USUAL, wanted)?;
+        assert!(rt; good, "{declared}{cell}");
+    }
+    Ok(())
+}
+
+/// Each cell of a block ends as it says behind the block's first line.
+fn block_ends(rt: &impl Abort, compiler: &Compiler, block: &str) -> Result<(), AllocError> {
+    let (declared, lines) = block.split_once('\n').unwrap_or((block, ""));
+    for line in lines.lines() {
+        cells_end(rt, compiler, declared, line)?;
+    }
+    Ok(())
+}
+
+/// Each cell of a table ends as it says behind the first line of its block. A `#` stands before each block.
+pub fn all_cells_end(rt: &impl Abort, compiler: &Compiler, table: &str) -> Result<(), AllocError> {
+    for block in table.split('#') {
+        block_ends(rt, compiler, block)?;
+    }
+    Ok(())
+}
