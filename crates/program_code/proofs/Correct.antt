@@ -20,7 +20,7 @@ use Rattle.program_meaning.specs.Meaning.{meaning}
 use Rattle.code_meaning.specs.Machine.{after, step}
 use Rattle.program_code.specs.Correct.{end_of, source_in, source_of, source, words_of, Words, EndsAs}
 use Rattle.code_meaning.specs.Machine.{start_at, start}
-use Rattle.program_code.proofs.Nodes.Calls.{word_at, words_at, low_is, entry_count, scope_order, starts_fitting, function_ends}
+use Rattle.program_code.proofs.Nodes.Calls.{word_at, words_at, low_is, entry_count, scope_order, as_many, starts_fitting, function_ends}
 use Rattle.program_code.proofs.Simulates.{refines}
 
 -- words that are those of the arguments
@@ -88,7 +88,7 @@ ends_alike funs code made limits main is args words are w bound end comes =
         let c : Ctx code = record { text = Script; fun = 0; body = fa.body; result = main.result; below = []; is = fa.is; gives = fa.result } in
         let scope = scope_of main.params 0 [] in
         let s : State = record { world = w; turns = 0 } in
-        let fits = starts_fitting fa.body main args env q fa.present fa.params in
+        let fits = starts_fitting fa.body main args env q fa.present (as_many funs code 0 main fa) in
         let under : Under (length main.params) scope = under_more (0 + length main.params) (length main.params) scope (omega arith) (scope_order main.params 0 [] tt tt).1 in
         let runs = (refines funs code limits made bound).stmts main.body c [] scope (length main.params) no_jumps 0 s env locals fa.stands under fits in
         let leads = finishes funs code limits c scope (all_fall main.body) (any_continues main.body) (end_stmts 0 main.body) refl fa.ends (at code limits c 0 locals [] s) ((meaning funs limits bound).stmts (record { text = Script; depth = 0 }) s env main.body) end runs.by e in

@@ -1,5 +1,5 @@
 -- The small program's code stands.
-use Rattle.std.proofs.Common.{◌≡◌, ◌≢◌, ℕ, zero, suc, [], ◌∷◌, Some, refl, subst, arith}
+use Rattle.std.proofs.Common.{◌≡◌, ◌≢◌, ℕ, zero, suc, [], ◌∷◌, Some, refl, subst}
 use Rattle.std.specs.Prelude.{slice_get}
 use Rattle.pl_types.specs.declared.ty.Ty as ty
 use Rattle.pl_code.specs.declared.code.Instruction.{Instruction}
@@ -28,7 +28,7 @@ main_stands = record {
   stands = (
     ((here refl, refl), refl),
     bare_some,
-    record { is = omega arith },
+    record { is = refl },
     here refl,
     (
       (
@@ -42,6 +42,8 @@ main_stands = record {
     ),
   );
   ends = tt;
+  lines = refl;
+  traps = refl;
 }
 
 only_main : (number : ℕ) (fun : Fun) → slice_get (main ∷ []) number ≡ Some fun → FunAt (main ∷ []) (code ∷ []) number fun
@@ -49,4 +51,4 @@ only_main zero fun is = let same : main ≡ fun = cc in subst (λ fun. FunAt (ma
 only_main (suc number) fun is = cc
 
 pub stands : IsExample
-stands = record { each = only_main }
+stands = record { each = only_main; many = refl }

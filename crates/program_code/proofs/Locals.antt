@@ -1,14 +1,16 @@
 -- Locals agree with the names in sight.
-use Rattle.std.proofs.Common.{◌≡◌, ◌≢◌, ℕ, zero, suc, ◌+◌, ◌<◌, ◌≤◌, List, [], ◌∷◌, length, Some, refl, sym, ap, ◌∙◌, arith, subst, Bool, true, false}
+use Rattle.std.proofs.Common.{◌≡◌, ◌≢◌, ℕ, zero, suc, ◌+◌, ◌<◌, ◌≤◌, List, [], ◌∷◌, ◌++◌, length, Some, refl, sym, ap, ◌∙◌, arith, subst, Bool, true, false, length-append}
+use Rattle.std.proofs.lemmas.Option.{slice_get_within}
 use Rattle.std.specs.Prelude.{slice_get, slice_set, if◌then◌else◌}
 use Rattle.std.specs.Str.{bytes_eq}
 use Rattle.object_values.specs.declared.value.Value.{Value}
+use Rattle.pl_types.specs.declared.ty.Ty.{Ty}
 use Rattle.pl_code.specs.declared.code.FunCode.{FunCode}
 use Rattle.program_meaning.specs.Tree.{Name}
 use Rattle.program_meaning.specs.Meaning.{Env, lookup, assigned, older}
 use Rattle.code_meaning.specs.declared.word.Word.{Word}
-use Rattle.program_code.specs.Lying.{Absent, lying_of, low}
-use Rattle.program_code.specs.Stands.{Entry, Scope, entry_of}
+use Rattle.program_code.specs.Lying.{Absent, lying_of, kind_of, low}
+use Rattle.program_code.specs.Stands.{Entry, Scope, entry_of, HasLocal}
 
 -- each name's local has its value as it lies there
 abbrev pub Agrees : Scope → Env → List Word → Type 0
@@ -53,6 +55,9 @@ set_size (x ∷ l) (suc k) v = ap suc (set_size l k v)
 pub under_more : (n m : ℕ) (g : Scope) → n ≤ m → Under n g → Under m g
 under_more n m [] h u = tt
 under_more n m (y ∷ g) h u = (omega (arith, u.0, h), under_more n m g h u.1)
+
+pub local_within : (f : FunCode) (n : ℕ) (of : Ty) → HasLocal f n of → n < length f.params + length f.locals
+local_within f n of has = omega (arith, slice_get_within (f.params ++ f.locals) n (kind_of of) has.is, length-append f.params f.locals)
 
 -- the local of a name that is in sight
 pub entry_under : (n : ℕ) (g : Scope) (x : Name) (y : Entry) → entry_of g x ≡ Some y → Under n g → y.local < n

@@ -1,10 +1,11 @@
 -- How a program becomes code: which instructions stand at which lines of a function, part by part. A scope has the names in sight, the
 -- newest first, each with its type and the number of its local. Lines and numbers of locals are threaded through the parts.
-use Rattle.std.specs.Prelude.{◌≡◌, ◌≢◌, ℕ, suc, ◌+◌, ◌<◌, ◌||◌, ◌&&◌, Bool, true, false, List, [], ◌∷◌, map, length, Option, Some, None, slice_get, pos, if◌then◌else◌}
+use Rattle.std.specs.Prelude.{◌≡◌, ◌≢◌, ℕ, suc, ◌++◌, ◌||◌, Bool, true, false, List, [], ◌∷◌, map, length, Option, Some, None, slice_get, pos, if◌then◌else◌}
 use Rattle.std.specs.Str.{bytes_eq}
 use Rattle.pl_types.specs.declared.ty.Ty.{Ty}
 use Rattle.pl_code.specs.declared.kinds.Plain.TheVariants as plain
 use Rattle.pl_code.specs.declared.kinds.Numbered.TheVariants as numbered
+use Rattle.pl_code.specs.declared.kinds.Slot.{Slot}
 use Rattle.pl_code.specs.declared.code.FunCode.{FunCode}
 use Rattle.pl_code.specs.declared.code.Instruction.{Instruction}
 use Rattle.pl_code.specs.declared.code.Instruction.TheVariants as i
@@ -17,9 +18,10 @@ use Rattle.typed_tree.specs.declared.operation.Logical.TheVariants.{And, Or}
 use Rattle.typed_tree.specs.declared.operation.Target.TheVariants as target
 use Rattle.typed_tree.specs.declared.operation.Change.{Change}
 use Rattle.typed_tree.specs.declared.operation.Gives.{Gives}
+pub use Rattle.program_meaning.specs.Falls.{falls, all_fall, continues, any_continues}
 use Rattle.program_meaning.specs.Tree.{Name, Expr, Literal, Quoted, Local, Apply, Guarded, Logic, Conditional, Elvis, Assign, Modify, Lambda, Reference, NewReference, Exprs, None', One, Maybe, Missing, Given, Stmt, Do, If, While, DoWhile, ForEach, Try, Block, Break, Continue, Return, Throw, Stmts, Finish, Then, Declare, Variable, Fun, Program, type_of}
 use Rattle.code_meaning.specs.Machine.{Handlers, traps_at}
-use Rattle.program_code.specs.Lying.{Lying, Bare, Whole, Absent, lying_of, result_of}
+use Rattle.program_code.specs.Lying.{Lying, Bare, Whole, Absent, lying_of, kind_of, result_of}
 use Rattle.program_code.specs.Parts.{constant_code, default_code, operator_code, cast_code, cast_takes, cast_gives, operation_code, pops, kept_before, kept_behind}
 
 pub record Entry : Type 0 where
@@ -164,45 +166,7 @@ abbrev mutual
   ExprsAt funs f h g p None' = Unit {0}
   ExprsAt funs f h g p (One a others) = ExprAt funs f h g p a × ExprsAt funs f h g (end_expr p a) others
 
--- ---- statements: whether the line behind the code is reached, and whether a `continue` of its own is
-
-abbrev mutual
-  pub falls : Stmt → Bool
-  falls (Do a) = true
-  falls (If c a b) = all_fall a || all_fall b
-  falls (While test update body) = true
-  falls (DoWhile body test) = true
-  falls (ForEach x of element over body) = true
-  falls (Try body catches) = true
-  falls (Block body) = all_fall body
-  falls Break = false
-  falls Continue = false
-  falls (Return value) = false
-  falls (Throw value) = false
-
-  pub all_fall : Stmts → Bool
-  all_fall Finish = true
-  all_fall (Then t rest) = falls t && all_fall rest
-  all_fall (Declare x of value rest) = all_fall rest
-
-abbrev mutual
-  pub continues : Stmt → Bool
-  continues (Do a) = false
-  continues (If c a b) = any_continues a || any_continues b
-  continues (While test update body) = false
-  continues (DoWhile body test) = false
-  continues (ForEach x of element over body) = false
-  continues (Try body catches) = false
-  continues (Block body) = any_continues body
-  continues Break = false
-  continues Continue = true
-  continues (Return value) = false
-  continues (Throw value) = false
-
-  pub any_continues : Stmts → Bool
-  any_continues Finish = false
-  any_continues (Then t rest) = continues t || any_continues rest
-  any_continues (Declare x of value rest) = any_continues rest
+-- ---- statements
 
 -- what stands behind a turn is reached where its body is left at its end or by a `continue`
 abbrev pub goes_on : Stmts → Bool
@@ -289,8 +253,9 @@ pub record Jumps : Type 0 where
   pub out : ℕ
   pub on : ℕ
 
-pub record HasLocal (f : FunCode) (n : ℕ) : Type 0 where
-  pub is : n < length f.params + length f.locals
+-- a local, of a type's kind
+pub record HasLocal (f : FunCode) (n : ℕ) (of : Ty) : Type 0 where
+  pub is : slice_get (f.params ++ f.locals) n ≡ Some (kind_of of)
 
 abbrev pub SkipAt : FunCode → Handlers → Bool → ℕ → ℕ → Type 0
 SkipAt f h true p to = At f h p (i.Numbered numbered.Goto to)
@@ -359,7 +324,7 @@ abbrev mutual
   StmtsAt funs f h k g n j p (Declare x of value rest) =
       ValueAt funs f h g p value of
       × (lying_of of ≢ Absent)
-      × HasLocal f n
+      × HasLocal f n of
       × At f h (end_value p value of) (i.Numbered numbered.Store n)
       × StmtsAt funs f h k (record { name = x; of = of; local = n } ∷ g) (suc n) j (suc (end_value p value of)) rest
 
@@ -381,20 +346,32 @@ ArePresent (k ∷ ks) = (k ≢ Absent) × ArePresent ks
 abbrev pub lyings_of : List Variable → List Lying
 lyings_of xs = map (λ (x : Variable). lying_of x.of) xs
 
+-- the kinds of variables, one after the other
+abbrev pub kinds_of : List Variable → List Slot
+kinds_of xs = map (λ (x : Variable). kind_of x.of) xs
+
 -- what a function gives that ends without a return
 abbrev pub EndAt : FunCode → Bool → ℕ → Ty → Type 0
 EndAt f false p of = Unit {0}
 EndAt f true p of = AllAt f [] p (default_code of) × At f [] (end_all p (default_code of)) (i.Plain plain.Ret)
 
+abbrev pub end_end : Bool → ℕ → Ty → ℕ
+end_end false p of = p
+end_end true p of = suc (end_all p (default_code of))
+
+-- A function's code: its body, and what it gives where that falls, and no further line.
 pub record FunAt (funs : Program) (code : List FunCode) (number : ℕ) (fun : Fun) : Type 0 where
   pub body : FunCode
   pub is : slice_get code number ≡ Some body
-  pub params : length body.params ≡ length fun.params
+  pub params : body.params ≡ kinds_of fun.params
   pub present : ArePresent (lyings_of fun.params)
   pub result : body.result ≡ result_of fun.result
   pub stands : StmtsAt funs body [] (lying_of fun.result) (scope_of fun.params 0 []) (length fun.params) no_jumps 0 fun.body
   pub ends : EndAt body (all_fall fun.body) (end_stmts 0 fun.body) fun.result
+  pub lines : length body.lines ≡ end_end (all_fall fun.body) (end_stmts 0 fun.body) fun.result
+  pub traps : body.traps ≡ []
 
--- each function of the program has its code
+-- each function of the program has its code, and there is no further one
 pub record Compiled (funs : Program) (code : List FunCode) : Type 0 where
   pub each : (number : ℕ) (fun : Fun) → slice_get funs number ≡ Some fun → FunAt funs code number fun
+  pub many : length code ≡ length funs

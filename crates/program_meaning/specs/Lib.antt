@@ -1,4 +1,5 @@
 pub mod Tree
+pub mod Falls
 pub mod Operating
 pub mod Meaning
 pub mod Programs

@@ -1,3 +1,4 @@
 pub mod Types
 pub mod Agreeing
+pub mod Reached
 pub mod Enough

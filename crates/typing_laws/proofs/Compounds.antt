@@ -1,5 +1,5 @@
 -- Statements with statements in them.
-use Rattle.std.proofs.Common.{◌≡◌, ℕ, Bool, true, false, List, [], ◌∷◌, ◌++◌, map, length, Option, Some, None, Ok, refl, sym, ap, ◌∙◌, subst}
+use Rattle.std.proofs.Common.{◌≡◌, ℕ, Bool, true, false, List, [], ◌∷◌, ◌++◌, length, Option, Some, None, Ok, refl, sym, ap, ◌∙◌, subst}
 use Rattle.std.specs.Prelude.{◌&&◌, if◌then◌else◌}
 use Rattle.pl_types.specs.declared.primitive.Primitive.{Primitive}
 use Rattle.pl_types.specs.declared.ty.Ty.{Ty, out-Ty}
@@ -18,18 +18,19 @@ use Rattle.typing_rules.specs.Doing.{Answer, Doing, ◌>>=◌, pure, and_then, b
 use Rattle.typing_rules.specs.Rules.Nodes.{boolean}
 use Rattle.typing_rules.specs.Rules.Types.{type_of as named_type}
 use Rattle.typing_rules.specs.Rules.Casts.{cast_to}
-use Rattle.typing_rules.specs.Rules.Statements.{reached, deed, variable, variable_of, declaration_of, test, is_true, loop_test, statement_if, if_of, loop_of, do_of, block_of, statements_of}
+use Rattle.typing_rules.specs.Rules.Statements.{reached, deed, variable, variable_of, declaration_of, test, is_true, loop_test, escapes_if, last_escapes, statement_if, if_of, loop_of, do_of, block_of, statements_of}
 use Rattle.typing_rules.specs.Typing.{scoped, looping, perhaps, Doer, Reading, is_empty, statements, variables, initial, loop_condition, loop_update}
 use Rattle.program_meaning.specs.Tree.{If, While, DoWhile, Block, Stmts, Finish, Then, Missing, Program}
-use Rattle.program_meaning.specs.Programs.{Before, expr_of, maybe_of, alone, alone_if, in_row, declared, before}
+use Rattle.program_meaning.specs.Programs.{Before, expr_of, maybe_of, alone, alone_if, declared, before}
 use Rattle.program_types.specs.Types.{HasValues}
-use Rattle.program_types.specs.Agreeing.{TestAgrees, UpdateAgrees, BeginAgrees, StmtAgrees, StmtsAgree}
+use Rattle.program_types.specs.Agreeing.{TestAgrees, UpdateAgrees, BeginAgrees, StmtsAgree}
 use Rattle.typing_laws.proofs.Parts.{passed, accepted, settled, cast_is}
 use Rattle.typing_laws.proofs.Names.{in_sight, Distinct}
 use Rattle.typing_laws.proofs.Sentences as sentence
 use Rattle.typing_laws.proofs.Sentences.{before_if}
 use Rattle.typing_laws.proofs.Values.{Value, ruled, IsPrimitive, type_is, PartAt, ReadingIs}
-use Rattle.typing_laws.proofs.Steps.{Grew, stays, grew_on, closes, sight_grows, not_found, distinct_behind, Leads, of_step, Steps, Bodies, stmt_leads, StepAt}
+use Rattle.typing_laws.proofs.Steps.{Grew, stays, grew_on, closes, sight_grows, not_found, distinct_behind, Kind, Leads, of_step, of_first, Steps, Bodies, step_at, StepAt}
+use Rattle.typing_laws.proofs.Reaching.{Reaches, AloneReached, alone_reached, nothing_alone, stmt_reaches, declared_reaches, one_falls, in_a_row, nothing_reaches, by_any, none_escapes, row_reaches}
 
 some_values : (q : Primitive) → HasValues (t.Prim q)
 unfolding out-Ty denote.Hole.Carrier.out
@@ -78,21 +79,26 @@ module _ (funs : Program) where
 
   -- ---- scopes and loops
 
-  abbrev pub RunsAlone : {A : Type 0} → (A → Stmts) → State → A → Type 0
-  RunsAlone b s x = StmtsAgree funs s.result s.looped (in_sight s.scopes) (b x)
+  -- statements in a scope of their own, and whether they escape
+  abbrev pub RunsAlone : {A : Type 0} → (A → Stmts) → (A → Bool) → State → A → Type 0
+  RunsAlone b escapes s x = StmtsAgree funs s.result s.looped (in_sight s.scopes) (b x) × AloneReached (escapes x) (b x)
 
-  abbrev pub RunsLooped : {A : Type 0} → (A → Stmts) → State → A → Type 0
-  RunsLooped b s x = StmtsAgree funs s.result true (in_sight s.scopes) (b x)
+  abbrev pub RunsLooped : {A : Type 0} → (A → Stmts) → (A → Bool) → State → A → Type 0
+  RunsLooped b escapes s x = StmtsAgree funs s.result true (in_sight s.scopes) (b x) × AloneReached (escapes x) (b x)
 
-  pub scoped_is : {A : Type 0} (b : A → Before) {m : Doing A} → Steps funs b m → Value (RunsAlone (λ x. b x Finish)) (scoped m)
-  scoped_is b x = record {
+  pub scoped_is : {A : Type 0} (k : Kind A) (escapes : A → Bool) → ((a : A) → k.reaches a → Reaches (escapes a) (k.before a)) → {m : Doing A} → Steps funs k m → Value (RunsAlone (λ x. k.before x Finish) escapes) (scoped m)
+  scoped_is k escapes told x = record {
     by = λ s next r d e.
         let a = x.by s (λ a t. next a (closed (length s.scopes) t)) r d e in
-        record { given = a.given; has = a.leads Finish tt; goes = subst (λ t. next a.given t ≡ Ok r) (closes s a.state a.grew) a.goes };
+        record {
+          given = a.given;
+          has = (a.leads Finish tt, alone_reached (escapes a.given) (k.before a.given) (told a.given a.reaches));
+          goes = subst (λ t. next a.given t ≡ Ok r) (closes s a.state a.grew) a.goes;
+        };
   }
 
-  pub looping_is : {A : Type 0} (b : A → Stmts) {m : Doing A} → Value (RunsAlone b) m → Value (RunsLooped b) (looping m)
-  looping_is b x = record {
+  pub looping_is : {A : Type 0} (b : A → Stmts) (escapes : A → Bool) {m : Doing A} → Value (RunsAlone b escapes) m → Value (RunsLooped b escapes) (looping m)
+  looping_is b escapes x = record {
     by = λ s next r d e.
         let a = x.by (record s { looped = true }) (λ a t. next a (record t { looped = s.looped })) r d e in
         record { given = a.given; has = a.has; goes = a.goes };
@@ -101,34 +107,43 @@ module _ (funs : Program) where
   abbrev pub stmts_if : Option Step → Stmts
   stmts_if o = alone_if (before_if (statement_if o))
 
-  pub perhaps_some : {m : Doing Step} → Bodies funs m → Value (RunsAlone stmts_if) (perhaps (Some m))
+  pub perhaps_some : {m : Doing Step} → Bodies funs m → Value (RunsAlone stmts_if escapes_if) (perhaps (Some m))
   perhaps_some x = record {
     by = λ s next r d e.
         let a = x.by s (λ a t. next (Some a) t) r d e in
         record { given = Some a.given; has = a.has; goes = a.goes };
   }
 
-  pub perhaps_none : Value (RunsAlone stmts_if) (perhaps None)
-  perhaps_none = record { by = λ s next r d e. record { given = None; has = tt; goes = e } }
+  pub perhaps_none : Value (RunsAlone stmts_if escapes_if) (perhaps None)
+  perhaps_none = record { by = λ s next r d e. record { given = None; has = (tt, nothing_alone); goes = e } }
 
-  abbrev pub row : List Step → Before
-  row xs rest = in_row (map before (statements_of xs)) rest
+  abbrev pub row : Kind (List Step)
+  row = record { before = in_a_row; reaches = λ ys. Reaches (last_escapes ys) (in_a_row ys) }
+
+  block_reaches : (at : ℕ) (ys : List Step) → AloneReached (last_escapes ys) (in_a_row ys Finish) → Reaches (last_escapes ys) (before (block_of at ys).statement)
+  block_reaches at ys h = stmt_reaches (last_escapes ys) (before (block_of at ys).statement) (Block (in_a_row ys Finish)) (sentence.block_is at (statements_of ys)) h.reached h.falling
+
+  scoped_row : {m : Doing (List Step)} → Steps funs row m → Value (RunsAlone (λ ys. in_a_row ys Finish) last_escapes) (scoped m)
+  scoped_row x = scoped_is row last_escapes (λ ys h. h) x
 
   -- a block in a scope of its own
   pub block_body : (at : ℕ) {m : Doing (List Step)} → Steps funs row m → Bodies funs (scoped m >>= (λ ys. pure (block_of at ys)))
   block_body at x = record {
     by = λ s next r d e.
-        let a = (scoped_is row x).by s (λ ys t. next (block_of at ys) t) r d e in
+        let a = (scoped_row x).by s (λ ys t. next (block_of at ys) t) r d e in
         record {
           given = block_of at a.given;
-          has = subst (StmtsAgree funs s.result s.looped (in_sight s.scopes)) (sym (sentence.block_is at (statements_of a.given) Finish)) (a.has, tt);
+          has = (
+            subst (StmtsAgree funs s.result s.looped (in_sight s.scopes)) (sym (sentence.block_is at (statements_of a.given) Finish)) (a.has.0, tt),
+            alone_reached (last_escapes a.given) (before (block_of at a.given).statement) (block_reaches at a.given a.has.1),
+          );
           goes = a.goes;
         };
   }
 
   -- ---- if and loops
 
-  pub if_step : (at : ℕ) (x : Reading) {m : Doing Step} {n : Doing (Option Step)} → ReadingIs funs x → Bodies funs m → Value (RunsAlone stmts_if) n
+  pub if_step : (at : ℕ) (x : Reading) {m : Doing Step} {n : Doing (Option Step)} → ReadingIs funs x → Bodies funs m → Value (RunsAlone stmts_if escapes_if) n
       → Value (StepAt funs) (x.value >>= (λ x. by_rule (test x) >>= (λ x. m >>= (λ y. n >>= (λ n. pure (if_of at x y n))))))
   if_step at x {m = m} {n = n} hx hm hn = record {
     by = λ s next r d e.
@@ -139,42 +154,38 @@ module _ (funs : Program) where
         let z = hn.by s (λ n t. next (if_of at b.given y.given n) t) r d y.goes in
         record {
           given = if_of at b.given y.given z.given;
-          has = stmt_leads funs s _ (If (expr_of b.given) (alone (before y.given.statement)) (stmts_if z.given))
-              (sentence.if_is at b.given y.given.statement (statement_if z.given)) (value.agrees, value.is, y.has, z.has);
+          has = step_at funs s (if_of at b.given y.given z.given) (If (expr_of b.given) (alone (before y.given.statement)) (stmts_if z.given))
+              (sentence.if_is at b.given y.given.statement (statement_if z.given)) (value.agrees, value.is, y.has.0, z.has.0) (y.has.1.reached, z.has.1.reached)
+              (one_falls y.given.escapes (escapes_if z.given) _ _ y.has.1.falling z.has.1.falling);
           goes = z.goes;
         };
   }
 
-  -- what a loop is, with what it begins with before it
-  loop_leads : (s : State) (at : ℕ) (c u : Option Typed) (y : Option Step) → TestAt s c → UpdateAt s u → RunsLooped stmts_if s y
-      → StmtAgrees funs s.result s.looped (in_sight s.scopes) (While (maybe_of c) (maybe_of u) (stmts_if y))
-  loop_leads s at c u y hc hu hy = (hc, hu, hy)
-
-  pub while_step : (at : ℕ) {c : Doing (Option Typed)} {n : Doing (Option Step)} → Value TestAt c → Value (RunsAlone stmts_if) n
+  pub while_step : (at : ℕ) {c : Doing (Option Typed)} {n : Doing (Option Step)} → Value TestAt c → Value (RunsAlone stmts_if escapes_if) n
       → Value (StepAt funs) (c >>= (λ c. looping n >>= (λ y. pure (loop_of at None c None y))))
   while_step at {n = n} hc hn = record {
     by = λ s next r d e.
         let c = hc.by s (λ c t. looping n t (λ y t. next (loop_of at None c None y) t)) r d e in
-        let y = (looping_is stmts_if hn).by s (λ y t. next (loop_of at None c.given None y) t) r d c.goes in
+        let y = (looping_is stmts_if escapes_if hn).by s (λ y t. next (loop_of at None c.given None y) t) r d c.goes in
         record {
           given = loop_of at None c.given None y.given;
-          has = stmt_leads funs s _ (While (maybe_of c.given) Missing (stmts_if y.given)) (sentence.loop_is at None c.given None (statement_if y.given)) (c.has, tt, y.has);
+          has = step_at funs s (loop_of at None c.given None y.given) (While (maybe_of c.given) Missing (stmts_if y.given)) (sentence.loop_is at None c.given None (statement_if y.given)) (c.has, tt, y.has.0) y.has.1.reached (λ e. refl);
           goes = y.goes;
         };
   }
 
   -- a `for` without a first part, and one with one
-  pub for_step : (at : ℕ) {c u : Doing (Option Typed)} {n : Doing (Option Step)} → Value TestAt c → Value UpdateAt u → Value (RunsAlone stmts_if) n
+  pub for_step : (at : ℕ) {c u : Doing (Option Typed)} {n : Doing (Option Step)} → Value TestAt c → Value UpdateAt u → Value (RunsAlone stmts_if escapes_if) n
       → Value (StepAt funs) (scoped (perhaps None >>= (λ f. c >>= (λ c. u >>= (λ u. looping n >>= (λ y. pure (loop_of at f c u y)))))))
   for_step at {u = u} {n = n} hc hu hn = record {
     by = λ s next r d e.
         let last : Step → State → Answer = λ x t. next x (closed (length s.scopes) t) in
         let c = hc.by s (λ c t. u t (λ u t. looping n t (λ y t. last (loop_of at None c u y) t))) r d e in
         let v = hu.by s (λ u t. looping n t (λ y t. last (loop_of at None c.given u y) t)) r d c.goes in
-        let y = (looping_is stmts_if hn).by s (λ y t. last (loop_of at None c.given v.given y) t) r d v.goes in
+        let y = (looping_is stmts_if escapes_if hn).by s (λ y t. last (loop_of at None c.given v.given y) t) r d v.goes in
         record {
           given = loop_of at None c.given v.given y.given;
-          has = stmt_leads funs s _ (While (maybe_of c.given) (maybe_of v.given) (stmts_if y.given)) (sentence.loop_is at None c.given v.given (statement_if y.given)) (c.has, v.has, y.has);
+          has = step_at funs s (loop_of at None c.given v.given y.given) (While (maybe_of c.given) (maybe_of v.given) (stmts_if y.given)) (sentence.loop_is at None c.given v.given (statement_if y.given)) (c.has, v.has, y.has.0) y.has.1.reached (λ e. refl);
           goes = subst (λ t. next (loop_of at None c.given v.given y.given) t ≡ Ok r) (closes s s (stays s d)) y.goes;
         };
   }
@@ -194,7 +205,7 @@ module _ (funs : Program) where
   taken s t u xs x h =
       subst (λ of. StmtsAgree funs of t.looped (in_sight u.scopes) xs) (sym (same_result s t x)) (subst (λ c. StmtsAgree funs s.result c (in_sight u.scopes) xs) (sym (same_looped s t x)) h)
 
-  pub for_first_step : (at : ℕ) {f : Doing Step} {c u : Doing (Option Typed)} {n : Doing (Option Step)} → Steps funs (of_step funs) f → Value TestAt c → Value UpdateAt u → Value (RunsAlone stmts_if) n
+  pub for_first_step : (at : ℕ) {f : Doing Step} {c u : Doing (Option Typed)} {n : Doing (Option Step)} → Steps funs (of_first funs) f → Value TestAt c → Value UpdateAt u → Value (RunsAlone stmts_if escapes_if) n
       → Value (StepAt funs) (scoped (perhaps (Some f) >>= (λ f. c >>= (λ c. u >>= (λ u. looping n >>= (λ y. pure (loop_of at f c u y)))))))
   for_first_step at {c = c'} {u = u} {n = n} hf hc hu hn = record {
     by = λ s next r d e.
@@ -203,12 +214,13 @@ module _ (funs : Program) where
         let t = f.state in
         let c = hc.by t (λ c t. u t (λ u t. looping n t (λ y t. last (loop_of at (Some f.given) c u y) t))) r f.grew.distinct f.goes in
         let v = hu.by t (λ u t. looping n t (λ y t. last (loop_of at (Some f.given) c.given u y) t)) r f.grew.distinct c.goes in
-        let y = (looping_is stmts_if hn).by t (λ y t. last (loop_of at (Some f.given) c.given v.given y) t) r f.grew.distinct v.goes in
+        let y = (looping_is stmts_if escapes_if hn).by t (λ y t. last (loop_of at (Some f.given) c.given v.given y) t) r f.grew.distinct v.goes in
         let loop = While (maybe_of c.given) (maybe_of v.given) (stmts_if y.given) in
-        let body = f.leads (Then loop Finish) (brought s t (Then loop Finish) f.grew ((c.has, v.has, y.has), tt)) in
+        let body = f.leads (Then loop Finish) (brought s t (Then loop Finish) f.grew ((c.has, v.has, y.has.0), tt)) in
+        let reached = f.reaches.reached (Then loop Finish) (y.has.1.reached, tt, tt) (by_any {rest = Then loop Finish}) in
         record {
           given = loop_of at (Some f.given) c.given v.given y.given;
-          has = stmt_leads funs s _ (Block (before f.given.statement (Then loop Finish))) (sentence.loop_is at (Some f.given.statement) c.given v.given (statement_if y.given)) body;
+          has = step_at funs s (loop_of at (Some f.given) c.given v.given y.given) (Block (before f.given.statement (Then loop Finish))) (sentence.loop_is at (Some f.given.statement) c.given v.given (statement_if y.given)) body reached (λ e. f.reaches.falling refl (Then loop Finish));
           goes = subst (λ t. next (loop_of at (Some f.given) c.given v.given y.given) t ≡ Ok r) (closes s t f.grew) y.goes;
         };
   }
@@ -217,13 +229,14 @@ module _ (funs : Program) where
       → Value (StepAt funs) (looping (scoped m) >>= (λ ys. c >>= (λ c. pure (do_of at (block_of block_at ys) c))))
   do_step at block_at {c = c'} hm hc = record {
     by = λ s next r d e.
-        let a = (looping_is (λ ys. row ys Finish) (scoped_is row hm)).by s (λ ys t. c' t (λ c t. next (do_of at (block_of block_at ys) c) t)) r d e in
+        let a = (looping_is (λ ys. in_a_row ys Finish) last_escapes (scoped_row hm)).by s (λ ys t. c' t (λ c t. next (do_of at (block_of block_at ys) c) t)) r d e in
         let c = hc.by s (λ c t. next (do_of at (block_of block_at a.given) c) t) r d a.goes in
         let block = (block_of block_at a.given).statement in
         record {
           given = do_of at (block_of block_at a.given) c.given;
-          has = stmt_leads funs s _ (DoWhile (alone (before block)) (maybe_of c.given)) (sentence.do_is at block c.given)
-              (subst (StmtsAgree funs s.result true (in_sight s.scopes)) (sym (sentence.block_is block_at (statements_of a.given) Finish)) (a.has, tt), c.has);
+          has = step_at funs s (do_of at (block_of block_at a.given) c.given) (DoWhile (alone (before block)) (maybe_of c.given)) (sentence.do_is at block c.given)
+              (subst (StmtsAgree funs s.result true (in_sight s.scopes)) (sym (sentence.block_is block_at (statements_of a.given) Finish)) (a.has.0, tt), c.has)
+              (alone_reached (last_escapes a.given) (before block) (block_reaches block_at a.given a.has.1)).reached (λ e. refl);
           goes = c.goes;
         };
   }
@@ -237,12 +250,16 @@ module _ (funs : Program) where
   AllSteps [] = Unit {0}
   AllSteps (x ∷ xs) = ((last : Bool) → Steps funs (of_step funs) (x.typed last)) × AllSteps xs
 
-  reached_if : (c : Bool) (number at : ℕ) (x y : Step) → (if c then refuse number at else accepted x) ≡ accepted y → x ≡ y
+  reached_if : (c : Bool) (number at : ℕ) (x y : Step) → (if c then refuse number at else accepted x) ≡ accepted y → (x ≡ y) × (c ≡ false)
   reached_if true number at x y e = cc
-  reached_if false number at x y e = cc
+  reached_if false number at x y e = (cc, refl)
 
-  pub statements_are : (in_main after : Bool) (xs : List Doer) → AllSteps xs → Steps funs row (statements in_main after xs)
-  statements_are in_main after [] h = record { by = λ s next r d e. record { given = []; state = s; grew = stays s d; leads = λ rest h. h; goes = e } }
+  -- statements behind one that escapes or does not
+  abbrev pub row_behind : Bool → Kind (List Step)
+  row_behind after = record { before = in_a_row; reaches = λ ys. Reaches (last_escapes ys) (in_a_row ys) × (after ≡ true → ys ≡ []) }
+
+  pub statements_are : (in_main after : Bool) (xs : List Doer) → AllSteps xs → Steps funs (row_behind after) (statements in_main after xs)
+  statements_are in_main after [] h = record { by = λ s next r d e. record { given = []; state = s; grew = stays s d; leads = λ rest h. h; reaches = (nothing_reaches, λ e. refl); goes = e } }
   statements_are in_main after (x ∷ xs) h = record {
     by = λ s next r d e.
         let a = (h.0 (in_main && is_empty xs)).by s
@@ -254,10 +271,21 @@ module _ (funs : Program) where
           given = b.given ∷ rest.given;
           state = rest.state;
           grew = grew_on s a.state rest.state a.grew rest.grew;
-          leads = subst (λ (y : Step). Leads funs s rest.state (row (y ∷ rest.given))) same
-              (leads_on s a.state rest.state (before a.given.statement) (row rest.given) a.grew a.leads rest.leads);
+          leads = subst (λ (y : Step). Leads funs s rest.state (in_a_row (y ∷ rest.given))) same.0
+              (leads_on s a.state rest.state (before a.given.statement) (in_a_row rest.given) a.grew a.leads rest.leads);
+          reaches = (
+            row_reaches b.given rest.given (subst (λ (y : Step). Reaches y.escapes (before y.statement)) same.0 a.reaches) rest.reaches.1 rest.reaches.0,
+            λ e. none_escapes {ys = b.given ∷ rest.given} (sym e ∙ same.1),
+          );
           goes = rest.goes;
         };
+  }
+
+  pub block_steps : (xs : List Doer) → AllSteps xs → Steps funs row (statements false false xs)
+  block_steps xs h = record {
+    by = λ s next r d e.
+        let a = (statements_are false false xs h).by s next r d e in
+        record { given = a.given; state = a.state; grew = a.grew; leads = a.leads; reaches = a.reaches.0; goes = a.goes };
   }
 
   -- ---- declarations
@@ -277,8 +305,11 @@ module _ (funs : Program) where
   pub initial_none : (of : Ty) → Value (BeginAt of) (initial of None)
   initial_none of = record { by = λ s next r d e. record { given = None; has = tt; goes = e } }
 
-  abbrev pub one_variable : TypedVariable → Before
-  one_variable x = declared (x ∷ [])
+  abbrev pub one_variable : Kind TypedVariable
+  one_variable = record { before = λ x. declared (x ∷ []); reaches = λ x. Unit {0} }
+
+  abbrev pub some_variables : Kind (List TypedVariable)
+  some_variables = record { before = declared; reaches = λ xs. Unit {0} }
 
   record Declared (s t : State) (name : Spelled) (of : Ty) : Type 0 where
     is : t ≡ record s { scopes = s.scopes ++ new_entry name.spelling of ∷ [] }
@@ -305,6 +336,7 @@ module _ (funs : Program) where
           state = c.given;
           grew = record { more = new_entry name.spelling of ∷ []; is = made.is; distinct = made.distinct };
           leads = λ rest h. (a.has, has_values of p, subst (λ g. StmtsAgree funs s.result s.looped g rest) sight h);
+          reaches = tt;
           goes = goes;
         };
   }
@@ -313,8 +345,8 @@ module _ (funs : Program) where
   AllVariables of [] = Unit {0}
   AllVariables of (m ∷ ms) = Steps funs one_variable (m of) × AllVariables of ms
 
-  pub variables_are : (of : Ty) (ms : List (Ty → Doing TypedVariable)) → AllVariables of ms → Steps funs declared (variables of ms)
-  variables_are of [] h = record { by = λ s next r d e. record { given = []; state = s; grew = stays s d; leads = λ rest h. h; goes = e } }
+  pub variables_are : (of : Ty) (ms : List (Ty → Doing TypedVariable)) → AllVariables of ms → Steps funs some_variables (variables of ms)
+  variables_are of [] h = record { by = λ s next r d e. record { given = []; state = s; grew = stays s d; leads = λ rest h. h; reaches = tt; goes = e } }
   variables_are of (m ∷ ms) h = record {
     by = λ s next r d e.
         let a = h.0.by s (λ x t. variables of ms t (λ xs t. next (x ∷ xs) t)) r d e in
@@ -323,13 +355,14 @@ module _ (funs : Program) where
           given = a.given ∷ rest.given;
           state = rest.state;
           grew = grew_on s a.state rest.state a.grew rest.grew;
-          leads = leads_on s a.state rest.state (one_variable a.given) (declared rest.given) a.grew a.leads rest.leads;
+          leads = leads_on s a.state rest.state (declared (a.given ∷ [])) (declared rest.given) a.grew a.leads rest.leads;
+          reaches = tt;
           goes = rest.goes;
         };
   }
 
   pub declaration_step : (at : ℕ) (of : TypeName) (ms : List (Ty → Doing TypedVariable)) → ((of : Ty) → IsPrimitive of → AllVariables of ms)
-      → Steps funs (of_step funs) (by_rule (named_type of) >>= (λ of. variables of ms >>= (λ vs. pure (declaration_of at vs))))
+      → Steps funs (of_first funs) (by_rule (named_type of) >>= (λ of. variables of ms >>= (λ vs. pure (declaration_of at vs))))
   declaration_step at of ms h = record {
     by = λ s next r d e.
         let a = ruled (named_type of) (λ of. variables of ms s (λ vs t. next (declaration_of at vs) t)) r e in
@@ -339,6 +372,7 @@ module _ (funs : Program) where
           state = vs.state;
           grew = vs.grew;
           leads = λ rest h. subst (StmtsAgree funs s.result s.looped (in_sight s.scopes)) (sym (sentence.declare_is at vs.given rest)) (vs.leads rest h);
+          reaches = declared_reaches (before (declaration_of at vs.given).statement) vs.given (sentence.declare_is at vs.given);
           goes = vs.goes;
         };
   }

@@ -31,6 +31,7 @@ use Rattle.program_meaning.specs.Tree.{Fun, Program, Stmts, Finish}
 use Rattle.program_meaning.specs.Programs.{before, stmts_of, variable_of, fun_of, program_of}
 use Rattle.program_types.specs.Types.{HasValues}
 use Rattle.program_types.specs.Agreeing.{types_in, StmtsAgree, scope_of, HaveValues as VariablesHaveValues, FunAgrees, WellFormed}
+use Rattle.program_types.specs.Reached.{StmtsReached, Reached}
 use Rattle.typing_laws.specs.Laws.{IsNew, AreDistinct, HaveValues, IsContext}
 use Rattle.typing_laws.proofs.Casts.{IsBuilt, IsPrim, IsVoid}
 use Rattle.typing_laws.proofs.Parts.{passed, accepted, settled}
@@ -170,6 +171,14 @@ made_if false number at f h ys x e = let same : function f h ys ≡ x = cc in sy
 finished_is : (f : Function) (h : Header) (ys : List Step) (x : TypedFunction) → finished f h ys ≡ Ok x → x ≡ function f h ys
 finished_is f h ys x e = made_if (not (is_void h.result) && not (last_escapes ys)) _ f.name.at f h ys x e
 
+-- a function agrees in its types, and each of its statements is reached
+record FunIs (funs : Program) (fun : Fun) : Type 0 where
+  agrees : FunAgrees funs fun
+  reached : StmtsReached fun.body
+
+record ProgramIs (funs : Program) : Type 0 where
+  each : (number : ℕ) (fun : Fun) → slice_get funs number ≡ Some fun → FunIs funs fun
+
 module _ (hs : List Header) where
   record FunctionIs (h : Header) (x : TypedFunction) : Type 0 where
     parameters : x.parameters ≡ h.parameters
@@ -211,21 +220,24 @@ module _ (hs : List Header) where
     began : (s : Standing) (ns : List Named) (of : Ty) (xs : Stmts) → StmtsAgree funs of false (in_sight (entries s ns)) xs → StmtsAgree funs of false (scope_of (map variable_of ns) []) xs
     began s ns of xs h = subst (λ vs. StmtsAgree funs of false (scope_of vs []) xs) (sight_of s ns) h
 
-    body_is : (f : Function) (h : Header) (x : TypedFunction) → HeaderIs h → function_of hs f h ≡ Ok x → FunAgrees funs (fun_of x)
+    body_is : (f : Function) (h : Header) (x : TypedFunction) → HeaderIs h → function_of hs f h ≡ Ok x → FunIs funs (fun_of x)
     body_is f h x good e =
         let a = passed (ran (braces hs f.body).steps (function_start h)) (λ whole. finished f h whole.0) x e in
         let is = finished_is f h a.given.0 x a.then' in
         let got = (block_is funs hs heads f.body).by (function_start h) (λ ys t. accepted (ys, t)) a.given (distinct_entries standing.Variable h.parameters good.distinct) a.first in
         let agrees = began standing.Variable h.parameters h.result (stmts_of (statements_of got.given)) (got.leads Finish tt) in
         let same : got.given ≡ a.given.0 = settled (λ (p : Whole). got.given ≡ p.0) (got.given, got.state) a.given got.goes refl in
-        subst (λ (x : TypedFunction). FunAgrees funs (fun_of x)) (sym is) (record {
-          present = values_of h.parameters good.present;
-          body = subst (λ ys. StmtsAgree funs h.result false (scope_of (map variable_of h.parameters) []) (stmts_of (statements_of ys))) same agrees;
+        subst (λ (x : TypedFunction). FunIs funs (fun_of x)) (sym is) (record {
+          agrees = record {
+            present = values_of h.parameters good.present;
+            body = subst (λ ys. StmtsAgree funs h.result false (scope_of (map variable_of h.parameters) []) (stmts_of (statements_of ys))) same agrees;
+          };
+          reached = subst (λ ys. StmtsReached (stmts_of (statements_of ys))) same (got.reaches.reached Finish tt (λ e. refl));
         })
 
     abbrev AllAgree : List TypedFunction → Type 0
     AllAgree [] = Unit {0}
-    AllAgree (x ∷ xs) = FunAgrees funs (fun_of x) × AllAgree xs
+    AllAgree (x ∷ xs) = FunIs funs (fun_of x) × AllAgree xs
 
     bodies_are : (fs : List Function) (rest : List Header) (xs : List TypedFunction) → functions hs fs rest ≡ Ok xs → AllHeaders rest → AllAgree xs
     bodies_are [] rest xs e h = settled AllAgree [] xs e tt
@@ -239,15 +251,18 @@ module _ (hs : List Header) where
     all_statements [] = tt
     all_statements (x ∷ xs) = (statement_is funs hs heads x, all_statements xs)
 
-    main_is : (context : ContextTypes) (all : List Statement) (x : TypedFunction) → IsContext context → main_of context hs all ≡ Ok x → FunAgrees funs (fun_of x)
+    main_is : (context : ContextTypes) (all : List Statement) (x : TypedFunction) → IsContext context → main_of context hs all ≡ Ok x → FunIs funs (fun_of x)
     main_is context all x good e =
         let a = passed (ran (statements true false (map (doer hs) all)) (main_start context)) (λ whole. accepted (main context whole.0)) x e in
         let got = (statements_are funs true false (map (doer hs) all) (all_statements all)).by (main_start context) (λ ys t. accepted (ys, t)) a.given (distinct_entries standing.Fixed context.variables good.distinct) a.first in
         let agrees = began standing.Fixed context.variables context.result (stmts_of (statements_of got.given)) (got.leads Finish tt) in
         let same : got.given ≡ a.given.0 = settled (λ (p : Whole). got.given ≡ p.0) (got.given, got.state) a.given got.goes refl in
-        settled (λ (x : TypedFunction). FunAgrees funs (fun_of x)) (main context a.given.0) x a.then' (record {
-          present = values_of context.variables good.present;
-          body = subst (λ ys. StmtsAgree funs context.result false (scope_of (map variable_of context.variables) []) (stmts_of (statements_of ys))) same agrees;
+        settled (λ (x : TypedFunction). FunIs funs (fun_of x)) (main context a.given.0) x a.then' (record {
+          agrees = record {
+            present = values_of context.variables good.present;
+            body = subst (λ ys. StmtsAgree funs context.result false (scope_of (map variable_of context.variables) []) (stmts_of (statements_of ys))) same agrees;
+          };
+          reached = subst (λ ys. StmtsReached (stmts_of (statements_of ys))) same (got.reaches.0.reached Finish tt (λ e. refl));
         })
 
 -- ---- the whole program
@@ -257,9 +272,9 @@ mapped [] number x is = cc
 mapped (y ∷ xs) zero x is = let same : y ≡ x = cc in ap (λ (x : TypedFunction). Some (fun_of x)) same
 mapped (y ∷ xs) (suc number) x is = mapped xs number x is
 
-each_agrees : (hs : List Header) (funs : Program) (heads : Heads funs hs) (xs : List TypedFunction) (number : ℕ) (fun : Fun) → AllAgree hs funs heads xs → slice_get (map fun_of xs) number ≡ Some fun → FunAgrees funs fun
+each_agrees : (hs : List Header) (funs : Program) (heads : Heads funs hs) (xs : List TypedFunction) (number : ℕ) (fun : Fun) → AllAgree hs funs heads xs → slice_get (map fun_of xs) number ≡ Some fun → FunIs funs fun
 each_agrees hs funs heads [] number fun a is = cc
-each_agrees hs funs heads (x ∷ xs) zero fun a is = let same : fun_of x ≡ fun = cc in subst (FunAgrees funs) same a.0
+each_agrees hs funs heads (x ∷ xs) zero fun a is = let same : fun_of x ≡ fun = cc in subst (FunIs funs) same a.0
 each_agrees hs funs heads (x ∷ xs) (suc number) fun a is = each_agrees hs funs heads xs number fun a.1 is
 
 heads_of : (hs : List Header) (fs : List Function) (xs : List TypedFunction) (m : TypedFunction) → functions hs fs hs ≡ Ok xs → HeadersAre (length fs) hs → Heads (program_of (program xs m)) hs
@@ -276,18 +291,24 @@ heads_of hs fs xs m e h = record {
 }
 
 formed : (hs : List Header) (fs : List Function) (all : List Statement) (context : ContextTypes) (xs : List TypedFunction) (m : TypedFunction) → IsContext context
-    → functions hs fs hs ≡ Ok xs → main_of context hs all ≡ Ok m → HeadersAre (length fs) hs → WellFormed (program_of (program xs m))
+    → functions hs fs hs ≡ Ok xs → main_of context hs all ≡ Ok m → HeadersAre (length fs) hs → ProgramIs (program_of (program xs m))
 formed hs fs all context xs m good made ended h =
     let funs = program_of (program xs m) in
     let heads = heads_of hs fs xs m made h in
     let bodies = bodies_are hs funs heads fs hs xs made h.all in
     let first = main_is hs funs heads context all m good ended in
-    record { each = elim [ zero ↦ λ fun is. (let same : fun_of m ≡ fun = cc in subst (FunAgrees funs) same first) | suc number ↦ λ fun is. each_agrees hs funs heads xs number fun bodies is ] }
+    record { each = elim [ zero ↦ λ fun is. (let same : fun_of m ≡ fun = cc in subst (FunIs funs) same first) | suc number ↦ λ fun is. each_agrees hs funs heads xs number fun bodies is ] }
 
-pub typing_is_sound : (context : ContextTypes) (tree : Tree) (p : typed.Program) → IsContext context → typing_of context tree ≡ Ok p → WellFormed (program_of p)
-typing_is_sound context tree p good e =
+sound : (context : ContextTypes) (tree : Tree) (p : typed.Program) → IsContext context → typing_of context tree ≡ Ok p → ProgramIs (program_of p)
+sound context tree p good e =
     let a = passed (headers tree.functions []) (λ hs. bind (functions hs tree.functions hs) (λ fs. bind (main_of context hs tree.statements) (λ m. accepted (program fs m)))) p e in
     let b = passed (functions a.given tree.functions a.given) (λ fs. bind (main_of context a.given tree.statements) (λ m. accepted (program fs m))) p a.then' in
     let c = passed (main_of context a.given tree.statements) (λ m. accepted (program b.given m)) p b.then' in
     let h = headers_are tree.functions [] a.given a.first tt in
-    settled (λ p. WellFormed (program_of p)) (program b.given c.given) p c.then' (formed a.given tree.functions tree.statements context b.given c.given good b.first c.first (record { all = h.all; many = omega (arith, h.many) }))
+    settled (λ p. ProgramIs (program_of p)) (program b.given c.given) p c.then' (formed a.given tree.functions tree.statements context b.given c.given good b.first c.first (record { all = h.all; many = omega (arith, h.many) }))
+
+pub typing_is_sound : (context : ContextTypes) (tree : Tree) (p : typed.Program) → IsContext context → typing_of context tree ≡ Ok p → WellFormed (program_of p)
+typing_is_sound context tree p good e = record { each = λ number fun is. ((sound context tree p good e).each number fun is).agrees }
+
+pub typing_reaches : (context : ContextTypes) (tree : Tree) (p : typed.Program) → IsContext context → typing_of context tree ≡ Ok p → Reached (program_of p)
+typing_reaches context tree p good e = record { each = λ number fun is. ((sound context tree p good e).each number fun is).reached }

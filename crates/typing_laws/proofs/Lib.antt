@@ -5,6 +5,7 @@ pub mod Parts
 pub mod Names
 pub mod Sentences
 pub mod Values
+pub mod Reaching
 pub mod Steps
 pub mod Compounds
 pub mod Tree

@@ -23,13 +23,16 @@ use Rattle.typing_rules.specs.Rules.Nodes.{is_void, is_void_layer}
 use Rattle.typing_rules.specs.Rules.Casts.{cast_to}
 use Rattle.typing_rules.specs.Rules.Statements.{step, is_deed, deed, give_back, is_result, expression_of, break_of, continue_of, return_of, nothing_returned}
 use Rattle.program_meaning.specs.Tree.{Name, Stmt, Do, Break, Continue, Return, Stmts, Then, Missing, Given, Program}
+use Rattle.program_meaning.specs.Falls.{falls}
 use Rattle.program_meaning.specs.Programs.{Before, expr_of, alone, before}
 use Rattle.program_types.specs.Agreeing.{Scope, StmtAgrees, StmtsAgree, scope_of}
 use Rattle.typing_laws.proofs.Parts.{passed, accepted, settled, cast_is}
 use Rattle.typing_laws.proofs.Names.{seen, in_sight, Fresh, Distinct}
 use Rattle.typing_laws.proofs.Sentences as sentence
 use Rattle.typing_laws.proofs.Sentences.{before_if}
+use Rattle.program_types.specs.Reached.{StmtReached}
 use Rattle.typing_laws.proofs.Values.{Value, PartAt}
+use Rattle.typing_laws.proofs.Reaching.{Reaches, AloneReached, stmt_reaches, never_escapes}
 
 -- ---- names that are declared
 
@@ -100,28 +103,45 @@ grew_on s t u x y = record {
 pub closes : (s t : State) → Grew s t → closed (length s.scopes) t ≡ s
 closes s t x = ap (closed (length s.scopes)) x.is ∙ ap (λ es. record s { scopes = es }) (take-append_seam s.scopes x.more)
 
+-- what statements are before others, and which may follow them
+pub record Kind (A : Type 0) : Type 1 where
+  pub before : A → Before
+  pub reaches : A → Type 0
+
 module _ (funs : Program) where
   -- what stands in the scope behind a statement agrees before it, with the statement
   abbrev pub Leads : State → State → Before → Type 0
   Leads s t b = (rest : Stmts) → StmtsAgree funs s.result s.looped (in_sight t.scopes) rest → StmtsAgree funs s.result s.looped (in_sight s.scopes) (b rest)
 
-  pub record GotStep {A : Type 0} (b : A → Before) (s : State) (next : A → State → Answer) (r : Whole) : Type 0 where
+  pub record GotStep {A : Type 0} (k : Kind A) (s : State) (next : A → State → Answer) (r : Whole) : Type 0 where
     pub given : A
     pub state : State
     pub grew : Grew s state
-    pub leads : Leads s state (b given)
+    pub leads : Leads s state (k.before given)
+    pub reaches : k.reaches given
     pub goes : next given state ≡ Ok r
 
-  abbrev pub of_step : Step → Before
-  of_step x = before x.statement
+  abbrev pub of_step : Kind Step
+  of_step = record { before = λ x. before x.statement; reaches = λ x. Reaches x.escapes (before x.statement) }
+
+  -- a statement that never escapes
+  abbrev pub of_first : Kind Step
+  of_first = record { before = λ x. before x.statement; reaches = λ x. Reaches false (before x.statement) }
 
   -- a statement, or several
-  pub record Steps {A : Type 0} (b : A → Before) (m : Doing A) : Type 0 where
-    pub by : (s : State) (next : A → State → Answer) (r : Whole) → Distinct s.scopes → m s next ≡ Ok r → GotStep b s next r
+  pub record Steps {A : Type 0} (k : Kind A) (m : Doing A) : Type 0 where
+    pub by : (s : State) (next : A → State → Answer) (r : Whole) → Distinct s.scopes → m s next ≡ Ok r → GotStep k s next r
+
+  pub first_is_step : {m : Doing Step} → Steps of_first m → Steps of_step m
+  first_is_step v = record {
+    by = λ s next r d e.
+        let x = v.by s next r d e in
+        record { given = x.given; state = x.state; grew = x.grew; leads = x.leads; reaches = never_escapes x.given.escapes (before x.given.statement) x.reaches; goes = x.goes };
+  }
 
   -- a statement in a scope of its own
   abbrev pub AloneIs : State → Step → Type 0
-  AloneIs s x = StmtsAgree funs s.result s.looped (in_sight s.scopes) (alone (before x.statement))
+  AloneIs s x = StmtsAgree funs s.result s.looped (in_sight s.scopes) (alone (before x.statement)) × AloneReached x.escapes (alone (before x.statement))
 
   abbrev pub Bodies : Doing Step → Type 0
   Bodies m = Value AloneIs m
@@ -132,24 +152,37 @@ module _ (funs : Program) where
   stmt_leads s x stmt is a rest h = subst (StmtsAgree funs s.result s.looped (in_sight s.scopes)) (sym (is rest)) (a, h)
 
   abbrev pub StepAt : State → Step → Type 0
-  StepAt s x = Leads s s (of_step x)
+  StepAt s x = Leads s s (before x.statement) × Reaches x.escapes (before x.statement)
+
+  abbrev pub FirstAt : State → Step → Type 0
+  FirstAt s x = Leads s s (before x.statement) × Reaches false (before x.statement)
+
+  pub step_at : (s : State) (x : Step) (stmt : Stmt) → ((rest : Stmts) → before x.statement rest ≡ Then stmt rest) → StmtAgrees funs s.result s.looped (in_sight s.scopes) stmt
+      → StmtReached stmt → (x.escapes ≡ false → falls stmt ≡ true) → StepAt s x
+  step_at s x stmt is a h f = (stmt_leads s x.statement stmt is a, stmt_reaches x.escapes (before x.statement) stmt is h f)
 
   -- a statement that declares nothing
   pub steps_of : {m : Doing Step} → Value StepAt m → Steps of_step m
-  steps_of v = record { by = λ s next r d e. let x = v.by s next r d e in record { given = x.given; state = s; grew = stays s d; leads = x.has; goes = x.goes } }
+  steps_of v = record { by = λ s next r d e. let x = v.by s next r d e in record { given = x.given; state = s; grew = stays s d; leads = x.has.0; reaches = x.has.1; goes = x.goes } }
 
-  deed_if : (c : Bool) (s : State) (number at : ℕ) (x y : Step) → (if c then accepted x else refuse number at) ≡ accepted y → StepAt s x → StepAt s y
-  deed_if true s number at x y e h = settled (StepAt s) x y e h
+  pub firsts_of : {m : Doing Step} → Value FirstAt m → Steps of_first m
+  firsts_of v = record { by = λ s next r d e. let x = v.by s next r d e in record { given = x.given; state = s; grew = stays s d; leads = x.has.0; reaches = x.has.1; goes = x.goes } }
+
+  deed_if : (c : Bool) (s : State) (number at : ℕ) (x y : Step) → (if c then accepted x else refuse number at) ≡ accepted y → FirstAt s x → FirstAt s y
+  deed_if true s number at x y e h = settled (FirstAt s) x y e h
   deed_if false s number at x y e h = cc
 
-  pub deed_is : (s : State) (at : ℕ) (x : Part) (y : Step) → deed at x ≡ Ok y → PartAt funs s x → StepAt s y
-  deed_is s at x y e h = deed_if (is_deed x.form) s _ at _ y e (stmt_leads s _ (Do (expr_of x.typed)) (sentence.expression_is at x.typed) h.typed.agrees)
+  pub deed_first : (s : State) (at : ℕ) (x : Part) (y : Step) → deed at x ≡ Ok y → PartAt funs s x → FirstAt s y
+  deed_first s at x y e h = deed_if (is_deed x.form) s _ at _ y e (step_at s (step false false at (node.Expression x.typed)) (Do (expr_of x.typed)) (sentence.expression_is at x.typed) h.typed.agrees tt (λ e. refl))
+
+  deed_is : (s : State) (at : ℕ) (x : Part) (y : Step) → deed at x ≡ Ok y → PartAt funs s x → StepAt s y
+  deed_is s at x y e h = let z = deed_first s at x y e h in (z.0, never_escapes y.escapes (before y.statement) z.1)
 
   gives_back : (s : State) (at : ℕ) (x : Part) (y : Step) → give_back at s.result x ≡ Ok y → PartAt funs s x → StepAt s y
   gives_back s at x y e h =
       let a = passed (cast_to s.result x) _ y e in
       let value = cast_is funs (in_sight s.scopes) s.result x a.given a.first h in
-      settled (StepAt s) _ y a.then' (stmt_leads s _ (Return (Given (expr_of a.given))) (sentence.return_is at (Some a.given)) (value.agrees, value.is))
+      settled (StepAt s) _ y a.then' (step_at s (step true false at (node.Return (Some a.given))) (Return (Given (expr_of a.given))) (sentence.return_is at (Some a.given)) (value.agrees, value.is) tt (λ e. absurd (false≢true (sym e))))
 
   expression_if : (c : Bool) (s : State) (at : ℕ) (x : Part) (y : Step) → (if c then give_back at s.result x else deed at x) ≡ Ok y → PartAt funs s x → StepAt s y
   expression_if true s at x y e h = gives_back s at x y e h
@@ -170,7 +203,7 @@ module _ (funs : Program) where
   void_is of (Ty-F.Array u) is e = cc
 
   nothing_if : (c : Bool) (s : State) (number at : ℕ) (y : Step) → (c ≡ true → s.result ≡ t.Void) → (if c then accepted (step true false at (node.Return None)) else refuse number at) ≡ accepted y → StepAt s y
-  nothing_if true s number at y void e = settled (StepAt s) _ y e (stmt_leads s _ (Return Missing) (sentence.return_is at None) (void refl))
+  nothing_if true s number at y void e = settled (StepAt s) _ y e (step_at s (step true false at (node.Return None)) (Return Missing) (sentence.return_is at None) (void refl) tt (λ e. absurd (false≢true (sym e))))
   nothing_if false s number at y void e = cc
 
   pub nothing_step : (s : State) (at : ℕ) (y : Step) → nothing_returned at s ≡ Ok y → StepAt s y
@@ -181,7 +214,7 @@ module _ (funs : Program) where
   break_if false s number at x y h e = cc
 
   pub break_step : (s : State) (at : ℕ) (y : Step) → break_of at s ≡ Ok y → StepAt s y
-  break_step s at y e = break_if s.looped s _ at _ y (λ looped. stmt_leads s _ Break (sentence.break_is at) looped) e
+  break_step s at y e = break_if s.looped s _ at _ y (λ looped. step_at s (step true true at node.Break) Break (sentence.break_is at) looped tt (λ e. absurd (false≢true (sym e)))) e
 
   pub continue_step : (s : State) (at : ℕ) (y : Step) → continue_of at s ≡ Ok y → StepAt s y
-  continue_step s at y e = break_if s.looped s _ at _ y (λ looped. stmt_leads s _ Continue (sentence.continue_is at) looped) e
+  continue_step s at y e = break_if s.looped s _ at _ y (λ looped. step_at s (step true false at node.Continue) Continue (sentence.continue_is at) looped tt (λ e. absurd (false≢true (sym e)))) e

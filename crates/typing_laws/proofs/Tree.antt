@@ -39,15 +39,14 @@ use Rattle.typing_rules.specs.Rules.Casts.{asked}
 use Rattle.typing_rules.specs.Rules.Operators.{binary_of, unary_of, choice_of}
 use Rattle.typing_rules.specs.Rules.Places.{local, written, assign_of, step_of}
 use Rattle.typing_rules.specs.Rules.Calls.{call_of}
-use Rattle.typing_rules.specs.Rules.Statements.{expression_of, break_of, continue_of, return_of, nothing_returned, deed}
+use Rattle.typing_rules.specs.Rules.Statements.{escapes_if, last_escapes, expression_of, break_of, continue_of, return_of, nothing_returned, deed}
 use Rattle.typing_rules.specs.Typing.{Reading, Doer, Braces, Seen, unbuilt, seen, all_seen, scoped, looping, parts, alone, parameter_type, lambda_parameters, lambda, for_each, call, initial, returned, loop_step, argument_step, body_step, unary, expression_step, first_step, lambda_step, statement_step, block_step, catch_step, declaration_step, entry_step, variable_step, reading, argument, body, doer, braces}
 use Rattle.program_meaning.specs.Tree.{Program}
-use Rattle.program_meaning.specs.Programs.{Before}
 use Rattle.typing_laws.proofs.Parts.{integer_is, negated_is, constant_part, bracketed_is, asked_is, binary_is, unary_is, choice_part}
 use Rattle.typing_laws.proofs.Names.{Fresh, Distinct, in_sight, AllParts, Heads, local_part, written_place, assign_part, step_part, call_part}
 use Rattle.typing_laws.proofs.Values.{Value, ruled, never, Looked, looked, in_order, followed, rule_looked, pure_looked, setting_looked, seen_looked, ends_unbuilt, ends_unbuilt', is_unbuilt, IsPrimitive, type_is, PartAt, ReadingIs, one_part, two_parts, three_parts, looks, by_one_rule, plain_is, fixed_place, minus_part}
-use Rattle.typing_laws.proofs.Steps.{of_step, Steps, Bodies, StepAt, steps_of, noted_distinct, deed_is, expression_step as expression_agrees, return_step, nothing_step, break_step, continue_step}
-use Rattle.typing_laws.proofs.Compounds.{condition_is, no_condition, update_is, no_update, RunsAlone, scoped_is, stmts_if, perhaps_some, perhaps_none, row, block_body, if_step, while_step, for_step, for_first_step, do_step, AllSteps, statements_are, BeginAt, initial_some, initial_none, one_variable, variable_is, AllVariables, declaration_step as declaration_agrees}
+use Rattle.typing_laws.proofs.Steps.{Kind, of_step, of_first, Steps, Bodies, StepAt, FirstAt, steps_of, firsts_of, first_is_step, noted_distinct, deed_first, expression_step as expression_agrees, return_step, nothing_step, break_step, continue_step}
+use Rattle.typing_laws.proofs.Compounds.{condition_is, no_condition, update_is, no_update, RunsAlone, scoped_is, stmts_if, perhaps_some, perhaps_none, row, block_body, if_step, while_step, for_step, for_first_step, do_step, AllSteps, block_steps, BeginAt, initial_some, initial_none, one_variable, variable_is, AllVariables, declaration_step as declaration_agrees}
 
 module _ (funs : Program) (hs : List Header) (heads : Heads funs hs) where
   abbrev first : First → Doing Step
@@ -78,7 +77,7 @@ module _ (funs : Program) (hs : List Header) (heads : Heads funs hs) where
   OfExpr x = ReadingIs funs (reading hs x)
 
   abbrev OfFirst : First → Type 0
-  OfFirst x = Steps funs (of_step funs) (first x)
+  OfFirst x = Steps funs (of_first funs) (first x)
 
   abbrev OfLambdaBody : LambdaBody → Type 0
   OfLambdaBody x = Looked (inner x)
@@ -93,7 +92,7 @@ module _ (funs : Program) (hs : List Header) (heads : Heads funs hs) where
   OfCatch x = Looked (handler x)
 
   abbrev OfDeclaration : Declaration → Type 0
-  OfDeclaration x = (last : Bool) → Steps funs (of_step funs) ((declaration x).typed last)
+  OfDeclaration x = (last : Bool) → Steps funs (of_first funs) ((declaration x).typed last)
 
   abbrev OfEntry : Entry → Type 0
   OfEntry x = Looked (entry x)
@@ -328,18 +327,18 @@ module _ (funs : Program) (hs : List Header) (heads : Heads funs hs) where
         never at r c.goes;
   }
 
-  steps_looked : {A : Type 0} {b : A → Before} {m : Doing A} → Steps funs b m → Looked m
+  steps_looked : {A : Type 0} {k : Kind A} {m : Doing A} → Steps funs k m → Looked m
   steps_looked h = record { by = λ s next r d e. let a = h.by s next r d e in record { given = a.given; state = a.state; distinct = a.grew.distinct; goes = a.goes } }
 
-  if_looked : {m : Doing (Option Step)} → Value (RunsAlone funs (stmts_if funs)) m → Looked m
+  if_looked : {m : Doing (Option Step)} → Value (RunsAlone funs (stmts_if funs) escapes_if) m → Looked m
   if_looked h = looked h
 
-  deed_value : (x : Reading) → ReadingIs funs x → Value (StepAt funs) (loop_step x)
+  deed_value : (x : Reading) → ReadingIs funs x → Value (FirstAt funs) (loop_step x)
   deed_value x h = record {
     by = λ s next r d e.
         let a = h.value.by s (λ a t. and_then (deed x.first a) (λ y. next y t)) r d e in
         let b = ruled (deed x.first a.given) (λ y. next y s) r a.goes in
-        record { given = b.given; has = deed_is funs s x.first a.given b.given b.has a.has; goes = b.goes };
+        record { given = b.given; has = deed_first funs s x.first a.given b.given b.has a.has; goes = b.goes };
   }
 
   return_value : (at : ℕ) {m : Doing Part} → Value (PartAt funs) m → Value (StepAt funs) (returned at (Some m))
@@ -362,7 +361,7 @@ module _ (funs : Program) (hs : List Header) (heads : Heads funs hs) where
       → Value (StepAt funs) (seen (scoped (braces hs block.0).steps) >> (all_seen (map handler (map (λ e. e.0) catches)) >> unbuilt {A = Step} at))
   try_value at block catches = record {
     by = λ s next r d e.
-        let a = (scoped_is funs (row funs) block.1).by s (λ x t. all_seen (map handler (map (λ e. e.0) catches)) t (λ u t. unbuilt {A = Step} at t next)) r d e in
+        let a = (scoped_is funs (row funs) last_escapes (λ a h. h) block.1).by s (λ x t. all_seen (map handler (map (λ e. e.0) catches)) t (λ u t. unbuilt {A = Step} at t next)) r d e in
         let b = (seen_catches catches).by s (λ u t. unbuilt {A = Step} at t next) r d a.goes in
         never at r b.goes;
   }
@@ -396,11 +395,11 @@ module _ (funs : Program) (hs : List Header) (heads : Heads funs hs) where
 
   body_layer : (y : WithBody) → OfBody (roll-Body (bareBody y))
   body_layer (Body-F.«Body::Block» block) = subst (Bodies funs) (sym (fold-roll-Body (Doing Part) (Doing Step) Reading (Doing Step) Seen Doer Braces Seen Doer Seen (Ty → Doing TypedVariable) (argument_step hs) (body_step hs) (expression_step hs) (first_step hs) (lambda_step hs) (statement_step hs) (block_step hs) (catch_step hs) (declaration_step hs) (entry_step hs) (variable_step hs) (Body-F.«Body::Block» block.0))) (block_body funs (braces hs block.0).at block.1)
-  body_layer (Body-F.Statement statement) = subst (Bodies funs) (sym (fold-roll-Body (Doing Part) (Doing Step) Reading (Doing Step) Seen Doer Braces Seen Doer Seen (Ty → Doing TypedVariable) (argument_step hs) (body_step hs) (expression_step hs) (first_step hs) (lambda_step hs) (statement_step hs) (block_step hs) (catch_step hs) (declaration_step hs) (entry_step hs) (variable_step hs) (Body-F.Statement statement.0))) (scoped_is funs (of_step funs) (statement.1 false))
+  body_layer (Body-F.Statement statement) = subst (Bodies funs) (sym (fold-roll-Body (Doing Part) (Doing Step) Reading (Doing Step) Seen Doer Braces Seen Doer Seen (Ty → Doing TypedVariable) (argument_step hs) (body_step hs) (expression_step hs) (first_step hs) (lambda_step hs) (statement_step hs) (block_step hs) (catch_step hs) (declaration_step hs) (entry_step hs) (variable_step hs) (Body-F.Statement statement.0))) (scoped_is funs (of_step funs) (λ x. x.escapes) (λ a h. h) (statement.1 false))
 
   first_layer : (y : WithFirst) → OfFirst (roll-First (bareFirst y))
-  first_layer (First-F.«First::Declare» d) = subst (Steps funs (of_step funs)) (sym (fold-roll-First (Doing Part) (Doing Step) Reading (Doing Step) Seen Doer Braces Seen Doer Seen (Ty → Doing TypedVariable) (argument_step hs) (body_step hs) (expression_step hs) (first_step hs) (lambda_step hs) (statement_step hs) (block_step hs) (catch_step hs) (declaration_step hs) (entry_step hs) (variable_step hs) (First-F.«First::Declare» d.0))) (d.1 false)
-  first_layer (First-F.«First::Expression» value) = subst (Steps funs (of_step funs)) (sym (fold-roll-First (Doing Part) (Doing Step) Reading (Doing Step) Seen Doer Braces Seen Doer Seen (Ty → Doing TypedVariable) (argument_step hs) (body_step hs) (expression_step hs) (first_step hs) (lambda_step hs) (statement_step hs) (block_step hs) (catch_step hs) (declaration_step hs) (entry_step hs) (variable_step hs) (First-F.«First::Expression» value.0))) (steps_of funs (deed_value (reading hs value.0) value.1))
+  first_layer (First-F.«First::Declare» d) = subst (Steps funs (of_first funs)) (sym (fold-roll-First (Doing Part) (Doing Step) Reading (Doing Step) Seen Doer Braces Seen Doer Seen (Ty → Doing TypedVariable) (argument_step hs) (body_step hs) (expression_step hs) (first_step hs) (lambda_step hs) (statement_step hs) (block_step hs) (catch_step hs) (declaration_step hs) (entry_step hs) (variable_step hs) (First-F.«First::Declare» d.0))) (d.1 false)
+  first_layer (First-F.«First::Expression» value) = subst (Steps funs (of_first funs)) (sym (fold-roll-First (Doing Part) (Doing Step) Reading (Doing Step) Seen Doer Braces Seen Doer Seen (Ty → Doing TypedVariable) (argument_step hs) (body_step hs) (expression_step hs) (first_step hs) (lambda_step hs) (statement_step hs) (block_step hs) (catch_step hs) (declaration_step hs) (entry_step hs) (variable_step hs) (First-F.«First::Expression» value.0))) (firsts_of funs (deed_value (reading hs value.0) value.1))
 
   inner_layer : (y : WithLambdaBody) → OfLambdaBody (roll-LambdaBody (bareLambdaBody y))
   inner_layer (LambdaBody-F.«LambdaBody::Block» block) = subst Looked (sym (fold-roll-LambdaBody (Doing Part) (Doing Step) Reading (Doing Step) Seen Doer Braces Seen Doer Seen (Ty → Doing TypedVariable) (argument_step hs) (body_step hs) (expression_step hs) (first_step hs) (lambda_step hs) (statement_step hs) (block_step hs) (catch_step hs) (declaration_step hs) (entry_step hs) (variable_step hs) (LambdaBody-F.«LambdaBody::Block» block.0))) (seen_looked (steps_looked block.1))
@@ -431,7 +430,7 @@ module _ (funs : Program) (hs : List Header) (heads : Heads funs hs) where
   statement_layer (Statement-F.ForIn at name over b) = subst (λ (d : Doer). (last : Bool) → Steps funs (of_step funs) (d.typed last)) (sym (fold-roll-Statement (Doing Part) (Doing Step) Reading (Doing Step) Seen Doer Braces Seen Doer Seen (Ty → Doing TypedVariable) (argument_step hs) (body_step hs) (expression_step hs) (first_step hs) (lambda_step hs) (statement_step hs) (block_step hs) (catch_step hs) (declaration_step hs) (entry_step hs) (variable_step hs) (Statement-F.ForIn at name over.0 b.0))) (λ last. steps_of funs (each_value at (pure t.Def) name.spelling (reading hs over.0) (pure_looked t.Def) over.1 b.1))
   statement_layer (Statement-F.Try at block catches) = subst (λ (d : Doer). (last : Bool) → Steps funs (of_step funs) (d.typed last)) (sym (fold-roll-Statement (Doing Part) (Doing Step) Reading (Doing Step) Seen Doer Braces Seen Doer Seen (Ty → Doing TypedVariable) (argument_step hs) (body_step hs) (expression_step hs) (first_step hs) (lambda_step hs) (statement_step hs) (block_step hs) (catch_step hs) (declaration_step hs) (entry_step hs) (variable_step hs) (Statement-F.Try at block.0 (map (λ e. e.0) catches)))) (λ last. steps_of funs (try_value at block catches))
   statement_layer (Statement-F.Do at block condition) = subst (λ (d : Doer). (last : Bool) → Steps funs (of_step funs) (d.typed last)) (sym (fold-roll-Statement (Doing Part) (Doing Step) Reading (Doing Step) Seen Doer Braces Seen Doer Seen (Ty → Doing TypedVariable) (argument_step hs) (body_step hs) (expression_step hs) (first_step hs) (lambda_step hs) (statement_step hs) (block_step hs) (catch_step hs) (declaration_step hs) (entry_step hs) (variable_step hs) (Statement-F.Do at block.0 condition.0))) (λ last. steps_of funs (do_step funs at (braces hs block.0).at block.1 (condition_is funs (reading hs condition.0) condition.1)))
-  statement_layer (Statement-F.«Statement::Declare» d) = subst (λ (d : Doer). (last : Bool) → Steps funs (of_step funs) (d.typed last)) (sym (fold-roll-Statement (Doing Part) (Doing Step) Reading (Doing Step) Seen Doer Braces Seen Doer Seen (Ty → Doing TypedVariable) (argument_step hs) (body_step hs) (expression_step hs) (first_step hs) (lambda_step hs) (statement_step hs) (block_step hs) (catch_step hs) (declaration_step hs) (entry_step hs) (variable_step hs) (Statement-F.«Statement::Declare» d.0))) (λ last. d.1 false)
+  statement_layer (Statement-F.«Statement::Declare» d) = subst (λ (d : Doer). (last : Bool) → Steps funs (of_step funs) (d.typed last)) (sym (fold-roll-Statement (Doing Part) (Doing Step) Reading (Doing Step) Seen Doer Braces Seen Doer Seen (Ty → Doing TypedVariable) (argument_step hs) (body_step hs) (expression_step hs) (first_step hs) (lambda_step hs) (statement_step hs) (block_step hs) (catch_step hs) (declaration_step hs) (entry_step hs) (variable_step hs) (Statement-F.«Statement::Declare» d.0))) (λ last. first_is_step funs (d.1 false))
   statement_layer (Statement-F.Continue at) = subst (λ (d : Doer). (last : Bool) → Steps funs (of_step funs) (d.typed last)) (sym (fold-roll-Statement (Doing Part) (Doing Step) Reading (Doing Step) Seen Doer Braces Seen Doer Seen (Ty → Doing TypedVariable) (argument_step hs) (body_step hs) (expression_step hs) (first_step hs) (lambda_step hs) (statement_step hs) (block_step hs) (catch_step hs) (declaration_step hs) (entry_step hs) (variable_step hs) (Statement-F.Continue at))) (λ last. steps_of funs (looks funs (continue_of at) (λ s x d e. continue_step funs s at x e)))
   statement_layer (Statement-F.Break at) = subst (λ (d : Doer). (last : Bool) → Steps funs (of_step funs) (d.typed last)) (sym (fold-roll-Statement (Doing Part) (Doing Step) Reading (Doing Step) Seen Doer Braces Seen Doer Seen (Ty → Doing TypedVariable) (argument_step hs) (body_step hs) (expression_step hs) (first_step hs) (lambda_step hs) (statement_step hs) (block_step hs) (catch_step hs) (declaration_step hs) (entry_step hs) (variable_step hs) (Statement-F.Break at))) (λ last. steps_of funs (looks funs (break_of at) (λ s x d e. break_step funs s at x e)))
   statement_layer (Statement-F.Return at None) = subst (λ (d : Doer). (last : Bool) → Steps funs (of_step funs) (d.typed last)) (sym (fold-roll-Statement (Doing Part) (Doing Step) Reading (Doing Step) Seen Doer Braces Seen Doer Seen (Ty → Doing TypedVariable) (argument_step hs) (body_step hs) (expression_step hs) (first_step hs) (lambda_step hs) (statement_step hs) (block_step hs) (catch_step hs) (declaration_step hs) (entry_step hs) (variable_step hs) (Statement-F.Return at None))) (λ last. steps_of funs (looks funs (nothing_returned at) (λ s x d e. nothing_step funs s at x e)))
@@ -440,13 +439,13 @@ module _ (funs : Program) (hs : List Header) (heads : Heads funs hs) where
   statement_layer (Statement-F.«Statement::Expression» at value) = subst (λ (d : Doer). (last : Bool) → Steps funs (of_step funs) (d.typed last)) (sym (fold-roll-Statement (Doing Part) (Doing Step) Reading (Doing Step) Seen Doer Braces Seen Doer Seen (Ty → Doing TypedVariable) (argument_step hs) (body_step hs) (expression_step hs) (first_step hs) (lambda_step hs) (statement_step hs) (block_step hs) (catch_step hs) (declaration_step hs) (entry_step hs) (variable_step hs) (Statement-F.«Statement::Expression» at value.0))) (λ last. steps_of funs (expression_value at last (reading hs value.0) value.1))
 
   block_layer : (y : WithBlock) → OfBlock (roll-Block (bareBlock y))
-  block_layer y = subst (λ (b : Braces). Steps funs (row funs) b.steps) (sym (fold-roll-Block (Doing Part) (Doing Step) Reading (Doing Step) Seen Doer Braces Seen Doer Seen (Ty → Doing TypedVariable) (argument_step hs) (body_step hs) (expression_step hs) (first_step hs) (lambda_step hs) (statement_step hs) (block_step hs) (catch_step hs) (declaration_step hs) (entry_step hs) (variable_step hs) (bareBlock y))) (statements_are funs false false _ (row_steps y.statements))
+  block_layer y = subst (λ (b : Braces). Steps funs (row funs) b.steps) (sym (fold-roll-Block (Doing Part) (Doing Step) Reading (Doing Step) Seen Doer Braces Seen Doer Seen (Ty → Doing TypedVariable) (argument_step hs) (body_step hs) (expression_step hs) (first_step hs) (lambda_step hs) (statement_step hs) (block_step hs) (catch_step hs) (declaration_step hs) (entry_step hs) (variable_step hs) (bareBlock y))) (block_steps funs _ (row_steps y.statements))
 
   catch_layer : (y : WithCatch) → OfCatch (roll-Catch (bareCatch y))
   catch_layer y = subst Looked (sym (fold-roll-Catch (Doing Part) (Doing Step) Reading (Doing Step) Seen Doer Braces Seen Doer Seen (Ty → Doing TypedVariable) (argument_step hs) (body_step hs) (expression_step hs) (first_step hs) (lambda_step hs) (statement_step hs) (block_step hs) (catch_step hs) (declaration_step hs) (entry_step hs) (variable_step hs) (bareCatch y))) (catch_looked y.of y.name.spelling y.block)
 
   declaration_layer : (y : WithDeclaration) → OfDeclaration (roll-Declaration (bareDeclaration y))
-  declaration_layer y = subst (λ (d : Doer). (last : Bool) → Steps funs (of_step funs) (d.typed last)) (sym (fold-roll-Declaration (Doing Part) (Doing Step) Reading (Doing Step) Seen Doer Braces Seen Doer Seen (Ty → Doing TypedVariable) (argument_step hs) (body_step hs) (expression_step hs) (first_step hs) (lambda_step hs) (statement_step hs) (block_step hs) (catch_step hs) (declaration_step hs) (entry_step hs) (variable_step hs) (bareDeclaration y))) (λ last. declaration_agrees funs y.of.at y.of _ (λ of p. all_variables of p y.variables))
+  declaration_layer y = subst (λ (d : Doer). (last : Bool) → Steps funs (of_first funs) (d.typed last)) (sym (fold-roll-Declaration (Doing Part) (Doing Step) Reading (Doing Step) Seen Doer Braces Seen Doer Seen (Ty → Doing TypedVariable) (argument_step hs) (body_step hs) (expression_step hs) (first_step hs) (lambda_step hs) (statement_step hs) (block_step hs) (catch_step hs) (declaration_step hs) (entry_step hs) (variable_step hs) (bareDeclaration y))) (λ last. declaration_agrees funs y.of.at y.of _ (λ of p. all_variables of p y.variables))
 
   entry_layer : (y : WithEntry) → OfEntry (roll-Entry (bareEntry y))
   entry_layer y = subst Looked (sym (fold-roll-Entry (Doing Part) (Doing Step) Reading (Doing Step) Seen Doer Braces Seen Doer Seen (Ty → Doing TypedVariable) (argument_step hs) (body_step hs) (expression_step hs) (first_step hs) (lambda_step hs) (statement_step hs) (block_step hs) (catch_step hs) (declaration_step hs) (entry_step hs) (variable_step hs) (bareEntry y))) (followed (seen_looked (looked y.key.1.value)) (seen_looked (looked y.value.1.value)))

@@ -1,4 +1,4 @@
--- What typing gives is well formed.
+-- What typing gives is well formed, and each of its statements is reached.
 use Rattle.std.specs.Prelude.{◌≡◌, ◌≢◌, ℕ, List, [], ◌∷◌, Ok}
 use Rattle.pl_tree.specs.declared.tree.Tree.{Tree}
 use Rattle.typed_tree.specs.declared.program.Named.{Named}
@@ -8,6 +8,7 @@ use Rattle.typing_rules.specs.Typing.{typing_of}
 use Rattle.program_meaning.specs.Programs.{program_of}
 use Rattle.program_types.specs.Types.{HasValues}
 use Rattle.program_types.specs.Agreeing.{WellFormed}
+use Rattle.program_types.specs.Reached.{Reached}
 
 -- the names are distinct
 abbrev pub IsNew : List ℕ → List Named → Type 0
@@ -29,3 +30,6 @@ pub record IsContext (context : ContextTypes) : Type 0 where
 
 abbrev pub TypingIsSound : Type 0
 TypingIsSound = (context : ContextTypes) (tree : Tree) (p : Program) → IsContext context → typing_of context tree ≡ Ok p → WellFormed (program_of p)
+
+abbrev pub TypingReaches : Type 0
+TypingReaches = (context : ContextTypes) (tree : Tree) (p : Program) → IsContext context → typing_of context tree ≡ Ok p → Reached (program_of p)

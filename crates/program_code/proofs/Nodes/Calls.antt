@@ -23,7 +23,7 @@ use Rattle.code_meaning.specs.declared.word.Word.{Word}
 use Rattle.code_meaning.specs.declared.word.Word.TheVariants.{R}
 use Rattle.code_meaning.specs.Words.{unboxed, start_of}
 use Rattle.code_meaning.specs.Machine.{Handlers, Frame, Next, Goes, Ends, Stuck, on_local, on_top, on_int, on_words, on_call, on_enter, on_turn, returns, returns_of, unwind, gives_back, take_words, depth_of, pushed, act, to_line}
-use Rattle.program_code.specs.Lying.{Lying, Bare, Whole, Absent, lying_of, lying_of_layer, low, result_of_layer}
+use Rattle.program_code.specs.Lying.{Lying, Bare, Whole, Absent, lying_of, lying_of_layer, low, kind_of, result_of_layer}
 use Rattle.program_code.specs.Parts.{constant_code, default_code, default_code_layer, operator_code, operation_code, cast_code, cast_takes, cast_gives, pops, kept_before, kept_behind}
 use Rattle.program_code.specs.Stands.{Scope, At, AllAt, end_all, lyings, Fitting, falls, all_fall, any_continues, end_stmts, scope_of, no_jumps, ArePresent, lyings_of, EndAt, FunAt, Compiled}
 use Rattle.program_code.proofs.Locals.{Agrees, Under, Falling, Fits, under_more}
@@ -112,6 +112,10 @@ scope_order (x ∷ xs) n g under order =
     let next : Under (suc n) (record { name = x.name; of = x.of; local = n } ∷ g) = (omega arith, under_more n (suc n) g (omega arith) under) in
     let rest = scope_order xs (suc n) (record { name = x.name; of = x.of; local = n } ∷ g) next (under, order) in
     (rest.0, under_more (suc n + length xs) (n + length (x ∷ xs)) (scope_of (x ∷ xs) n g) (suc_less n (length xs)) rest.1)
+
+-- code of a function has as many parameters
+pub as_many : (funs : Program) (code : List FunCode) (number : ℕ) (fun : Fun) (fa : FunAt funs code number fun) → length fa.body.params ≡ length fun.params
+as_many funs code number fun fa = ap length fa.params ∙ length-map fun.params (λ (x : Variable). kind_of x.of)
 
 -- the locals of a call fit the callee's parameters
 pub starts_fitting : (body : FunCode) (f : Fun) (values : List Value) (args : Env) → entry f.params values [] ≡ Some args → ArePresent (lyings_of f.params) → length body.params ≡ length f.params
@@ -209,7 +213,7 @@ module _ (funs : Program) (code : List FunCode) (limits : Limits) (m : Meaning) 
       let locals = words_at (lyings_of f.params) values ++ map start_of fa.body.locals in
       let scope = scope_of f.params 0 [] in
       let inner = callee funs code limits c h g scope q number f fa s e l st call in
-      let fits = starts_fitting fa.body f values args qe fa.present fa.params in
+      let fits = starts_fitting fa.body f values args qe fa.present (as_many funs code number f fa) in
       let under : Under (length f.params) scope = under_more (0 + length f.params) (length f.params) scope (omega arith) (scope_order f.params 0 [] tt tt).1 in
       let body = ih.stmts f.body inner [] scope (length f.params) no_jumps 0 (record { world = w; turns = 0 }) args locals fa.stands under fits in
       record { by = comes_back funs code limits c h g scope q number f fa s e l st call a x _ _ body.by }
@@ -232,7 +236,7 @@ module _ (funs : Program) (code : List FunCode) (limits : Limits) (m : Meaning) 
           let caller = frame code limits c q l (push ks values st) s in
           let t = enter limits (depth_of c.below) s.world in
           let present : ArePresent ks = subst ArePresent (sym same.0) fa.present in
-          let n : length fa.body.params ≡ length ks = fa.params ∙ sym (length-map f.params (λ (x : Variable). lying_of x.of)) ∙ ap length (sym same.0) in
+          let n : length fa.body.params ≡ length ks = as_many funs code number f fa ∙ sym (length-map f.params (λ (x : Variable). lying_of x.of)) ∙ ap length (sym same.0) in
           let fetched : on_call code limits (slice_get code number) number caller c.below s.world ≡ on_enter code limits t number fa.body [] caller c.below s.world (words_at (lyings_of f.params) values) st =
           ap (λ o. on_call code limits o number caller c.below s.world) fa.is
           ∙ ap (λ o. on_words o (λ args stack. on_enter code limits t number fa.body [] caller c.below s.world args stack)) (off (length fa.body.params) ks values st n present count)

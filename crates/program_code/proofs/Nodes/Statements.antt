@@ -18,7 +18,7 @@ use Rattle.code_meaning.specs.Machine.{Handlers, Next, pushed}
 use Rattle.program_code.specs.Lying.{Lying, Bare, Whole, Absent, lying_of, low}
 use Rattle.program_code.specs.Parts.{pops}
 use Rattle.program_code.specs.Stands.{Entry, Scope, At, AllAt, end_all, end_expr, falls, all_fall, continues, any_continues, end_skip, end_value, end_stmt, end_stmts, next_stmt, next_stmts, Jumps, HasLocal, SkipAt, ValueAt}
-use Rattle.program_code.proofs.Locals.{Under, Fits, under_more, declares}
+use Rattle.program_code.proofs.Locals.{Under, Fits, under_more, local_within, declares}
 use Rattle.program_code.proofs.Follows.{Ctx, Leads, at, place, does_next, Sim, and_then, done, step_to, lands_on, leaving, tested}
 use Rattle.program_code.proofs.Refines.{Any, Good, land_value, land_flow, StmtRuns, StmtsRun, Refines}
 use Rattle.program_code.proofs.Nodes.Calls.{default_runs, returns_value}
@@ -159,14 +159,14 @@ module _ (funs : Program) (code : List FunCode) (limits : Limits) (m : Meaning) 
       lands_on code limits (λ value s l r _ k. subst (λ k'. Leads code limits (at code limits c (end_expr p a) l (pushed (low k' value) []) s) r) (sym stands.1) k) (λ value y. y) (ih.expr a c h g p s e l [] stands.0 f)
 
   -- a new variable
-  store_new : (x : Name) (of : Ty) (n : ℕ) (k : Lying) (value : Value) (c : Ctx code) (h : Handlers) (g : Scope) (q : ℕ) (s : State) (e : Env) (l : List Word) → k ≡ lying_of of → k ≢ Absent → HasLocal c.body n → Under n g → At c.body h q (i.Numbered numbered.Store n) → Fits c.body g e l
+  store_new : (x : Name) (of : Ty) (n : ℕ) (k : Lying) (value : Value) (c : Ctx code) (h : Handlers) (g : Scope) (q : ℕ) (s : State) (e : Env) (l : List Word) → k ≡ lying_of of → k ≢ Absent → HasLocal c.body n of → Under n g → At c.body h q (i.Numbered numbered.Store n) → Fits c.body g e l
       → {A : Type 0} {land : A → State → List Word → Next} {good : A → Type 0} {o : Out A}
       → ((l : List Word) → Fits c.body (record { name = x; of = of; local = n } ∷ g) (record { name = x; value = value } ∷ e) l → Sim code limits c h g land good (at code limits c (suc q) l [] s) o)
       → Sim code limits c h g land good (at code limits c q l (pushed (low k value) []) s) o
   store_new x of n Bare value c h g q s e l same some has under a f next =
-      step_to code limits l (unboxed value ∷ []) s a (next (slice_set l n (unboxed value)) (declares c.body g e l (record { name = x; of = of; local = n }) value (unboxed value) has.is under (λ absent. some (same ∙ absent)) (ap (λ k. low k value) (sym same)) f))
+      step_to code limits l (unboxed value ∷ []) s a (next (slice_set l n (unboxed value)) (declares c.body g e l (record { name = x; of = of; local = n }) value (unboxed value) (local_within c.body n of has) under (λ absent. some (same ∙ absent)) (ap (λ k. low k value) (sym same)) f))
   store_new x of n Whole value c h g q s e l same some has under a f next =
-      step_to code limits l (R value ∷ []) s a (next (slice_set l n (R value)) (declares c.body g e l (record { name = x; of = of; local = n }) value (R value) has.is under (λ absent. some (same ∙ absent)) (ap (λ k. low k value) (sym same)) f))
+      step_to code limits l (R value ∷ []) s a (next (slice_set l n (R value)) (declares c.body g e l (record { name = x; of = of; local = n }) value (R value) (local_within c.body n of has) under (λ absent. some (same ∙ absent)) (ap (λ k. low k value) (sym same)) f))
   store_new x of n Absent value c h g q s e l same some has under a f next = absurd (some refl)
 
   pub declare_runs : (x : Name) (of : Ty) (value : Maybe) (rest : Stmts) → StmtsRun funs code limits (λ d s e. stmts_of funs limits m d s e (Declare x of value rest)) (Declare x of value rest)

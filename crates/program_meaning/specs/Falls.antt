@@ -1,0 +1,41 @@
+-- How statements are left: whether what stands behind them is reached, and whether a `continue` of their own is.
+use Rattle.std.specs.Prelude.{◌||◌, ◌&&◌, Bool, true, false}
+use Rattle.program_meaning.specs.Tree.{Stmt, Do, If, While, DoWhile, ForEach, Try, Block, Break, Continue, Return, Throw, Stmts, Finish, Then, Declare}
+
+abbrev mutual
+  pub falls : Stmt → Bool
+  falls (Do a) = true
+  falls (If c a b) = all_fall a || all_fall b
+  falls (While test update body) = true
+  falls (DoWhile body test) = true
+  falls (ForEach x of element over body) = true
+  falls (Try body catches) = true
+  falls (Block body) = all_fall body
+  falls Break = false
+  falls Continue = false
+  falls (Return value) = false
+  falls (Throw value) = false
+
+  pub all_fall : Stmts → Bool
+  all_fall Finish = true
+  all_fall (Then t rest) = falls t && all_fall rest
+  all_fall (Declare x of value rest) = all_fall rest
+
+abbrev mutual
+  pub continues : Stmt → Bool
+  continues (Do a) = false
+  continues (If c a b) = any_continues a || any_continues b
+  continues (While test update body) = false
+  continues (DoWhile body test) = false
+  continues (ForEach x of element over body) = false
+  continues (Try body catches) = false
+  continues (Block body) = any_continues body
+  continues Break = false
+  continues Continue = true
+  continues (Return value) = false
+  continues (Throw value) = false
+
+  pub any_continues : Stmts → Bool
+  any_continues Finish = false
+  any_continues (Then t rest) = continues t || any_continues rest
+  any_continues (Declare x of value rest) = any_continues rest

@@ -1,0 +1,22 @@
+-- What the code of programs is.
+use Rattle.std.specs.Prelude.{◌≡◌, ◌<◌, List, length, None}
+use Rattle.pl_code.specs.declared.code.Code.{Code}
+use Rattle.pl_code.specs.declared.code.FunCode.{FunCode}
+use Rattle.allowlist.specs.Allow.{AllowList}
+use Rattle.typed_tree.specs.declared.program.Program as typed
+use Rattle.program_meaning.specs.Tree.{Program}
+use Rattle.program_meaning.specs.Programs.{program_of}
+use Rattle.program_types.specs.Agreeing.{WellFormed}
+use Rattle.program_types.specs.Reached.{Reached}
+use Rattle.program_code.specs.Correct.{IsCodeOf}
+use Rattle.program_code.specs.Stands.{Compiled}
+use Rattle.verifier.specs.Faults.{shape_fault}
+use Rattle.verifier.specs.Shaped.{IsWellShapedCode}
+
+-- Code of a well-formed program, in which each statement is reached, is well shaped, whatever list is allowed.
+abbrev pub CodeIsWellShaped : Type 0
+CodeIsWellShaped = (allow : AllowList) (funs : Program) (code : List FunCode) → 0 < length funs → WellFormed funs → Reached funs → Compiled funs code → IsWellShapedCode allow code
+
+-- So the code of such a typed program breaks nowhere.
+abbrev pub CodeBreaksNowhere : Type 0
+CodeBreaksNowhere = (allow : AllowList) (p : typed.Program) (code : Code) → WellFormed (program_of p) → Reached (program_of p) → IsCodeOf p code.functions → shape_fault allow code ≡ None
