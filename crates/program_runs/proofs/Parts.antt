@@ -1,0 +1,181 @@
+-- The instructions of what is strict have rows.
+use Rattle.std.proofs.Common.{◌≡◌, ◌&&◌, true, List, [], ◌∷◌, ◌++◌, refl, ◌∙◌}
+use Rattle.std.specs.List.{list_all}
+use Rattle.std.proofs.lemmas.List.Folds.{list_all-append}
+use Rattle.pl_types.specs.declared.primitive.Primitive.{Primitive}
+use Rattle.pl_types.specs.declared.primitive.Primitive.TheVariants as prim
+use Rattle.pl_types.specs.declared.ty.Ty.{Ty, out-Ty}
+use Rattle.pl_types.specs.declared.ty.Ty.TheOpen.{Ty-F}
+use Rattle.pl_types.specs.declared.conversion.Cast.{Cast}
+use Rattle.pl_types.specs.declared.conversion.Cast.TheVariants as cast
+use Rattle.arithmetic.specs.declared.operator.Op.{Op}
+use Rattle.arithmetic.specs.declared.operator.Op.TheVariants as op
+use Rattle.pl_code.specs.declared.kinds.Width.{Width}
+use Rattle.pl_code.specs.declared.kinds.Width.TheVariants as width
+use Rattle.pl_code.specs.declared.code.Instruction.{Instruction}
+use Rattle.pl_code.specs.declared.code.Instruction.TheVariants as i
+use Rattle.typed_tree.specs.declared.operation.Constant.{Constant}
+use Rattle.typed_tree.specs.declared.operation.Constant.TheVariants as constant
+use Rattle.typed_tree.specs.declared.operation.Operator.{Operator}
+use Rattle.typed_tree.specs.declared.operation.Operator.TheVariants as operator
+use Rattle.typed_tree.specs.declared.operation.Operation.{Operation}
+use Rattle.typed_tree.specs.declared.operation.Operation.TheVariants as operation
+use Rattle.typed_tree.specs.declared.operation.Gives.{Gives}
+use Rattle.typed_tree.specs.declared.operation.Gives.TheVariants as gives
+use Rattle.program_code.specs.Lying.{Lying, Bare, Whole, Absent}
+use Rattle.program_code.specs.Parts.{constant_code, default_code_layer, default_code, arithmetic_code, boolean_code, operator_code, from_int_code, from_long_code, from_byte_code, from_short_code, from_char_code, number_code, cast_code, operation_code, pops, kept_before, kept_behind}
+use Rattle.verified_runs.specs.Rows.{has_row}
+
+-- each of some instructions has a row
+abbrev pub AllRows : List Instruction → Type 0
+AllRows lines = list_all has_row lines ≡ true
+
+pub constant_row : (c : Constant) → has_row (constant_code c) ≡ true
+constant_row constant.Null = refl
+constant_row (constant.Boolean a) = refl
+constant_row (constant.Byte a) = refl
+constant_row (constant.Short a) = refl
+constant_row (constant.Char a) = refl
+constant_row (constant.Int a) = refl
+constant_row (constant.Long a) = refl
+
+arithmetic_rows : (o : Op) (w : Width) → AllRows (arithmetic_code o w)
+arithmetic_rows op.Add w = refl
+arithmetic_rows op.Sub w = refl
+arithmetic_rows op.Mul w = refl
+arithmetic_rows op.Div w = refl
+arithmetic_rows op.Rem w = refl
+arithmetic_rows op.And w = refl
+arithmetic_rows op.Or w = refl
+arithmetic_rows op.Xor w = refl
+arithmetic_rows op.Shl w = refl
+arithmetic_rows op.Shr w = refl
+arithmetic_rows op.Ushr w = refl
+arithmetic_rows op.Neg w = refl
+arithmetic_rows op.Not w = refl
+arithmetic_rows op.Pos w = refl
+arithmetic_rows op.Lt w = refl
+arithmetic_rows op.Le w = refl
+arithmetic_rows op.Gt w = refl
+arithmetic_rows op.Ge w = refl
+arithmetic_rows op.Eq w = refl
+arithmetic_rows op.Ne w = refl
+
+boolean_rows : (o : Op) → AllRows (boolean_code o)
+boolean_rows op.Add = refl
+boolean_rows op.Sub = refl
+boolean_rows op.Mul = refl
+boolean_rows op.Div = refl
+boolean_rows op.Rem = refl
+boolean_rows op.And = refl
+boolean_rows op.Or = refl
+boolean_rows op.Xor = refl
+boolean_rows op.Shl = refl
+boolean_rows op.Shr = refl
+boolean_rows op.Ushr = refl
+boolean_rows op.Neg = refl
+boolean_rows op.Not = refl
+boolean_rows op.Pos = refl
+boolean_rows op.Lt = refl
+boolean_rows op.Le = refl
+boolean_rows op.Gt = refl
+boolean_rows op.Ge = refl
+boolean_rows op.Eq = refl
+boolean_rows op.Ne = refl
+
+pub operator_rows : (o : Operator) → AllRows (operator_code o)
+operator_rows (operator.Int o) = arithmetic_rows o width.Int
+operator_rows (operator.Long o) = arithmetic_rows o width.Long
+operator_rows (operator.Boolean o) = boolean_rows o
+operator_rows other = refl
+
+from_int_rows : (p : Primitive) → AllRows (from_int_code p)
+from_int_rows prim.Boolean = refl
+from_int_rows prim.Byte = refl
+from_int_rows prim.Short = refl
+from_int_rows prim.Char = refl
+from_int_rows prim.Int = refl
+from_int_rows prim.Long = refl
+
+from_long_rows : (p : Primitive) → AllRows (from_long_code p)
+from_long_rows prim.Boolean = refl
+from_long_rows prim.Byte = refl
+from_long_rows prim.Short = refl
+from_long_rows prim.Char = refl
+from_long_rows prim.Int = refl
+from_long_rows prim.Long = refl
+
+from_byte_rows : (p : Primitive) → AllRows (from_byte_code p)
+from_byte_rows prim.Boolean = refl
+from_byte_rows prim.Byte = refl
+from_byte_rows prim.Short = refl
+from_byte_rows prim.Char = refl
+from_byte_rows prim.Int = refl
+from_byte_rows prim.Long = refl
+
+from_short_rows : (p : Primitive) → AllRows (from_short_code p)
+from_short_rows prim.Boolean = refl
+from_short_rows prim.Byte = refl
+from_short_rows prim.Short = refl
+from_short_rows prim.Char = refl
+from_short_rows prim.Int = refl
+from_short_rows prim.Long = refl
+
+from_char_rows : (p : Primitive) → AllRows (from_char_code p)
+from_char_rows prim.Boolean = refl
+from_char_rows prim.Byte = refl
+from_char_rows prim.Short = refl
+from_char_rows prim.Char = refl
+from_char_rows prim.Int = refl
+from_char_rows prim.Long = refl
+
+number_rows : (from to : Primitive) → AllRows (number_code from to)
+number_rows prim.Boolean to = refl
+number_rows prim.Byte to = from_byte_rows to
+number_rows prim.Short to = from_short_rows to
+number_rows prim.Char to = from_char_rows to
+number_rows prim.Int to = from_int_rows to
+number_rows prim.Long to = from_long_rows to
+
+both_rows : (xs ys : List Instruction) → AllRows xs → AllRows ys → AllRows (xs ++ ys)
+both_rows xs ys a b = list_all-append has_row xs ys ∙ (λ i. a i && b i)
+
+pub cast_rows : (c : Cast) → AllRows (cast_code c)
+cast_rows (cast.Number from to) = number_rows from to
+cast_rows (cast.Wrap from to) = both_rows (number_code from to) (i.Boxing to ∷ []) (number_rows from to) refl
+cast_rows other = refl
+
+pub operation_rows : (o : Operation) → AllRows (operation_code o)
+operation_rows (operation.Operator o) = operator_rows o
+operation_rows (operation.Cast c) = cast_rows c
+operation_rows (operation.Function k) = refl
+operation_rows other = refl
+
+default_layer_rows : (l : Ty-F Ty) → AllRows (default_code_layer l)
+default_layer_rows Ty-F.Void = refl
+default_layer_rows Ty-F.Null = refl
+default_layer_rows Ty-F.Def = refl
+default_layer_rows (Ty-F.Prim prim.Boolean) = refl
+default_layer_rows (Ty-F.Prim prim.Byte) = refl
+default_layer_rows (Ty-F.Prim prim.Short) = refl
+default_layer_rows (Ty-F.Prim prim.Char) = refl
+default_layer_rows (Ty-F.Prim prim.Int) = refl
+default_layer_rows (Ty-F.Prim prim.Long) = refl
+default_layer_rows (Ty-F.Class class) = refl
+default_layer_rows (Ty-F.Array of) = refl
+
+pub default_rows : (of : Ty) → AllRows (default_code of)
+default_rows of = default_layer_rows (out-Ty of)
+
+pub pops_rows : (k : Lying) → AllRows (pops k)
+pops_rows Bare = refl
+pops_rows Whole = refl
+pops_rows Absent = refl
+
+pub before_rows : (g : Gives) → AllRows (kept_before g)
+before_rows gives.Old = refl
+before_rows gives.New = refl
+
+pub behind_rows : (g : Gives) → AllRows (kept_behind g)
+behind_rows gives.Old = refl
+behind_rows gives.New = refl

@@ -1,0 +1,5 @@
+use Rattle.program_runs.proofs.Programs as programs
+use Rattle.program_runs.proofs.laws.programs_run.Goals as goal
+
+pub returns : goal.returns
+returns c = record { rows = programs.code_has_rows; ends = programs.programs_run c.code_is_well_shaped.ensures.shaped }

@@ -1,0 +1,6 @@
+//! That runs of the code of well-formed programs end within a bound that is known before they begin.
+#![tactic(auto)]
+
+mod laws;
+
+pub use laws::programs_run;
