@@ -26,10 +26,9 @@ module _ (code : List FunCode) (limits : Limits) (depth : ℕ) (fs : List held_f
   counts counted h = ap (λ d. enter limits d w) (depth_is fs ∙ sym e) ∙ h
 
   -- a call that passes a limit
-  pub limited : (limit : Limit) → enter limits depth w ≡ Passes limit → new ≡ w → (k : ℕ) (g : FunCode) (f : Frame) (below : List Frame) (args stack : List Word)
+  pub limited : (limit : Limit) → enter limits depth w ≡ Passes limit new → (k : ℕ) (g : FunCode) (f : Frame) (below : List Frame) (args stack : List Word)
       → on_enter code limits (enter limits (depth_of (frames_of fs)) w) k g [] f below w args stack ≡ Ends (Limited limit new)
-  limited limit h same k g f below args stack =
-      ap (λ c. on_enter code limits c k g [] f below w args stack) (counts (Passes limit) h) ∙ ap (λ w. Ends (Limited limit w)) (sym same)
+  limited limit h k g f below args stack = ap (λ c. on_enter code limits c k g [] f below w args stack) (counts (Passes limit new) h)
 
   -- a call that is paid
   pub entered : enter limits depth w ≡ Counts new → (k : ℕ) (g : FunCode) (f : Frame) (below : List Frame) (args stack locals : List Word) → locals ≡ args ++ map start_of g.locals
@@ -70,5 +69,5 @@ with_arguments (Some p) slots locals stack e next said c k = subst (λ s. Comes 
 -- the stack of the caller is of no account: what is left of it is handed over apart
 pub same_caller : (code : List FunCode) (limits : Limits) (counted : Counted) (k : ℕ) (g : FunCode) (due : List Ty) (f : Frame) (other : List Word) (below : List Frame) (w : World) (args stack : List Word)
     → on_enter code limits counted k g due f below w args stack ≡ on_enter code limits counted k g due (record { text = f.text; fun = f.fun; line = f.line; locals = f.locals; stack = other; turns = f.turns; due = f.due }) below w args stack
-same_caller code limits (Passes limit) k g due f other below w args stack = refl
+same_caller code limits (Passes limit w') k g due f other below w args stack = refl
 same_caller code limits (Counts new) k g due f other below w args stack = refl

@@ -35,10 +35,10 @@ abbrev pub calculated_of : Option Num → Operated
 calculated_of None = c.ZeroDivisor
 calculated_of (Some number) = c.Number number
 
--- a count that is paid, or the limit that it would pass, the world being as before
-abbrev pub CountsTo : Counted → World → World → Option Which → Type 0
-CountsTo counted old new None = counted ≡ Counts new
-CountsTo counted old new (Some which) = (counted ≡ Passes (limit_of which)) × (new ≡ old)
+-- a count that is paid, or the limit that it would pass, and the world behind it
+abbrev pub CountsTo : Counted → World → Option Which → Type 0
+CountsTo counted new None = counted ≡ Counts new
+CountsTo counted new (Some which) = counted ≡ Passes (limit_of which) new
 
 -- the word of a primitive
 abbrev pub bare : Value → Option Word

@@ -115,18 +115,18 @@ fn enter(
     }
 }
 
-// Pays a call from a frame with so many below it: the ticks are tried before the depth.
+// Pays a call from a frame with so many below it: the tick is paid before the depth is tried.
 #[tactic(auto, unfolding(run_world::specs::World::enter, run_world::specs::World::pay_tick, run_world::specs::World::goes_deeper))]
 fn count_call(world: &mut World, limits: &Limits, depth: usize) -> Option<Which>
-    ensures { CountsTo (enter (limits_of limits.now) depth (world_of world.old)) (world_of world.old) (world_of world.new) result }
+    ensures { CountsTo (enter (limits_of limits.now) depth (world_of world.old)) (world_of world.new) result }
 {
     if world.ticks == 0 {
         return Some(Which::Ticks);
     }
+    world.ticks -= 1;
     if depth >= limits.depth as usize {
         return Some(Which::Depth);
     }
-    world.ticks -= 1;
     None
 }
 

@@ -64,7 +64,7 @@ pub const ROWS: [Row; 37] = [
         depth: 10,
         ticks: 100,
         room: 1000,
-        left: "depth; steps 82; ticks 10",
+        left: "depth; steps 82; ticks 11",
     },
     // 256 frames deep
     Row {
@@ -82,7 +82,7 @@ pub const ROWS: [Row; 37] = [
         depth: 256,
         ticks: 1000,
         room: 1000,
-        left: "depth; steps 2050; ticks 256",
+        left: "depth; steps 2050; ticks 257",
     },
     // int f() { return 1 } f() + f()
     Row {
@@ -118,7 +118,7 @@ pub const ROWS: [Row; 37] = [
         depth: 0,
         ticks: 1,
         room: 1000,
-        left: "depth; steps 1; ticks 0",
+        left: "depth; steps 1; ticks 1",
     },
     // no more than one frame deep, twice
     Row {

@@ -198,12 +198,12 @@ module _ (code : List FunCode) (limits : Limits) where
   gives_back (f ∷ fs) due result w = cast_due due result f fs w
 
   abbrev pub on_turn : Counted → ℕ → Frame → List Frame → World → List Word → Next
-  on_turn (Passes limit) to f below w stack = Ends (Limited limit w)
+  on_turn (Passes limit w') to f below w stack = Ends (Limited limit w')
   on_turn (Counts w') to f below w stack =
       Goes (record { top = record { text = f.text; fun = f.fun; line = to; locals = f.locals; stack = stack; turns = suc f.turns; due = f.due }; below = below; world = w' })
 
   abbrev pub on_enter : Counted → ℕ → FunCode → List Ty → Frame → List Frame → World → List Word → List Word → Next
-  on_enter (Passes limit) k g due f below w args stack = Ends (Limited limit w)
+  on_enter (Passes limit w') k g due f below w args stack = Ends (Limited limit w')
   on_enter (Counts w') k g due f below w args stack =
       Goes (record {
         top = record { text = f.text; fun = k; line = 0; locals = args ++ map start_of g.locals; stack = []; turns = 0; due = due };

@@ -93,7 +93,7 @@ module _ (funs : Program) (limits : Limits) where
     enters : (c : Counted) (d : Place) (s : State) (e : Env) (of : Ty) (body : Stmts) (o : Option Env)
         → Up (entered funs limits m c d s e of body o) (entered funs limits m' c d s e of body o)
     enters c d s e of body None = same
-    enters (Passes limit) d s e of body (Some args) = same
+    enters (Passes limit w) d s e of body (Some args) = same
     enters (Counts w) d s e of body (Some args) = record { by = backs of _ _ s.turns e (ih.stmts body (record { text = d.text; depth = suc d.depth }) (record { world = w; turns = 0 }) args).by }
 
     calls : (o : Option Fun) (d : Place) (s : State) (e : Env) (values : List Value) → Up (called funs limits m o d s e values) (called funs limits m' o d s e values)
@@ -166,14 +166,14 @@ module _ (funs : Program) (limits : Limits) where
 
     turns_grow : (c : Counted) (d : Place) (s : State) (e : Env) (test update : Maybe) (body : Stmts)
         → Up (turned funs limits m c d s e test update body) (turned funs limits m' c d s e test update body)
-    turns_grow (Passes limit) d s e test update body = same
+    turns_grow (Passes limit w) d s e test update body = same
     turns_grow (Counts w) d s e test update body =
         then' (ih.stmts body d (record { world = w; turns = suc s.turns }) e) (λ flow s e.
         again flow s e (then' (value_grows update v.Null d s e) (λ value s e. ih.stmt (While test update body) d s e)))
 
     dones_grow : (c : Counted) (d : Place) (s : State) (e : Env) (body : Stmts) (test : Maybe)
         → Up (done_turn funs limits m c d s e body test) (done_turn funs limits m' c d s e body test)
-    dones_grow (Passes limit) d s e body test = same
+    dones_grow (Passes limit w) d s e body test = same
     dones_grow (Counts w) d s e body test =
         then' (ih.stmts body d (record { world = w; turns = suc s.turns }) e) (λ flow s e.
         again flow s e (then' (value_grows test (v.Bool true) d s e) (λ value s e. chosen value (ih.stmt (DoWhile body test) d s e) same)))

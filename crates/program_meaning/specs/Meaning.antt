@@ -165,7 +165,7 @@ back of More turns e = More
 module _ (funs : Program) (limits : Limits) (m : Meaning) where
   abbrev pub entered : Counted → Place → State → Env → Ty → Stmts → Option Env → Out Value
   entered counted d s e of body None = More
-  entered (Passes limit) d s e of body (Some args) = Over limit s.world
+  entered (Passes limit w) d s e of body (Some args) = Over limit w
   entered (Counts w) d s e of body (Some args) =
       back of (m.stmts (record { text = d.text; depth = suc d.depth }) (record { world = w; turns = 0 }) args body) s.turns e
 
@@ -219,13 +219,13 @@ module _ (funs : Program) (limits : Limits) (m : Meaning) where
 
   -- one turn, and then the loop again
   abbrev pub turned : Counted → Place → State → Env → Maybe → Maybe → Stmts → Out Flow
-  turned (Passes limit) d s e test update body = Over limit s.world
+  turned (Passes limit w) d s e test update body = Over limit w
   turned (Counts w) d s e test update body =
       bind (m.stmts d (record { world = w; turns = suc s.turns }) e body) (λ flow s e.
       goes_again flow s e (bind (value_if update v.Null d s e) (λ value s e. m.stmt d s e (While test update body))))
 
   abbrev pub done_turn : Counted → Place → State → Env → Stmts → Maybe → Out Flow
-  done_turn (Passes limit) d s e body test = Over limit s.world
+  done_turn (Passes limit w) d s e body test = Over limit w
   done_turn (Counts w) d s e body test =
       bind (m.stmts d (record { world = w; turns = suc s.turns }) e body) (λ flow s e.
       goes_again flow s e (bind (value_if test (v.Bool true) d s e) (λ value s e. choose value (m.stmt d s e (DoWhile body test)) (Done Normal s e))))

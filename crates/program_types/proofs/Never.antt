@@ -130,13 +130,13 @@ backs of inner g k turns e More b x = absurd x
 -- what is counted has cost a tick
 abbrev Costs : Counted → ℕ → Type 0
 Costs (Counts w) k = suc w.ticks ≤ k
-Costs (Passes limit) k = Unit {0}
+Costs (Passes limit w') k = Unit {0}
 
 pays : (w : World) → Costs (pay_tick w) w.ticks
 unfolding pay_tick
 pays w = either (nat_lt 0 w.ticks) refl
   where
-    either : (c : Bool) → nat_lt 0 w.ticks ≡ c → Costs (if c then Counts (record { store = w.store; ticks = w.ticks - 1; reached = w.reached }) else Passes Ticks) w.ticks
+    either : (c : Bool) → nat_lt 0 w.ticks ≡ c → Costs (if c then Counts (record { store = w.store; ticks = w.ticks - 1; reached = w.reached }) else Passes Ticks w) w.ticks
     either true is = omega (arith, ltb-true 0 w.ticks is)
     either false is = tt
 
@@ -144,16 +144,16 @@ turn_costs : (limits : Limits) (turns : ℕ) (w : World) → Costs (take_turn li
 unfolding take_turn
 turn_costs limits turns w = either (nat_lt turns limits.loop)
   where
-    either : (c : Bool) → Costs (if c then pay_tick w else Passes Loop) w.ticks
+    either : (c : Bool) → Costs (if c then pay_tick w else Passes Loop w) w.ticks
     either true = pays w
     either false = tt
 
 deeper_costs : (c : Counted) (limits : Limits) (depth k : ℕ) → Costs c k → Costs (goes_deeper c limits depth) k
 unfolding goes_deeper
-deeper_costs (Passes limit) limits depth k x = tt
+deeper_costs (Passes limit w') limits depth k x = tt
 deeper_costs (Counts w) limits depth k x = either (nat_lt depth limits.depth)
   where
-    either : (c : Bool) → Costs (if c then Counts w else Passes Depth) k
+    either : (c : Bool) → Costs (if c then Counts w else Passes Depth w) k
     either true = x
     either false = tt
 
@@ -183,8 +183,8 @@ module _ (funs : Program) (limits : Limits) (formed : WellFormed funs) (most : �
     entered_ends : (c : Counted) (d : Place) (s : State) (e : Env) (g : Scope) (f : Fun) (o : Option Env) (args : Env) → Costs c s.world.ticks → o ≡ Some args
         → Bound (scope_of f.params []) args → FunAgrees funs f → stmts_size f.body ≤ most → Bound g e → cost s.world.ticks ≤ n
         → Ends (Has f.result) g s.world.ticks (entered funs limits m c d s e f.result f.body o)
-    entered_ends (Passes limit) d s e g f o args c is inner x size b h =
-        subst (λ o. Ends (Has f.result) g s.world.ticks (entered funs limits m (Passes limit) d s e f.result f.body o)) (sym is) (record { by = tt })
+    entered_ends (Passes limit w') d s e g f o args c is inner x size b h =
+        subst (λ o. Ends (Has f.result) g s.world.ticks (entered funs limits m (Passes limit w') d s e f.result f.body o)) (sym is) (record { by = tt })
     entered_ends (Counts w) d s e g f o args c is inner x size b h =
         let spent = spends w.ticks s.world.ticks c in
         let ran = ih.stmts f.body (record { text = d.text; depth = suc d.depth }) (record { world = w; turns = 0 }) args (scope_of f.params []) f.result false x.body inner (omega (arith, spent, size, h)) in
@@ -324,7 +324,7 @@ module _ (funs : Program) (limits : Limits) (formed : WellFormed funs) (most : �
     turned_ends : (c : Counted) (test update : Maybe) (body : Stmts) (d : Place) (s : State) (e : Env) (g : Scope) (of : Ty) (looped : Bool) → Costs c s.world.ticks
         → StmtAgrees funs of looped g (While test update body) → Bound g e → cost s.world.ticks + stmt_size (While test update body) ≤ suc n
         → Ends (FlowHas of looped) g s.world.ticks (turned funs limits m c d s e test update body)
-    turned_ends (Passes limit) test update body d s e g of looped p a b c = record { by = tt }
+    turned_ends (Passes limit w') test update body d s e g of looped p a b c = record { by = tt }
     turned_ends (Counts w) test update body d s e g of looped p a b c =
         let spent = spends w.ticks s.world.ticks p in
         within (omega (arith, p))
@@ -336,7 +336,7 @@ module _ (funs : Program) (limits : Limits) (formed : WellFormed funs) (most : �
     done_ends : (c : Counted) (body : Stmts) (test : Maybe) (d : Place) (s : State) (e : Env) (g : Scope) (of : Ty) (looped : Bool) → Costs c s.world.ticks
         → StmtAgrees funs of looped g (DoWhile body test) → Bound g e → cost s.world.ticks + stmt_size (DoWhile body test) ≤ suc n
         → Ends (FlowHas of looped) g s.world.ticks (done_turn funs limits m c d s e body test)
-    done_ends (Passes limit) body test d s e g of looped p a b c = record { by = tt }
+    done_ends (Passes limit w') body test d s e g of looped p a b c = record { by = tt }
     done_ends (Counts w) body test d s e g of looped p a b c =
         let spent = spends w.ticks s.world.ticks p in
         within (omega (arith, p))

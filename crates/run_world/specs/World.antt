@@ -47,18 +47,18 @@ acts_in w NoRoom = Full
 -- a call or a turn that is counted: the world behind it, or the limit that it would pass
 pub data Counted : Type 0 where
   Counts : (w : World) → Counted
-  Passes : (limit : Limit) → Counted
+  Passes : (limit : Limit) (w : World) → Counted
 
 unfoldable pub pay_tick : World → Counted
-pay_tick w = if nat_lt 0 w.ticks then Counts (record { store = w.store; ticks = w.ticks - 1; reached = w.reached }) else Passes Ticks
+pay_tick w = if nat_lt 0 w.ticks then Counts (record { store = w.store; ticks = w.ticks - 1; reached = w.reached }) else Passes Ticks w
 
 -- A turn of a frame that has had so many: the loop's limit is tried before the ticks.
 unfoldable pub take_turn : Limits → ℕ → World → Counted
-take_turn limits turns w = if nat_lt turns limits.loop then pay_tick w else Passes Loop
+take_turn limits turns w = if nat_lt turns limits.loop then pay_tick w else Passes Loop w
 
 unfoldable pub goes_deeper : Counted → Limits → ℕ → Counted
-goes_deeper (Counts w) limits depth = if nat_lt depth limits.depth then Counts w else Passes Depth
-goes_deeper (Passes limit) limits depth = Passes limit
+goes_deeper (Counts w) limits depth = if nat_lt depth limits.depth then Counts w else Passes Depth w
+goes_deeper (Passes limit w) limits depth = Passes limit w
 
 -- A call from a frame at this depth: the ticks are tried before the depth.
 unfoldable pub enter : Limits → ℕ → World → Counted

@@ -39,7 +39,7 @@ module _ (allow : AllowList) (code : List FunCode) (limits : Limits) (well : IsW
 
   entered : (function g : FunCode) (k : ℕ) (f : Frame) (below : List Frame) (w : World) (args others : List Word) → Here allow code limits function f below w → Entering function g k f below args others
       → (c : Counted) → EntersSo limits (depth_of below) w c → Moves allow code limits (left_at code limits f below w) (on_enter code limits c k g [] f below w args others)
-  entered function g k f below w args others here x (Passes limit) so = here.reached
+  entered function g k f below w args others here x (Passes limit w') so = same_reached allow code limits w w' so here.reached
   entered function g k f below w args others here x (Counts w') so =
       let good = well.each k g x.is in
       let lines = lines_are allow code limits function (frame_kinds f) here.fits in

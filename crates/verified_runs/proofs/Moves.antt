@@ -22,7 +22,7 @@ use Rattle.verified_runs.proofs.Lowering.{lines_in, lines_so, left_at, left_of, 
 
 -- what is counted pays a tick, where the limit is not passed
 abbrev pub CountsSo : World → Counted → Type 0
-CountsSo w (Passes limit) = Unit {0}
+CountsSo w (Passes limit w') = w'.reached ≡ w.reached
 CountsSo w (Counts w') = (suc w'.ticks ≡ w.ticks) × (w'.reached ≡ w.reached)
 
 less_one : (n : ℕ) → 0 < n → suc (n - 1) ≡ n
@@ -32,31 +32,31 @@ pub tick_is_paid : (w : World) → CountsSo w (pay_tick w)
 unfolding pay_tick
 tick_is_paid w = by_test (nat_lt 0 w.ticks) refl
   where
-    by_test : (t : Bool) → nat_lt 0 w.ticks ≡ t → CountsSo w (if t then Counts (record { store = w.store; ticks = w.ticks - 1; reached = w.reached }) else Passes Ticks)
+    by_test : (t : Bool) → nat_lt 0 w.ticks ≡ t → CountsSo w (if t then Counts (record { store = w.store; ticks = w.ticks - 1; reached = w.reached }) else Passes Ticks w)
     by_test true e = (less_one w.ticks (ltb-true 0 w.ticks e), refl)
-    by_test false e = tt
+    by_test false e = refl
 
 pub turn_is_paid : (limits : Limits) (turns : ℕ) (w : World) → CountsSo w (take_turn limits turns w)
 unfolding take_turn
 turn_is_paid limits turns w = by_test (nat_lt turns limits.loop)
   where
-    by_test : (t : Bool) → CountsSo w (if t then pay_tick w else Passes Loop)
+    by_test : (t : Bool) → CountsSo w (if t then pay_tick w else Passes Loop w)
     by_test true = tick_is_paid w
-    by_test false = tt
+    by_test false = refl
 
 -- a call pays a tick, and goes no deeper than the limit
 abbrev pub EntersSo : Limits → ℕ → World → Counted → Type 0
-EntersSo limits depth w (Passes limit) = Unit {0}
+EntersSo limits depth w (Passes limit w') = w'.reached ≡ w.reached
 EntersSo limits depth w (Counts w') = (suc w'.ticks ≡ w.ticks) × (w'.reached ≡ w.reached) × (depth < limits.depth)
 
 deeper_so : (limits : Limits) (depth : ℕ) (w : World) (c : Counted) → CountsSo w c → EntersSo limits depth w (goes_deeper c limits depth)
 unfolding goes_deeper
-deeper_so limits depth w (Passes limit) s = tt
+deeper_so limits depth w (Passes limit w') s = s
 deeper_so limits depth w (Counts w') s = by_test (nat_lt depth limits.depth) refl
   where
-    by_test : (t : Bool) → nat_lt depth limits.depth ≡ t → EntersSo limits depth w (if t then Counts w' else Passes Depth)
+    by_test : (t : Bool) → nat_lt depth limits.depth ≡ t → EntersSo limits depth w (if t then Counts w' else Passes Depth w')
     by_test true e = (s.0, s.1, ltb-true depth limits.depth e)
-    by_test false e = tt
+    by_test false e = s.1
 
 pub call_is_paid : (limits : Limits) (depth : ℕ) (w : World) → EntersSo limits depth w (enter limits depth w)
 unfolding enter

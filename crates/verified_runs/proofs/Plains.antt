@@ -239,7 +239,7 @@ module _ (allow : AllowList) (code : List FunCode) (limits : Limits) (well : IsW
 
   -- a turn goes back, and pays a tick
   turned : (to : ℕ) (c : Counted) → flow_of i ≡ flow.Turns to → CountsSo w c → Moved (on_turn code limits c to f below w [])
-  turned to (Passes limit) goes so = here.reached
+  turned to (Passes limit w') goes so = same_reached allow code limits w w' so here.reached
   turned to (Counts w') goes so =
       let lines = lines_are allow code limits function (frame_kinds f) here.fits in
       record {

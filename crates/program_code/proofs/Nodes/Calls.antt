@@ -208,7 +208,7 @@ module _ (funs : Program) (code : List FunCode) (limits : Limits) (m : Meaning) 
       → (f : Fun) (fa : FunAt funs code number f) (args : Env) → entry f.params values [] ≡ Some args → (t : Counted)
       → Sim code limits c h g (land_value funs code limits c (lying_of f.result) (suc q) st) Any (on_enter code limits t number fa.body [] (frame code limits c q l st' s) c.below s.world (words_at (lyings_of f.params) values) st)
       (entered funs limits m t (place code limits c) s e f.result f.body (Some args))
-  entered_runs c h g q number call s e l st st' values a x f fa args qe (Passes limit) = record { by = ended code limits _ }
+  entered_runs c h g q number call s e l st st' values a x f fa args qe (Passes limit w') = record { by = ended code limits _ }
   entered_runs c h g q number call s e l st st' values a x f fa args qe (Counts w) =
       let locals = words_at (lyings_of f.params) values ++ map start_of fa.body.locals in
       let scope = scope_of f.params 0 [] in

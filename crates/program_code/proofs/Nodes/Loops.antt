@@ -87,7 +87,7 @@ module _ (funs : Program) (code : List FunCode) (limits : Limits) (m : Meaning) 
 
       turn : (t : Counted) (s : State) (e : Env) (l st' : List Word) → Fits c.body g e l
           → Sim code limits c h g (land_flow funs code limits c j out) (Good true false) (on_turn code limits t (suc p) (frame code limits c (end_test line test) l st' s) c.below s.world []) (turned funs limits m t (place code limits c) s e test update body)
-      turn (Passes limit) s e l st' f = record { by = ended code limits _ }
+      turn (Passes limit w') s e l st' f = record { by = ended code limits _ }
       turn (Counts w) s e l st' f =
           and_then code limits (ih.stmts body c h g n (record { out = out; on = at_update }) (suc p) (record { world = w; turns = suc s.turns }) e l stands.1 under f) (λ flow s e l f good. again flow s e l good f)
 
@@ -138,6 +138,6 @@ module _ (funs : Program) (code : List FunCode) (limits : Limits) (m : Meaning) 
 
       turn : (t : Counted)
           → Sim code limits c h g land (Good true false) (on_turn code limits t (suc p) (frame code limits c (suc line) l (I (pos 1) ∷ []) s) c.below s.world []) (done_turn funs limits m t (place code limits c) s e body test)
-      turn (Passes limit) = record { by = ended code limits _ }
+      turn (Passes limit w') = record { by = ended code limits _ }
       turn (Counts w) =
           and_then code limits (ih.stmts body c h g n (record { out = out; on = at_test }) (suc p) (record { world = w; turns = suc s.turns }) e l stands.1 under f) (λ flow s e l f good. again flow s e l good f)
