@@ -1,0 +1,4 @@
+pub mod Built
+pub mod Doing
+pub mod Keeping
+pub mod Owners

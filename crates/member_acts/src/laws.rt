@@ -1,0 +1,14 @@
+ghost use Rattle.member_acts.specs.Laws.{BuiltAct, BuiltOwners, BuiltStand, MembersKeepFit};
+
+/// A law that callers may cite: where the heap and the arguments fit a program or a code, what comes of a member fits it too.
+pub fn members_keep_fit()
+    ensures { MembersKeepFit }
+{}
+
+/// Laws of the members that are built: what they do is said of them alone, and they are the members of the catalogue's classes up
+/// to StringBuilder and of its exceptions.
+pub fn built_laws()
+    ensures act { BuiltAct }
+    ensures owners { BuiltOwners }
+    ensures stand { BuiltStand }
+{}
