@@ -1,4 +1,5 @@
 pub mod Built
 pub mod Doing
 pub mod Keeping
+pub mod Leaving
 pub mod Owners

@@ -1,8 +1,10 @@
-ghost use Rattle.member_acts.specs.Laws.{BuiltAct, BuiltOwners, BuiltStand, MembersKeepFit};
+ghost use Rattle.member_acts.specs.Laws.{BuiltAct, BuiltOwners, BuiltStand, MembersKeepFit, MembersLeaveObjects};
 
-/// A law that callers may cite: where the heap and the arguments fit a program or a code, what comes of a member fits it too.
+/// Laws that callers may cite: where the heap and the arguments fit a program or a code, what comes of a member fits it too; and
+/// each object is there afterwards, of the same kind.
 pub fn members_keep_fit()
-    ensures { MembersKeepFit }
+    ensures fit { MembersKeepFit }
+    ensures objects { MembersLeaveObjects }
 {}
 
 /// Laws of the members that are built: what they do is said of them alone, and they are the members of the catalogue's classes up
