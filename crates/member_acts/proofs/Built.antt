@@ -19,7 +19,7 @@ numbers_agree : agree_below is_of_numbers number_range 58 ≡ true
 unfolding is_of_numbers numbers.numbered numbers.members
 numbers_agree = refl
 
-no_number : (n : ℕ) → 58 ≤ n → is_of_numbers n ≡ false
+pub no_number : (n : ℕ) → 58 ≤ n → is_of_numbers n ≡ false
 unfolding is_of_numbers numbers.numbered numbers.members
 no_number n h = ap (λ found. is_some (numbers.member_in found)) (slice_get_past numbers.members n h)
 
@@ -34,7 +34,7 @@ unfolding is_of_texts texts.numbered texts.of_sequences texts.of_texts texts.of_
 texts_agree = refl
 
 -- the three tables, past their ends
-no_text : (n : ℕ) → 225 ≤ n → is_of_texts n ≡ false
+pub no_text : (n : ℕ) → 225 ≤ n → is_of_texts n ≡ false
 unfolding is_of_texts texts.numbered texts.of_sequences texts.of_texts texts.of_exceptions
 no_text n h =
     ap is_some

@@ -2,4 +2,6 @@ pub mod Built
 pub mod Doing
 pub mod Keeping
 pub mod Leaving
+pub mod NumberTypes
 pub mod Owners
+pub mod Types

@@ -1,4 +1,5 @@
 ghost use Rattle.member_acts.specs.Laws.{BuiltAct, BuiltOwners, BuiltStand, MembersKeepFit, MembersLeaveObjects};
+ghost use Rattle.member_acts.specs.Types.{MembersGiveTypes};
 
 /// Laws that callers may cite: where the heap and the arguments fit a program or a code, what comes of a member fits it too; and
 /// each object is there afterwards, of the same kind.
@@ -13,4 +14,9 @@ pub fn built_laws()
     ensures act { BuiltAct }
     ensures owners { BuiltOwners }
     ensures stand { BuiltStand }
+{}
+
+/// A law that callers may cite: where the arguments suit a member, the receiver first, a result of a primitive type is of it.
+pub fn members_give_types()
+    ensures { MembersGiveTypes }
 {}

@@ -4,5 +4,5 @@
 mod laws;
 mod member;
 
-pub use laws::{built_laws, members_keep_fit};
+pub use laws::{built_laws, members_give_types, members_keep_fit};
 pub use member::{call, is_built};
