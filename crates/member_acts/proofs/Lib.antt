@@ -4,4 +4,5 @@ pub mod Keeping
 pub mod Leaving
 pub mod NumberTypes
 pub mod Owners
+pub mod Receivers
 pub mod Types

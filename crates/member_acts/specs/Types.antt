@@ -9,14 +9,15 @@ use Rattle.allowlist.specs.declared.member.MemberKind.{MemberKind}
 use Rattle.allowlist.specs.declared.member.MemberKind.TheVariants as kind
 use Rattle.allowlist.specs.declared.member.MemberType.{MemberType}
 use Rattle.allowlist.specs.Catalogue.{catalogue}
+use Rattle.object_values.specs.declared.object.Object.{Object}
 use Rattle.object_values.specs.declared.value.Value.{Value}
 use Rattle.object_heap.specs.Effects.{Effect, Gives, Throws, NoRoom}
-use Rattle.object_heap.specs.Fits.{is_primitive}
+use Rattle.object_heap.specs.Fits.{kinds, Rules, Fits, is_primitive, value_is_of}
 use Rattle.object_heap.specs.Store.{Store}
-use Rattle.number_ops.specs.Operators.{number_in}
+use Rattle.number_ops.specs.Operators.{number_in, is_null}
 use Rattle.member_acts.specs.Members.{does}
 
--- what is asked of a value: nothing, a value of a primitive type, or a number of any type
+-- what is asked of a value: nothing, a value of a primitive type, or a number of any type, as which a char counts too
 pub data Asked : Type 0 where
   Anything : Asked
   Of : (primitive : Primitive) → Asked
@@ -75,3 +76,8 @@ ActGives asked (Some effect) = EffectGives asked effect
 abbrev pub MembersGiveTypes : Type 0
 MembersGiveTypes = (number : ℕ) (member : MemberType) (arguments : List Value) (store : Store) → slice_get catalogue number ≡ Some member
     → suit_all (asked_by_member member) arguments ≡ true → ActGives (given_by member.result) (does number arguments store)
+
+-- in a heap that fits, a value of a class, which is not null, suits as a receiver of that class
+abbrev pub ReceiversSuit : Type 0
+ReceiversSuit = (rules : Rules) (objects : List Object) (class : ℕ) (value : Value) → Fits rules objects → is_null value ≡ false → value_is_of (kinds objects) class value ≡ true
+    → suits (asked_of_class class) value ≡ true

@@ -1,5 +1,5 @@
 ghost use Rattle.member_acts.specs.Laws.{BuiltAct, BuiltOwners, BuiltStand, MembersKeepFit, MembersLeaveObjects};
-ghost use Rattle.member_acts.specs.Types.{MembersGiveTypes};
+ghost use Rattle.member_acts.specs.Types.{MembersGiveTypes, ReceiversSuit};
 
 /// Laws that callers may cite: where the heap and the arguments fit a program or a code, what comes of a member fits it too; and
 /// each object is there afterwards, of the same kind.
@@ -16,7 +16,9 @@ pub fn built_laws()
     ensures stand { BuiltStand }
 {}
 
-/// A law that callers may cite: where the arguments suit a member, the receiver first, a result of a primitive type is of it.
+/// Laws that callers may cite: where the arguments suit a member, the receiver first, a result of a primitive type is of it; and a
+/// receiver that is of its class, and not null, suits.
 pub fn members_give_types()
-    ensures { MembersGiveTypes }
+    ensures results { MembersGiveTypes }
+    ensures receivers { ReceiversSuit }
 {}
