@@ -1,0 +1,8 @@
+pub mod Built
+pub mod Doing
+pub mod Keeping
+pub mod Leaving
+pub mod NumberTypes
+pub mod Owners
+pub mod Receivers
+pub mod Types

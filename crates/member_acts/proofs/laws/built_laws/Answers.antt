@@ -1,0 +1,12 @@
+use Rattle.member_acts.proofs.Doing.{built_act}
+use Rattle.member_acts.proofs.Owners.{built_owners, built_stand}
+use Rattle.member_acts.proofs.laws.built_laws.Goals as goal
+
+pub returns-clause-act : goal.returns-clause-act
+returns-clause-act c = built_act
+
+pub returns-clause-owners : goal.returns-clause-owners
+returns-clause-owners c = built_owners
+
+pub returns-clause-stand : goal.returns-clause-stand
+returns-clause-stand c = built_stand
