@@ -1,5 +1,5 @@
-//! Prints what a loop of a million turns and as many calls take, in nanoseconds an instruction. It measures where it is given an
-//! argument, and else prints nothing: `rt run -- times`.
+//! Prints what a loop of a million turns, as many calls, and a million instructions in a straight line take, in nanoseconds an
+//! instruction. It measures where it is given an argument, and else prints nothing: `rt run -- times`.
 #![tactic(auto)]
 
 use code_machine::{Activation, Limits};
@@ -20,11 +20,23 @@ const LOOP: &str =
 const CALLS: &str =
     "painless 1\nfun 0 loop V - I\ni 0\nstore 0\ngoto 10\nload 0\ncall 1\npop\nload 0\ni 1\nadd.i\nstore 0\nload 0\ni 1000000\nlt.i\nloop 3\nret\nend\nfun 1 loop I I -\nload 0\nret\nend\n";
 
+// So often stands s += 1 in a straight line.
+const SUMS: usize = 250_000;
+
 const LIMITS: Limits = Limits {
     loops: 1_000_000,
     depth: 256,
     ticks: 2_000_000,
 };
+
+/// The listing of int s = 0; s += 1; s += 1; .. s
+fn straight(alloc: Global) -> Result<String, AllocError> {
+    let sums = "load 0\ni 1\nadd.i\nstore 0\n".repeat(alloc, SUMS)?;
+    let lines = sums.as_str();
+    format!(in alloc;
+        "painless 1\nfun 0 loop R - I\ni 0\nstore 0\n{lines}load 0\nbox int\nret\nend\n"
+    )
+}
 
 /// How many instructions a run takes, in turns of so many. It is 0 where the run does not end.
 fn run(alloc: Global, code: &Code, q: u64) -> Result<u64, AllocError> {
@@ -61,7 +73,14 @@ fn main(rt: HostRuntime) -> io::Result<()> {
     if env::args(&rt)?.nth(1).is_none() {
         return Ok(());
     }
-    for (name, listing) in [("a loop", LOOP), ("calls", CALLS)] {
+    let Ok(line) = straight(rt.alloc()) else {
+        return Ok(());
+    };
+    for (name, listing) in [
+        ("a loop", LOOP),
+        ("calls", CALLS),
+        ("a straight line", line.as_str()),
+    ] {
         let Ok(code) = read_listing(rt.alloc(), listing.as_bytes()) else {
             return Ok(());
         };
