@@ -1,4 +1,5 @@
 mod deep;
+mod piece;
 mod pieces;
 mod places;
 mod printer;

@@ -1,3 +1,4 @@
+mod operands;
 mod operators;
 mod rows;
 mod running;
@@ -14,8 +15,8 @@ fn operators_over_each_pair_of_types(rt: HostRuntime) -> Result<(), Fail> {
         operators::CHARS,
         operators::INTS,
         operators::LONGS,
-        operators::UNARY,
-        operators::BOOLEANS,
+        operands::UNARY,
+        operands::BOOLEANS,
     ] {
         all_cells_end(&rt, &compiler, table)?;
     }

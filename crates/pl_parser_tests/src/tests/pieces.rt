@@ -1,6 +1,7 @@
 //! What is still to be written of a tree: words, and nodes by their kinds. The nodes of a kind stand on a stack of their own, so that
 //! no value is of many kinds.
 
+use super::piece::Piece;
 use super::words::{
     access_sign, class_word, postfix_sign, prefix_sign, primitive_word, sign_of, unary_sign,
     word_of,
@@ -11,34 +12,6 @@ use pl_tree::{
 };
 use plain_data::{Items, Subtree, Text};
 use std::alloc::{AllocError, Global};
-
-/// A word, or the kind of a node.
-#[derive(Clone, Copy)]
-pub enum Piece {
-    Word(&'static str),
-    /// One that no blank follows.
-    Open(&'static str),
-    Place(u32),
-    /// The `[]` of a type.
-    Bracket(u32),
-    /// A blank, unless an opening word is before it.
-    Blank,
-    /// A comma and a blank, likewise.
-    Comma,
-    Spelling,
-    Type,
-    Parameter,
-    Expr,
-    Entry,
-    Argument,
-    Block,
-    Body,
-    Statement,
-    Catch,
-    Declaration,
-    Variable,
-    Function,
-}
 
 /// What is still to be written, the next at the end. What is put on is written before what stands there.
 #[derive(Drop)]

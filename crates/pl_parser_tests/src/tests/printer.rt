@@ -1,6 +1,7 @@
 //! Trees in a readable form: in place of a node its pieces, as long as there is one.
 
-use super::pieces::{Piece, Pieces};
+use super::piece::Piece;
+use super::pieces::Pieces;
 use pl_tree::Tree;
 use std::alloc::{AllocError, Global};
 
