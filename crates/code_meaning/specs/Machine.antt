@@ -5,6 +5,8 @@ use Rattle.pl_types.specs.declared.ty.Ty.{Ty}
 use Rattle.pl_types.specs.declared.ty.Ty.TheVariants as ty
 use Rattle.pl_types.specs.Classes.{class_is_below}
 use Rattle.pl_types.specs.Names.{class_of_full}
+use Rattle.pl_types.specs.Texts.{type_of_full}
+use Rattle.pl_units.specs.Utf16.{units}
 use Rattle.object_values.specs.declared.value.Value.{Value}
 use Rattle.object_values.specs.declared.value.Value.TheVariants as v
 use Rattle.object_values.specs.declared.object.Object.{Object}
@@ -14,6 +16,12 @@ use Rattle.object_values.specs.declared.object.Owner.TheVariants.{Script}
 use Rattle.arithmetic.specs.Arithmetic.{wrapped, low_bits}
 use Rattle.number_ops.specs.Outcomes.{effect, zero_divisor}
 use Rattle.number_ops.specs.Casts.{cast_at_run_time}
+use Rattle.number_ops.specs.Operators.{concatenated}
+use Rattle.number_ops.specs.Relations.{equal, is_same, is_instance, thrown}
+use Rattle.pl_code.specs.declared.kinds.Quoting.{Quoting}
+use Rattle.pl_code.specs.declared.kinds.Quoting.TheVariants as quoting
+use Rattle.pl_code.specs.declared.kinds.Typed.{Typed}
+use Rattle.pl_code.specs.declared.kinds.Typed.TheVariants as typed
 use Rattle.pl_code.specs.declared.kinds.Plain.{Plain}
 use Rattle.pl_code.specs.declared.kinds.Plain.TheVariants as plain
 use Rattle.pl_code.specs.declared.kinds.Numbered.{Numbered}
@@ -28,7 +36,7 @@ use Rattle.pl_code.specs.declared.code.Instruction.TheVariants as i
 use Rattle.run_world.specs.World.{World, Limits, Room, End, Result, Uncaught, Limited, Outcome, Given, Raised, Full, acts_in, Counted, Counts, Passes, take_turn, enter}
 use Rattle.code_meaning.specs.declared.word.Word.{Word}
 use Rattle.code_meaning.specs.declared.word.Word.TheVariants.{I, J, R}
-use Rattle.code_meaning.specs.Words.{start_of, word_of, Calculation, NoRow, Calculates, calculation, boxed, unboxed}
+use Rattle.code_meaning.specs.Words.{start_of, word_of, Calculation, NoRow, Calculates, calculation, boxed, unboxed, bit}
 
 pub record Frame : Type 0 where
   -- the script's code, or the prelude's
@@ -126,6 +134,10 @@ abbrev pub on_reference : Word → (Value → Next) → Next
 on_reference (R value) next = next value
 on_reference other next = Stuck
 
+abbrev pub on_type : Option Ty → (Ty → Next) → Next
+on_type None next = Stuck
+on_type (Some of) next = next of
+
 abbrev pub on_value : Option Value → (Value → Next) → Next
 on_value None next = Stuck
 on_value (Some value) next = next value
@@ -135,6 +147,11 @@ abbrev pub unless_zero : ℤ → Next → Next → Next
 unless_zero (pos zero) first second = second
 unless_zero (pos (suc a)) first second = first
 unless_zero (negsuc a) first second = first
+
+-- the first where the value is null
+abbrev pub if_null : Value → Next → Next → Next
+if_null v.Null first second = first
+if_null value first second = second
 
 -- so many words off the stack, the deepest first
 abbrev pub take_words : ℕ → List Word → List Word → Option (List Word × List Word)
@@ -182,6 +199,12 @@ module _ (code : List FunCode) (limits : Limits) where
   on_outcome (Given value w') word f below w stack = to_line f below w' (suc f.line) (word value ∷ stack)
   on_outcome (Raised id w') word f below w stack = unwind code (f ∷ below) id w'
   on_outcome Full word f below w stack = Ends (Limited Room w)
+
+  -- what is thrown; what gives a value throws nothing
+  abbrev pub on_thrown : Outcome Value → Frame → List Frame → World → Next
+  on_thrown (Given value w') f below w = Stuck
+  on_thrown (Raised id w') f below w = unwind code (f ∷ below) id w'
+  on_thrown Full f below w = Ends (Limited Room w)
 
   abbrev pub on_calculation : Calculation → Frame → List Frame → World → Next
   on_calculation NoRow f below w = Stuck
@@ -233,6 +256,16 @@ module _ (code : List FunCode) (limits : Limits) where
   plain_act plain.IntToShort f below w = on_top f.stack (λ word stack. on_int word (λ a. to_line f below w (suc f.line) (I (wrapped w16 a) ∷ stack)))
   plain_act plain.IntToChar f below w = on_top f.stack (λ word stack. on_int word (λ a. to_line f below w (suc f.line) (I (pos (low_bits 16 a)) ∷ stack)))
   plain_act plain.Ret f below w = returns (slice_get code f.fun) f.stack (λ result. gives_back below f.due result w)
+  plain_act plain.Concat f below w =
+      on_top f.stack (λ upper rest. on_reference upper (λ b. on_top rest (λ lower stack. on_reference lower (λ a.
+      on_outcome (acts_in w (effect w.store (concatenated w.store.objects a b))) R f below w stack))))
+  plain_act plain.Equal f below w =
+      on_top f.stack (λ upper rest. on_reference upper (λ b. on_top rest (λ lower stack. on_reference lower (λ a.
+      on_outcome (acts_in w (effect w.store (equal w.store.objects a b))) unboxed f below w stack))))
+  plain_act plain.Same f below w =
+      on_top f.stack (λ upper rest. on_reference upper (λ b. on_top rest (λ lower stack. on_reference lower (λ a.
+      to_line f below w (suc f.line) (I (bit (is_same a b)) ∷ stack)))))
+  plain_act plain.Throw f below w = on_top f.stack (λ word stack. on_reference word (λ value. on_thrown (acts_in w (thrown w.store value)) f below w))
   plain_act other f below w = on_stack (copied other f.stack) (λ stack. to_line f below w (suc f.line) stack)
 
   abbrev pub numbered_act : Numbered → ℕ → Frame → List Frame → World → Next
@@ -245,12 +278,29 @@ module _ (code : List FunCode) (limits : Limits) where
       on_top f.stack (λ word stack. on_int word (λ a. unless_zero a (to_line f below w (suc f.line) stack) (to_line f below w to stack)))
   numbered_act numbered.IfNotZero to f below w =
       on_top f.stack (λ word stack. on_int word (λ a. unless_zero a (to_line f below w to stack) (to_line f below w (suc f.line) stack)))
+  numbered_act numbered.IfNull to f below w =
+      on_top f.stack (λ word stack. on_reference word (λ value. if_null value (to_line f below w to stack) (to_line f below w (suc f.line) stack)))
   numbered_act numbered.Loop to f below w =
       on_top f.stack (λ word stack. on_int word (λ a. unless_zero a (on_turn (take_turn limits f.turns w) to f below w stack) (to_line f below w (suc f.line) stack)))
   numbered_act numbered.Call k f below w = on_call (slice_get code k) k f below w
   numbered_act other k f below w = Stuck
 
-  -- The rows that are built: constants, locals, copies, arithmetic, number casts, boxes, jumps, loops, calls and returns.
+  abbrev pub quoted_act : Quoting → List ℕ → Frame → List Frame → World → Next
+  quoted_act quoting.Constant text f below w = to_line f below w (suc f.line) (R (v.Str (units text)) ∷ f.stack)
+  quoted_act other text f below w = Stuck
+
+  abbrev pub typed_act : Typed → Ty → Frame → List Frame → World → Next
+  typed_act typed.IsA of f below w =
+      on_top f.stack (λ word stack. on_reference word (λ value. to_line f below w (suc f.line) (I (bit (is_instance w.store.objects value of)) ∷ stack)))
+  typed_act other of f below w = Stuck
+
+  abbrev pub cast_act : Ty → Bool → Frame → List Frame → World → Next
+  cast_act to written f below w =
+      on_top f.stack (λ word stack. on_reference word (λ value.
+      on_outcome (acts_in w (effect w.store (cast_at_run_time w.store.objects value to written))) R f below w stack))
+
+  -- The rows that are built: constants, locals, copies, arithmetic, number casts, boxes, jumps, loops, calls and returns; texts, equality,
+  -- casts and instances of references, and `throw`.
   abbrev pub act : Instruction → Frame → List Frame → World → Next
   act (i.Plain p) f below w = plain_act p f below w
   act (i.Arithmetic o width) f below w = on_calculation (calculation o width f.stack) f below w
@@ -261,6 +311,9 @@ module _ (code : List FunCode) (limits : Limits) where
   act (i.Unboxing p way) f below w =
       on_top f.stack (λ word stack. on_reference word (λ value.
       on_outcome (acts_in w (effect w.store (cast_at_run_time w.store.objects value (ty.Prim p) (is_written way)))) unboxed f below w stack))
+  act (i.Quoted q text) f below w = quoted_act q text f below w
+  act (i.Typed t of) f below w = on_type (type_of_full of) (λ of. typed_act t of f below w)
+  act (i.Cast to way) f below w = on_type (type_of_full to) (λ to. cast_act to (is_written way) f below w)
   act other f below w = Stuck
 
   abbrev pub lines_of : Option FunCode → List Instruction

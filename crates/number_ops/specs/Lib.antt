@@ -8,3 +8,4 @@ pub mod Numbers
 pub mod Operators
 pub mod Order
 pub mod Outcomes
+pub mod Relations

@@ -12,10 +12,12 @@ mod numbers;
 mod operators;
 mod order;
 mod outcome;
+mod relations;
 mod values;
 
 pub use arithmetic::{Num, Op, Zero, arith};
 pub use casts::to_type;
-pub use laws::operators_keep_fit;
+pub use laws::{operators_keep_fit, relation_laws};
 pub use member::call;
 pub use operators::{concatenate, def_op};
+pub use relations::{equal, is_instance, is_same, throw_value};

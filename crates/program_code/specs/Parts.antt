@@ -1,5 +1,5 @@
--- The instructions of what is strict: constants, operators, casts.
-use Rattle.std.specs.Prelude.{List, [], ◌∷◌, ◌++◌, pos}
+-- The instructions of what is strict: constants, texts, operators, casts.
+use Rattle.std.specs.Prelude.{ℕ, List, [], ◌∷◌, ◌++◌, pos}
 use Rattle.pl_types.specs.declared.primitive.Primitive.{Primitive}
 use Rattle.pl_types.specs.declared.primitive.Primitive.TheVariants as prim
 use Rattle.pl_types.specs.declared.ty.Ty.{Ty, out-Ty}
@@ -24,7 +24,17 @@ use Rattle.typed_tree.specs.declared.operation.Operation.TheVariants as operatio
 use Rattle.typed_tree.specs.declared.operation.Gives.{Gives}
 use Rattle.typed_tree.specs.declared.operation.Gives.TheVariants as gives
 use Rattle.code_meaning.specs.Words.{bit}
+use Rattle.pl_types.specs.declared.classes.TheConstants.{STRING}
+use Rattle.pl_types.specs.declared.ty.Ty.TheVariants as t
+use Rattle.pl_types.specs.Texts.{full_text}
+use Rattle.pl_code.specs.declared.kinds.Quoting.TheVariants as quoting
+use Rattle.pl_code.specs.declared.kinds.Typed.TheVariants as typed
+use Rattle.pl_code.specs.declared.kinds.Way.{Way}
+use Rattle.pl_code.specs.declared.kinds.Way.TheVariants as way
 use Rattle.program_code.specs.Lying.{Lying, Bare, Whole, Absent}
+
+abbrev pub text_code : List ℕ → Instruction
+text_code text = i.Quoted quoting.Constant text
 
 abbrev pub constant_code : Constant → Instruction
 constant_code constant.Null = i.Plain plain.Null
@@ -82,11 +92,33 @@ boolean_code op.Ne = i.Arithmetic a.Ne width.Int ∷ []
 boolean_code op.Not = i.Int (pos 0) ∷ i.Arithmetic a.Eq width.Int ∷ []
 boolean_code o = []
 
+-- a truth value, the other way round
+abbrev pub turned_round : List Instruction
+turned_round = i.Int (pos 0) ∷ i.Arithmetic a.Eq width.Int ∷ []
+
 abbrev pub operator_code : Operator → List Instruction
 operator_code (operator.Int o) = arithmetic_code o width.Int
 operator_code (operator.Long o) = arithmetic_code o width.Long
 operator_code (operator.Boolean o) = boolean_code o
+operator_code operator.Equal = i.Plain plain.Equal ∷ []
+operator_code operator.NotEqual = i.Plain plain.Equal ∷ turned_round
+operator_code operator.Same = i.Plain plain.Same ∷ []
+operator_code operator.NotSame = i.Plain plain.Same ∷ turned_round
+operator_code operator.Concat = i.Plain plain.Concat ∷ []
 operator_code other = []
+
+-- how the operands of an operator lie, and how what it gives does
+abbrev pub operator_takes : Operator → Lying
+operator_takes operator.Equal = Whole
+operator_takes operator.NotEqual = Whole
+operator_takes operator.Same = Whole
+operator_takes operator.NotSame = Whole
+operator_takes operator.Concat = Whole
+operator_takes other = Bare
+
+abbrev pub operator_gives : Operator → Lying
+operator_gives operator.Concat = Whole
+operator_gives other = Bare
 
 -- ---- casts
 
@@ -123,29 +155,56 @@ number_code prim.Char to = from_char_code to
 number_code prim.Int to = from_int_code to
 number_code prim.Long to = from_long_code to
 
-abbrev pub cast_code : Cast → List Instruction
-cast_code (cast.Number from to) = number_code from to
-cast_code (cast.Wrap from to) = number_code from to ++ i.Boxing to ∷ []
-cast_code other = []
+-- a cast that is done when the script runs: to a primitive type the value is taken out of its box
+abbrev pub run_time_code_layer : Ty-F Ty → Ty → Way → List Instruction
+run_time_code_layer (Ty-F.Prim p) to way = i.Unboxing p way ∷ []
+run_time_code_layer other to way = i.Cast (full_text to) way ∷ []
 
--- how what a cast takes lies, and how what it gives does; as it did where it is none of numbers
+abbrev pub run_time_code : Ty → Way → List Instruction
+run_time_code to way = run_time_code_layer (out-Ty to) to way
+
+-- a cast to a type
+abbrev pub cast_code : Cast → Ty → List Instruction
+cast_code (cast.Number from into) to = number_code from into
+cast_code (cast.Wrap from into) to = number_code from into ++ i.Boxing into ∷ []
+cast_code cast.Implicit to = run_time_code to way.Implicit
+cast_code cast.Explicit to = run_time_code to way.Explicit
+cast_code cast.CharToText to = i.Boxing prim.Char ∷ i.Cast (full_text (t.Class STRING)) way.Explicit ∷ []
+cast_code cast.TextToChar to = i.Unboxing prim.Char way.Explicit ∷ []
+cast_code other to = []
+
+-- how what a cast takes lies, and how what it gives to a type does; one that keeps the value leaves it as it lies
 abbrev pub cast_takes : Cast → Lying → Lying
-cast_takes (cast.Number from to) lying = Bare
-cast_takes (cast.Wrap from to) lying = Bare
+cast_takes (cast.Number from into) lying = Bare
+cast_takes (cast.Wrap from into) lying = Bare
+cast_takes cast.CharToText lying = Bare
+cast_takes cast.Implicit lying = Whole
+cast_takes cast.Explicit lying = Whole
+cast_takes cast.TextToChar lying = Whole
 cast_takes other lying = lying
 
-abbrev pub cast_gives : Cast → Lying → Lying
-cast_gives (cast.Number from to) lying = Bare
-cast_gives (cast.Wrap from to) lying = Whole
-cast_gives other lying = lying
+abbrev pub run_time_lies : Ty-F Ty → Lying
+run_time_lies (Ty-F.Prim p) = Bare
+run_time_lies other = Whole
+
+abbrev pub cast_gives : Cast → Ty → Lying → Lying
+cast_gives (cast.Number from into) to lying = Bare
+cast_gives (cast.Wrap from into) to lying = Whole
+cast_gives cast.CharToText to lying = Whole
+cast_gives cast.Implicit to lying = run_time_lies (out-Ty to)
+cast_gives cast.Explicit to lying = run_time_lies (out-Ty to)
+cast_gives cast.TextToChar to lying = Bare
+cast_gives other to lying = lying
 
 -- ---- strict operations
 
-abbrev pub operation_code : Operation → List Instruction
-operation_code (operation.Operator o) = operator_code o
-operation_code (operation.Cast c) = cast_code c
-operation_code (operation.Function k) = i.Numbered numbered.Call k ∷ []
-operation_code other = []
+-- an operation that gives a value of a type
+abbrev pub operation_code : Operation → Ty → List Instruction
+operation_code (operation.Operator o) of = operator_code o
+operation_code (operation.Cast c) of = cast_code c of
+operation_code (operation.InstanceOf is) of = i.Typed typed.IsA (full_text is) ∷ []
+operation_code (operation.Function k) of = i.Numbered numbered.Call k ∷ []
+operation_code other of = []
 
 -- a value that is dropped
 abbrev pub pops : Lying → List Instruction

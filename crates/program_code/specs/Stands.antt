@@ -22,7 +22,10 @@ pub use Rattle.program_meaning.specs.Falls.{falls, all_fall, continues, any_cont
 use Rattle.program_meaning.specs.Tree.{Name, Expr, Literal, Quoted, Local, Apply, Guarded, Logic, Conditional, Elvis, Assign, Modify, Lambda, Reference, NewReference, Exprs, None', One, Maybe, Missing, Given, Stmt, Do, If, While, DoWhile, ForEach, Try, Block, Break, Continue, Return, Throw, Stmts, Finish, Then, Declare, Variable, Fun, Program, type_of}
 use Rattle.code_meaning.specs.Machine.{Handlers, traps_at}
 use Rattle.program_code.specs.Lying.{Lying, Bare, Whole, Absent, lying_of, kind_of, result_of}
-use Rattle.program_code.specs.Parts.{constant_code, default_code, operator_code, cast_code, cast_takes, cast_gives, operation_code, pops, kept_before, kept_behind}
+use Rattle.pl_types.specs.declared.conversion.Cast.{Cast}
+use Rattle.pl_types.specs.declared.conversion.Cast.TheVariants as cast
+use Rattle.pl_types.specs.Texts.{is_known}
+use Rattle.program_code.specs.Parts.{constant_code, text_code, default_code, operator_code, operator_takes, operator_gives, cast_code, cast_takes, cast_gives, operation_code, pops, kept_before, kept_behind}
 
 pub record Entry : Type 0 where
   pub name : Name
@@ -58,25 +61,29 @@ end_all line (one ∷ more) = end_all (suc line) more
 
 -- ---- where a part's code ends
 
--- of a change: where its right side begins, and the line of the write behind it
-abbrev pub change_first : Gives → Change → ℕ → ℕ
-change_first gives change p = end_all (end_all (suc p) (kept_before gives)) (cast_code change.before)
+-- of a change of a variable of a type: where its right side begins, and the line of the write behind it
+abbrev pub change_first : Gives → Change → Ty → ℕ → ℕ
+change_first gives change of p = end_all (end_all (suc p) (kept_before gives)) (cast_code change.before of)
 
-abbrev pub change_last : Gives → Change → ℕ → ℕ
-change_last gives change q = end_all (end_all (end_all q (operator_code change.operator)) (cast_code change.after)) (kept_behind gives)
+abbrev pub change_last : Gives → Change → Ty → ℕ → ℕ
+change_last gives change of q = end_all (end_all (end_all q (operator_code change.operator)) (cast_code change.after of)) (kept_behind gives)
+
+-- of an elvis: where its right side begins, behind the jumps and the null that is dropped
+abbrev pub elvis_right : ℕ → ℕ
+elvis_right q = suc (suc (suc (suc q)))
 
 abbrev mutual
   pub end_expr : ℕ → Expr → ℕ
   end_expr p (Literal at of c) = suc p
-  end_expr p (Quoted at of text) = p
+  end_expr p (Quoted at of text) = suc p
   end_expr p (Local at of x) = suc p
-  end_expr p (Apply at of o parts) = end_all (end_exprs p parts) (operation_code o)
+  end_expr p (Apply at of o parts) = end_all (end_exprs p parts) (operation_code o of)
   end_expr p (Guarded at of o parts) = p
   end_expr p (Logic at of o left right) = suc (suc (end_expr (suc (end_expr p left)) right))
   end_expr p (Conditional at of c a b) = end_expr (suc (end_expr (suc (end_expr p c)) a)) b
-  end_expr p (Elvis at of left right) = p
+  end_expr p (Elvis at of left right) = end_expr (elvis_right (end_expr p left)) right
   end_expr p (Assign at of to parts value) = suc (suc (end_expr p value))
-  end_expr p (Modify at of to parts change right gives) = suc (change_last gives change (end_expr (change_first gives change p) right))
+  end_expr p (Modify at of to parts change right gives) = suc (change_last gives change of (end_expr (change_first gives change of p) right))
   end_expr p (Lambda at of interface function) = p
   end_expr p (Reference at of interface class name) = p
   end_expr p (NewReference at of interface made) = p
@@ -91,19 +98,39 @@ abbrev pub lyings : Exprs → List Lying
 lyings None' = []
 lyings (One a others) = lying_of (type_of a) ∷ lyings others
 
--- all parts lie as numbers
-abbrev pub AreBare : List Lying → Type 0
-AreBare [] = Unit {0}
-AreBare (k ∷ ks) = (k ≡ Bare) × AreBare ks
+-- all parts lie alike
+abbrev pub AllLie : Lying → List Lying → Type 0
+AllLie k [] = Unit {0}
+AllLie k (each ∷ ks) = (each ≡ k) × AllLie k ks
 
--- how the parts of an operation and what it gives lie; k is how it gives
-abbrev pub Fitting : Program → Operation → List Lying → Lying → Type 0
-Fitting funs (operation.Operator o) ks k = AreBare ks × (k ≡ Bare)
-Fitting funs (operation.Cast c) (given ∷ []) k = (given ≡ cast_takes c given) × (k ≡ cast_gives c given)
-Fitting funs (operation.Cast c) other k = Unit {0}
-Fitting funs (operation.Function number) ks k =
-    (f : Fun) → slice_get funs number ≡ Some f → (ks ≡ map (λ (x : Variable). lying_of x.of) f.params) × (k ≡ lying_of f.result)
-Fitting funs other ks k = Unit {0}
+-- a type that a cast asks for when the script runs is one of the catalogue
+abbrev pub AsksKnown : Cast → Ty → Type 0
+AsksKnown cast.Implicit to = is_known to ≡ true
+AsksKnown cast.Explicit to = is_known to ≡ true
+AsksKnown other to = Unit {0}
+
+-- a cast to a type takes what lies so, and gives what lies so
+pub record CastFits (c : Cast) (to : Ty) (given gives : Lying) : Type 0 where
+  pub takes : given ≡ cast_takes c given
+  pub lies : gives ≡ cast_gives c to given
+  pub asks : AsksKnown c to
+
+-- how the parts of an operation lie, and what it gives, which is of a type
+abbrev pub Fitting : Program → Operation → List Lying → Ty → Type 0
+Fitting funs (operation.Operator o) ks of = AllLie (operator_takes o) ks × (lying_of of ≡ operator_gives o)
+Fitting funs (operation.Cast c) (given ∷ []) of = CastFits c of given (lying_of of)
+Fitting funs (operation.Cast c) other of = Unit {0}
+Fitting funs (operation.InstanceOf is) ks of = AllLie Whole ks × (lying_of of ≡ Bare) × (is_known is ≡ true)
+Fitting funs (operation.Function number) ks of =
+    (f : Fun) → slice_get funs number ≡ Some f → (ks ≡ map (λ (x : Variable). lying_of x.of) f.params) × (lying_of of ≡ lying_of f.result)
+Fitting funs other ks of = Unit {0}
+
+-- A change of a variable of a type: its value is cast to what the operator takes, and what that gives back to what the variable holds.
+pub record ChangeFits (change : Change) (of : Ty) (right : Lying) : Type 0 where
+  pub present : lying_of of ≢ Absent
+  pub before : CastFits change.before of (lying_of of) (operator_takes change.operator)
+  pub right : right ≡ operator_takes change.operator
+  pub after : CastFits change.after of (operator_gives change.operator) (lying_of of)
 
 -- the value of the left side that settles the whole, and the jump to it
 abbrev pub settled : Logical → Instruction
@@ -121,10 +148,10 @@ literal_lies c = Bare
 abbrev mutual
   pub ExprAt : Program → FunCode → Handlers → Scope → ℕ → Expr → Type 0
   ExprAt funs f h g p (Literal at of c) = At f h p (constant_code c) × (lying_of of ≡ literal_lies c)
-  ExprAt funs f h g p (Quoted at of text) = Unit {0}
+  ExprAt funs f h g p (Quoted at of text) = At f h p (text_code text) × (lying_of of ≡ Whole)
   ExprAt funs f h g p (Local at of x) = (y : Entry) × IsEntry g x y × (lying_of of ≡ lying_of y.of) × At f h p (i.Numbered numbered.Load y.local)
   ExprAt funs f h g p (Apply at of o parts) =
-      ExprsAt funs f h g p parts × AllAt f h (end_exprs p parts) (operation_code o) × Fitting funs o (lyings parts) (lying_of of)
+      ExprsAt funs f h g p parts × AllAt f h (end_exprs p parts) (operation_code o of) × Fitting funs o (lyings parts) of
   ExprAt funs f h g p (Guarded at of o parts) = Unit {0}
   ExprAt funs f h g p (Logic at of o left right) =
       ExprAt funs f h g p left
@@ -140,23 +167,30 @@ abbrev mutual
       × At f h (end_expr (suc (end_expr p c)) a) (i.Numbered numbered.Goto (end_expr (suc (end_expr (suc (end_expr p c)) a)) b))
       × ExprAt funs f h g (suc (end_expr (suc (end_expr p c)) a)) b
       × (lying_of (type_of c) ≡ Bare) × (lying_of (type_of a) ≡ lying_of of) × (lying_of (type_of b) ≡ lying_of of)
-  ExprAt funs f h g p (Elvis at of left right) = Unit {0}
+  ExprAt funs f h g p (Elvis at of left right) =
+      ExprAt funs f h g p left
+      × At f h (end_expr p left) (i.Plain plain.Dup)
+      × At f h (suc (end_expr p left)) (i.Numbered numbered.IfNull (suc (suc (suc (end_expr p left)))))
+      × At f h (suc (suc (end_expr p left))) (i.Numbered numbered.Goto (end_expr (elvis_right (end_expr p left)) right))
+      × At f h (suc (suc (suc (end_expr p left)))) (i.Plain plain.Pop)
+      × ExprAt funs f h g (elvis_right (end_expr p left)) right
+      × (lying_of (type_of left) ≡ Whole) × (lying_of (type_of right) ≡ Whole) × (lying_of of ≡ Whole)
   ExprAt funs f h g p (Assign at of (target.Local x) parts value) =
       ExprAt funs f h g p value
       × At f h (end_expr p value) (i.Plain plain.Dup)
       × ((y : Entry) × IsEntry g x y × (lying_of (type_of value) ≡ lying_of y.of) × (lying_of of ≡ lying_of y.of) × At f h (suc (end_expr p value)) (i.Numbered numbered.Store y.local))
   ExprAt funs f h g p (Assign at of other parts value) = Unit {0}
   ExprAt funs f h g p (Modify at of (target.Local x) parts change right gives) =
-      (y : Entry) × IsEntry g x y × (lying_of y.of ≡ Bare) × (lying_of of ≡ Bare)
+      (y : Entry) × IsEntry g x y × (lying_of y.of ≡ lying_of of)
       × At f h p (i.Numbered numbered.Load y.local)
       × AllAt f h (suc p) (kept_before gives)
-      × AllAt f h (end_all (suc p) (kept_before gives)) (cast_code change.before)
-      × ExprAt funs f h g (change_first gives change p) right
-      × AllAt f h (end_expr (change_first gives change p) right) (operator_code change.operator)
-      × AllAt f h (end_all (end_expr (change_first gives change p) right) (operator_code change.operator)) (cast_code change.after)
-      × AllAt f h (end_all (end_all (end_expr (change_first gives change p) right) (operator_code change.operator)) (cast_code change.after)) (kept_behind gives)
-      × At f h (change_last gives change (end_expr (change_first gives change p) right)) (i.Numbered numbered.Store y.local)
-      × (lying_of (type_of right) ≡ Bare) × (cast_gives change.before Bare ≡ Bare) × (cast_gives change.after Bare ≡ Bare)
+      × AllAt f h (end_all (suc p) (kept_before gives)) (cast_code change.before of)
+      × ExprAt funs f h g (change_first gives change of p) right
+      × AllAt f h (end_expr (change_first gives change of p) right) (operator_code change.operator)
+      × AllAt f h (end_all (end_expr (change_first gives change of p) right) (operator_code change.operator)) (cast_code change.after of)
+      × AllAt f h (end_all (end_all (end_expr (change_first gives change of p) right) (operator_code change.operator)) (cast_code change.after of)) (kept_behind gives)
+      × At f h (change_last gives change of (end_expr (change_first gives change of p) right)) (i.Numbered numbered.Store y.local)
+      × ChangeFits change of (lying_of (type_of right))
   ExprAt funs f h g p (Modify at of other parts change right gives) = Unit {0}
   ExprAt funs f h g p (Lambda at of interface function) = Unit {0}
   ExprAt funs f h g p (Reference at of interface class name) = Unit {0}
@@ -219,7 +253,7 @@ abbrev mutual
   end_stmt p Break = suc p
   end_stmt p Continue = suc p
   end_stmt p (Return value) = suc (end_returned p value)
-  end_stmt p (Throw value) = p
+  end_stmt p (Throw value) = suc (end_expr p value)
 
   pub end_stmts : ℕ → Stmts → ℕ
   end_stmts p Finish = p
@@ -316,7 +350,7 @@ abbrev mutual
   StmtAt funs f h k g n j p Break = At f h p (i.Numbered numbered.Goto j.out)
   StmtAt funs f h k g n j p Continue = At f h p (i.Numbered numbered.Goto j.on)
   StmtAt funs f h k g n j p (Return value) = ReturnedAt funs f h g k p value × At f h (end_returned p value) (i.Plain plain.Ret)
-  StmtAt funs f h k g n j p (Throw value) = Unit {0}
+  StmtAt funs f h k g n j p (Throw value) = ExprAt funs f h g p value × (lying_of (type_of value) ≡ Whole) × At f h (end_expr p value) (i.Plain plain.Throw)
 
   pub StmtsAt : Program → FunCode → Handlers → Lying → Scope → ℕ → Jumps → ℕ → Stmts → Type 0
   StmtsAt funs f h k g n j p Finish = Unit {0}

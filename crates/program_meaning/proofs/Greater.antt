@@ -1,6 +1,7 @@
 -- A greater bound gives the same, where it is not More.
 use Rattle.std.proofs.Common.{ℕ, zero, suc, ◌≤◌, List, [], ◌∷◌, Option, Some, None, refl, sym, ap, subst, arith}
-use Rattle.std.specs.Prelude.{slice_get, true, false}
+use Rattle.std.specs.Prelude.{slice_get, Bool, true, false, if◌then◌else◌}
+use Rattle.number_ops.specs.Operators.{is_null}
 use Rattle.pl_types.specs.declared.ty.Ty.{Ty}
 use Rattle.object_values.specs.declared.value.Value.{Value}
 use Rattle.object_values.specs.declared.value.Value.TheVariants as v
@@ -14,8 +15,8 @@ use Rattle.typed_tree.specs.declared.operation.Change.{Change}
 use Rattle.typed_tree.specs.declared.operation.Gives.{Gives}
 use Rattle.run_world.specs.World.{Limits, Counted, Counts, Passes, take_turn, enter}
 use Rattle.program_meaning.specs.Tree.{Name, Expr, Literal, Quoted, Local, Apply, Guarded, Logic, Conditional, Elvis, Assign, Modify, Lambda, Reference, NewReference, Exprs, None', One, Maybe, Missing, Given as Present, Stmt, Do, If, While, DoWhile, ForEach, Try, Block, Break, Continue, Return, Throw, Stmts, Finish, Then, Declare, Fun, Program}
-use Rattle.program_meaning.specs.Operating.{static_cast}
-use Rattle.program_meaning.specs.Meaning.{State, Env, Place, Out, Done, Thrown, Over, More, Flow, Normal, Broke, Continued, Returned, bind, leave, entry, found, choose, goes_next, goes_again, back, lookup, Meaning, entered, called, applied, logic, modified, expr_of, exprs_of, value_if, turned, done_turn, stmt_of, value_or, stmts_of, layer, meaning}
+use Rattle.program_meaning.specs.Operating.{operates, casts}
+use Rattle.program_meaning.specs.Meaning.{State, Env, Place, Out, Done, Thrown, Over, More, Flow, Normal, Broke, Continued, Returned, bind, leave, entry, found, operated, choose, unless_null, goes_next, goes_again, back, lookup, Meaning, entered, called, applied, logic, modified, expr_of, exprs_of, value_if, turned, done_turn, stmt_of, value_or, stmts_of, layer, meaning}
 use Rattle.program_meaning.specs.Laws.{Stays, Extends}
 
 -- the same as a record, so that what stands on either side is found
@@ -82,6 +83,10 @@ again Broke s e x = same
 again Continued s e x = x
 again (Returned value) s e x = same
 
+elvis_grows : (null : Bool) {a b c d : Out Value} → Up a b → Up c d → Up (if null then c else a) (if null then d else b)
+elvis_grows true x y = y
+elvis_grows false x y = x
+
 record Grows (m other : Meaning) : Type 0 where
   expr : (t : Expr) (d : Place) (s : State) (e : Env) → Up (m.expr d s e t) (other.expr d s e t)
   exprs : (t : Exprs) (d : Place) (s : State) (e : Env) → Up (m.exprs d s e t) (other.exprs d s e t)
@@ -100,30 +105,32 @@ module _ (funs : Program) (limits : Limits) where
     calls None d s e values = same
     calls (Some f) d s e values = enters (enter limits d.depth s.world) d s e f.result f.body (entry f.params values [])
 
-    applies : (o : Operation) (d : Place) (s : State) (e : Env) (values : List Value) → Up (applied funs limits m o d s e values) (applied funs limits m' o d s e values)
-    applies (operation.Operator o) d s e values = same
-    applies (operation.Cast c) d s e [] = same
-    applies (operation.Cast c) d s e (a ∷ []) = same
-    applies (operation.Cast c) d s e (a ∷ b ∷ values) = same
-    applies (operation.InstanceOf of) d s e values = same
-    applies (operation.Function k) d s e values = calls (slice_get funs k) d s e values
-    applies (operation.Instance member) d s e values = same
-    applies (operation.Static member) d s e values = same
-    applies (operation.Constructor member) d s e values = same
-    applies (operation.Field member) d s e values = same
-    applies (operation.Host member) d s e values = same
-    applies (operation.DefCall name) d s e values = same
-    applies (operation.DefName name) d s e values = same
-    applies operation.DefIndex d s e values = same
+    applies : (o : Operation) (d : Place) (s : State) (e : Env) (of : Ty) (values : List Value) → Up (applied funs limits m o d s e of values) (applied funs limits m' o d s e of values)
+    applies (operation.Operator o) d s e of values = same
+    applies (operation.Cast c) d s e of [] = same
+    applies (operation.Cast c) d s e of (a ∷ []) = same
+    applies (operation.Cast c) d s e of (a ∷ b ∷ values) = same
+    applies (operation.InstanceOf is) d s e of [] = same
+    applies (operation.InstanceOf is) d s e of (a ∷ []) = same
+    applies (operation.InstanceOf is) d s e of (a ∷ b ∷ values) = same
+    applies (operation.Function k) d s e of values = calls (slice_get funs k) d s e values
+    applies (operation.Instance member) d s e of values = same
+    applies (operation.Static member) d s e of values = same
+    applies (operation.Constructor member) d s e of values = same
+    applies (operation.Field member) d s e of values = same
+    applies (operation.Host member) d s e of values = same
+    applies (operation.DefCall name) d s e of values = same
+    applies (operation.DefName name) d s e of values = same
+    applies operation.DefIndex d s e of values = same
 
     logic_grows : (o : Logical) (d : Place) (s : State) (e : Env) (value : Value) (right : Expr) → Up (logic funs limits m o d s e value right) (logic funs limits m' o d s e value right)
     logic_grows And d s e value right = chosen value (ih.expr right d s e) same
     logic_grows Or d s e value right = chosen value same (ih.expr right d s e)
 
-    modifies : (x : Name) (change : Change) (d : Place) (s : State) (e : Env) (right : Expr) (given : Gives) (old : Value)
-        → Up (modified funs limits m x change d s e right given old) (modified funs limits m' x change d s e right given old)
-    modifies x change d s e right given old =
-        then' {o = found (static_cast change.before old) s e} same (λ left s e. then' (ih.expr right d s e) (λ value s e. same))
+    modifies : (x : Name) (of : Ty) (change : Change) (d : Place) (s : State) (e : Env) (right : Expr) (given : Gives) (old : Value)
+        → Up (modified funs limits m x of change d s e right given old) (modified funs limits m' x of change d s e right given old)
+    modifies x of change d s e right given old =
+        then' {o = operated (casts change.before of old s.world.store) s e} same (λ left s e. then' (ih.expr right d s e) (λ value s e. same))
 
     assigns : (at : ℕ) (of : Ty) (to : Target) (parts : Exprs) (value : Expr) (d : Place) (s : State) (e : Env)
         → Up (expr_of funs limits m d s e (Assign at of to parts value)) (expr_of funs limits m' d s e (Assign at of to parts value))
@@ -135,7 +142,7 @@ module _ (funs : Program) (limits : Limits) where
 
     changes : (at : ℕ) (of : Ty) (to : Target) (parts : Exprs) (change : Change) (right : Expr) (given : Gives) (d : Place) (s : State) (e : Env)
         → Up (expr_of funs limits m d s e (Modify at of to parts change right given)) (expr_of funs limits m' d s e (Modify at of to parts change right given))
-    changes at of (target.Local x) parts change right given d s e = then' {o = found (lookup e x) s e} same (λ old s e. modifies x change d s e right given old)
+    changes at of (target.Local x) parts change right given d s e = then' {o = found (lookup e x) s e} same (λ old s e. modifies x of change d s e right given old)
     changes at of target.Element parts change right given d s e = same
     changes at of (target.Members read write) parts change right given d s e = same
     changes at of target.DefIndex parts change right given d s e = same
@@ -145,11 +152,11 @@ module _ (funs : Program) (limits : Limits) where
     expr_grows (Literal at of c) d s e = same
     expr_grows (Quoted at of text) d s e = same
     expr_grows (Local at of x) d s e = same
-    expr_grows (Apply at of o parts) d s e = then' (ih.exprs parts d s e) (λ values s e. applies o d s e values)
+    expr_grows (Apply at of o parts) d s e = then' (ih.exprs parts d s e) (λ values s e. applies o d s e of values)
     expr_grows (Guarded at of o parts) d s e = same
     expr_grows (Logic at of o left right) d s e = then' (ih.expr left d s e) (λ value s e. logic_grows o d s e value right)
     expr_grows (Conditional at of c a b) d s e = then' (ih.expr c d s e) (λ value s e. chosen value (ih.expr a d s e) (ih.expr b d s e))
-    expr_grows (Elvis at of left right) d s e = same
+    expr_grows (Elvis at of left right) d s e = then' (ih.expr left d s e) (λ value s e. elvis_grows (is_null value) same (ih.expr right d s e))
     expr_grows (Assign at of to parts value) d s e = assigns at of to parts value d s e
     expr_grows (Modify at of to parts change right given) d s e = changes at of to parts change right given d s e
     expr_grows (Lambda at of interface function) d s e = same
@@ -190,7 +197,7 @@ module _ (funs : Program) (limits : Limits) where
     stmt_grows Break d s e = same
     stmt_grows Continue d s e = same
     stmt_grows (Return value) d s e = then' (value_grows value v.Null d s e) (λ value s e. same)
-    stmt_grows (Throw value) d s e = same
+    stmt_grows (Throw value) d s e = then' (ih.expr value d s e) (λ value s e. same)
 
     begins : (value : Maybe) (of : Ty) (d : Place) (s : State) (e : Env) → Up (value_or funs limits m value of d s e) (value_or funs limits m' value of d s e)
     begins Missing of d s e = same

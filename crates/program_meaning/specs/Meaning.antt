@@ -20,7 +20,10 @@ use Rattle.typed_tree.specs.declared.operation.Gives.{Gives as Given_by}
 use Rattle.typed_tree.specs.declared.operation.Gives.TheVariants as gives
 use Rattle.run_world.specs.World.{World, Limits, Limit, Room, Outcome, Given, Raised, Full, acts_in, Counted, Counts, Passes, take_turn, enter}
 use Rattle.program_meaning.specs.Tree.{Name, Expr, Literal, Quoted, Local, Apply, Guarded, Logic, Conditional, Elvis, Assign, Modify, Lambda, Reference, NewReference, Exprs, None', One, Maybe, Missing, Given as Present, Stmt, Do, If, While, DoWhile, ForEach, Try, Block, Break, Continue, Return, Throw, Stmts, Finish, Then, Declare, Variable, Fun, Program}
-use Rattle.program_meaning.specs.Operating.{Operated, Meaningless, Gives, Acts, value_of, operates, static_cast}
+use Rattle.number_ops.specs.Operators.{is_null}
+use Rattle.number_ops.specs.Relations.{is_instance, thrown}
+use Rattle.pl_units.specs.Utf16.{units}
+use Rattle.program_meaning.specs.Operating.{Operated, Meaningless, Gives, Acts, value_of, operates, casts}
 
 -- the world, and how many turns this frame has had
 pub record State : Type 0 where
@@ -131,6 +134,10 @@ choose (v.Bool true) first second = first
 choose (v.Bool false) first second = second
 choose other first second = More
 
+-- the second where the value is null
+abbrev pub unless_null : {A : Type 0} → Value → Out A → Out A → Out A
+unless_null value first second = if is_null value then second else first
+
 abbrev pub given_by : Given_by → Value → Value → Value
 given_by gives.Old old new = old
 given_by gives.New old new = new
@@ -173,37 +180,39 @@ module _ (funs : Program) (limits : Limits) (m : Meaning) where
   called None d s e values = More
   called (Some f) d s e values = entered (enter limits d.depth s.world) d s e f.result f.body (entry f.params values [])
 
-  -- a strict operation on values
-  abbrev pub applied : Operation → Place → State → Env → List Value → Out Value
-  applied (operation.Operator o) d s e values = operated (operates o values s.world.store) s e
-  applied (operation.Cast c) d s e (value ∷ []) = found (static_cast c value) s e
-  applied (operation.Function k) d s e values = called (slice_get funs k) d s e values
-  applied other d s e values = More
+  -- a strict operation on values, which gives one of a type
+  abbrev pub applied : Operation → Place → State → Env → Ty → List Value → Out Value
+  applied (operation.Operator o) d s e of values = operated (operates o values s.world.store) s e
+  applied (operation.Cast c) d s e of (value ∷ []) = operated (casts c of value s.world.store) s e
+  applied (operation.InstanceOf of) d s e given (value ∷ []) = Done (v.Bool (is_instance s.world.store.objects value of)) s e
+  applied (operation.Function k) d s e of values = called (slice_get funs k) d s e values
+  applied other d s e of values = More
 
   abbrev pub logic : Logical → Place → State → Env → Value → Expr → Out Value
   logic And d s e left right = choose left (m.expr d s e right) (Done (v.Bool false) s e)
   logic Or d s e left right = choose left (Done (v.Bool true) s e) (m.expr d s e right)
 
-  -- a compound assignment: the variable is read, its value cast, the right side taken, the operator done, and what it gives cast and written
-  abbrev pub modified : Name → Change → Place → State → Env → Expr → Given_by → Value → Out Value
-  modified x change d s e right given old =
-      bind (found (static_cast change.before old) s e) (λ left s e.
+  -- A compound assignment to a variable of a type: the variable is read, its value cast, the right side taken, the operator done, and what
+  -- it gives cast and written. The first cast is no run-time cast of a reference, which would ask for a type.
+  abbrev pub modified : Name → Ty → Change → Place → State → Env → Expr → Given_by → Value → Out Value
+  modified x of change d s e right given old =
+      bind (operated (casts change.before of old s.world.store) s e) (λ left s e.
       bind (m.expr d s e right) (λ value s e.
       bind (operated (operates change.operator (left ∷ value ∷ []) s.world.store) s e) (λ result s e.
-      bind (found (static_cast change.after result) s e) (λ new s e. Done (given_by given old new) s (assigned e x new)))))
+      bind (operated (casts change.after of result s.world.store) s e) (λ new s e. Done (given_by given old new) s (assigned e x new)))))
 
   abbrev pub expr_of : Place → State → Env → Expr → Out Value
   expr_of d s e (Literal at of c) = Done (value_of c) s e
-  expr_of d s e (Quoted at of text) = More
+  expr_of d s e (Quoted at of text) = Done (v.Str (units text)) s e
   expr_of d s e (Local at of x) = found (lookup e x) s e
-  expr_of d s e (Apply at of o parts) = bind (m.exprs d s e parts) (λ values s e. applied o d s e values)
+  expr_of d s e (Apply at of o parts) = bind (m.exprs d s e parts) (λ values s e. applied o d s e of values)
   expr_of d s e (Guarded at of o parts) = More
   expr_of d s e (Logic at of o left right) = bind (m.expr d s e left) (λ value s e. logic o d s e value right)
   expr_of d s e (Conditional at of c a b) = bind (m.expr d s e c) (λ value s e. choose value (m.expr d s e a) (m.expr d s e b))
-  expr_of d s e (Elvis at of left right) = More
+  expr_of d s e (Elvis at of left right) = bind (m.expr d s e left) (λ value s e. unless_null value (Done value s e) (m.expr d s e right))
   expr_of d s e (Assign at of (target.Local x) parts value) = bind (m.expr d s e value) (λ value s e. Done value s (assigned e x value))
   expr_of d s e (Assign at of other parts value) = More
-  expr_of d s e (Modify at of (target.Local x) parts change right given) = bind (found (lookup e x) s e) (λ old s e. modified x change d s e right given old)
+  expr_of d s e (Modify at of (target.Local x) parts change right given) = bind (found (lookup e x) s e) (λ old s e. modified x of change d s e right given old)
   expr_of d s e (Modify at of other parts change right given) = More
   expr_of d s e (Lambda at of interface function) = More
   expr_of d s e (Reference at of interface class name) = More
@@ -242,7 +251,7 @@ module _ (funs : Program) (limits : Limits) (m : Meaning) where
   stmt_of d s e Break = Done Broke s e
   stmt_of d s e Continue = Done Continued s e
   stmt_of d s e (Return value) = bind (value_if value v.Null d s e) (λ value s e. Done (Returned value) s e)
-  stmt_of d s e (Throw value) = More
+  stmt_of d s e (Throw value) = bind (m.expr d s e value) (λ value s e. bind (effect (acts_in s.world (thrown s.world.store value)) s e) (λ value s e. Done Normal s e))
 
   abbrev pub value_or : Maybe → Ty → Place → State → Env → Out Value
   value_or Missing of d s e = Done (default_of of) s e

@@ -1,11 +1,14 @@
 -- What operators and casts come to where the types of their operands are known before the script runs. Nothing, where an operand is not
 -- of its type, which no typed program meets, or the operation is not built.
-use Rattle.std.specs.Prelude.{ℕ, Bool, not, Option, Some, None, List, [], ◌∷◌, pos, ℤ}
+use Rattle.std.specs.Prelude.{ℕ, Bool, not, true, false, Option, Some, None, List, [], ◌∷◌, pos, ℤ}
 use Rattle.std.specs.Int.{w8, w16, w32, w64}
 use Rattle.pl_types.specs.declared.primitive.Primitive.{Primitive}
 use Rattle.pl_types.specs.declared.primitive.Primitive.TheVariants as prim
+use Rattle.pl_types.specs.declared.classes.TheConstants.{STRING}
 use Rattle.pl_types.specs.declared.conversion.Cast.{Cast}
 use Rattle.pl_types.specs.declared.conversion.Cast.TheVariants as cast
+use Rattle.pl_types.specs.declared.ty.Ty.{Ty}
+use Rattle.pl_types.specs.declared.ty.Ty.TheVariants as t
 use Rattle.object_values.specs.declared.value.Value.{Value}
 use Rattle.object_values.specs.declared.value.Value.TheVariants as v
 use Rattle.object_heap.specs.Effects.{Effect}
@@ -16,8 +19,12 @@ use Rattle.arithmetic.specs.declared.operator.Num.{Num}
 use Rattle.arithmetic.specs.declared.operator.Num.TheVariants as n
 use Rattle.arithmetic.specs.Arithmetic.{wrapped, low_bits}
 use Rattle.arithmetic.specs.Operators.{of_type}
-use Rattle.number_ops.specs.Operators.{of_result, and_flags, or_flags, xor_flags}
+use Rattle.number_ops.specs.Operators.{of_result, and_flags, or_flags, xor_flags, concatenated}
+use Rattle.number_ops.specs.declared.outcome.Outcome.{Outcome}
+use Rattle.number_ops.specs.declared.outcome.Outcome.TheVariants as outcome
+use Rattle.number_ops.specs.Casts.{cast_at_run_time}
 use Rattle.number_ops.specs.Outcomes.{effect, zero_divisor}
+use Rattle.number_ops.specs.Relations.{equal, is_same}
 use Rattle.typed_tree.specs.declared.operation.Constant.{Constant}
 use Rattle.typed_tree.specs.declared.operation.Constant.TheVariants as constant
 use Rattle.typed_tree.specs.declared.operation.Operator.{Operator}
@@ -163,13 +170,32 @@ abbrev pub flag_operated : Option Bool → Operated
 flag_operated None = Meaningless
 flag_operated (Some flag) = Gives (v.Bool flag)
 
+-- ---- references
+
+-- what is the other way round; an exception stays one
+abbrev pub negated : Outcome → Outcome
+negated (outcome.Gives (v.Bool flag)) = outcome.Gives (v.Bool (not flag))
+negated other = other
+
+abbrev pub of_references : Operator → Value → Value → Store → Operated
+of_references operator.Equal a b store = Acts (effect store (equal store.objects a b))
+of_references operator.NotEqual a b store = Acts (effect store (negated (equal store.objects a b)))
+of_references operator.Same a b store = Gives (v.Bool (is_same a b))
+of_references operator.NotSame a b store = Gives (v.Bool (not (is_same a b)))
+of_references operator.Concat a b store = Acts (effect store (concatenated store.objects a b))
+of_references other a b store = Meaningless
+
+abbrev pub reference_operated : Operator → List Value → Store → Operated
+reference_operated o (a ∷ b ∷ []) store = of_references o a b store
+reference_operated o others store = Meaningless
+
 -- ---- all operators
 
 abbrev pub operates : Operator → List Value → Store → Operated
 operates (operator.Int o) values store = number_operated o (of_ints o (operands_of values)) store
 operates (operator.Long o) values store = number_operated o (of_longs o (operands_of values)) store
 operates (operator.Boolean o) values store = flag_operated (of_flags o (operands_of values))
-operates other values store = Meaningless
+operates other values store = reference_operated other values store
 
 -- ---- casts between the number types (Java Language Specification, 5.1.2 and 5.1.3): what widens keeps its number, and what narrows its
 -- low bits
@@ -229,8 +255,17 @@ abbrev pub box_if : Primitive → Option Value → Option Value
 box_if p None = None
 box_if p (Some value) = in_box p value
 
-abbrev pub static_cast : Cast → Value → Option Value
-static_cast cast.Keep value = Some value
-static_cast (cast.Number from to) value = number_cast from to value
-static_cast (cast.Wrap from to) value = box_if to (number_cast from to value)
-static_cast other value = None
+abbrev pub gives_if : Option Value → Operated
+gives_if None = Meaningless
+gives_if (Some value) = Gives value
+
+-- A cast to a type. Those of primitives are known before the script runs, and give a value at once.
+abbrev pub casts : Cast → Ty → Value → Store → Operated
+casts cast.Keep to value store = Gives value
+casts (cast.Number from into) to value store = gives_if (number_cast from into value)
+casts (cast.Wrap from into) to value store = gives_if (box_if into (number_cast from into value))
+casts (cast.Unwrap from into) to value store = Meaningless
+casts cast.Implicit to value store = Acts (effect store (cast_at_run_time store.objects value to false))
+casts cast.Explicit to value store = Acts (effect store (cast_at_run_time store.objects value to true))
+casts cast.CharToText to value store = Acts (effect store (cast_at_run_time store.objects value (t.Class STRING) true))
+casts cast.TextToChar to value store = Acts (effect store (cast_at_run_time store.objects value (t.Prim prim.Char) true))

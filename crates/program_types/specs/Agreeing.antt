@@ -5,12 +5,14 @@ use Rattle.std.specs.Str.{bytes_eq}
 use Rattle.pl_types.specs.declared.primitive.Primitive.TheVariants as prim
 use Rattle.pl_types.specs.declared.ty.Ty.{Ty}
 use Rattle.pl_types.specs.declared.ty.Ty.TheVariants as t
+use Rattle.pl_types.specs.declared.conversion.Cast.{Cast}
+use Rattle.pl_types.specs.declared.conversion.Cast.TheVariants as cast
 use Rattle.typed_tree.specs.declared.operation.Operation.{Operation}
 use Rattle.typed_tree.specs.declared.operation.Operation.TheVariants as operation
 use Rattle.typed_tree.specs.declared.operation.Target.TheVariants as target
 use Rattle.typed_tree.specs.declared.operation.Change.{Change}
 use Rattle.program_meaning.specs.Tree.{Name, Expr, Literal, Quoted, Local, Apply, Guarded, Logic, Conditional, Elvis, Assign, Modify, Lambda, Reference, NewReference, Exprs, None', One, Maybe, Missing, Given, Stmt, Do, If, While, DoWhile, ForEach, Try, Block, Break, Continue, Return, Throw, Stmts, Finish, Then, Declare, Variable, Fun, Program, type_of}
-use Rattle.program_types.specs.Types.{HasValues, IsOf, Takes, Casts}
+use Rattle.program_types.specs.Types.{HasValues, IsReference, IsNamed, string, IsOf, Takes, Casts}
 
 -- the names in sight, the newest first
 abbrev pub Scope : Type 0
@@ -46,13 +48,21 @@ pub record Calls (funs : Program) (number : ℕ) (ofs : List Ty) (of : Ty) : Typ
 abbrev pub Applies : Program → Operation → List Ty → Ty → Type 0
 Applies funs (operation.Operator o) ofs of = Takes o ofs of
 Applies funs (operation.Cast c) (from ∷ []) of = Casts c from of
+Applies funs (operation.InstanceOf is) (from ∷ []) of = IsReference from × IsNamed is × (of ≡ boolean)
 Applies funs (operation.Function number) ofs of = Calls funs number ofs of
 Applies funs other ofs of = ⊥
+
+-- a cast that looks at the value's type when the script runs
+abbrev pub IsKnownBefore : Cast → Type 0
+IsKnownBefore cast.Implicit = ⊥
+IsKnownBefore cast.Explicit = ⊥
+IsKnownBefore other = Unit {0}
 
 -- a variable's value is cast, changed by a right side, and cast back
 pub record Changes (change : Change) (of right : Ty) : Type 0 where
   pub left : Ty
   pub result : Ty
+  pub known : IsKnownBefore change.before
   pub before : Casts change.before of left
   pub does : Takes change.operator (left ∷ right ∷ []) result
   pub after : Casts change.after result of
@@ -60,7 +70,7 @@ pub record Changes (change : Change) (of right : Ty) : Type 0 where
 abbrev mutual
   pub ExprAgrees : Program → Scope → Expr → Type 0
   ExprAgrees funs g (Literal at of c) = IsOf c of
-  ExprAgrees funs g (Quoted at of text) = ⊥
+  ExprAgrees funs g (Quoted at of text) = of ≡ string
   ExprAgrees funs g (Local at of x) = IsVariable g x of
   ExprAgrees funs g (Apply at of o parts) = ExprsAgree funs g parts × Applies funs o (types_of parts) of
   ExprAgrees funs g (Guarded at of o parts) = ⊥
@@ -68,7 +78,7 @@ abbrev mutual
       ExprAgrees funs g left × ExprAgrees funs g right × (type_of left ≡ boolean) × (type_of right ≡ boolean) × (of ≡ boolean)
   ExprAgrees funs g (Conditional at of c a b) =
       ExprAgrees funs g c × ExprAgrees funs g a × ExprAgrees funs g b × (type_of c ≡ boolean) × (type_of a ≡ of) × (type_of b ≡ of)
-  ExprAgrees funs g (Elvis at of left right) = ⊥
+  ExprAgrees funs g (Elvis at of left right) = ExprAgrees funs g left × ExprAgrees funs g right × (type_of left ≡ of) × (type_of right ≡ of) × IsReference of
   ExprAgrees funs g (Assign at of (target.Local x) parts value) = ExprAgrees funs g value × IsVariable g x of × (type_of value ≡ of)
   ExprAgrees funs g (Assign at of other parts value) = ⊥
   ExprAgrees funs g (Modify at of (target.Local x) parts change right gives) = ExprAgrees funs g right × IsVariable g x of × Changes change of (type_of right)
@@ -114,7 +124,7 @@ abbrev mutual
   StmtAgrees funs of looped g Break = looped ≡ true
   StmtAgrees funs of looped g Continue = looped ≡ true
   StmtAgrees funs of looped g (Return value) = ReturnAgrees funs g value of
-  StmtAgrees funs of looped g (Throw value) = ⊥
+  StmtAgrees funs of looped g (Throw value) = ExprAgrees funs g value × IsReference (type_of value)
 
   pub StmtsAgree : Program → Ty → Bool → Scope → Stmts → Type 0
   StmtsAgree funs of looped g Finish = Unit {0}

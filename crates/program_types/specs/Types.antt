@@ -1,10 +1,12 @@
 -- Which values are of a type, and between which types operators and casts go.
-use Rattle.std.specs.Prelude.{◌≡◌, ℕ, ℤ, Bool, List, [], ◌∷◌, Option, Some, None}
+use Rattle.std.specs.Prelude.{◌≡◌, ℕ, nat_lt, ℤ, Bool, true, false, List, [], ◌∷◌, Option, Some, None}
 use Rattle.pl_types.specs.declared.primitive.Primitive.{Primitive}
 use Rattle.pl_types.specs.declared.primitive.Primitive.TheVariants as prim
 use Rattle.pl_types.specs.declared.ty.Ty.{Ty, out-Ty}
 use Rattle.pl_types.specs.declared.ty.Ty.TheVariants as t
 use Rattle.pl_types.specs.declared.ty.Ty.TheOpen.{Ty-F}
+use Rattle.pl_types.specs.declared.classes.TheConstants.{STRING, PRELUDE}
+use Rattle.pl_types.specs.declared.ty.Ty.TheFolds.{fold-Ty}
 use Rattle.pl_types.specs.declared.conversion.Cast.{Cast}
 use Rattle.pl_types.specs.declared.conversion.Cast.TheVariants as cast
 use Rattle.object_values.specs.declared.value.Value.{Value}
@@ -120,11 +122,24 @@ TakesFlags o (a ∷ []) of = (a ≡ t.Prim prim.Boolean) × Gives (of_one_flag o
 TakesFlags o (a ∷ b ∷ []) of = (a ≡ t.Prim prim.Boolean) × (b ≡ t.Prim prim.Boolean) × Gives (of_two_flags o) of
 TakesFlags o others of = ⊥
 
+-- two references
+abbrev pub TakesReferences : List Ty → Type 0
+TakesReferences (a ∷ b ∷ []) = IsReference a × IsReference b
+TakesReferences others = ⊥
+
+abbrev pub string : Ty
+string = t.Class STRING
+
 -- an operator takes operands of these types and gives a value of that one
 abbrev pub Takes : Operator → List Ty → Ty → Type 0
 Takes (operator.Int o) ofs of = TakesNumbers prim.Int o ofs of
 Takes (operator.Long o) ofs of = TakesNumbers prim.Long o ofs of
 Takes (operator.Boolean o) ofs of = TakesFlags o ofs of
+Takes operator.Equal ofs of = TakesReferences ofs × (of ≡ t.Prim prim.Boolean)
+Takes operator.NotEqual ofs of = TakesReferences ofs × (of ≡ t.Prim prim.Boolean)
+Takes operator.Same ofs of = TakesReferences ofs × (of ≡ t.Prim prim.Boolean)
+Takes operator.NotSame ofs of = TakesReferences ofs × (of ≡ t.Prim prim.Boolean)
+Takes operator.Concat ofs of = TakesReferences ofs × (of ≡ string)
 Takes other ofs of = ⊥
 
 -- ---- casts
@@ -136,9 +151,33 @@ Converts prim.Boolean to = ⊥
 Converts from prim.Boolean = ⊥
 Converts from to = Unit {0}
 
+-- a type that code may name: def, a primitive type, a class that scripts may have, or an array of these
+abbrev pub listed_layer : Ty-F Bool → Bool
+listed_layer Ty-F.Void = false
+listed_layer Ty-F.Null = false
+listed_layer Ty-F.Def = true
+listed_layer (Ty-F.Prim p) = true
+listed_layer (Ty-F.Class class) = nat_lt class PRELUDE
+listed_layer (Ty-F.Array element) = element
+
+abbrev pub is_listed : Ty → Bool
+is_listed = fold-Ty Bool listed_layer
+
+pub record IsNamed (of : Ty) : Type 0 where
+  pub listed : is_listed of ≡ true
+
+-- a value that a cast keeps: of one type, or a reference
+pub data Keeps (from to : Ty) : Type 0 where
+  Same : from ≡ to → Keeps from to
+  References : IsReference from → IsReference to → Keeps from to
+
 -- a cast goes from this type to that one
 abbrev pub Casts : Cast → Ty → Ty → Type 0
-Casts cast.Keep from to = from ≡ to
+Casts cast.Keep from to = Keeps from to
 Casts (cast.Number p q) from to = (from ≡ t.Prim p) × (to ≡ t.Prim q) × Converts p q
 Casts (cast.Wrap p q) from to = (from ≡ t.Prim p) × IsReference to × Converts p q
-Casts other from to = ⊥
+Casts (cast.Unwrap p q) from to = ⊥
+Casts cast.Implicit from to = IsReference from × IsNamed to
+Casts cast.Explicit from to = IsReference from × IsNamed to
+Casts cast.CharToText from to = (from ≡ t.Prim prim.Char) × (to ≡ string)
+Casts cast.TextToChar from to = IsReference from × (to ≡ t.Prim prim.Char)

@@ -6,7 +6,9 @@ use Rattle.typed_tree.specs.declared.program.Program.{Program}
 use Rattle.typing_rules.specs.declared.header.ContextTypes.{ContextTypes}
 use Rattle.typing_rules.specs.Typing.{typing_of}
 use Rattle.program_meaning.specs.Programs.{program_of}
-use Rattle.program_types.specs.Types.{HasValues}
+use Rattle.pl_types.specs.declared.ty.Ty.{Ty, out-Ty}
+use Rattle.pl_types.specs.declared.ty.Ty.TheOpen.{Ty-F}
+use Rattle.program_types.specs.Types.{HasValues, IsNamed}
 use Rattle.program_types.specs.Agreeing.{WellFormed}
 use Rattle.program_types.specs.Reached.{Reached}
 
@@ -23,10 +25,19 @@ abbrev pub HaveValues : List Named → Type 0
 HaveValues [] = Unit {0}
 HaveValues (x ∷ xs) = HasValues x.of × HaveValues xs
 
--- a context's variables have distinct names, and none is of type void
+-- a result is void, or of a type that code may name
+abbrev pub may_be_result : Ty-F Ty → Ty → Type 0
+may_be_result Ty-F.Void of = Unit {0}
+may_be_result other of = IsNamed of
+
+abbrev pub MayBeResult : Ty → Type 0
+MayBeResult of = may_be_result (out-Ty of) of
+
+-- a context's variables have distinct names, none is of type void, and its result is void or of a type that code may name
 pub record IsContext (context : ContextTypes) : Type 0 where
   pub distinct : AreDistinct context.variables
   pub present : HaveValues context.variables
+  pub result : MayBeResult context.result
 
 abbrev pub TypingIsSound : Type 0
 TypingIsSound = (context : ContextTypes) (tree : Tree) (p : Program) → IsContext context → typing_of context tree ≡ Ok p → WellFormed (program_of p)

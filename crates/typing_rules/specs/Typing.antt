@@ -34,12 +34,12 @@ use Rattle.typing_rules.specs.State.{closed, noted}
 use Rattle.typing_rules.specs.Doing.{Answer, Doing, ◌>>=◌, ◌>>◌, pure, by_rule, looking, setting, stating, known}
 use Rattle.typing_rules.specs.Rules.Types.{type_of}
 use Rattle.typing_rules.specs.Rules.Nodes.{bracketed}
-use Rattle.typing_rules.specs.Rules.Literals.{integer, negated_integer, constant}
+use Rattle.typing_rules.specs.Rules.Literals.{integer, negated_integer, constant, text}
 use Rattle.typing_rules.specs.Rules.Casts.{cast_to, asked}
-use Rattle.typing_rules.specs.Rules.Operators.{binary_of, unary_of, choice_of}
+use Rattle.typing_rules.specs.Rules.Operators.{binary_of, unary_of, choice_of, elvis_of, instance_of}
 use Rattle.typing_rules.specs.Rules.Places.{local, written, assign_of, step_of}
 use Rattle.typing_rules.specs.Rules.Calls.{call_of}
-use Rattle.typing_rules.specs.Rules.Statements.{reached, deed, expression_of, variable_of, declaration_of, test, loop_test, if_of, loop_of, do_of, break_of, continue_of, return_of, nothing_returned, block_of}
+use Rattle.typing_rules.specs.Rules.Statements.{reached, deed, expression_of, variable_of, declaration_of, test, loop_test, if_of, loop_of, do_of, break_of, continue_of, return_of, nothing_returned, throw_of, block_of}
 use Rattle.typing_rules.specs.Rules.Functions.{headers, function_start, main_start, finished, main}
 
 -- An expression: its first token, its value, its value directly behind a minus that stands at a place, and what it is to be written to.
@@ -182,9 +182,9 @@ module _ (hs : List Header) where
   abbrev pub expression_step : Open Expr-F → Reading
   expression_step (Expr-F.Assign operator at target value) = plain target.first (do p ← target.place; x ← value.value; by_rule (assign_of at operator p x))
   expression_step (Expr-F.Conditional at condition left right) = plain condition.first (do z ← condition.value; x ← left.value; y ← right.value; by_rule (choice_of at z x y))
-  expression_step (Expr-F.Elvis at left right) = plain left.first (do x ← left.value; y ← right.value; unbuilt at)
+  expression_step (Expr-F.Elvis at left right) = plain left.first (do x ← left.value; y ← right.value; by_rule (elvis_of at x y))
   expression_step (Expr-F.Binary operator at left right) = plain left.first (do x ← left.value; y ← right.value; by_rule (binary_of operator at x y))
-  expression_step (Expr-F.Instanceof at operand of) = plain operand.first (do x ← operand.value; t ← by_rule (type_of of); unbuilt at)
+  expression_step (Expr-F.Instanceof at operand of) = plain operand.first (do x ← operand.value; t ← by_rule (type_of of); by_rule (instance_of at x t))
   expression_step (Expr-F.Unary operator at operand) = unary operator at operand
   expression_step (Expr-F.Prefix step at target) = plain at (do p ← target.place; by_rule (step_of at step g.New p))
   expression_step (Expr-F.Postfix step at target) = plain at (do p ← target.place; by_rule (step_of at step g.Old p))
@@ -196,7 +196,7 @@ module _ (hs : List Header) where
     negated = (λ minus. by_rule (negated_integer minus at spelling));
     place = (do x ← by_rule (integer at spelling); pure place.Fixed);
   }
-  expression_step (Expr-F.Text at spelling) = plain at (unbuilt at)
+  expression_step (Expr-F.Text at spelling) = plain at (by_rule (text at spelling))
   expression_step (Expr-F.Constant constant_ at) = plain at (by_rule (constant at constant_))
   expression_step (Expr-F.List at items) = plain at (do all_seen (map (λ (e : Reading). seen e.value) items); unbuilt at)
   expression_step (Expr-F.Map at entries) = plain at (do all_seen entries; unbuilt at)
@@ -244,7 +244,7 @@ module _ (hs : List Header) where
   statement_step (Statement-F.Continue at) = record { at = at; typed = λ last. looking (continue_of at) }
   statement_step (Statement-F.Break at) = record { at = at; typed = λ last. looking (break_of at) }
   statement_step (Statement-F.Return at value) = record { at = at; typed = λ last. returned at value }
-  statement_step (Statement-F.Throw at value) = record { at = at; typed = λ last. (do x ← value.value; unbuilt at) }
+  statement_step (Statement-F.Throw at value) = record { at = at; typed = λ last. (do x ← value.value; by_rule (throw_of at x)) }
   statement_step (Statement-F.«Statement::Expression» at value) = record { at = at; typed = λ last. (do x ← value.value; looking (expression_of at last x)) }
 
   abbrev pub block_step : Open Block-F → Braces

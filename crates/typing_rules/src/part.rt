@@ -15,6 +15,8 @@ pub enum Form {
     Number(i32),
     /// The literal `true`.
     True,
+    /// Any other literal.
+    Literal,
     /// What may stand as a statement.
     Deed,
     Other,

@@ -1,8 +1,9 @@
 -- Literals.
-use Rattle.std.specs.Prelude.{ℕ, true, false, ◌^◌, List, nat_lt, nat_le, ℤ, pos, neg_ℤ, Ok, if◌then◌else◌}
+use Rattle.std.specs.Prelude.{ℕ, ◌-◌, ◌==◌, true, false, ◌^◌, List, [], ◌∷◌, length, take, drop, nat_lt, nat_le, ℤ, pos, neg_ℤ, Ok, if◌then◌else◌}
+use Rattle.pl_types.specs.declared.classes.TheConstants.{STRING}
 use Rattle.pl_types.specs.declared.ty.Ty.TheVariants as t
 use Rattle.pl_types.specs.declared.primitive.Primitive.TheVariants.{Int, Long}
-use Rattle.pl_types.specs.declared.rules.TheConstants.{LITERAL_RANGE, OUT_OF_PROFILE}
+use Rattle.pl_types.specs.declared.rules.TheConstants.{LITERAL_RANGE}
 use Rattle.pl_tree.specs.declared.operator.Constant as tree
 use Rattle.pl_tree.specs.declared.operator.Constant.TheVariants as c
 use Rattle.typed_tree.specs.declared.typed.Node.TheVariants as n
@@ -17,7 +18,7 @@ abbrev pub int_literal : ℕ → ℤ → Part
 int_literal at value = part at (f.Number value) (typed at (t.Prim Int) (n.Constant (k.Int value)))
 
 abbrev pub long_literal : ℕ → ℤ → Part
-long_literal at value = plain at (typed at (t.Prim Long) (n.Constant (k.Long value)))
+long_literal at value = part at f.Literal (typed at (t.Prim Long) (n.Constant (k.Long value)))
 
 -- an int is below 2^31, a long below 2^63
 abbrev pub integer : ℕ → List ℕ → Out Part
@@ -33,8 +34,20 @@ negated_integer minus at spelling =
     then (if nat_le (magnitude (unmarked spelling)) (2 ^ 63) then Ok (long_literal minus (neg_ℤ (pos (magnitude (unmarked spelling))))) else refuse LITERAL_RANGE at)
     else (if nat_le (magnitude spelling) (2 ^ 31) then Ok (int_literal minus (neg_ℤ (pos (magnitude spelling)))) else refuse LITERAL_RANGE at)
 
--- null is not built
 abbrev pub constant : ℕ → tree.Constant → Out Part
 constant at c.True = Ok (part at f.True (typed at boolean (n.Constant (k.Boolean true))))
-constant at c.False = Ok (plain at (typed at boolean (n.Constant (k.Boolean false))))
-constant at c.Null = refuse OUT_OF_PROFILE at
+constant at c.False = Ok (part at f.Literal (typed at boolean (n.Constant (k.Boolean false))))
+constant at c.Null = Ok (part at f.Literal (typed at t.Null (n.Constant k.Null)))
+
+-- what stands in a text: a backslash stands for nothing, and the byte behind it, another or the quote, for itself
+abbrev pub unescaped : List ℕ → List ℕ
+unescaped [] = []
+unescaped (b ∷ []) = b ∷ []
+unescaped (b ∷ c ∷ rest) = if b == 92 then c ∷ unescaped rest else b ∷ unescaped (c ∷ rest)
+
+-- a text as it is written, without its quotes
+abbrev pub unquoted : List ℕ → List ℕ
+unquoted spelling = drop 1 (take (length spelling - 1) spelling)
+
+abbrev pub text : ℕ → List ℕ → Out Part
+text at spelling = Ok (part at f.Literal (typed at (t.Class STRING) (n.Text (unescaped (unquoted spelling)))))

@@ -1,5 +1,5 @@
--- Operators and the conditional.
-use Rattle.std.specs.Prelude.{ℕ, Bool, true, false, [], ◌∷◌, Option, Some, None, Ok, option_map, if◌then◌else◌}
+-- Operators, the conditional, `?:` and `instanceof`.
+use Rattle.std.specs.Prelude.{ℕ, ◌==◌, ◌&&◌, ◌||◌, not, Bool, true, false, [], ◌∷◌, Option, Some, None, Ok, option_map, if◌then◌else◌}
 use Rattle.arithmetic.specs.declared.operator.Op.{Op}
 use Rattle.arithmetic.specs.declared.operator.Op.TheVariants as op
 use Rattle.pl_types.specs.declared.ty.Ty.{Ty, out-Ty}
@@ -7,7 +7,9 @@ use Rattle.pl_types.specs.declared.ty.Ty.TheVariants as t
 use Rattle.pl_types.specs.declared.ty.Ty.TheOpen.{Ty-F}
 use Rattle.pl_types.specs.declared.primitive.Primitive.{Primitive}
 use Rattle.pl_types.specs.declared.primitive.Primitive.TheVariants as p
-use Rattle.pl_types.specs.declared.rules.TheConstants.{BAD_OPERAND, OUT_OF_PROFILE}
+use Rattle.pl_types.specs.declared.rules.TheConstants.{BAD_OPERAND, BAD_NULLABLE, OUT_OF_PROFILE}
+use Rattle.pl_types.specs.declared.classes.TheConstants.{STRING, ITERABLE, MAP}
+use Rattle.pl_types.specs.Classes.{class_is_below}
 use Rattle.pl_types.specs.Types.{same_types}
 use Rattle.pl_types.specs.Promotions.{promote_of}
 use Rattle.pl_tree.specs.declared.operator.BinaryOperator.{BinaryOperator}
@@ -22,6 +24,8 @@ use Rattle.typed_tree.specs.declared.operation.Logical.TheVariants as l
 use Rattle.typed_tree.specs.declared.typed.Typed.{Typed}
 use Rattle.typed_tree.specs.declared.typed.Node.TheVariants as n
 use Rattle.typing_rules.specs.declared.part.Part.{Part}
+use Rattle.typing_rules.specs.declared.part.Form.{Form}
+use Rattle.typing_rules.specs.declared.part.Form.TheVariants as f
 use Rattle.typing_rules.specs.declared.rules.plans.Plan.{Plan}
 use Rattle.typing_rules.specs.Outcomes.{Out, refuse, bind}
 use Rattle.typing_rules.specs.Rules.Nodes.{boolean, typed, applied, plain, type_of_part, is_void}
@@ -108,9 +112,114 @@ plan_between operator x y = plan_if operator (primitive_of x) (primitive_of y)
 abbrev pub operand : ℕ → Primitive → Part → Out Typed
 operand at to x = cast_at at (t.Prim to) x true
 
-abbrev pub strict : Option Plan → ℕ → Part → Part → Out Part
-strict None at x y = refuse BAD_OPERAND at
-strict (Some plan) at x y = bind (operand x.at plan.left x) (λ x. bind (operand y.at plan.right y) (λ y.
+-- ---- sides that are not both of primitive types
+
+-- what a side is to an operator
+pub data Side : Type 0 where
+  OfVoid OfNull OfPrimitive OfDef OfText OfContainer OfOther : Side
+
+-- the container types: Iterable, Map and the classes below them
+abbrev pub is_container : ℕ → Bool
+is_container c = class_is_below c ITERABLE || class_is_below c MAP
+
+abbrev pub side_of_class : ℕ → Side
+side_of_class c = if c == STRING then OfText else (if is_container c then OfContainer else OfOther)
+
+abbrev pub side_layer : Ty-F Ty → Side
+side_layer Ty-F.Void = OfVoid
+side_layer Ty-F.Null = OfNull
+side_layer Ty-F.Def = OfDef
+side_layer (Ty-F.Prim q) = OfPrimitive
+side_layer (Ty-F.Class c) = side_of_class c
+side_layer (Ty-F.Array element) = OfContainer
+
+abbrev pub side_of : Ty → Side
+side_of of = side_layer (out-Ty of)
+
+-- a text on one side and a value on the other are joined
+abbrev pub joins : Side → Side → Bool
+joins OfVoid y = false
+joins x OfVoid = false
+joins OfText y = true
+joins x OfText = true
+joins x y = false
+
+-- `==` and `!=` take values that are not both of primitive types, but for a primitive against null
+abbrev pub compares : Side → Side → Bool
+compares OfVoid y = false
+compares x OfVoid = false
+compares OfPrimitive OfPrimitive = false
+compares OfPrimitive OfNull = false
+compares OfNull OfPrimitive = false
+compares x y = true
+
+-- `===` and `!==` take two containers, or null and what is no primitive
+abbrev pub identifies : Side → Side → Bool
+identifies OfNull OfNull = true
+identifies OfNull OfDef = true
+identifies OfNull OfText = true
+identifies OfNull OfContainer = true
+identifies OfNull OfOther = true
+identifies OfDef OfNull = true
+identifies OfText OfNull = true
+identifies OfContainer OfNull = true
+identifies OfOther OfNull = true
+identifies OfContainer OfContainer = true
+identifies x y = false
+
+abbrev pub only_if : Bool → Operator → Option Operator
+only_if test o = if test then Some o else None
+
+-- What is done with two sides that are not both of primitive types, as references.
+abbrev pub relation_of : BinaryOperator → Side → Side → Option Operator
+relation_of b.Add x y = only_if (joins x y) operator.Concat
+relation_of b.Equal x y = only_if (compares x y) operator.Equal
+relation_of b.NotEqual x y = only_if (compares x y) operator.NotEqual
+relation_of b.Same x y = only_if (identifies x y) operator.Same
+relation_of b.NotSame x y = only_if (identifies x y) operator.NotSame
+relation_of operator x y = None
+
+abbrev pub relation_between : BinaryOperator → Ty → Ty → Option Operator
+relation_between operator x y = relation_of operator (side_of x) (side_of y)
+
+-- Operators whose sides have types that are found when the script runs are not built: where one side is def, and the other no void.
+abbrev pub is_dynamic : Side → Side → Bool
+is_dynamic OfVoid y = false
+is_dynamic x OfVoid = false
+is_dynamic OfDef y = true
+is_dynamic x OfDef = true
+is_dynamic x y = false
+
+abbrev pub is_identity : BinaryOperator → Bool
+is_identity b.Same = true
+is_identity b.NotSame = true
+is_identity operator = false
+
+-- the rule that two sides break with which nothing is done
+abbrev pub broken_by : BinaryOperator → Side → Side → ℕ
+broken_by operator x y = if not (is_identity operator) && is_dynamic x y then OUT_OF_PROFILE else BAD_OPERAND
+
+abbrev pub refused_between : {A : Type 0} → BinaryOperator → ℕ → Ty → Ty → Out A
+refused_between operator at x y = refuse (broken_by operator (side_of x) (side_of y)) at
+
+abbrev pub gives_text : Operator → Bool
+gives_text operator.Concat = true
+gives_text o = false
+
+abbrev pub type_given : Operator → Ty
+type_given o = if gives_text o then t.Class STRING else boolean
+
+-- a side as a reference
+abbrev pub reference : Part → Out Typed
+reference x = cast_at x.at t.Def x true
+
+abbrev pub related : Option Operator → BinaryOperator → ℕ → Part → Part → Out Part
+related None operator at x y = refused_between operator at (type_of_part x) (type_of_part y)
+related (Some relation) operator at x y = bind (reference x) (λ x. bind (reference y) (λ y. Ok (plain at (applied at (type_given relation) (o.Operator relation) (x ∷ y ∷ [])))))
+
+abbrev pub strict : Option Plan → BinaryOperator → ℕ → Part → Part → Out Part
+strict None operator at x y = related (relation_between operator (type_of_part x) (type_of_part y)) operator at x y
+strict (Some plan) operator at x y = bind (operand x.at plan.left x) (λ x. bind (operand y.at plan.right y) (λ y.
     Ok (plain at (applied at (t.Prim plan.result) (o.Operator plan.operator) (x ∷ y ∷ [])))))
 
 -- a side of `&&`, `||` or `!`: void has no operator, and all else is cast
@@ -123,7 +232,7 @@ logical operator at x y = bind (side at x) (λ x. bind (side at y) (λ y. Ok (pl
 abbrev pub binary_of : BinaryOperator → ℕ → Part → Part → Out Part
 binary_of b.AndAnd at x y = logical l.And at x y
 binary_of b.OrOr at x y = logical l.Or at x y
-binary_of operator at x y = strict (plan_between operator (type_of_part x) (type_of_part y)) at x y
+binary_of operator at x y = strict (plan_between operator (type_of_part x) (type_of_part y)) operator at x y
 
 abbrev pub promoted_if : Option Primitive → Option Primitive
 promoted_if None = None
@@ -133,12 +242,16 @@ promoted_if (Some q) = promote_of q p.Int
 abbrev pub promoted : Part → Option Primitive
 promoted x = promoted_if (primitive_of (type_of_part x))
 
+-- an operator on one def is not built, and no other type than a number's has one
+abbrev pub refused_one : {A : Type 0} → ℕ → Part → Out A
+refused_one at x = refused_between b.Add at (type_of_part x) (t.Prim p.Int)
+
 abbrev pub signed : Op → Option Primitive → ℕ → Part → Out Part
-signed op None at x = refuse BAD_OPERAND at
+signed op None at x = refused_one at x
 signed op (Some q) at x = bind (operand x.at q x) (λ x. Ok (plain at (applied at (t.Prim q) (o.Operator (on_numbers q op)) (x ∷ []))))
 
 abbrev pub plus_as : Option Primitive → ℕ → Part → Out Part
-plus_as None at x = refuse BAD_OPERAND at
+plus_as None at x = refused_one at x
 plus_as (Some q) at x = bind (operand x.at q x) (λ x. Ok (plain at x))
 
 abbrev pub not_of : ℕ → Part → Out Part
@@ -159,21 +272,22 @@ abbrev pub common_if : Option Primitive → Ty
 common_if None = t.Def
 common_if (Some q) = t.Prim q
 
--- the common type of two that are not the same: the promoted one, or else def
+abbrev pub common_class : ℕ → ℕ → Ty
+common_class c d = if class_is_below c d then t.Class d else (if class_is_below d c then t.Class c else t.Def)
+
+abbrev pub common_layer : Ty-F Ty → Ty-F Ty → Ty
+common_layer (Ty-F.Prim q) (Ty-F.Prim r) = common_if (promote_of q r)
+common_layer (Ty-F.Class c) (Ty-F.Class d) = common_class c d
+common_layer _ _ = t.Def
+
+-- The common type of two that are not the same: of primitive types the promoted one, of classes the one that is above the other, or else
+-- def. The type of null is no class.
 abbrev pub common : Ty → Ty → Ty
-common a b = common_if (promoted_both (primitive_of a) (primitive_of b))
-
-abbrev pub choice_layer : Ty-F Ty → ℕ → Ty → Typed → Typed → Typed → Out Part
-choice_layer Ty-F.Def at to z x y = refuse OUT_OF_PROFILE at
-choice_layer _ at to z x y = Ok (plain at (typed at to (n.Conditional z x y)))
-
--- one whose type is def is not built
-abbrev pub choice_typed : ℕ → Ty → Typed → Typed → Typed → Out Part
-choice_typed at to z x y = choice_layer (out-Ty to) at to z x y
+common a b = common_layer (out-Ty a) (out-Ty b)
 
 -- a conditional whose sides have different types
 abbrev pub choice_to : ℕ → Ty → Typed → Part → Part → Out Part
-choice_to at to z x y = bind (cast_to to x) (λ x. bind (cast_to to y) (λ y. choice_typed at to z x y))
+choice_to at to z x y = bind (cast_to to x) (λ x. bind (cast_to to y) (λ y. Ok (plain at (typed at to (n.Conditional z x y)))))
 
 abbrev pub choice_as : Bool → ℕ → Typed → Part → Part → Out Part
 choice_as true at z x y = Ok (plain at (typed at (type_of_part x) (n.Conditional z x.typed y.typed)))
@@ -182,3 +296,52 @@ choice_as false at z x y = choice_to at (common (type_of_part x) (type_of_part y
 -- a conditional: sides of one type have it, void too
 abbrev pub choice_of : ℕ → Part → Part → Part → Out Part
 choice_of at z x y = bind (cast_to boolean z) (λ z. choice_as (same_types (type_of_part x) (type_of_part y)) at z x y)
+
+-- ---- `?:`
+
+abbrev pub is_literal : Form → Bool
+is_literal (f.Number value) = true
+is_literal f.True = true
+is_literal f.Literal = true
+is_literal _ = false
+
+abbrev pub is_primitive : Option Primitive → Bool
+is_primitive None = false
+is_primitive (Some q) = true
+
+-- a left side that is never null, or a literal
+abbrev pub needs_no_other : Part → Bool
+needs_no_other x = is_literal x.form || is_primitive (primitive_of (type_of_part x))
+
+abbrev pub elvis_by : Bool → ℕ → Ty → Typed → Typed → Out Part
+elvis_by true at to x y = refuse BAD_NULLABLE at
+elvis_by false at to x y = Ok (plain at (typed at to (n.Elvis x y)))
+
+abbrev pub elvis_to : ℕ → Ty → Part → Part → Out Part
+elvis_to at to x y = bind (cast_to to x) (λ left. bind (cast_to to y) (λ right. elvis_by (needs_no_other x) at to left right))
+
+abbrev pub common_of : Ty → Ty → Ty
+common_of a b = if same_types a b then a else common a b
+
+-- Both sides have the common type of the two; then the left one has to need another.
+abbrev pub elvis_of : ℕ → Part → Part → Out Part
+elvis_of at x y = elvis_to at (common_of (type_of_part x) (type_of_part y)) x y
+
+-- ---- `instanceof`
+
+abbrev pub may_be_instance : Side → Bool
+may_be_instance OfVoid = false
+may_be_instance OfPrimitive = false
+may_be_instance x = true
+
+abbrev pub has_instances_layer : Ty-F Ty → Bool
+has_instances_layer (Ty-F.Class c) = true
+has_instances_layer (Ty-F.Array element) = true
+has_instances_layer _ = false
+
+-- what stands left is no primitive, and what stands right a class or an array type
+abbrev pub instance_of : ℕ → Part → Ty → Out Part
+instance_of at x of =
+    if may_be_instance (side_of (type_of_part x)) && has_instances_layer (out-Ty of)
+    then Ok (plain at (applied at boolean (o.InstanceOf of) (x.typed ∷ [])))
+    else refuse BAD_OPERAND at

@@ -6,7 +6,8 @@ use Rattle.pl_types.specs.declared.ty.Ty.TheOpen.{Ty-F}
 use Rattle.pl_types.specs.declared.primitive.Primitive.{Primitive}
 use Rattle.pl_types.specs.declared.primitive.Primitive.TheVariants as p
 use Rattle.pl_types.specs.declared.conversion.Cast.{Cast}
-use Rattle.pl_types.specs.declared.rules.TheConstants.{UNKNOWN_VARIABLE, NOT_ASSIGNABLE, BAD_OPERAND, BAD_CAST, OUT_OF_PROFILE}
+use Rattle.pl_types.specs.declared.rules.TheConstants.{UNKNOWN_VARIABLE, NOT_ASSIGNABLE, BAD_CAST, OUT_OF_PROFILE}
+use Rattle.pl_types.specs.declared.classes.TheConstants.{STRING}
 use Rattle.pl_types.specs.Casts.{cast_of}
 use Rattle.pl_types.specs.Classes.{class_is_below}
 use Rattle.pl_tree.specs.declared.operator.BinaryOperator.{BinaryOperator}
@@ -17,6 +18,8 @@ use Rattle.typed_tree.specs.declared.operation.Gives.{Gives}
 use Rattle.typed_tree.specs.declared.operation.Gives.TheVariants as g
 use Rattle.typed_tree.specs.declared.operation.Change.{Change}
 use Rattle.typed_tree.specs.declared.operation.Constant.TheVariants as k
+use Rattle.typed_tree.specs.declared.operation.Operator.{Operator}
+use Rattle.typed_tree.specs.declared.operation.Operator.TheVariants as operator
 use Rattle.typed_tree.specs.declared.operation.Target.TheVariants as target
 use Rattle.typed_tree.specs.declared.typed.Typed.{Typed}
 use Rattle.typed_tree.specs.declared.typed.Node.TheVariants as n
@@ -33,7 +36,8 @@ use Rattle.typing_rules.specs.Outcomes.{Out, refuse, bind}
 use Rattle.typing_rules.specs.Scopes.{find}
 use Rattle.typing_rules.specs.Rules.Nodes.{typed, part, plain, type_of_part}
 use Rattle.typing_rules.specs.Rules.Casts.{cast_to}
-use Rattle.typing_rules.specs.Rules.Operators.{operand, plan_between}
+use Rattle.typing_rules.specs.Rules.Types.{is_built}
+use Rattle.typing_rules.specs.Rules.Operators.{operand, plan_between, relation_between, reference, refused_between}
 
 -- the entry of a name in sight, with its place among the names
 abbrev pub entry_if : Option ℕ → List Entry → Option Entry
@@ -43,12 +47,8 @@ entry_if (Some i) scopes = slice_get scopes i
 abbrev pub entry_of : List ℕ → List Entry → Option Entry
 entry_of name scopes = entry_if (find name scopes) scopes
 
-abbrev pub local_layer : Ty-F Ty → ℕ → Entry → Out Part
-local_layer (Ty-F.Prim q) at e = Ok (plain at (typed at (t.Prim q) (n.Local e.name)))
-local_layer _ at e = refuse OUT_OF_PROFILE at
-
 abbrev pub local_of : ℕ → Entry → Out Part
-local_of at e = local_layer (out-Ty e.of) at e
+local_of at e = if is_built e.of then Ok (plain at (typed at e.of (n.Local e.name))) else refuse OUT_OF_PROFILE at
 
 abbrev pub local_if : Option Entry → ℕ → Out Part
 local_if None at = refuse UNKNOWN_VARIABLE at
@@ -62,12 +62,12 @@ abbrev pub is_fixed : Standing → Bool
 is_fixed standing.Variable = false
 is_fixed standing.Fixed = true
 
-abbrev pub written_layer : Ty-F Ty → ℕ → Bool → Entry → Out Place
-written_layer (Ty-F.Prim q) at fixed e = if fixed then Ok place.Fixed else Ok (place.Local e.name (t.Prim q))
-written_layer _ at fixed e = refuse OUT_OF_PROFILE at
+abbrev pub written_to : Bool → Entry → Place
+written_to true e = place.Fixed
+written_to false e = place.Local e.name e.of
 
 abbrev pub written_of : ℕ → Bool → Entry → Out Place
-written_of at fixed e = written_layer (out-Ty e.of) at fixed e
+written_of at fixed e = if is_built e.of then Ok (written_to fixed e) else refuse OUT_OF_PROFILE at
 
 abbrev pub written_if : ℕ → ℕ → ℕ → Option Entry → Out Place
 written_if at base i None = refuse UNKNOWN_VARIABLE at
@@ -110,9 +110,24 @@ changed_by (Some change) at name of y gives = Ok (part at f.Deed (typed at of (n
 abbrev pub changed : ℕ → List ℕ → Ty → Plan → Typed → Gives → Out Part
 changed at name of plan y gives = changed_by (change_of plan of) at name of y gives
 
-abbrev pub compound : Option Plan → ℕ → List ℕ → Ty → Part → Out Part
-compound None at name of x = refuse BAD_OPERAND at
-compound (Some plan) at name of x = bind (operand at plan.right x) (λ y. changed at name of plan y g.New)
+-- a text that is joined to a variable's value: that is a reference, and what comes out is cast to the variable's type
+abbrev pub joining : Cast → Cast → Change
+joining before after = record { before = before; operator = operator.Concat; after = after }
+
+abbrev pub joining_by : Option Cast → Option Cast → Option Change
+joining_by (Some before) (Some after) = Some (joining before after)
+joining_by _ _ = None
+
+abbrev pub joining_of : Ty → Option Change
+joining_of of = joining_by (cast_of class_is_below of t.Def true) (cast_of class_is_below (t.Class STRING) of true)
+
+abbrev pub joined_if : Option Operator → BinaryOperator → ℕ → List ℕ → Ty → Part → Out Part
+joined_if None operator at name of x = refused_between operator at of (type_of_part x)
+joined_if (Some relation) operator at name of x = bind (reference x) (λ y. changed_by (joining_of of) at name of y g.New)
+
+abbrev pub compound : Option Plan → BinaryOperator → ℕ → List ℕ → Ty → Part → Out Part
+compound None operator at name of x = joined_if (relation_between operator of (type_of_part x)) operator at name of x
+compound (Some plan) operator at name of x = bind (operand at plan.right x) (λ y. changed at name of plan y g.New)
 
 -- the variable that a place is
 abbrev pub local_in : Place → Option (List ℕ × Ty)
@@ -121,7 +136,7 @@ local_in place.Fixed = None
 
 abbrev pub assigned : Option BinaryOperator → ℕ → List ℕ → Ty → Part → Out Part
 assigned None at name of x = set at name of x
-assigned (Some operator) at name of x = compound (plan_between operator of (type_of_part x)) at name of x
+assigned (Some operator) at name of x = compound (plan_between operator of (type_of_part x)) operator at name of x
 
 abbrev pub assign_if : Option (List ℕ × Ty) → ℕ → Option BinaryOperator → Part → Out Part
 assign_if None at operator x = refuse NOT_ASSIGNABLE at
@@ -137,7 +152,7 @@ one at p.Long = typed at (t.Prim p.Long) (n.Constant (k.Long (pos 1)))
 one at q = typed at (t.Prim p.Int) (n.Constant (k.Int (pos 1)))
 
 abbrev pub counted : Option Plan → ℕ → List ℕ → Ty → Gives → Out Part
-counted None at name of gives = refuse BAD_OPERAND at
+counted None at name of gives = refused_between b.Add at of (t.Prim p.Int)
 counted (Some plan) at name of gives = changed at name of plan (one at plan.right) gives
 
 abbrev pub operator_of : Step → BinaryOperator

@@ -1,7 +1,9 @@
 -- Statements.
 use Rattle.std.specs.Prelude.{ℕ, Bool, true, false, not, ◌&&◌, ◌||◌, List, length, map, ◌-◌, slice_get, Option, Some, None, Ok, if◌then◌else◌}
 use Rattle.std.specs.List.{list_any}
+use Rattle.pl_types.specs.declared.classes.TheConstants.{EXCEPTION}
 use Rattle.pl_types.specs.declared.ty.Ty.{Ty}
+use Rattle.pl_types.specs.declared.ty.Ty.TheVariants as t
 use Rattle.pl_types.specs.declared.rules.TheConstants.{NOT_A_STATEMENT, UNREACHABLE, MISSING_RETURN, BAD_JUMP}
 use Rattle.pl_tree.specs.declared.tree.Spelled.{Spelled}
 use Rattle.typed_tree.specs.declared.typed.Typed.{Typed}
@@ -109,6 +111,10 @@ return_of at x s = give_back at s.result x
 -- a `return` without a value where one is wanted
 abbrev pub nothing_returned : ℕ → State → Out Step
 nothing_returned at s = if is_void s.result then Ok (step true false at (node.Return None)) else refuse MISSING_RETURN at
+
+-- what is thrown is cast to Exception
+abbrev pub throw_of : ℕ → Part → Out Step
+throw_of at x = bind (cast_to (t.Class EXCEPTION) x) (λ y. Ok (step true false at (node.Throw y)))
 
 abbrev pub last_escapes : List Step → Bool
 last_escapes ys = escapes_if (slice_get ys (length ys - 1))

@@ -1,6 +1,9 @@
--- Types as they are written. Only the primitive types are built.
-use Rattle.std.specs.Prelude.{ℕ, Bool, true, false, ◌&&◌, List, [], ◌∷◌, codes, bytes_eq, if◌then◌else◌, Ok}
-use Rattle.pl_types.specs.declared.ty.Ty.{Ty}
+-- Types as they are written. Built are the primitive types, def, and the classes Object, Comparable, CharSequence, String, StringBuilder
+-- and those of exceptions.
+use Rattle.std.specs.Prelude.{ℕ, ◌==◌, nat_le, Bool, true, false, ◌&&◌, ◌||◌, List, [], ◌∷◌, codes, bytes_eq, if◌then◌else◌, Ok}
+use Rattle.pl_types.specs.declared.classes.TheConstants.{CHAR_SEQUENCE, STRING, STRING_BUILDER, EXCEPTION, STRING_INDEX_OUT_OF_BOUNDS_EXCEPTION}
+use Rattle.pl_types.specs.declared.ty.Ty.{Ty, out-Ty}
+use Rattle.pl_types.specs.declared.ty.Ty.TheOpen.{Ty-F}
 use Rattle.pl_types.specs.declared.ty.Ty.TheVariants as t
 use Rattle.pl_types.specs.declared.rules.TheConstants.{UNKNOWN_TYPE, OUT_OF_PROFILE}
 use Rattle.pl_tree.specs.declared.tree.TypeName.{TypeName}
@@ -8,11 +11,25 @@ use Rattle.pl_tree.specs.declared.tree.TypeBase.{TypeBase}
 use Rattle.pl_tree.specs.declared.tree.TypeBase.TheVariants as b
 use Rattle.typing_rules.specs.Outcomes.{Out, refuse, bind}
 
+-- the classes that are built: up to CharSequence, String and StringBuilder, and those of exceptions
+abbrev pub is_built_class : ℕ → Bool
+is_built_class c = nat_le c CHAR_SEQUENCE || (c == STRING || (c == STRING_BUILDER || (nat_le EXCEPTION c && nat_le c STRING_INDEX_OUT_OF_BOUNDS_EXCEPTION)))
+
+abbrev pub is_built_layer : Ty-F Ty → Bool
+is_built_layer (Ty-F.Prim p) = true
+is_built_layer Ty-F.Def = true
+is_built_layer (Ty-F.Class c) = is_built_class c
+is_built_layer _ = false
+
+-- the types of variables that are built
+abbrev pub is_built : Ty → Bool
+is_built of = is_built_layer (out-Ty of)
+
 -- a name in a type's place means no class
 abbrev pub base_of : ℕ → TypeBase → Out Ty
-base_of at b.Def = refuse OUT_OF_PROFILE at
+base_of at b.Def = Ok t.Def
 base_of at (b.Primitive p) = Ok (t.Prim p)
-base_of at (b.Class c) = refuse OUT_OF_PROFILE at
+base_of at (b.Class c) = if is_built_class c then Ok (t.Class c) else refuse OUT_OF_PROFILE at
 base_of at (b.Name name) = refuse UNKNOWN_TYPE at
 
 -- arrays are not built
