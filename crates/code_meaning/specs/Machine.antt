@@ -17,7 +17,8 @@ use Rattle.arithmetic.specs.Arithmetic.{wrapped, low_bits}
 use Rattle.number_ops.specs.Outcomes.{effect, zero_divisor}
 use Rattle.number_ops.specs.Casts.{cast_at_run_time}
 use Rattle.number_ops.specs.Operators.{concatenated}
-use Rattle.number_ops.specs.Relations.{equal, is_same, is_instance, thrown}
+use Rattle.number_ops.specs.Relations.{equal, is_same, thrown}
+use Rattle.number_ops.specs.Relations as relations
 use Rattle.pl_code.specs.declared.kinds.Quoting.{Quoting}
 use Rattle.pl_code.specs.declared.kinds.Quoting.TheVariants as quoting
 use Rattle.pl_code.specs.declared.kinds.Typed.{Typed}
@@ -291,7 +292,7 @@ module _ (code : List FunCode) (limits : Limits) where
 
   abbrev pub typed_act : Typed → Ty → Frame → List Frame → World → Next
   typed_act typed.IsA of f below w =
-      on_top f.stack (λ word stack. on_reference word (λ value. to_line f below w (suc f.line) (I (bit (is_instance w.store.objects value of)) ∷ stack)))
+      on_top f.stack (λ word stack. on_reference word (λ value. to_line f below w (suc f.line) (I (bit (relations.is_instance w.store.objects value of)) ∷ stack)))
   typed_act other of f below w = Stuck
 
   abbrev pub cast_act : Ty → Bool → Frame → List Frame → World → Next

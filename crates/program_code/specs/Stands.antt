@@ -126,10 +126,10 @@ Fitting funs (operation.Function number) ks of =
 Fitting funs other ks of = Unit {0}
 
 -- A change of a variable of a type: its value is cast to what the operator takes, and what that gives back to what the variable holds.
-pub record ChangeFits (change : Change) (of : Ty) (right : Lying) : Type 0 where
+pub record ChangeFits (change : Change) (of : Ty) (operand : Lying) : Type 0 where
   pub present : lying_of of ≢ Absent
   pub before : CastFits change.before of (lying_of of) (operator_takes change.operator)
-  pub right : right ≡ operator_takes change.operator
+  pub right : operand ≡ operator_takes change.operator
   pub after : CastFits change.after of (operator_gives change.operator) (lying_of of)
 
 -- the value of the left side that settles the whole, and the jump to it
