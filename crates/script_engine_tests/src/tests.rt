@@ -1,5 +1,6 @@
 mod operands;
 mod operators;
+mod references;
 mod rows;
 mod running;
 
@@ -43,6 +44,30 @@ fn scripts_end(rt: HostRuntime) -> Result<(), Fail> {
 fn scripts_end_within_bounds(rt: HostRuntime) -> Result<(), Fail> {
     let compiler = Compiler::new(rt.alloc())?;
     for (bounds, table) in rows::BOUNDED {
+        all_end(&rt, &compiler, bounds, table)?;
+    }
+    Ok(())
+}
+
+#[test]
+fn references_end(rt: HostRuntime) -> Result<(), Fail> {
+    let compiler = Compiler::new(rt.alloc())?;
+    for table in [
+        references::TEXTS,
+        references::CASTS,
+        references::RELATIONS,
+        references::CHOICES,
+        references::THROWN,
+    ] {
+        all_end(&rt, &compiler, USUAL, table)?;
+    }
+    Ok(())
+}
+
+#[test]
+fn references_end_within_bounds(rt: HostRuntime) -> Result<(), Fail> {
+    let compiler = Compiler::new(rt.alloc())?;
+    for (bounds, table) in references::bounded() {
         all_end(&rt, &compiler, bounds, table)?;
     }
     Ok(())

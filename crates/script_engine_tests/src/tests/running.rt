@@ -6,6 +6,7 @@ use object_heap::{End, Heap, Outcome, Which};
 use object_values::Value;
 use pl_types::classes::CLASS_COUNT;
 use pl_types::{Fail, Ty, class_short};
+use pl_units::UText;
 use plain_data::Items;
 use script_engine::{Script, compile};
 use static_types::ContextTypes;
@@ -65,7 +66,13 @@ fn number_text(alloc: Global, letter: &str, number: i64) -> Result<String, Alloc
     format!(in alloc; "{letter} {number}")
 }
 
-/// A value, a number after a letter for its type.
+fn text_text(alloc: Global, text: &UText) -> Result<String, AllocError> {
+    let text = text.to_utf8()?;
+    let text = text.as_str();
+    format!(in alloc; "T {text}")
+}
+
+/// A value, a number after a letter for its type, and a text after `T`.
 fn value_text(alloc: Global, value: &Value) -> Result<String, AllocError> {
     match value {
         Value::Null => String::from_str(alloc, "null"),
@@ -76,6 +83,7 @@ fn value_text(alloc: Global, value: &Value) -> Result<String, AllocError> {
         Value::Char(unit) => number_text(alloc, "C", i64::from(*unit)),
         Value::Int(number) => number_text(alloc, "I", i64::from(*number)),
         Value::Long(number) => number_text(alloc, "J", *number),
+        Value::Str(text) => text_text(alloc, text),
         _ => String::from_str(alloc, "another value"),
     }
 }
