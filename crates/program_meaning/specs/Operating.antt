@@ -259,6 +259,11 @@ abbrev pub gives_if : Option Value → Operated
 gives_if None = Meaningless
 gives_if (Some value) = Gives value
 
+-- a char in its box, cast to a text
+abbrev pub text_if : Option Value → Store → Operated
+text_if None store = Meaningless
+text_if (Some value) store = Acts (effect store (cast_at_run_time store.objects value (t.Class STRING) true))
+
 -- A cast to a type. Those of primitives are known before the script runs, and give a value at once.
 abbrev pub casts : Cast → Ty → Value → Store → Operated
 casts cast.Keep to value store = Gives value
@@ -267,5 +272,5 @@ casts (cast.Wrap from into) to value store = gives_if (box_if into (number_cast 
 casts (cast.Unwrap from into) to value store = Meaningless
 casts cast.Implicit to value store = Acts (effect store (cast_at_run_time store.objects value to false))
 casts cast.Explicit to value store = Acts (effect store (cast_at_run_time store.objects value to true))
-casts cast.CharToText to value store = Acts (effect store (cast_at_run_time store.objects value (t.Class STRING) true))
+casts cast.CharToText to value store = text_if (in_box prim.Char value) store
 casts cast.TextToChar to value store = Acts (effect store (cast_at_run_time store.objects value (t.Prim prim.Char) true))
