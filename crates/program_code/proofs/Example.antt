@@ -3,9 +3,12 @@ use Rattle.std.proofs.Common.{◌≡◌, ◌≢◌, ℕ, zero, suc, [], ◌∷�
 use Rattle.std.specs.Prelude.{slice_get}
 use Rattle.pl_types.specs.declared.ty.Ty as ty
 use Rattle.pl_code.specs.declared.code.Instruction.{Instruction}
+use Rattle.pl_types.specs.declared.conversion.Cast.TheVariants as cast
+use Rattle.arithmetic.specs.declared.operator.Op.TheVariants as op
+use Rattle.typed_tree.specs.declared.operation.Operator.TheVariants as operator
 use Rattle.program_meaning.specs.Tree.{Fun}
 use Rattle.program_code.specs.Lying.{Bare, Absent}
-use Rattle.program_code.specs.Stands.{Entry, At, FunAt}
+use Rattle.program_code.specs.Stands.{Entry, At, ChangeFits, FunAt}
 use Rattle.program_code.specs.Example.{int, x, main, code, IsExample}
 
 abbrev here : {line : ℕ} {instruction : Instruction} → slice_get code.lines line ≡ Some instruction → At code [] line instruction
@@ -16,6 +19,15 @@ entry = record { name = x; of = int; local = 0 }
 
 bare_some : Bare ≢ Absent
 bare_some e = cc
+
+change_fits : ChangeFits (record { before = cast.Keep; operator = operator.Int op.Add; after = cast.Keep }) int Bare
+unfolding ty.out-Ty denote.Hole.Carrier.out
+change_fits = record {
+  present = bare_some;
+  before = record { takes = refl; lies = refl; asks = tt };
+  right = refl;
+  after = record { takes = refl; lies = refl; asks = tt };
+}
 
 main_stands : FunAt (main ∷ []) (code ∷ []) 0 main
 unfolding ty.out-Ty denote.Hole.Carrier.out
@@ -33,7 +45,7 @@ main_stands = record {
     (
       (
         here refl,
-        (((entry, record { is = refl }, refl, refl, here refl, tt, tt, (here refl, refl), (here refl, tt), tt, (here refl, tt), here refl, refl, refl, refl), (here refl, tt)), tt),
+        (((entry, record { is = refl }, refl, here refl, tt, tt, (here refl, refl), (here refl, tt), tt, (here refl, tt), here refl, change_fits), (here refl, tt)), tt),
         tt,
         ((((entry, record { is = refl }, refl, here refl), ((here refl, refl), tt)), (here refl, tt), ((refl, (refl, tt)), refl)), refl),
         here refl,

@@ -1,4 +1,5 @@
 pub mod Operands
+pub mod References
 pub mod Casts
 pub mod Exprs
 pub mod Assigns

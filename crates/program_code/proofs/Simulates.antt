@@ -7,25 +7,26 @@ use Rattle.program_meaning.specs.Meaning.{Meaning, expr_of, exprs_of, stmt_of, s
 use Rattle.program_code.specs.Stands.{Compiled}
 use Rattle.program_code.proofs.Refines.{ExprRuns, ExprsRun, StmtRuns, StmtsRun, Refines}
 use Rattle.program_meaning.specs.Meaning.{layer, meaning}
-use Rattle.program_code.proofs.Nodes.Exprs.{literal_runs, local_runs, none_runs, one_runs, conditional_runs, logic_runs}
+use Rattle.program_code.proofs.Nodes.Casts.{ReadsBack}
+use Rattle.program_code.proofs.Nodes.Exprs.{literal_runs, quoted_runs, local_runs, none_runs, one_runs, conditional_runs, elvis_runs, logic_runs}
 use Rattle.program_code.proofs.Nodes.Assigns.{assign_runs, modify_runs}
 use Rattle.program_code.proofs.Nodes.Calls.{apply_runs}
-use Rattle.program_code.proofs.Nodes.Statements.{do_runs, if_runs, block_runs, break_runs, continue_runs, return_runs, finish_runs, then_runs, declare_runs}
+use Rattle.program_code.proofs.Nodes.Statements.{do_runs, if_runs, block_runs, break_runs, continue_runs, return_runs, throw_runs, finish_runs, then_runs, declare_runs}
 use Rattle.program_code.proofs.Nodes.Loops.{while_runs, do_while_runs}
 
-module _ (funs : Program) (code : List FunCode) (limits : Limits) (made : Compiled funs code) where
+module _ (funs : Program) (code : List FunCode) (limits : Limits) (made : Compiled funs code) (reads : ReadsBack) where
   module _ (m : Meaning) (ih : Refines funs code limits m) where
     expr_runs : (t : Expr) → ExprRuns funs code limits (λ d s e. expr_of funs limits m d s e t) t
     expr_runs (Literal at' of x) = literal_runs funs code limits m ih at' of x
-    expr_runs (Quoted at' of text) = λ c h g p s e l st stands f. record { by = tt }
+    expr_runs (Quoted at' of text) = quoted_runs funs code limits m ih at' of text
     expr_runs (Local at' of x) = local_runs funs code limits m ih at' of x
-    expr_runs (Apply at' of o parts) = apply_runs funs code limits m ih made at' of o parts
+    expr_runs (Apply at' of o parts) = apply_runs funs code limits m ih reads made at' of o parts
     expr_runs (Guarded at' of o parts) = λ c h g p s e l st stands f. record { by = tt }
     expr_runs (Logic at' of o left right) = logic_runs funs code limits m ih at' of o left right
     expr_runs (Conditional at' of t a b) = conditional_runs funs code limits m ih at' of t a b
-    expr_runs (Elvis at' of left right) = λ c h g p s e l st stands f. record { by = tt }
-    expr_runs (Assign at' of to parts value) = assign_runs funs code limits m ih at' of to parts value
-    expr_runs (Modify at' of to parts change right given) = modify_runs funs code limits m ih at' of to parts change right given
+    expr_runs (Elvis at' of left right) = elvis_runs funs code limits m ih at' of left right
+    expr_runs (Assign at' of to parts value) = assign_runs funs code limits m ih reads at' of to parts value
+    expr_runs (Modify at' of to parts change right given) = modify_runs funs code limits m ih reads at' of to parts change right given
     expr_runs (Lambda at' of interface function) = λ c h g p s e l st stands f. record { by = tt }
     expr_runs (Reference at' of interface class name) = λ c h g p s e l st stands f. record { by = tt }
     expr_runs (NewReference at' of interface made') = λ c h g p s e l st stands f. record { by = tt }
@@ -45,7 +46,7 @@ module _ (funs : Program) (code : List FunCode) (limits : Limits) (made : Compil
     stmt_runs Break = break_runs funs code limits m ih
     stmt_runs Continue = continue_runs funs code limits m ih
     stmt_runs (Return value) = return_runs funs code limits m ih value
-    stmt_runs (Throw value) = λ c h g n j p s e l stands under f. record { by = tt }
+    stmt_runs (Throw value) = throw_runs funs code limits m ih value
 
     stmts_run : (t : Stmts) → StmtsRun funs code limits (λ d s e. stmts_of funs limits m d s e t) t
     stmts_run Finish = finish_runs funs code limits m ih

@@ -175,8 +175,8 @@ cast_code other to = []
 
 -- how what a cast takes lies, and how what it gives to a type does; one that keeps the value leaves it as it lies
 abbrev pub cast_takes : Cast → Lying → Lying
-cast_takes (cast.Number from into) lying = Bare
-cast_takes (cast.Wrap from into) lying = Bare
+cast_takes (cast.Number _ _) lying = Bare
+cast_takes (cast.Wrap _ _) lying = Bare
 cast_takes cast.CharToText lying = Bare
 cast_takes cast.Implicit lying = Whole
 cast_takes cast.Explicit lying = Whole
@@ -188,8 +188,8 @@ run_time_lies (Ty-F.Prim p) = Bare
 run_time_lies other = Whole
 
 abbrev pub cast_gives : Cast → Ty → Lying → Lying
-cast_gives (cast.Number from into) to lying = Bare
-cast_gives (cast.Wrap from into) to lying = Whole
+cast_gives (cast.Number _ _) to lying = Bare
+cast_gives (cast.Wrap _ _) to lying = Whole
 cast_gives cast.CharToText to lying = Whole
 cast_gives cast.Implicit to lying = run_time_lies (out-Ty to)
 cast_gives cast.Explicit to lying = run_time_lies (out-Ty to)

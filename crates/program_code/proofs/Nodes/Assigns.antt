@@ -10,21 +10,19 @@ use Rattle.typed_tree.specs.declared.operation.Change.{Change}
 use Rattle.typed_tree.specs.declared.operation.Gives.{Gives}
 use Rattle.run_world.specs.World.{Limits}
 use Rattle.program_meaning.specs.Tree.{Name, Expr, Assign, Modify, Exprs, Program, type_of}
-use Rattle.program_meaning.specs.Operating.{static_cast}
-use Rattle.program_meaning.specs.Meaning.{State, Env, Done, Meaning, found, lookup, assigned, given_by, expr_of}
+use Rattle.program_meaning.specs.Meaning.{State, Env, Done, Meaning, lookup, assigned, given_by, expr_of}
 use Rattle.code_meaning.specs.declared.word.Word.{Word}
-use Rattle.code_meaning.specs.Words.{unboxed}
 use Rattle.code_meaning.specs.Machine.{Handlers, pushed}
-use Rattle.program_code.specs.Lying.{Lying, Bare, Absent, lying_of, low}
-use Rattle.program_code.specs.Parts.{operator_code, cast_code, cast_takes, kept_before}
-use Rattle.program_code.specs.Stands.{Entry, Scope, entry_of, end_all, change_first, change_last, end_expr}
-use Rattle.program_code.proofs.Locals.{Agrees, Fits, reads}
+use Rattle.program_code.specs.Lying.{Lying, Absent, lying_of, low}
+use Rattle.program_code.specs.Parts.{operator_takes, operator_gives}
+use Rattle.program_code.specs.Stands.{Entry, Scope, entry_of, change_first, change_last, end_expr}
+use Rattle.program_code.proofs.Locals.{Agrees, Fits, reads as entry_reads}
 use Rattle.program_code.proofs.Follows.{Ctx, at, Sim, and_then, done, step_to}
 use Rattle.program_code.proofs.Refines.{Any, land_value, ExprRuns, Refines}
-use Rattle.program_code.proofs.Nodes.Operands.{absent_bare, operator_runs}
+use Rattle.program_code.proofs.Nodes.References.{operator_runs}
 use Rattle.std.specs.Prelude.{if◌then◌else◌}
 use Rattle.std.specs.Str.{bytes_eq}
-use Rattle.program_code.proofs.Nodes.Casts.{cast_runs}
+use Rattle.program_code.proofs.Nodes.Casts.{ReadsBack, cast_runs}
 use Rattle.program_code.proofs.Nodes.Exprs.{load_does, store_runs, double_runs, kept_old, kept_new, keeps_before, keeps_behind, old_and_new}
 
 -- a name that is in sight has a value that lies somewhere
@@ -37,17 +35,7 @@ entry_present (z ∷ g) (b ∷ e) l x y is a = pick (λ is. entry_present g e l 
     pick older true is = let same : z ≡ y = cc in subst (λ (y : Entry). lying_of y.of ≢ Absent) same a.1
     pick older false is = older is
 
-takes_bare : (x : Rattle.pl_types.specs.declared.conversion.Cast.Cast) → Bare ≡ cast_takes x Bare
-takes_bare Rattle.pl_types.specs.declared.conversion.Cast.TheVariants.Keep = refl
-takes_bare (Rattle.pl_types.specs.declared.conversion.Cast.TheVariants.Number from to) = refl
-takes_bare (Rattle.pl_types.specs.declared.conversion.Cast.TheVariants.Wrap from to) = refl
-takes_bare (Rattle.pl_types.specs.declared.conversion.Cast.TheVariants.Unwrap from to) = refl
-takes_bare Rattle.pl_types.specs.declared.conversion.Cast.TheVariants.Implicit = refl
-takes_bare Rattle.pl_types.specs.declared.conversion.Cast.TheVariants.Explicit = refl
-takes_bare Rattle.pl_types.specs.declared.conversion.Cast.TheVariants.CharToText = refl
-takes_bare Rattle.pl_types.specs.declared.conversion.Cast.TheVariants.TextToChar = refl
-
-module _ (funs : Program) (code : List FunCode) (limits : Limits) (m : Meaning) (ih : Refines funs code limits m) where
+module _ (funs : Program) (code : List FunCode) (limits : Limits) (m : Meaning) (ih : Refines funs code limits m) (reads : ReadsBack) where
   -- a value that lies as it should
   relies : (c : Ctx code) (h : Handlers) (g : Scope) (k k' : Lying) (value : Value) (q : ℕ) (s : State) (e : Env) (l st : List Word) → k ≡ k' → Fits c.body g e l
       → Sim code limits c h g (land_value funs code limits c k' q st) Any (at code limits c q l (pushed (low k value) st) s) (Done value s e)
@@ -74,24 +62,23 @@ module _ (funs : Program) (code : List FunCode) (limits : Limits) (m : Meaning) 
   modify_runs at' of (target.Local x) parts change right given c h g p s e l st stands f =
       let y = stands.0 in
       let is = stands.1.is in
+      let k = lying_of of in
       let kr = lying_of (type_of right) in
-      step_to code limits l st s stands.4
-      (and_then code limits (load_does funs code limits c h g Bare (lying_of y.of) (lookup e x) (slice_get l y.local) p s e l st st (sym stands.2) (reads g e l x y is f.names) f) (λ old s e l f _.
-      keeps_before funs code limits c h g given old (suc p) s l st stands.5
-      (and_then code limits (subst (λ k. Sim code limits c h g (land_value funs code limits c k (change_first given change p) (kept_old given old st)) Any (at code limits c (end_all (suc p) (kept_before given)) l (unboxed old ∷ kept_old given old st) s) (found (static_cast change.before old) s e)) stands.13
-      (cast_runs funs code limits c h g change.before old Bare _ s e l (kept_old given old st) (takes_bare change.before) stands.6 f)) (λ left s e l f _.
-      and_then code limits (ih.expr right c h g _ s e l (unboxed left ∷ kept_old given old st) stands.7 f) (λ value s e l f _.
-      and_then code limits (operator_runs funs code limits c h g change.operator (Bare ∷ kr ∷ []) (left ∷ value ∷ []) Bare _ s e l (kept_old given old st) stands.8 (refl, (stands.12, tt)) refl refl f) (λ result s e l f _.
-      and_then code limits (subst (λ k. Sim code limits c h g (land_value funs code limits c k (end_all (end_all (end_expr (change_first given change p) right) (operator_code change.operator)) (cast_code change.after)) (kept_old given old st)) Any
-      (at code limits c (end_all (end_expr (change_first given change p) right) (operator_code change.operator)) l (unboxed result ∷ kept_old given old st) s) (found (static_cast change.after result) s e)) stands.14
-      (cast_runs funs code limits c h g change.after result Bare _ s e l (kept_old given old st) (takes_bare change.after) stands.9 f)) (λ new s e l f _.
-      keeps_behind funs code limits c h g given new _ s l (kept_old given old st) stands.10
-      (store_runs funs code limits c h g x y Bare new _ s e l (kept_new given new (kept_old given old st)) is (sym stands.2) bare_some stands.11 f (λ l f.
-      subst (λ st'. Sim code limits c h g (land_value funs code limits c (lying_of of) (suc (change_last given change (end_expr (change_first given change p) right))) st) Any (at code limits c (suc (change_last given change (end_expr (change_first given change p) right))) l st' s) (Done (given_by given old new) s (assigned e x new)))
-      (sym (old_and_new funs code limits c h g given old new st)) (relies c h g Bare (lying_of of) (given_by given old new) _ s _ l st (sym stands.3) f))))))))))
-    where
-      bare_some : Bare ≢ Absent
-      bare_some same = absent_bare (sym same)
+      let takes = operator_takes change.operator in
+      let gives = operator_gives change.operator in
+      let fits = stands.11 in
+      let last = suc (change_last given change of (end_expr (change_first given change of p) right)) in
+      step_to code limits l st s stands.3
+      (and_then code limits (load_does funs code limits c h g k (lying_of y.of) (lookup e x) (slice_get l y.local) p s e l st st (sym stands.2) (entry_reads g e l x y is f.names) f) (λ old s e l f _.
+      keeps_before funs code limits c h g given k old (suc p) s l st fits.present stands.4
+      (and_then code limits (cast_runs funs code limits reads c h g change.before of k takes fits.before old _ s e l (kept_old k given old st) stands.5 f) (λ left s e l f _.
+      and_then code limits (ih.expr right c h g _ s e l (pushed (low takes left) (kept_old k given old st)) stands.6 f) (λ value s e l f _.
+      and_then code limits (operator_runs funs code limits c h g change.operator (takes ∷ kr ∷ []) (left ∷ value ∷ []) gives _ s e l (kept_old k given old st) stands.7 (refl, (fits.right, tt)) refl refl f) (λ result s e l f _.
+      and_then code limits (cast_runs funs code limits reads c h g change.after of gives k fits.after result _ s e l (kept_old k given old st) stands.8 f) (λ new s e l f _.
+      keeps_behind funs code limits c h g given k new _ s l (kept_old k given old st) fits.present stands.9
+      (store_runs funs code limits c h g x y k new _ s e l (kept_new k given new (kept_old k given old st)) is (sym stands.2) fits.present stands.10 f (λ l f.
+      subst (λ st'. Sim code limits c h g (land_value funs code limits c k last st) Any (at code limits c last l st' s) (Done (given_by given old new) s (assigned e x new)))
+      (sym (old_and_new funs code limits c h g given k old new st)) (done code limits f tt))))))))))
   modify_runs at' of target.Element parts change right given c h g p s e l st stands f = record { by = tt }
   modify_runs at' of (target.Members read write) parts change right given c h g p s e l st stands f = record { by = tt }
   modify_runs at' of target.DefIndex parts change right given c h g p s e l st stands f = record { by = tt }

@@ -1,30 +1,56 @@
--- Casts of numbers.
-use Rattle.std.proofs.Common.{◌≡◌, ℕ, suc, Bool, true, false, List, [], ◌∷◌, ◌++◌, Option, Some, None, refl, sym, subst}
+-- Casts: of numbers, and those that are done when the script runs.
+use Rattle.std.proofs.Common.{◌≡◌, ℕ, suc, Bool, true, false, List, [], ◌∷◌, ◌++◌, Option, Some, None, refl, sym, ap, ◌∙◌, subst}
 use Rattle.std.specs.Prelude.{ℤ, pos}
+use Rattle.pl_types.specs.declared.classes.TheConstants.{STRING}
 use Rattle.pl_types.specs.declared.primitive.Primitive.{Primitive}
 use Rattle.pl_types.specs.declared.primitive.Primitive.TheVariants as prim
+use Rattle.pl_types.specs.declared.ty.Ty.{Ty, out-Ty}
+use Rattle.pl_types.specs.declared.ty.Ty.TheOpen.{Ty-F}
+use Rattle.pl_types.specs.declared.ty.Ty.TheVariants as t
+use Rattle.pl_types.specs.declared.ty.Ty.TheFolds.{fold-roll-Ty}
+use Rattle.pl_types.specs.declared.ty.Ty.TheViews.{roll-Ty, roll-out-Ty}
+use Rattle.pl_types.specs.Texts.{full_text, type_of_full, known_layer, is_known}
 use Rattle.pl_types.specs.declared.conversion.Cast.{Cast}
 use Rattle.pl_types.specs.declared.conversion.Cast.TheVariants as cast
 use Rattle.object_values.specs.declared.value.Value.{Value}
 use Rattle.object_values.specs.declared.value.Value.TheVariants as v
+use Rattle.pl_code.specs.declared.kinds.Way.{Way}
+use Rattle.pl_code.specs.declared.kinds.Way.TheVariants as way
 use Rattle.pl_code.specs.declared.code.FunCode.{FunCode}
 use Rattle.pl_code.specs.declared.code.Instruction.{Instruction}
 use Rattle.pl_code.specs.declared.code.Instruction.TheVariants as i
-use Rattle.run_world.specs.World.{Limits}
+use Rattle.number_ops.specs.Casts.{cast_at_run_time}
+use Rattle.number_ops.specs.Outcomes.{effect}
+use Rattle.run_world.specs.World.{Limits, acts_in}
 use Rattle.program_meaning.specs.Tree.{Program}
-use Rattle.program_meaning.specs.Operating.{number_cast, in_box, box_if, static_cast}
-use Rattle.program_meaning.specs.Meaning.{State, Env, found, bind}
+use Rattle.program_meaning.specs.Operating.{Acts, number_cast, in_box, box_if, gives_if, text_if, casts}
+use Rattle.program_meaning.specs.Meaning.{State, Env, Out, found, operated, bind}
 use Rattle.code_meaning.specs.declared.word.Word.{Word}
 use Rattle.code_meaning.specs.declared.word.Word.TheVariants.{I, J, R}
 use Rattle.code_meaning.specs.Words.{unboxed, boxed, bit}
-use Rattle.code_meaning.specs.Machine.{Handlers, on_value, pushed, to_line}
+use Rattle.code_meaning.specs.Machine.{Handlers, Next, on_value, on_type, is_written, pushed, to_line}
 use Rattle.program_code.specs.Lying.{Lying, Bare, Whole, Absent, low}
-use Rattle.program_code.specs.Parts.{number_code, from_int_code, from_long_code, from_byte_code, from_short_code, from_char_code, cast_code, cast_takes, cast_gives}
-use Rattle.program_code.specs.Stands.{Scope, AllAt, end_all}
+use Rattle.program_code.specs.Parts.{number_code, from_int_code, from_long_code, from_byte_code, from_short_code, from_char_code, run_time_code_layer, run_time_lies, cast_code, cast_takes, cast_gives}
+use Rattle.program_code.specs.Stands.{Scope, AllAt, end_all, AsksKnown, CastFits}
 use Rattle.program_code.proofs.Locals.{Fits}
 use Rattle.program_code.proofs.Follows.{Ctx, Sim, at, frame, and_then, done, step_to}
 use Rattle.program_code.proofs.Refines.{Any, land_value}
-use Rattle.program_code.proofs.Nodes.Operands.{whole_bare, absent_bare}
+use Rattle.program_code.proofs.Nodes.Operands.{whole_bare, absent_bare, outcome_runs}
+use Rattle.program_code.proofs.Nodes.References.{bare_whole, absent_whole}
+
+-- ---- types
+
+-- The text of a known type is read as the type.
+abbrev pub ReadsBack : Type 0
+ReadsBack = (of : Ty) → is_known of ≡ true → type_of_full (full_text of) ≡ Some of
+
+rolled_primitive : (p : Primitive) (of : Ty) → out-Ty of ≡ Ty-F.Prim p → of ≡ t.Prim p
+unfolding roll-Ty denote.Hole.Carrier.roll
+rolled_primitive p of is = sym (roll-out-Ty of) ∙ ap roll-Ty is
+
+string_is_known : is_known (t.Class STRING) ≡ true
+unfolding roll-Ty denote.Hole.Carrier.roll
+string_is_known = fold-roll-Ty Bool known_layer (Ty-F.Class STRING)
 
 -- ---- instructions one behind the other
 
@@ -211,28 +237,99 @@ module _ (funs : Program) (code : List FunCode) (limits : Limits) (c : Ctx code)
   box_runs prim.Long (v.Str a) q s e l st st' f = record { by = tt }
   box_runs prim.Long (v.Ref a) q s e l st st' f = record { by = tt }
 
-  box_after : (p : Primitive) (o : Option Value) (s : State) (e : Env) → bind (found o s e) (λ value s e. found (in_box p value) s e) ≡ found (box_if p o) s e
+  box_after : (p : Primitive) (o : Option Value) (s : State) (e : Env) → bind (found o s e) (λ value s e. found (in_box p value) s e) ≡ operated (gives_if (box_if p o)) s e
   box_after p None s e = refl
-  box_after p (Some value) s e = refl
+  box_after p (Some value) s e = boxed_gives (in_box p value)
+    where
+      boxed_gives : (o : Option Value) → found o s e ≡ operated (gives_if o) s e
+      boxed_gives None = refl
+      boxed_gives (Some value) = refl
 
-  -- each cast whose type is known
-  pub cast_runs : (x : Cast) (value : Value) (k : Lying) (q : ℕ) (s : State) (e : Env) (l st : List Word) → k ≡ cast_takes x k → AllAt c.body h q (cast_code x) → Fits c.body g e l
-      → Sim code limits c h g (land_value funs code limits c (cast_gives x k) (end_all q (cast_code x)) st) Any (at code limits c q l (pushed (low k value) st) s) (found (static_cast x value) s e)
-  cast_runs cast.Keep value k q s e l st is x f = done code limits f tt
-  cast_runs (cast.Number from to) value Bare q s e l st is x f = number_runs from to value q s e l st x f
-  cast_runs (cast.Number from to) value Whole q s e l st is x f = absurd (whole_bare is)
-  cast_runs (cast.Number from to) value Absent q s e l st is x f = absurd (absent_bare is)
-  cast_runs (cast.Wrap from to) value Bare q s e l st is x f =
-      let first = all_first c.body h q (number_code from to) (i.Boxing to ∷ []) x in
-      let second = all_second c.body h q (number_code from to) (i.Boxing to ∷ []) x in
-      subst (λ p. Sim code limits c h g (land_value funs code limits c Whole p st) Any (at code limits c q l (unboxed value ∷ st) s) (found (static_cast (cast.Wrap from to) value) s e)) (sym (end_both q (number_code from to) (i.Boxing to ∷ [])))
-      (subst (λ o. Sim code limits c h g (land_value funs code limits c Whole (suc (end_all q (number_code from to))) st) Any (at code limits c q l (unboxed value ∷ st) s) o) (box_after to (number_cast from to value) s e)
-      (and_then code limits (number_runs from to value q s e l st first f) (λ value s e l f _.
-      step_to code limits l (unboxed value ∷ st) s second.0 (box_runs to value _ s e l st (unboxed value ∷ st) f))))
-  cast_runs (cast.Wrap from to) value Whole q s e l st is x f = absurd (whole_bare is)
-  cast_runs (cast.Wrap from to) value Absent q s e l st is x f = absurd (absent_bare is)
-  cast_runs (cast.Unwrap from to) value k q s e l st is x f = record { by = tt }
-  cast_runs cast.Implicit value k q s e l st is x f = record { by = tt }
-  cast_runs cast.Explicit value k q s e l st is x f = record { by = tt }
-  cast_runs cast.CharToText value k q s e l st is x f = record { by = tt }
-  cast_runs cast.TextToChar value k q s e l st is x f = record { by = tt }
+  found_gives : (o : Option Value) (s : State) (e : Env) → found o s e ≡ operated (gives_if o) s e
+  found_gives None s e = refl
+  found_gives (Some value) s e = refl
+
+-- casts that are done when the script runs
+module _ (funs : Program) (code : List FunCode) (limits : Limits) (reads : ReadsBack) (c : Ctx code) (h : Handlers) (g : Scope) where
+  -- the type of an instruction
+  pub type_read : (of : Ty) (next : Ty → Next) → is_known of ≡ true → {land : Value → State → List Word → Next} {good : Value → Type 0} {o : Out Value}
+      → Sim code limits c h g land good (next of) o → Sim code limits c h g land good (on_type (type_of_full (full_text of)) next) o
+  type_read of next known {land = land} {good = good} {o = o} d = subst (λ x. Sim code limits c h g land good (on_type x next) o) (sym (reads of known)) d
+
+  -- to any type but a primitive
+  whole_runs : (to : Ty) (w : Way) (value : Value) (q : ℕ) (s : State) (e : Env) (l st : List Word) → is_known to ≡ true → AllAt c.body h q (i.Cast (full_text to) w ∷ []) → Fits c.body g e l
+      → Sim code limits c h g (land_value funs code limits c Whole (suc q) st) Any (at code limits c q l (R value ∷ st) s) (operated (Acts (effect s.world.store (cast_at_run_time s.world.store.objects value to (is_written w)))) s e)
+  whole_runs to w value q s e l st known x f =
+      step_to code limits l (R value ∷ st) s x.0
+      (type_read to _ known
+      (outcome_runs funs code limits c h g q _ s e l st (R value ∷ st) Whole R (λ value. refl) x.0 f (acts_in s.world (effect s.world.store (cast_at_run_time s.world.store.objects value to (is_written w))))))
+
+  -- to a primitive
+  primitive_runs : (p : Primitive) (w : Way) (value : Value) (q : ℕ) (s : State) (e : Env) (l st : List Word) → AllAt c.body h q (i.Unboxing p w ∷ []) → Fits c.body g e l
+      → Sim code limits c h g (land_value funs code limits c Bare (suc q) st) Any (at code limits c q l (R value ∷ st) s) (operated (Acts (effect s.world.store (cast_at_run_time s.world.store.objects value (t.Prim p) (is_written w)))) s e)
+  primitive_runs p w value q s e l st x f =
+      step_to code limits l (R value ∷ st) s x.0
+      (outcome_runs funs code limits c h g q _ s e l st (R value ∷ st) Bare unboxed (λ value. refl) x.0 f (acts_in s.world (effect s.world.store (cast_at_run_time s.world.store.objects value (t.Prim p) (is_written w)))))
+
+  layer_runs : (y : Ty-F Ty) (to : Ty) (w : Way) (value : Value) (q : ℕ) (s : State) (e : Env) (l st : List Word) → out-Ty to ≡ y → is_known to ≡ true → AllAt c.body h q (run_time_code_layer y to w) → Fits c.body g e l
+      → Sim code limits c h g (land_value funs code limits c (run_time_lies y) (end_all q (run_time_code_layer y to w)) st) Any (at code limits c q l (R value ∷ st) s)
+      (operated (Acts (effect s.world.store (cast_at_run_time s.world.store.objects value to (is_written w)))) s e)
+  layer_runs (Ty-F.Prim p) to w value q s e l st is known x f =
+      subst (λ to. Sim code limits c h g (land_value funs code limits c Bare (suc q) st) Any (at code limits c q l (R value ∷ st) s) (operated (Acts (effect s.world.store (cast_at_run_time s.world.store.objects value to (is_written w)))) s e))
+      (sym (rolled_primitive p to is)) (primitive_runs p w value q s e l st x f)
+  layer_runs Ty-F.Void to w value q s e l st is known x f = whole_runs to w value q s e l st known x f
+  layer_runs Ty-F.Null to w value q s e l st is known x f = whole_runs to w value q s e l st known x f
+  layer_runs Ty-F.Def to w value q s e l st is known x f = whole_runs to w value q s e l st known x f
+  layer_runs (Ty-F.Class class) to w value q s e l st is known x f = whole_runs to w value q s e l st known x f
+  layer_runs (Ty-F.Array elem) to w value q s e l st is known x f = whole_runs to w value q s e l st known x f
+
+  -- a char as a text
+  text_runs : (value : Value) (q : ℕ) (s : State) (e : Env) (l st : List Word) → AllAt c.body h q (i.Boxing prim.Char ∷ i.Cast (full_text (t.Class STRING)) way.Explicit ∷ []) → Fits c.body g e l
+      → Sim code limits c h g (land_value funs code limits c Whole (suc (suc q)) st) Any (at code limits c q l (unboxed value ∷ st) s) (operated (text_if (in_box prim.Char value) s.world.store) s e)
+  text_runs (v.Char a) q s e l st x f = step_to code limits l (unboxed (v.Char a) ∷ st) s x.0 (whole_runs (t.Class STRING) way.Explicit _ (suc q) s e l st string_is_known x.1 f)
+  text_runs v.Null q s e l st x f = record { by = tt }
+  text_runs (v.Bool a) q s e l st x f = record { by = tt }
+  text_runs (v.Byte a) q s e l st x f = record { by = tt }
+  text_runs (v.Short a) q s e l st x f = record { by = tt }
+  text_runs (v.Int a) q s e l st x f = record { by = tt }
+  text_runs (v.Long a) q s e l st x f = record { by = tt }
+  text_runs (v.Str a) q s e l st x f = record { by = tt }
+  text_runs (v.Ref a) q s e l st x f = record { by = tt }
+
+  cast_does : (x : Cast) (to : Ty) (value : Value) (k : Lying) (q : ℕ) (s : State) (e : Env) (l st : List Word) → k ≡ cast_takes x k → AsksKnown x to → AllAt c.body h q (cast_code x to) → Fits c.body g e l
+      → Sim code limits c h g (land_value funs code limits c (cast_gives x to k) (end_all q (cast_code x to)) st) Any (at code limits c q l (pushed (low k value) st) s) (operated (casts x to value s.world.store) s e)
+  cast_does cast.Keep to value k q s e l st is asks x f = done code limits f tt
+  cast_does (cast.Number from onto) to value Bare q s e l st is asks x f =
+      subst (λ o. Sim code limits c h g (land_value funs code limits c Bare (end_all q (number_code from onto)) st) Any (at code limits c q l (unboxed value ∷ st) s) o) (found_gives funs code limits c h g (number_cast from onto value) s e)
+      (number_runs funs code limits c h g from onto value q s e l st x f)
+  cast_does (cast.Number from onto) to value Whole q s e l st is asks x f = absurd (whole_bare is)
+  cast_does (cast.Number from onto) to value Absent q s e l st is asks x f = absurd (absent_bare is)
+  cast_does (cast.Wrap from onto) to value Bare q s e l st is asks x f =
+      let first = all_first c.body h q (number_code from onto) (i.Boxing onto ∷ []) x in
+      let second = all_second c.body h q (number_code from onto) (i.Boxing onto ∷ []) x in
+      subst (λ p. Sim code limits c h g (land_value funs code limits c Whole p st) Any (at code limits c q l (unboxed value ∷ st) s) (operated (casts (cast.Wrap from onto) to value s.world.store) s e)) (sym (end_both q (number_code from onto) (i.Boxing onto ∷ [])))
+      (subst (λ o. Sim code limits c h g (land_value funs code limits c Whole (suc (end_all q (number_code from onto))) st) Any (at code limits c q l (unboxed value ∷ st) s) o) (box_after funs code limits c h g onto (number_cast from onto value) s e)
+      (and_then code limits (number_runs funs code limits c h g from onto value q s e l st first f) (λ value s e l f _.
+      step_to code limits l (unboxed value ∷ st) s second.0 (box_runs funs code limits c h g onto value _ s e l st (unboxed value ∷ st) f))))
+  cast_does (cast.Wrap from onto) to value Whole q s e l st is asks x f = absurd (whole_bare is)
+  cast_does (cast.Wrap from onto) to value Absent q s e l st is asks x f = absurd (absent_bare is)
+  cast_does (cast.Unwrap from onto) to value k q s e l st is asks x f = record { by = tt }
+  cast_does cast.Implicit to value Whole q s e l st is asks x f = layer_runs (out-Ty to) to way.Implicit value q s e l st refl asks x f
+  cast_does cast.Implicit to value Bare q s e l st is asks x f = absurd (bare_whole is)
+  cast_does cast.Implicit to value Absent q s e l st is asks x f = absurd (absent_whole is)
+  cast_does cast.Explicit to value Whole q s e l st is asks x f = layer_runs (out-Ty to) to way.Explicit value q s e l st refl asks x f
+  cast_does cast.Explicit to value Bare q s e l st is asks x f = absurd (bare_whole is)
+  cast_does cast.Explicit to value Absent q s e l st is asks x f = absurd (absent_whole is)
+  cast_does cast.CharToText to value Bare q s e l st is asks x f = text_runs value q s e l st x f
+  cast_does cast.CharToText to value Whole q s e l st is asks x f = absurd (whole_bare is)
+  cast_does cast.CharToText to value Absent q s e l st is asks x f = absurd (absent_bare is)
+  cast_does cast.TextToChar to value Whole q s e l st is asks x f = primitive_runs prim.Char way.Explicit value q s e l st x f
+  cast_does cast.TextToChar to value Bare q s e l st is asks x f = absurd (bare_whole is)
+  cast_does cast.TextToChar to value Absent q s e l st is asks x f = absurd (absent_whole is)
+
+  -- each cast to a type, of what lies as it takes it
+  pub cast_runs : (x : Cast) (to : Ty) (given gives : Lying) → CastFits x to given gives → (value : Value) (q : ℕ) (s : State) (e : Env) (l st : List Word) → AllAt c.body h q (cast_code x to) → Fits c.body g e l
+      → Sim code limits c h g (land_value funs code limits c gives (end_all q (cast_code x to)) st) Any (at code limits c q l (pushed (low given value) st) s) (operated (casts x to value s.world.store) s e)
+  cast_runs x to given gives fits value q s e l st a f =
+      subst (λ k. Sim code limits c h g (land_value funs code limits c k (end_all q (cast_code x to)) st) Any (at code limits c q l (pushed (low given value) st) s) (operated (casts x to value s.world.store) s e)) (sym fits.lies)
+      (cast_does x to value given q s e l st fits.takes fits.asks a f)

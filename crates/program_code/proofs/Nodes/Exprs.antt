@@ -15,29 +15,30 @@ use Rattle.typed_tree.specs.declared.operation.Logical.TheVariants.{And, Or}
 use Rattle.typed_tree.specs.declared.operation.Gives.{Gives}
 use Rattle.typed_tree.specs.declared.operation.Gives.TheVariants as gives
 use Rattle.run_world.specs.World.{Limits}
-use Rattle.program_meaning.specs.Tree.{Name, Expr, Literal, Local, Logic, Conditional, Exprs, None', One, Program, type_of}
+use Rattle.pl_units.specs.Utf16.{units}
+use Rattle.program_meaning.specs.Tree.{Name, Expr, Literal, Quoted, Local, Logic, Conditional, Elvis, Exprs, None', One, Program, type_of}
 use Rattle.program_meaning.specs.Operating.{value_of}
-use Rattle.program_meaning.specs.Meaning.{State, Env, Out, Done, Meaning, found, lookup, assigned, given_by, expr_of, exprs_of}
+use Rattle.program_meaning.specs.Meaning.{State, Env, Out, Done, Meaning, found, lookup, assigned, unless_null, given_by, expr_of, exprs_of}
 use Rattle.code_meaning.specs.declared.word.Word.{Word}
 use Rattle.code_meaning.specs.declared.word.Word.TheVariants.{R}
 use Rattle.code_meaning.specs.Words.{unboxed}
-use Rattle.code_meaning.specs.Machine.{Handlers, Next, on_local, pushed, act, to_line}
+use Rattle.code_meaning.specs.Machine.{Handlers, Next, on_local, if_null, pushed, act, to_line}
 use Rattle.program_code.specs.Lying.{Lying, Bare, Whole, Absent, lying_of, low}
 use Rattle.program_code.specs.Parts.{constant_code, kept_before, kept_behind}
-use Rattle.program_code.specs.Stands.{Entry, Scope, entry_of, At, AllAt, end_all, end_expr, settled, literal_lies}
+use Rattle.program_code.specs.Stands.{Entry, Scope, entry_of, At, AllAt, end_all, elvis_right, end_expr, settled, literal_lies}
 use Rattle.program_code.proofs.Locals.{Fits, reads, writes}
-use Rattle.program_code.proofs.Follows.{Ctx, Leads, frame, at, does_next, Sim, and_then, done, step_to, lands_on, tested}
+use Rattle.program_code.proofs.Follows.{Ctx, Leads, frame, at, place, does_next, Sim, and_then, done, step_to, lands_on, tested}
 use Rattle.program_code.proofs.Refines.{Any, land_value, ExprRuns, ExprsRun, Refines}
 use Rattle.program_code.proofs.Nodes.Operands.{whole_bare, absent_bare}
 
 -- what lies below a change, and behind it
-abbrev pub kept_old : Gives → Value → List Word → List Word
-kept_old gives.Old value st = unboxed value ∷ st
-kept_old gives.New value st = st
+abbrev pub kept_old : Lying → Gives → Value → List Word → List Word
+kept_old k gives.Old value st = pushed (low k value) st
+kept_old k gives.New value st = st
 
-abbrev pub kept_new : Gives → Value → List Word → List Word
-kept_new gives.Old value st = st
-kept_new gives.New value st = unboxed value ∷ st
+abbrev pub kept_new : Lying → Gives → Value → List Word → List Word
+kept_new k gives.Old value st = st
+kept_new k gives.New value st = pushed (low k value) st
 
 -- the value that settles `&&` or `||`
 abbrev pub short : Logical → Bool
@@ -108,27 +109,45 @@ module _ (funs : Program) (code : List FunCode) (limits : Limits) (c : Ctx code)
   double_runs Absent value q s l st some a next = absurd (some refl)
 
   -- the same where an assignment gives the old or the new value
-  pub keeps_before : (x : Gives) (value : Value) (q : ℕ) (s : State) (l st : List Word) → AllAt c.body h q (kept_before x)
+  pub keeps_before : (x : Gives) (k : Lying) (value : Value) (q : ℕ) (s : State) (l st : List Word) → k ≢ Absent → AllAt c.body h q (kept_before x)
       → {A : Type 0} {land : A → State → List Word → Next} {good : A → Type 0} {o : Out A}
-      → Sim code limits c h g land good (at code limits c (end_all q (kept_before x)) l (unboxed value ∷ kept_old x value st) s) o
-      → Sim code limits c h g land good (at code limits c q l (unboxed value ∷ st) s) o
-  keeps_before gives.Old value q s l st a next = step_to code limits l (unboxed value ∷ st) s a.0 next
-  keeps_before gives.New value q s l st a next = next
+      → Sim code limits c h g land good (at code limits c (end_all q (kept_before x)) l (pushed (low k value) (kept_old k x value st)) s) o
+      → Sim code limits c h g land good (at code limits c q l (pushed (low k value) st) s) o
+  keeps_before gives.Old k value q s l st some a next = double_runs k value q s l st some a.0 next
+  keeps_before gives.New k value q s l st some a next = next
 
-  pub keeps_behind : (x : Gives) (value : Value) (q : ℕ) (s : State) (l st : List Word) → AllAt c.body h q (kept_behind x)
+  pub keeps_behind : (x : Gives) (k : Lying) (value : Value) (q : ℕ) (s : State) (l st : List Word) → k ≢ Absent → AllAt c.body h q (kept_behind x)
       → {A : Type 0} {land : A → State → List Word → Next} {good : A → Type 0} {o : Out A}
-      → Sim code limits c h g land good (at code limits c (end_all q (kept_behind x)) l (unboxed value ∷ kept_new x value st) s) o
-      → Sim code limits c h g land good (at code limits c q l (unboxed value ∷ st) s) o
-  keeps_behind gives.Old value q s l st a next = next
-  keeps_behind gives.New value q s l st a next = step_to code limits l (unboxed value ∷ st) s a.0 next
+      → Sim code limits c h g land good (at code limits c (end_all q (kept_behind x)) l (pushed (low k value) (kept_new k x value st)) s) o
+      → Sim code limits c h g land good (at code limits c q l (pushed (low k value) st) s) o
+  keeps_behind gives.Old k value q s l st some a next = next
+  keeps_behind gives.New k value q s l st some a next = double_runs k value q s l st some a.0 next
 
-  pub old_and_new : (x : Gives) (old new : Value) (st : List Word) → kept_new x new (kept_old x old st) ≡ unboxed (given_by x old new) ∷ st
-  old_and_new gives.Old old new st = refl
-  old_and_new gives.New old new st = refl
+  pub old_and_new : (x : Gives) (k : Lying) (old new : Value) (st : List Word) → kept_new k x new (kept_old k x old st) ≡ pushed (low k (given_by x old new)) st
+  old_and_new gives.Old k old new st = refl
+  old_and_new gives.New k old new st = refl
+
+  -- null goes on to the second place
+  null_tested : (value : Value) (first second : Next) {land : Value → State → List Word → Next} {good : Value → Type 0} {o o' : Out Value} → Sim code limits c h g land good first o → Sim code limits c h g land good second o'
+      → Sim code limits c h g land good (if_null value second first) (unless_null value o o')
+  null_tested v.Null first second d d' = d'
+  null_tested (v.Bool a) first second d d' = d
+  null_tested (v.Byte a) first second d d' = d
+  null_tested (v.Short a) first second d d' = d
+  null_tested (v.Char a) first second d d' = d
+  null_tested (v.Int a) first second d d' = d
+  null_tested (v.Long a) first second d d' = d
+  null_tested (v.Str a) first second d d' = d
+  null_tested (v.Ref a) first second d d' = d
 
 module _ (funs : Program) (code : List FunCode) (limits : Limits) (m : Meaning) (ih : Refines funs code limits m) where
   pub literal_runs : (at' : ℕ) (of : Ty) (x : Constant) → ExprRuns funs code limits (λ d s e. expr_of funs limits m d s e (Literal at' of x)) (Literal at' of x)
   literal_runs at' of x c h g p s e l st stands f = step_to code limits l st s stands.0 (literal_does funs code limits c h g x (lying_of of) p s e l st stands.1 f)
+
+  pub quoted_runs : (at' : ℕ) (of : Ty) (text : List ℕ) → ExprRuns funs code limits (λ d s e. expr_of funs limits m d s e (Quoted at' of text)) (Quoted at' of text)
+  quoted_runs at' of text c h g p s e l st stands f =
+      step_to code limits l st s stands.0
+      (subst (λ k. Sim code limits c h g (land_value funs code limits c k (suc p) st) Any (at code limits c (suc p) l (R (v.Str (units text)) ∷ st) s) (Done (v.Str (units text)) s e)) (sym stands.1) (done code limits f tt))
 
   pub local_runs : (at' : ℕ) (of : Ty) (x : Name) → ExprRuns funs code limits (λ d s e. expr_of funs limits m d s e (Local at' of x)) (Local at' of x)
   local_runs at' of x c h g p s e l st stands f =
@@ -154,6 +173,21 @@ module _ (funs : Program) (code : List FunCode) (limits : Limits) (m : Meaning) 
       (ih.expr a c h g _ s e l st stands.2 f))
       (lands_on code limits (λ value s l r _ k. subst (λ k'. Leads code limits (at code limits c (end_expr p (Conditional at' of t a b)) l (pushed (low k' value) st) s) r) (sym stands.7) k) (λ value y. y)
       (ih.expr b c h g _ s e l st stands.4 f))))
+
+  pub elvis_runs : (at' : ℕ) (of : Ty) (left right : Expr) → ExprRuns funs code limits (λ d s e. expr_of funs limits m d s e (Elvis at' of left right)) (Elvis at' of left right)
+  elvis_runs at' of left right c h g p s e l st stands f =
+      let here = end_expr p left in
+      let to = end_expr (elvis_right here) right in
+      and_then code limits (ih.expr left c h g p s e l st stands.0 f) (λ value s e l f _.
+      subst (λ k. Sim code limits c h g (land_value funs code limits c (lying_of of) to st) Any (at code limits c here l (pushed (low k value) st) s) (unless_null value (Done value s e) (m.expr (place code limits c) s e right))) (sym stands.6)
+      (step_to code limits l (R value ∷ st) s stands.1
+      (step_to code limits l (R value ∷ R value ∷ st) s stands.2
+      (null_tested funs code limits c h g value (at code limits c (suc (suc here)) l (R value ∷ st) s) (at code limits c (suc (suc (suc here))) l (R value ∷ st) s)
+      (step_to code limits l (R value ∷ st) s stands.3
+      (subst (λ k. Sim code limits c h g (land_value funs code limits c k to st) Any (at code limits c to l (R value ∷ st) s) (Done value s e)) (sym stands.8) (done code limits f tt)))
+      (step_to code limits l (R value ∷ st) s stands.4
+      (lands_on code limits (λ value s l r _ k. subst (λ k'. Leads code limits (at code limits c to l (pushed (low k' value) st) s) r) (stands.8 ∙ sym stands.7) k) (λ value y. y)
+      (ih.expr right c h g _ s e l st stands.5 f)))))))
 
   -- the value that settles `&&` or `||`
   settled_does : (x : Logical) (k : Lying) (c : Ctx code) (h : Handlers) (g : Scope) (q : ℕ) (s : State) (e : Env) (l st : List Word) → k ≡ Bare → Fits c.body g e l

@@ -1,4 +1,4 @@
--- Operators: what the instruction of an operator does is what the operator comes to.
+-- Operators between numbers and truth values: what the instruction of an operator does is what the operator comes to.
 use Rattle.std.proofs.Common.{◌≡◌, ℕ, suc, Bool, true, false, not, List, [], ◌∷◌, length, Option, Some, None, refl, sym, ap, subst, arith}
 use Rattle.std.specs.Prelude.{ℤ, pos, int_lt, int_le}
 use Rattle.std.specs.Int.{w32, w64}
@@ -13,11 +13,9 @@ use Rattle.arithmetic.specs.Arithmetic.{quotient_of, remainder_of}
 use Rattle.number_ops.specs.Outcomes.{effect, zero_divisor}
 use Rattle.pl_code.specs.declared.kinds.Width.TheVariants as width
 use Rattle.pl_code.specs.declared.code.FunCode.{FunCode}
-use Rattle.typed_tree.specs.declared.operation.Operator.{Operator}
-use Rattle.typed_tree.specs.declared.operation.Operator.TheVariants as operator
 use Rattle.run_world.specs.World.{Limits, Outcome, Given, Raised, Full, acts_in}
 use Rattle.program_meaning.specs.Tree.{Program}
-use Rattle.program_meaning.specs.Operating.{Operand, AnInt, ALong, AFlag, NoOperand, operand_of, Operands, OneInt, TwoInts, OneLong, TwoLongs, LongAndInt, OneFlag, TwoFlags, NoOperands, operands_of, one_operand, two_operands, of_ints, of_longs, of_flags, number_given, number_operated, flag_operated, operates}
+use Rattle.program_meaning.specs.Operating.{Operand, AnInt, ALong, AFlag, NoOperand, operand_of, Operands, OneInt, TwoInts, OneLong, TwoLongs, LongAndInt, OneFlag, TwoFlags, NoOperands, operands_of, one_operand, two_operands, of_ints, of_longs, of_flags, number_given, number_operated, flag_operated}
 use Rattle.program_meaning.specs.Meaning.{State, Env, operated}
 use Rattle.program_meaning.specs.Meaning as meaning
 use Rattle.code_meaning.specs.declared.word.Word.{Word}
@@ -25,8 +23,8 @@ use Rattle.code_meaning.specs.declared.word.Word.TheVariants.{I, J}
 use Rattle.code_meaning.specs.Words.{unboxed, Calculates, bit}
 use Rattle.code_meaning.specs.Machine.{Handlers, on_outcome, on_calculation, pushed}
 use Rattle.program_code.specs.Lying.{Lying, Bare, Whole, Absent, low}
-use Rattle.program_code.specs.Parts.{operator_code, arithmetic_code, boolean_code}
-use Rattle.program_code.specs.Stands.{Scope, At, AllAt, end_all, AreBare}
+use Rattle.program_code.specs.Parts.{arithmetic_code, boolean_code}
+use Rattle.program_code.specs.Stands.{Scope, At, AllAt, end_all, AllLie}
 use Rattle.program_code.proofs.Locals.{Fits}
 use Rattle.program_code.proofs.Follows.{Ctx, Sim, at, frame, ended, done, step_to, throws}
 use Rattle.program_code.proofs.Refines.{push, Any, land_value}
@@ -90,7 +88,7 @@ whole_bare e = cc
 pub absent_bare : Absent ≡ Bare → ⊥
 absent_bare e = cc
 
-pub stack_is : (ks : List Lying) (values : List Value) (st : List Word) → AreBare ks → length ks ≡ length values → StackIs (operands_of values) (push ks values st) st
+pub stack_is : (ks : List Lying) (values : List Value) (st : List Word) → AllLie Bare ks → length ks ≡ length values → StackIs (operands_of values) (push ks values st) st
 stack_is ks [] st bare same = tt
 stack_is [] (x ∷ []) st bare same = absurd (omega arith)
 stack_is (Bare ∷ []) (x ∷ []) st bare same = one_is (operand_of x) (unboxed x) st (kind_is x)
@@ -347,7 +345,7 @@ module _ (funs : Program) (code : List FunCode) (limits : Limits) (c : Ctx code)
   two_flags op.Ne false true q s e l st x f = step_to code limits l (I (bit true) ∷ I (bit false) ∷ st) s x.0 (done code limits f tt)
   two_flags op.Ne false false q s e l st x f = step_to code limits l (I (bit false) ∷ I (bit false) ∷ st) s x.0 (done code limits f tt)
 
-  ints_run : (o : Op) (x : Operands) (q : ℕ) (s : State) (e : Env) (l st' st : List Word) → AllAt c.body h q (arithmetic_code o width.Int) → StackIs x st' st → Fits c.body g e l
+  pub ints_run : (o : Op) (x : Operands) (q : ℕ) (s : State) (e : Env) (l st' st : List Word) → AllAt c.body h q (arithmetic_code o width.Int) → StackIs x st' st → Fits c.body g e l
       → Sim code limits c h g (land_value funs code limits c Bare (end_all q (arithmetic_code o width.Int)) st) Any (at code limits c q l st' s) (operated (number_operated o (of_ints o x) s.world.store) s e)
   ints_run o (OneInt a) q s e l st' st at' is f = subst (λ st'. Sim code limits c h g (land_value funs code limits c Bare (end_all q (arithmetic_code o width.Int)) st) Any (at code limits c q l st' s) (operated (number_operated o (of_ints o (OneInt a)) s.world.store) s e)) (sym is) (one_int o a q s e l st at' f)
   ints_run o (TwoInts a b) q s e l st' st at' is f = subst (λ st'. Sim code limits c h g (land_value funs code limits c Bare (end_all q (arithmetic_code o width.Int)) st) Any (at code limits c q l st' s) (operated (number_operated o (of_ints o (TwoInts a b)) s.world.store) s e)) (sym is) (two_ints o a b q s e l st at' f)
@@ -358,7 +356,7 @@ module _ (funs : Program) (code : List FunCode) (limits : Limits) (c : Ctx code)
   ints_run o (TwoFlags a b) q s e l st' st at' is f = record { by = tt }
   ints_run o NoOperands q s e l st' st at' is f = record { by = tt }
 
-  longs_run : (o : Op) (x : Operands) (q : ℕ) (s : State) (e : Env) (l st' st : List Word) → AllAt c.body h q (arithmetic_code o width.Long) → StackIs x st' st → Fits c.body g e l
+  pub longs_run : (o : Op) (x : Operands) (q : ℕ) (s : State) (e : Env) (l st' st : List Word) → AllAt c.body h q (arithmetic_code o width.Long) → StackIs x st' st → Fits c.body g e l
       → Sim code limits c h g (land_value funs code limits c Bare (end_all q (arithmetic_code o width.Long)) st) Any (at code limits c q l st' s) (operated (number_operated o (of_longs o x) s.world.store) s e)
   longs_run o (OneInt a) q s e l st' st at' is f = record { by = tt }
   longs_run o (TwoInts a b) q s e l st' st at' is f = record { by = tt }
@@ -369,7 +367,7 @@ module _ (funs : Program) (code : List FunCode) (limits : Limits) (c : Ctx code)
   longs_run o (TwoFlags a b) q s e l st' st at' is f = record { by = tt }
   longs_run o NoOperands q s e l st' st at' is f = record { by = tt }
 
-  flags_run : (o : Op) (x : Operands) (q : ℕ) (s : State) (e : Env) (l st' st : List Word) → AllAt c.body h q (boolean_code o) → StackIs x st' st → Fits c.body g e l
+  pub flags_run : (o : Op) (x : Operands) (q : ℕ) (s : State) (e : Env) (l st' st : List Word) → AllAt c.body h q (boolean_code o) → StackIs x st' st → Fits c.body g e l
       → Sim code limits c h g (land_value funs code limits c Bare (end_all q (boolean_code o)) st) Any (at code limits c q l st' s) (operated (flag_operated (of_flags o x)) s e)
   flags_run o (OneInt a) q s e l st' st at' is f = record { by = tt }
   flags_run o (TwoInts a b) q s e l st' st at' is f = record { by = tt }
@@ -379,28 +377,3 @@ module _ (funs : Program) (code : List FunCode) (limits : Limits) (c : Ctx code)
   flags_run o (OneFlag a) q s e l st' st at' is f = subst (λ st'. Sim code limits c h g (land_value funs code limits c Bare (end_all q (boolean_code o)) st) Any (at code limits c q l st' s) (operated (flag_operated (of_flags o (OneFlag a))) s e)) (sym is) (one_flag o a q s e l st at' f)
   flags_run o (TwoFlags a b) q s e l st' st at' is f = subst (λ st'. Sim code limits c h g (land_value funs code limits c Bare (end_all q (boolean_code o)) st) Any (at code limits c q l st' s) (operated (flag_operated (of_flags o (TwoFlags a b))) s e)) (sym is) (two_flags o a b q s e l st at' f)
   flags_run o NoOperands q s e l st' st at' is f = record { by = tt }
-
-  -- each operator between numbers or truth values
-  pub operator_runs : (o : Operator) (ks : List Lying) (values : List Value) (k : Lying) (q : ℕ) (s : State) (e : Env) (l st : List Word) → AllAt c.body h q (operator_code o) → AreBare ks → length ks ≡ length values → k ≡ Bare → Fits c.body g e l
-      → Sim code limits c h g (land_value funs code limits c k (end_all q (operator_code o)) st) Any (at code limits c q l (push ks values st) s) (operated (operates o values s.world.store) s e)
-  operator_runs (operator.Int o) ks values Bare q s e l st x bare same is f = ints_run o (operands_of values) q s e l (push ks values st) st x (stack_is ks values st bare same) f
-  operator_runs (operator.Int o) ks values Whole q s e l st x bare same is f = absurd (whole_bare is)
-  operator_runs (operator.Int o) ks values Absent q s e l st x bare same is f = absurd (absent_bare is)
-  operator_runs (operator.Long o) ks values Bare q s e l st x bare same is f = longs_run o (operands_of values) q s e l (push ks values st) st x (stack_is ks values st bare same) f
-  operator_runs (operator.Long o) ks values Whole q s e l st x bare same is f = absurd (whole_bare is)
-  operator_runs (operator.Long o) ks values Absent q s e l st x bare same is f = absurd (absent_bare is)
-  operator_runs (operator.Boolean o) ks values Bare q s e l st x bare same is f = flags_run o (operands_of values) q s e l (push ks values st) st x (stack_is ks values st bare same) f
-  operator_runs (operator.Boolean o) ks values Whole q s e l st x bare same is f = absurd (whole_bare is)
-  operator_runs (operator.Boolean o) ks values Absent q s e l st x bare same is f = absurd (absent_bare is)
-  operator_runs (operator.Def o) ks values k q s e l st x bare same is f = record { by = tt }
-  operator_runs operator.Equal ks values k q s e l st x bare same is f = record { by = tt }
-  operator_runs operator.NotEqual ks values k q s e l st x bare same is f = record { by = tt }
-  operator_runs operator.Same ks values k q s e l st x bare same is f = record { by = tt }
-  operator_runs operator.NotSame ks values k q s e l st x bare same is f = record { by = tt }
-  operator_runs operator.Concat ks values k q s e l st x bare same is f = record { by = tt }
-  operator_runs operator.List ks values k q s e l st x bare same is f = record { by = tt }
-  operator_runs operator.Map ks values k q s e l st x bare same is f = record { by = tt }
-  operator_runs operator.NewArray ks values k q s e l st x bare same is f = record { by = tt }
-  operator_runs operator.ArrayOf ks values k q s e l st x bare same is f = record { by = tt }
-  operator_runs operator.Element ks values k q s e l st x bare same is f = record { by = tt }
-  operator_runs operator.Length ks values k q s e l st x bare same is f = record { by = tt }

@@ -8,9 +8,10 @@ use Rattle.pl_code.specs.declared.kinds.Plain.TheVariants as plain
 use Rattle.pl_code.specs.declared.kinds.Numbered.TheVariants as numbered
 use Rattle.pl_code.specs.declared.code.FunCode.{FunCode}
 use Rattle.pl_code.specs.declared.code.Instruction.TheVariants as i
-use Rattle.run_world.specs.World.{Limits, End}
+use Rattle.number_ops.specs.Relations.{thrown}
+use Rattle.run_world.specs.World.{Limits, End, acts_in}
 use Rattle.program_meaning.specs.Tree.{Name, Expr, Maybe, Missing, Given, Stmt, Do, If, While, DoWhile, ForEach, Try, Block, Break, Continue, Return, Throw, Stmts, Finish, Then, Declare, Program, type_of}
-use Rattle.program_meaning.specs.Meaning.{State, Env, Out, Done, Flow, Normal, Broke, Continued, Returned, Meaning, goes_next, value_or, stmt_of, stmts_of}
+use Rattle.program_meaning.specs.Meaning.{State, Env, Out, Done, Flow, Normal, Broke, Continued, Returned, Meaning, bind, effect, goes_next, value_or, stmt_of, stmts_of}
 use Rattle.code_meaning.specs.declared.word.Word.{Word}
 use Rattle.code_meaning.specs.declared.word.Word.TheVariants.{R}
 use Rattle.code_meaning.specs.Words.{unboxed}
@@ -21,6 +22,7 @@ use Rattle.program_code.specs.Stands.{Entry, Scope, At, AllAt, end_all, end_expr
 use Rattle.program_code.proofs.Locals.{Under, Fits, under_more, local_within, declares}
 use Rattle.program_code.proofs.Follows.{Ctx, Leads, at, place, does_next, Sim, and_then, done, step_to, lands_on, leaving, tested}
 use Rattle.program_code.proofs.Refines.{Any, Good, land_value, land_flow, StmtRuns, StmtsRun, Refines}
+use Rattle.program_code.proofs.Nodes.References.{bare_whole, absent_whole, thrown_alone, throw_does}
 use Rattle.program_code.proofs.Nodes.Calls.{default_runs, returns_value}
 
 -- ---- which flows are good for a whole that are good for a part
@@ -130,6 +132,18 @@ module _ (funs : Program) (code : List FunCode) (limits : Limits) (m : Meaning) 
   return_runs (Given a) c h g n j p s e l stands under f =
       and_then code limits (ih.expr a c h g p s e l [] stands.0.0 f) (λ value s e l f _.
       gives_value c h g j _ _ value (lying_of (type_of a)) (pushed (low (lying_of (type_of a)) value) []) s e l stands.0.1 refl stands.1 f)
+
+  pub throw_runs : (a : Expr) → StmtRuns funs code limits (λ d s e. stmt_of funs limits m d s e (Throw a)) (Throw a)
+  throw_runs a c h g n j p s e l stands under f =
+      and_then code limits (ih.expr a c h g p s e l [] stands.0 f) (λ value s e l f _. throws_whole value (lying_of (type_of a)) s e l stands.1 f)
+    where
+      throws_whole : (value : Value) (k : Lying) (s : State) (e : Env) (l : List Word) → k ≡ Whole → Fits c.body g e l
+          → Sim code limits c h g (land_flow funs code limits c j (suc (end_expr p a))) (Good false false) (at code limits c (end_expr p a) l (pushed (low k value) []) s)
+          (bind (effect (acts_in s.world (thrown s.world.store value)) s e) (λ value s e. Done Normal s e))
+      throws_whole value Whole s e l is f =
+          step_to code limits l (R value ∷ []) s stands.2 (throw_does funs code limits c h g (end_expr p a) _ s e l (R value ∷ []) stands.2 f (λ value s e. Done Normal s e) (thrown s.world.store value) (thrown_alone s.world.store value))
+      throws_whole value Bare s e l is f = absurd (bare_whole is)
+      throws_whole value Absent s e l is f = absurd (absent_whole is)
 
   pub finish_runs : StmtsRun funs code limits (λ d s e. stmts_of funs limits m d s e Finish) Finish
   finish_runs c h g n j p s e l stands under f = done code limits f refl
