@@ -14,7 +14,12 @@ use Rattle.object_values.specs.declared.object.Object.TheVariants as o
 use Rattle.object_values.specs.declared.object.Owner.{Owner}
 use Rattle.object_values.specs.declared.object.Owner.TheVariants.{Script}
 use Rattle.arithmetic.specs.Arithmetic.{wrapped, low_bits}
-use Rattle.number_ops.specs.Outcomes.{effect, zero_divisor}
+use Rattle.number_ops.specs.Outcomes.{effect, zero_divisor, null_error}
+use Rattle.object_heap.specs.Effects.{Effect}
+use Rattle.allowlist.specs.declared.member.MemberType.{MemberType}
+use Rattle.allowlist.specs.Index.{member_at}
+use Rattle.code_shapes.specs.Members.{method_of, constructor_of, field_of}
+use Rattle.member_acts.specs.Members.{does}
 use Rattle.number_ops.specs.Casts.{cast_at_run_time}
 use Rattle.number_ops.specs.Operators.{concatenated}
 use Rattle.number_ops.specs.Relations.{equal, is_same, thrown}
@@ -34,9 +39,10 @@ use Rattle.pl_code.specs.declared.code.Trap.{Trap}
 use Rattle.pl_code.specs.declared.code.FunCode.{FunCode}
 use Rattle.pl_code.specs.declared.code.Instruction.{Instruction}
 use Rattle.pl_code.specs.declared.code.Instruction.TheVariants as i
-use Rattle.run_world.specs.World.{World, Limits, Room, End, Result, Uncaught, Limited, Outcome, Given, Raised, Full, acts_in, Counted, Counts, Passes, take_turn, enter}
+use Rattle.run_world.specs.World.{World, Limits, Room, End, Result, Uncaught, Limited, Outcome, Given, Raised, Full, acts_in, Counted, Counts, Passes, take_turn, enter, pay_member}
 use Rattle.code_meaning.specs.declared.word.Word.{Word}
 use Rattle.code_meaning.specs.declared.word.Word.TheVariants.{I, J, R}
+use Rattle.code_meaning.specs.Members.{Receiving, Unfit, OnNull, Receives, Reads, received, count_of, given_as}
 use Rattle.code_meaning.specs.Words.{start_of, word_of, Calculation, NoRow, Calculates, calculation, boxed, unboxed, bit}
 
 pub record Frame : Type 0 where
@@ -300,8 +306,30 @@ module _ (code : List FunCode) (limits : Limits) where
       on_top f.stack (λ word stack. on_reference word (λ value.
       on_outcome (acts_in w (effect w.store (cast_at_run_time w.store.objects value to written))) R f below w stack))
 
+  -- what a member does, once its call is paid
+  abbrev pub on_act : Option Effect → MemberType → Frame → List Frame → World → List Word → Next
+  on_act None t f below w stack = Stuck
+  on_act (Some given) t f below w stack = on_outcome (acts_in w given) (given_as t.result) f below w stack
+
+  abbrev pub on_paid : Counted → ℕ → List Value → MemberType → Frame → List Frame → List Word → Next
+  on_paid (Passes limit w) number arguments t f below stack = Ends (Limited limit w)
+  on_paid (Counts w) number arguments t f below stack = on_act (does number arguments w.store) t f below w stack
+
+  -- a receiver that is null throws before the call is paid; a field is read without a tick
+  abbrev pub on_received : Receiving → ℕ → MemberType → Frame → List Frame → World → List Word → Next
+  on_received Unfit number t f below w stack = Stuck
+  on_received OnNull number t f below w stack = on_outcome (acts_in w (effect w.store null_error)) (given_as t.result) f below w stack
+  on_received (Receives arguments) number t f below w stack = on_paid (pay_member number w) number arguments t f below stack
+  on_received Reads number t f below w stack = on_act (does number [] w.store) t f below w stack
+
+  -- a call of the member of this number, if there is one
+  abbrev pub member_act : Option ℕ → Frame → List Frame → World → Next
+  member_act None f below w = Stuck
+  member_act (Some number) f below w =
+      on_words (take_words (count_of (member_at number)) f.stack []) (λ words stack. on_received (received (member_at number) words) number (member_at number) f below w stack)
+
   -- The rows that are built: constants, locals, copies, arithmetic, number casts, boxes, jumps, loops, calls and returns; texts, equality,
-  -- casts and instances of references, and `throw`.
+  -- casts and instances of references, and `throw`; members, by the list of those that are allowed.
   abbrev pub act : Instruction → Frame → List Frame → World → Next
   act (i.Plain p) f below w = plain_act p f below w
   act (i.Arithmetic o width) f below w = on_calculation (calculation o width f.stack) f below w
@@ -315,6 +343,9 @@ module _ (code : List FunCode) (limits : Limits) where
   act (i.Quoted q text) f below w = quoted_act q text f below w
   act (i.Typed t of) f below w = on_type (type_of_full of) (λ of. typed_act t of f below w)
   act (i.Cast to way) f below w = on_type (type_of_full to) (λ to. cast_act to (is_written way) f below w)
+  act (i.Invoke method) f below w = member_act (method_of limits.allowed method) f below w
+  act (i.New constructor) f below w = member_act (constructor_of limits.allowed constructor) f below w
+  act (i.Field field) f below w = member_act (field_of limits.allowed field) f below w
   act other f below w = Stuck
 
   abbrev pub lines_of : Option FunCode → List Instruction

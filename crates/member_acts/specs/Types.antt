@@ -1,5 +1,6 @@
 -- What members take and give, as far as a primitive or a box is asked for.
-use Rattle.std.specs.Prelude.{◌≡◌, ℕ, ◌==◌, ◌&&◌, Bool, true, false, Option, Some, None, List, [], ◌∷◌, map, slice_get, is_some, if◌then◌else◌}
+use Rattle.std.specs.Prelude.{◌≡◌, ℕ, ◌==◌, ◌&&◌, Bool, true, false, not, Option, Some, None, List, [], ◌∷◌, map, slice_get, is_some, if◌then◌else◌}
+use Rattle.std.specs.List.{list_all}
 use Rattle.pl_types.specs.declared.classes.TheConstants.{NUMBER, CHARACTER, BOOLEAN}
 use Rattle.pl_types.specs.declared.primitive.Primitive.{Primitive}
 use Rattle.pl_types.specs.declared.primitive.Primitive.TheVariants as prim
@@ -81,3 +82,18 @@ MembersGiveTypes = (number : ℕ) (member : MemberType) (arguments : List Value)
 abbrev pub ReceiversSuit : Type 0
 ReceiversSuit = (rules : Rules) (objects : List Object) (class : ℕ) (value : Value) → Fits rules objects → is_null value ≡ false → value_is_of (kinds objects) class value ≡ true
     → suits (asked_of_class class) value ≡ true
+
+-- a class of whose values nothing is asked: neither Number nor the box of a char or a boolean
+abbrev pub is_plain_class : ℕ → Bool
+is_plain_class class = not (class == NUMBER) && (not (class == CHARACTER) && not (class == BOOLEAN))
+
+abbrev pub is_plain_layer : Ty-F Ty → Bool
+is_plain_layer (Ty-F.Class class) = is_plain_class class
+is_plain_layer other = true
+
+abbrev pub is_plain : Ty → Bool
+is_plain of = is_plain_layer (out-Ty of)
+
+-- A member of whose references nothing is asked, the receiver's among them.
+unfoldable pub is_plain_member : MemberType → Bool
+is_plain_member member = is_plain_class member.owner && list_all is_plain member.params

@@ -31,7 +31,7 @@ use Rattle.pl_code.specs.declared.kinds.Quoting.TheVariants as quoting
 use Rattle.pl_code.specs.declared.kinds.Typed.TheVariants as typed
 use Rattle.pl_code.specs.declared.kinds.Way.{Way}
 use Rattle.pl_code.specs.declared.kinds.Way.TheVariants as way
-use Rattle.program_code.specs.Lying.{Lying, Bare, Whole, Absent}
+use Rattle.program_code.specs.Lying.{Lying, Bare, Whole, Absent, lying_of}
 
 abbrev pub text_code : List ℕ → Instruction
 text_code text = i.Quoted quoting.Constant text
@@ -198,12 +198,29 @@ cast_gives other to lying = lying
 
 -- ---- strict operations
 
+-- a call of a member leaves null where the member gives nothing
+abbrev pub member_code : Operation → List Instruction
+member_code (operation.Instance m) = i.Invoke m.text ∷ []
+member_code (operation.Static m) = i.Invoke m.text ∷ []
+member_code (operation.Constructor m) = i.New m.text ∷ []
+member_code (operation.Field m) = i.Field m.text ∷ []
+member_code other = []
+
+-- .. which is dropped
+abbrev pub without_null : Lying → List Instruction
+without_null Absent = i.Plain plain.Pop ∷ []
+without_null lying = []
+
 -- an operation that gives a value of a type
 abbrev pub operation_code : Operation → Ty → List Instruction
 operation_code (operation.Operator o) of = operator_code o
 operation_code (operation.Cast c) of = cast_code c of
 operation_code (operation.InstanceOf is) of = i.Typed typed.IsA (full_text is) ∷ []
 operation_code (operation.Function k) of = i.Numbered numbered.Call k ∷ []
+operation_code (operation.Instance m) of = i.Invoke m.text ∷ without_null (lying_of of)
+operation_code (operation.Static m) of = i.Invoke m.text ∷ without_null (lying_of of)
+operation_code (operation.Constructor m) of = i.New m.text ∷ without_null (lying_of of)
+operation_code (operation.Field m) of = i.Field m.text ∷ without_null (lying_of of)
 operation_code other of = []
 
 -- a value that is dropped

@@ -11,6 +11,12 @@ use Rattle.pl_code.specs.declared.code.Instruction.{Instruction}
 use Rattle.pl_code.specs.declared.code.Instruction.TheVariants as i
 use Rattle.typed_tree.specs.declared.operation.Constant.{Constant}
 use Rattle.typed_tree.specs.declared.operation.Constant.TheVariants as constant
+use Rattle.allowlist.specs.declared.member.MemberKind.{MemberKind}
+use Rattle.allowlist.specs.declared.member.MemberKind.TheVariants as kind
+use Rattle.allowlist.specs.declared.member.MemberType.{MemberType}
+use Rattle.allowlist.specs.Catalogue.{catalogue}
+use Rattle.member_names.specs.Names.{text_of}
+use Rattle.typed_tree.specs.declared.operation.Member.{Member}
 use Rattle.typed_tree.specs.declared.operation.Operation.{Operation}
 use Rattle.typed_tree.specs.declared.operation.Operation.TheVariants as operation
 use Rattle.typed_tree.specs.declared.operation.Logical.{Logical}
@@ -25,7 +31,7 @@ use Rattle.program_code.specs.Lying.{Lying, Bare, Whole, Absent, lying_of, kind_
 use Rattle.pl_types.specs.declared.conversion.Cast.{Cast}
 use Rattle.pl_types.specs.declared.conversion.Cast.TheVariants as cast
 use Rattle.pl_types.specs.Texts.{is_known}
-use Rattle.program_code.specs.Parts.{constant_code, text_code, default_code, operator_code, operator_takes, operator_gives, cast_code, cast_takes, cast_gives, operation_code, pops, kept_before, kept_behind}
+use Rattle.program_code.specs.Parts.{constant_code, text_code, default_code, operator_code, operator_takes, operator_gives, cast_code, cast_takes, cast_gives, operation_code, member_code, without_null, pops, kept_before, kept_behind}
 
 pub record Entry : Type 0 where
   pub name : Name
@@ -78,7 +84,8 @@ abbrev mutual
   end_expr p (Quoted at of text) = suc p
   end_expr p (Local at of x) = suc p
   end_expr p (Apply at of o parts) = end_all (end_exprs p parts) (operation_code o of)
-  end_expr p (Guarded at of o parts) = p
+  end_expr p (Guarded at of o None') = p
+  end_expr p (Guarded at of o (One a others)) = end_all (end_all (end_exprs (suc (suc (end_expr p a))) others) (member_code o)) (without_null (lying_of of))
   end_expr p (Logic at of o left right) = suc (suc (end_expr (suc (end_expr p left)) right))
   end_expr p (Conditional at of c a b) = end_expr (suc (end_expr (suc (end_expr p c)) a)) b
   end_expr p (Elvis at of left right) = end_expr (elvis_right (end_expr p left)) right
@@ -115,6 +122,28 @@ pub record CastFits (c : Cast) (to : Ty) (given gives : Lying) : Type 0 where
   pub lies : gives ≡ cast_gives c to given
   pub asks : AsksKnown c to
 
+-- how the receiver, where there is one, and the arguments of a member lie
+abbrev pub with_receiver : MemberKind → List Lying → List Lying
+with_receiver kind.Instance ks = Whole ∷ ks
+with_receiver other ks = ks
+
+-- A member that a call names: it is the catalogue's of this number and kind, the text is its own, and the parts and what it gives lie as its
+-- types say. (The type of a call is that of the member, or what it was cast to is another node.)
+pub record MemberFits (kind : MemberKind) (m : Member) (ks : List Lying) (of : Ty) : Type 0 where
+  pub member : MemberType
+  pub is : slice_get catalogue m.number ≡ Some member
+  pub sort : member.kind ≡ kind
+  pub text : m.text ≡ text_of member
+  pub parts : ks ≡ with_receiver kind (map lying_of member.params)
+  pub gives : lying_of of ≡ lying_of member.result
+
+-- of a call that a null receiver leaves out: the same, and it gives no number
+pub record GuardFits (o : Operation) (ks : List Lying) (of : Ty) : Type 0 where
+  pub member : Member
+  pub is : o ≡ operation.Instance member
+  pub fits : MemberFits kind.Instance member ks of
+  pub whole : lying_of of ≢ Bare
+
 -- how the parts of an operation lie, and what it gives, which is of a type
 abbrev pub Fitting : Program → Operation → List Lying → Ty → Type 0
 Fitting funs (operation.Operator o) ks of = AllLie (operator_takes o) ks × (lying_of of ≡ operator_gives o)
@@ -123,6 +152,10 @@ Fitting funs (operation.Cast c) other of = Unit {0}
 Fitting funs (operation.InstanceOf is) ks of = AllLie Whole ks × (lying_of of ≡ Bare) × (is_known is ≡ true)
 Fitting funs (operation.Function number) ks of =
     (f : Fun) → slice_get funs number ≡ Some f → (ks ≡ map (λ (x : Variable). lying_of x.of) f.params) × (lying_of of ≡ lying_of f.result)
+Fitting funs (operation.Instance m) ks of = MemberFits kind.Instance m ks of
+Fitting funs (operation.Static m) ks of = MemberFits kind.Static m ks of
+Fitting funs (operation.Constructor m) ks of = MemberFits kind.Constructor m ks of
+Fitting funs (operation.Field m) ks of = MemberFits kind.Field m ks of
 Fitting funs other ks of = Unit {0}
 
 -- A change of a variable of a type: its value is cast to what the operator takes, and what that gives back to what the variable holds.
@@ -152,7 +185,15 @@ abbrev mutual
   ExprAt funs f h g p (Local at of x) = (y : Entry) × IsEntry g x y × (lying_of of ≡ lying_of y.of) × At f h p (i.Numbered numbered.Load y.local)
   ExprAt funs f h g p (Apply at of o parts) =
       ExprsAt funs f h g p parts × AllAt f h (end_exprs p parts) (operation_code o of) × Fitting funs o (lyings parts) of
-  ExprAt funs f h g p (Guarded at of o parts) = Unit {0}
+  ExprAt funs f h g p (Guarded at of o None') = Unit {0}
+  ExprAt funs f h g p (Guarded at of o (One a others)) =
+      ExprAt funs f h g p a
+      × At f h (end_expr p a) (i.Plain plain.Dup)
+      × At f h (suc (end_expr p a)) (i.Numbered numbered.IfNull (end_all (end_exprs (suc (suc (end_expr p a))) others) (member_code o)))
+      × ExprsAt funs f h g (suc (suc (end_expr p a))) others
+      × AllAt f h (end_exprs (suc (suc (end_expr p a))) others) (member_code o)
+      × AllAt f h (end_all (end_exprs (suc (suc (end_expr p a))) others) (member_code o)) (without_null (lying_of of))
+      × GuardFits o (lying_of (type_of a) ∷ lyings others) of
   ExprAt funs f h g p (Logic at of o left right) =
       ExprAt funs f h g p left
       × At f h (end_expr p left) (settles o (suc (end_expr (suc (end_expr p left)) right)))

@@ -5,6 +5,7 @@ use Rattle.number_ops.specs.Operators.{is_null}
 use Rattle.pl_types.specs.declared.ty.Ty.{Ty}
 use Rattle.object_values.specs.declared.value.Value.{Value}
 use Rattle.object_values.specs.declared.value.Value.TheVariants as v
+use Rattle.typed_tree.specs.declared.operation.Member.{Member}
 use Rattle.typed_tree.specs.declared.operation.Operation.{Operation}
 use Rattle.typed_tree.specs.declared.operation.Operation.TheVariants as operation
 use Rattle.typed_tree.specs.declared.operation.Logical.{Logical}
@@ -16,7 +17,7 @@ use Rattle.typed_tree.specs.declared.operation.Gives.{Gives}
 use Rattle.run_world.specs.World.{Limits, Counted, Counts, Passes, take_turn, enter}
 use Rattle.program_meaning.specs.Tree.{Name, Expr, Literal, Quoted, Local, Apply, Guarded, Logic, Conditional, Elvis, Assign, Modify, Lambda, Reference, NewReference, Exprs, None', One, Maybe, Missing, Given as Present, Stmt, Do, If, While, DoWhile, ForEach, Try, Block, Break, Continue, Return, Throw, Stmts, Finish, Then, Declare, Fun, Program}
 use Rattle.program_meaning.specs.Operating.{operates, casts}
-use Rattle.program_meaning.specs.Meaning.{State, Env, Place, Out, Done, Thrown, Over, More, Flow, Normal, Broke, Continued, Returned, bind, leave, entry, found, operated, choose, unless_null, goes_next, goes_again, back, lookup, Meaning, entered, called, applied, logic, modified, expr_of, exprs_of, value_if, turned, done_turn, stmt_of, value_or, stmts_of, layer, meaning}
+use Rattle.program_meaning.specs.Meaning.{State, Env, Place, Out, Done, Thrown, Over, More, Flow, Normal, Broke, Continued, Returned, bind, leave, entry, found, operated, choose, unless_null, goes_next, goes_again, back, lookup, Meaning, entered, called, of_member, applied, logic, modified, expr_of, exprs_of, value_if, turned, done_turn, stmt_of, value_or, stmts_of, layer, meaning}
 use Rattle.program_meaning.specs.Laws.{Stays, Extends}
 
 -- the same as a record, so that what stands on either side is found
@@ -105,6 +106,9 @@ module _ (funs : Program) (limits : Limits) where
     calls None d s e values = same
     calls (Some f) d s e values = enters (enter limits d.depth s.world) d s e f.result f.body (entry f.params values [])
 
+    members : (t : Member) (values : List Value) (s : State) (e : Env) → Up (of_member funs limits m t values s e) (of_member funs limits m' t values s e)
+    members t values s e = same
+
     applies : (o : Operation) (d : Place) (s : State) (e : Env) (of : Ty) (values : List Value) → Up (applied funs limits m o d s e of values) (applied funs limits m' o d s e of values)
     applies (operation.Operator o) d s e of values = same
     applies (operation.Cast c) d s e of [] = same
@@ -114,10 +118,10 @@ module _ (funs : Program) (limits : Limits) where
     applies (operation.InstanceOf is) d s e of (a ∷ []) = same
     applies (operation.InstanceOf is) d s e of (a ∷ b ∷ values) = same
     applies (operation.Function k) d s e of values = calls (slice_get funs k) d s e values
-    applies (operation.Instance member) d s e of values = same
-    applies (operation.Static member) d s e of values = same
-    applies (operation.Constructor member) d s e of values = same
-    applies (operation.Field member) d s e of values = same
+    applies (operation.Instance member) d s e of values = members member values s e
+    applies (operation.Static member) d s e of values = members member values s e
+    applies (operation.Constructor member) d s e of values = members member values s e
+    applies (operation.Field member) d s e of values = members member values s e
     applies (operation.Host member) d s e of values = same
     applies (operation.DefCall name) d s e of values = same
     applies (operation.DefName name) d s e of values = same
@@ -153,7 +157,9 @@ module _ (funs : Program) (limits : Limits) where
     expr_grows (Quoted at of text) d s e = same
     expr_grows (Local at of x) d s e = same
     expr_grows (Apply at of o parts) d s e = then' (ih.exprs parts d s e) (λ values s e. applies o d s e of values)
-    expr_grows (Guarded at of o parts) d s e = same
+    expr_grows (Guarded at of o None') d s e = same
+    expr_grows (Guarded at of o (One a others)) d s e =
+        then' (ih.expr a d s e) (λ value s e. elvis_grows (is_null value) (then' (ih.exprs others d s e) (λ values s e. applies o d s e of (value ∷ values))) same)
     expr_grows (Logic at of o left right) d s e = then' (ih.expr left d s e) (λ value s e. logic_grows o d s e value right)
     expr_grows (Conditional at of c a b) d s e = then' (ih.expr c d s e) (λ value s e. chosen value (ih.expr a d s e) (ih.expr b d s e))
     expr_grows (Elvis at of left right) d s e = then' (ih.expr left d s e) (λ value s e. elvis_grows (is_null value) same (ih.expr right d s e))

@@ -1,7 +1,7 @@
 -- What a typed program means, at a bound on the depth of the recursion: a meaning is a record of functions, and each is made of the
 -- one that is one less. At 0, and where something is meaningless (a name that is not bound, a value that is not of its type), it is
 -- More, which claims nothing.
-use Rattle.std.specs.Prelude.{ℕ, zero, suc, true, false, List, [], ◌∷◌, Option, Some, None, slice_get, pos, if◌then◌else◌}
+use Rattle.std.specs.Prelude.{ℕ, zero, suc, Bool, true, false, List, [], ◌∷◌, Option, Some, None, slice_get, pos, if◌then◌else◌}
 use Rattle.std.specs.Str.{bytes_eq}
 use Rattle.pl_types.specs.declared.primitive.Primitive.{Primitive}
 use Rattle.pl_types.specs.declared.primitive.Primitive.TheVariants as prim
@@ -10,6 +10,7 @@ use Rattle.pl_types.specs.declared.ty.Ty.TheOpen.{Ty-F}
 use Rattle.object_values.specs.declared.value.Value.{Value}
 use Rattle.object_values.specs.declared.value.Value.TheVariants as v
 use Rattle.object_values.specs.declared.object.Owner.{Owner}
+use Rattle.typed_tree.specs.declared.operation.Member.{Member}
 use Rattle.typed_tree.specs.declared.operation.Operation.{Operation}
 use Rattle.typed_tree.specs.declared.operation.Operation.TheVariants as operation
 use Rattle.typed_tree.specs.declared.operation.Logical.{Logical}
@@ -18,11 +19,17 @@ use Rattle.typed_tree.specs.declared.operation.Target.TheVariants as target
 use Rattle.typed_tree.specs.declared.operation.Change.{Change}
 use Rattle.typed_tree.specs.declared.operation.Gives.{Gives as Given_by}
 use Rattle.typed_tree.specs.declared.operation.Gives.TheVariants as gives
-use Rattle.run_world.specs.World.{World, Limits, Limit, Room, Outcome, Given, Raised, Full, acts_in, Counted, Counts, Passes, take_turn, enter}
+use Rattle.run_world.specs.World.{World, Limits, Limit, Room, Outcome, Given, Raised, Full, acts_in, Counted, Counts, Passes, take_turn, enter, pay_member}
 use Rattle.program_meaning.specs.Tree.{Name, Expr, Literal, Quoted, Local, Apply, Guarded, Logic, Conditional, Elvis, Assign, Modify, Lambda, Reference, NewReference, Exprs, None', One, Maybe, Missing, Given as Present, Stmt, Do, If, While, DoWhile, ForEach, Try, Block, Break, Continue, Return, Throw, Stmts, Finish, Then, Declare, Variable, Fun, Program}
 use Rattle.number_ops.specs.Operators.{is_null}
 use Rattle.number_ops.specs.Relations.{is_instance, thrown}
 use Rattle.pl_units.specs.Utf16.{units}
+use Rattle.number_ops.specs.Outcomes as outcomes
+use Rattle.allowlist.specs.Allow.{flag}
+use Rattle.allowlist.specs.Index.{member_at}
+use Rattle.object_heap.specs.Effects.{Effect}
+use Rattle.member_acts.specs.Members.{does}
+use Rattle.program_meaning.specs.Members.{Sending, Unsent, OnNull, Sends, Reads, sent}
 use Rattle.program_meaning.specs.Operating.{Operated, Meaningless, Gives, Acts, value_of, operates, casts}
 
 -- the world, and how many turns this frame has had
@@ -180,12 +187,40 @@ module _ (funs : Program) (limits : Limits) (m : Meaning) where
   called None d s e values = More
   called (Some f) d s e values = entered (enter limits d.depth s.world) d s e f.result f.body (entry f.params values [])
 
+  -- what a member does, once its call is paid
+  abbrev pub acted : Option Effect → State → Env → Out Value
+  acted None s e = More
+  acted (Some given) s e = effect (acts_in s.world given) s e
+
+  abbrev pub paid : Counted → ℕ → List Value → State → Env → Out Value
+  paid (Passes limit w) number arguments s e = Over limit w
+  paid (Counts w) number arguments s e = acted (does number arguments w.store) (record { world = w; turns = s.turns }) e
+
+  -- a receiver that is null throws before the call is paid; a field is read without a tick
+  abbrev pub member_called : Sending → ℕ → State → Env → Out Value
+  member_called Unsent number s e = More
+  member_called OnNull number s e = effect (acts_in s.world (outcomes.effect s.world.store outcomes.null_error)) s e
+  member_called (Sends arguments) number s e = paid (pay_member number s.world) number arguments s e
+  member_called Reads number s e = acted (does number [] s.world.store) s e
+
+  -- a call of a member, which is allowed
+  abbrev pub member_applied : Bool → ℕ → List Value → State → Env → Out Value
+  member_applied false number values s e = More
+  member_applied true number values s e = member_called (sent (member_at number) values) number s e
+
+  abbrev pub of_member : Member → List Value → State → Env → Out Value
+  of_member m values s e = member_applied (flag limits.allowed.members m.number) m.number values s e
+
   -- a strict operation on values, which gives one of a type
   abbrev pub applied : Operation → Place → State → Env → Ty → List Value → Out Value
   applied (operation.Operator o) d s e of values = operated (operates o values s.world.store) s e
   applied (operation.Cast c) d s e of (value ∷ []) = operated (casts c of value s.world.store) s e
   applied (operation.InstanceOf of) d s e given (value ∷ []) = Done (v.Bool (is_instance s.world.store.objects value of)) s e
   applied (operation.Function k) d s e of values = called (slice_get funs k) d s e values
+  applied (operation.Instance m) d s e of values = of_member m values s e
+  applied (operation.Static m) d s e of values = of_member m values s e
+  applied (operation.Constructor m) d s e of values = of_member m values s e
+  applied (operation.Field m) d s e of values = of_member m values s e
   applied other d s e of values = More
 
   abbrev pub logic : Logical → Place → State → Env → Value → Expr → Out Value
@@ -206,7 +241,9 @@ module _ (funs : Program) (limits : Limits) (m : Meaning) where
   expr_of d s e (Quoted at of text) = Done (v.Str (units text)) s e
   expr_of d s e (Local at of x) = found (lookup e x) s e
   expr_of d s e (Apply at of o parts) = bind (m.exprs d s e parts) (λ values s e. applied o d s e of values)
-  expr_of d s e (Guarded at of o parts) = More
+  expr_of d s e (Guarded at of o None') = More
+  expr_of d s e (Guarded at of o (One a others)) =
+      bind (m.expr d s e a) (λ value s e. unless_null value (bind (m.exprs d s e others) (λ values s e. applied o d s e of (value ∷ values))) (Done v.Null s e))
   expr_of d s e (Logic at of o left right) = bind (m.expr d s e left) (λ value s e. logic o d s e value right)
   expr_of d s e (Conditional at of c a b) = bind (m.expr d s e c) (λ value s e. choose value (m.expr d s e a) (m.expr d s e b))
   expr_of d s e (Elvis at of left right) = bind (m.expr d s e left) (λ value s e. unless_null value (Done value s e) (m.expr d s e right))

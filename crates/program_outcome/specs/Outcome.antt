@@ -9,7 +9,7 @@ use Rattle.code_meaning.specs.declared.word.Word.{Word}
 use Rattle.program_code.specs.Correct.{Words, EndsAs, IsCodeOf, program_ends}
 use Rattle.code_meaning.specs.Machine.{start}
 use Rattle.program_types.specs.Types.{HaveAll}
-use Rattle.program_types.specs.Agreeing.{types_in, WellFormed}
+use Rattle.program_types.specs.Agreeing.{types_in, known, WellFormed}
 use Rattle.program_types.specs.Enough.{enough}
 
 -- So a program ends on these arguments, at every bound that is enough.
@@ -26,5 +26,5 @@ pub record Outcome (p : Program) (code : List FunCode) (limits : Limits) (args :
 
 abbrev pub CodeEndsAsPrograms : Type 0
 CodeEndsAsPrograms =
-    (p : Program) (code : List FunCode) → WellFormed (program_of p) → IsCodeOf p code → (limits : Limits) (args : List Value)
+    (p : Program) (code : List FunCode) (limits : Limits) → WellFormed (known limits.allowed (program_of p)) → IsCodeOf p code → (args : List Value)
     → HaveAll (types_in (fun_of p.main).params) args → (w : World) → Outcome p code limits args w

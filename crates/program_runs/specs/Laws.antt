@@ -5,7 +5,7 @@ use Rattle.allowlist.specs.Allow.{AllowList}
 use Rattle.typed_tree.specs.declared.program.Program as typed
 use Rattle.program_meaning.specs.Tree.{Program}
 use Rattle.program_meaning.specs.Programs.{program_of}
-use Rattle.program_types.specs.Agreeing.{WellFormed}
+use Rattle.program_types.specs.Agreeing.{Known, known, WellFormed}
 use Rattle.program_types.specs.Reached.{Reached}
 use Rattle.program_code.specs.Correct.{IsCodeOf}
 use Rattle.program_code.specs.Stands.{Compiled}
@@ -18,11 +18,11 @@ use Rattle.verified_runs.specs.Bounds.{most_steps, EndsWithin}
 
 -- Each instruction of the code of a well-formed program has a row.
 abbrev pub CodeHasRows : Type 0
-CodeHasRows = (funs : Program) (code : List FunCode) → WellFormed funs → Compiled funs code → HaveRows code
+CodeHasRows = (funs : Known) (code : List FunCode) → WellFormed funs → Compiled funs.functions code → HaveRows funs.allowed code
 
--- So a run of it on words of its parameters' kinds ends within the bound, reaching members of the list alone: that of any list.
+-- So a run of it on words of its parameters' kinds ends within the bound, reaching members of the list alone.
 abbrev pub ProgramsRun : Type 0
 ProgramsRun =
-    (allow : AllowList) (p : typed.Program) (code : List FunCode) → WellFormed (program_of p) → Reached (program_of p) → IsCodeOf p code
-    → (limits : Limits) (words : List Word) (w : World) → kinds_of words ≡ main_params code → ReachesAllowed allow w
+    (allow : AllowList) (p : typed.Program) (code : List FunCode) → WellFormed (known allow (program_of p)) → Reached (program_of p) → IsCodeOf p code
+    → (limits : Limits) → limits.allowed ≡ allow → (words : List Word) (w : World) → kinds_of words ≡ main_params code → ReachesAllowed allow w
     → EndsWithin allow code limits (most_steps code limits w.ticks) (start code words w)

@@ -6,17 +6,18 @@ use Rattle.allowlist.specs.Allow.{AllowList}
 use Rattle.typed_tree.specs.declared.program.Program as typed
 use Rattle.program_meaning.specs.Tree.{Program}
 use Rattle.program_meaning.specs.Programs.{program_of}
-use Rattle.program_types.specs.Agreeing.{WellFormed}
+use Rattle.program_types.specs.Agreeing.{Known, known, WellFormed}
 use Rattle.program_types.specs.Reached.{Reached}
 use Rattle.program_code.specs.Correct.{IsCodeOf}
 use Rattle.program_code.specs.Stands.{Compiled}
 use Rattle.verifier.specs.Faults.{shape_fault}
 use Rattle.verifier.specs.Shaped.{IsWellShapedCode}
 
--- Code of a well-formed program, in which each statement is reached, is well shaped, whatever list is allowed.
+-- Code of a well-formed program, in which each statement is reached, is well shaped under the list by which the program is well formed.
 abbrev pub CodeIsWellShaped : Type 0
-CodeIsWellShaped = (allow : AllowList) (funs : Program) (code : List FunCode) → 0 < length funs → WellFormed funs → Reached funs → Compiled funs code → IsWellShapedCode allow code
+CodeIsWellShaped =
+    (funs : Known) (code : List FunCode) → 0 < length funs.functions → WellFormed funs → Reached funs.functions → Compiled funs.functions code → IsWellShapedCode funs.allowed code
 
 -- So the code of such a typed program breaks nowhere.
 abbrev pub CodeBreaksNowhere : Type 0
-CodeBreaksNowhere = (allow : AllowList) (p : typed.Program) (code : Code) → WellFormed (program_of p) → Reached (program_of p) → IsCodeOf p code.functions → shape_fault allow code ≡ None
+CodeBreaksNowhere = (allow : AllowList) (p : typed.Program) (code : Code) → WellFormed (known allow (program_of p)) → Reached (program_of p) → IsCodeOf p code.functions → shape_fault allow code ≡ None

@@ -7,7 +7,7 @@ use Rattle.program_meaning.specs.Tree.{Expr, Literal, Quoted, Local, Apply, Guar
 use Rattle.program_meaning.specs.Meaning.{Env, Flow, Out, Done, Thrown, Over, More, entry, Returned, Normal, Broke, Continued, meaning}
 use Rattle.pl_types.specs.declared.ty.Ty.{Ty}
 use Rattle.program_types.specs.Types.{Has, HaveAll}
-use Rattle.program_types.specs.Agreeing.{types_in, WellFormed}
+use Rattle.program_types.specs.Agreeing.{Known, types_in, WellFormed}
 
 -- ---- the number of nodes and list cells
 
@@ -84,7 +84,7 @@ IsEnough of More = ⊥
 -- A main script of a well-formed program comes to an end at a bound that is enough, on all arguments of its parameters' types.
 abbrev pub ComesToAnEnd : Type 0
 ComesToAnEnd =
-    (funs : Program) → WellFormed funs → (limits : Limits) (main : Fun) → slice_get funs 0 ≡ Some main
-    → (args : List Value) → HaveAll (types_in main.params) args → (w : World) (bound : ℕ) → enough funs w ≤ bound
+    (funs : Known) → WellFormed funs → (limits : Limits) (main : Fun) → limits.allowed ≡ funs.allowed → slice_get funs.functions 0 ≡ Some main
+    → (args : List Value) → HaveAll (types_in main.params) args → (w : World) (bound : ℕ) → enough funs.functions w ≤ bound
     → (e : Env) × (entry main.params args [] ≡ Some e)
-    × IsEnough main.result ((meaning funs limits bound).stmts (record { text = Script; depth = 0 }) (record { world = w; turns = 0 }) e main.body)
+    × IsEnough main.result ((meaning funs.functions limits bound).stmts (record { text = Script; depth = 0 }) (record { world = w; turns = 0 }) e main.body)

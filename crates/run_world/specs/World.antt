@@ -1,6 +1,8 @@
 -- What is changed by a run: the store with its room, the ticks that are left, and the members that were reached. The meaning of a
 -- script and the meaning of its code share this page and nothing else but what operators, casts and members come to.
-use Rattle.std.specs.Prelude.{ℕ, ◌-◌, List, nat_lt, if◌then◌else◌}
+use Rattle.std.specs.Prelude.{ℕ, ◌-◌, ◌==◌, ◌++◌, List, [], ◌∷◌, nat_lt, if◌then◌else◌}
+use Rattle.std.specs.List.{list_any}
+use Rattle.allowlist.specs.Allow.{AllowList}
 use Rattle.object_values.specs.declared.value.Value.{Value}
 use Rattle.object_heap.specs.Store.{Store}
 use Rattle.object_heap.specs.Effects.{Effect, Gives, Throws, NoRoom}
@@ -24,6 +26,8 @@ pub record Limits : Type 0 where
   pub loop : ℕ
   -- frames on top of one another
   pub depth : ℕ
+  -- the members that may be called
+  pub allowed : AllowList
 
 -- How a run ends: with a result, with an exception by its number, or at a limit. Results are values in the meaning of a script, and
 -- words in the meaning of its code.
@@ -63,3 +67,16 @@ goes_deeper (Passes limit w) limits depth = Passes limit w
 -- A call from a frame at this depth: the ticks are tried before the depth.
 unfoldable pub enter : Limits → ℕ → World → Counted
 enter limits depth w = goes_deeper (pay_tick w) limits depth
+
+-- a member is reached once
+unfoldable pub reach : ℕ → World → World
+reach number w =
+    record { store = w.store; ticks = w.ticks; reached = if list_any (λ n. n == number) w.reached then w.reached else w.reached ++ number ∷ [] }
+
+unfoldable pub reaches : ℕ → Counted → Counted
+reaches number (Counts w) = Counts (reach number w)
+reaches number (Passes limit w) = Passes limit w
+
+-- A call of a member: it pays its tick, and then the member is reached.
+unfoldable pub pay_member : ℕ → World → Counted
+pay_member number w = reaches number (pay_tick w)

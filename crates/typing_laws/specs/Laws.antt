@@ -4,12 +4,13 @@ use Rattle.pl_tree.specs.declared.tree.Tree.{Tree}
 use Rattle.typed_tree.specs.declared.program.Named.{Named}
 use Rattle.typed_tree.specs.declared.program.Program.{Program}
 use Rattle.typing_rules.specs.declared.header.ContextTypes.{ContextTypes}
+use Rattle.allowlist.specs.Allow.{AllowList}
 use Rattle.typing_rules.specs.Typing.{typing_of}
 use Rattle.program_meaning.specs.Programs.{program_of}
 use Rattle.pl_types.specs.declared.ty.Ty.{Ty, out-Ty}
 use Rattle.pl_types.specs.declared.ty.Ty.TheOpen.{Ty-F}
 use Rattle.program_types.specs.Types.{HasValues, IsNamed}
-use Rattle.program_types.specs.Agreeing.{WellFormed}
+use Rattle.program_types.specs.Agreeing.{known, WellFormed}
 use Rattle.program_types.specs.Reached.{Reached}
 
 -- the names are distinct
@@ -40,7 +41,9 @@ pub record IsContext (context : ContextTypes) : Type 0 where
   pub result : MayBeResult context.result
 
 abbrev pub TypingIsSound : Type 0
-TypingIsSound = (context : ContextTypes) (tree : Tree) (p : Program) → IsContext context → typing_of context tree ≡ Ok p → WellFormed (program_of p)
+TypingIsSound =
+    (allow : AllowList) (context : ContextTypes) (tree : Tree) (p : Program) → IsContext context → typing_of allow context tree ≡ Ok p
+    → WellFormed (known allow (program_of p))
 
 abbrev pub TypingReaches : Type 0
-TypingReaches = (context : ContextTypes) (tree : Tree) (p : Program) → IsContext context → typing_of context tree ≡ Ok p → Reached (program_of p)
+TypingReaches = (allow : AllowList) (context : ContextTypes) (tree : Tree) (p : Program) → IsContext context → typing_of allow context tree ≡ Ok p → Reached (program_of p)

@@ -21,19 +21,19 @@ StartsFit =
 -- A run that fits goes on fitting, however many steps it takes, until it ends: it is never stuck, and reaches members of the list alone.
 abbrev pub NeverStuck : Type 0
 NeverStuck =
-    (c : CodeUnder) (limits : Limits) (from : Next) (steps : ℕ) → IsSound c → HaveRows c.code.functions → FitsNext c.allow c.code.functions limits from
+    (c : CodeUnder) (limits : Limits) (from : Next) (steps : ℕ) → IsSound c → limits.allowed ≡ c.allow → HaveRows c.allow c.code.functions → FitsNext c.allow c.code.functions limits from
     → FitsNext c.allow c.code.functions limits (after c.code.functions limits steps from)
 
 -- A run that fits ends: within a bound that the ticks that are left, the limit of depth and the longest function give.
 abbrev pub RunsEnd : Type 0
 RunsEnd =
-    (c : CodeUnder) (limits : Limits) (from : Config) → IsSound c → HaveRows c.code.functions → FitsConfig c.allow c.code.functions limits from
+    (c : CodeUnder) (limits : Limits) (from : Config) → IsSound c → limits.allowed ≡ c.allow → HaveRows c.allow c.code.functions → FitsConfig c.allow c.code.functions limits from
     → EndsWithin c.allow c.code.functions limits (most_steps c.code.functions limits from.world.ticks) (Goes from)
 
 -- So a run of function 0 on words of its parameters' kinds ends, within that bound.
 abbrev pub StartsEnd : Type 0
 StartsEnd =
-    (c : CodeUnder) (limits : Limits) (f : FunCode) (words : List Word) (w : World) → IsSound c → HaveRows c.code.functions → slice_get c.code.functions 0 ≡ Some f → kinds_of words ≡ f.params → ReachesAllowed c.allow w
+    (c : CodeUnder) (limits : Limits) (f : FunCode) (words : List Word) (w : World) → IsSound c → limits.allowed ≡ c.allow → HaveRows c.allow c.code.functions → slice_get c.code.functions 0 ≡ Some f → kinds_of words ≡ f.params → ReachesAllowed c.allow w
     → EndsWithin c.allow c.code.functions limits (most_steps c.code.functions limits w.ticks) (start c.code.functions words w)
 
 -- The frames below the top of a configuration that fits are such that verified code goes on with them.
@@ -43,4 +43,4 @@ FramesFit = (allow : AllowList) (code : List FunCode) (limits : Limits) (c : Con
 -- What has no row is stuck wherever it stands: the rows that are listed are all.
 abbrev pub NoOtherRows : Type 0
 NoOtherRows =
-    (code : List FunCode) (limits : Limits) (instruction : Instruction) (f : Frame) (below : List Frame) (w : World) → has_row instruction ≡ false → act code limits instruction f below w ≡ Stuck
+    (code : List FunCode) (limits : Limits) (instruction : Instruction) (f : Frame) (below : List Frame) (w : World) → has_row limits.allowed instruction ≡ false → act code limits instruction f below w ≡ Stuck
