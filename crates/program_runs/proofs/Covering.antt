@@ -16,8 +16,8 @@ use Rattle.typed_tree.specs.declared.operation.Target.TheVariants as target
 use Rattle.program_meaning.specs.Tree.{Expr, Literal, Quoted, Local, Apply, Guarded, Logic, Conditional, Elvis, Assign, Modify, Lambda, Reference, NewReference, Exprs, None', One, Maybe, Missing, Given, Stmt, Do, If, While, DoWhile, ForEach, Try, Block, Break, Continue, Return, Throw, Stmts, Finish, Then, Declare, Program, type_of}
 use Rattle.program_meaning.specs.Falls.{all_fall}
 use Rattle.program_code.specs.Lying.{Lying, lying_of}
-use Rattle.program_code.specs.Parts.{constant_code, default_code, operator_code, operation_code, cast_code, kept_before, kept_behind, pops}
-use Rattle.program_code.specs.Stands.{Scope, At, AllAt, end_all, end_expr, end_exprs, change_first, change_last, settled, settles, ExprAt, ExprsAt, goes_on, end_skip, end_dropped, end_update, end_test, end_last, end_value, end_returned, end_stmt, end_stmts, next_stmt, next_stmts, Jumps, SkipAt, DroppedAt, UpdateAt, TestAt, LastAt, ValueAt, ReturnedAt, StmtAt, StmtsAt}
+use Rattle.program_code.specs.Parts.{constant_code, text_code, default_code, operator_code, operation_code, cast_code, kept_before, kept_behind, pops}
+use Rattle.program_code.specs.Stands.{Scope, At, AllAt, end_all, end_expr, end_exprs, change_first, change_last, elvis_right, settled, settles, ExprAt, ExprsAt, goes_on, end_skip, end_dropped, end_update, end_test, end_last, end_value, end_returned, end_stmt, end_stmts, next_stmt, next_stmts, Jumps, SkipAt, DroppedAt, UpdateAt, TestAt, LastAt, ValueAt, ReturnedAt, StmtAt, StmtsAt}
 use Rattle.program_types.specs.Agreeing as agreeing
 use Rattle.program_types.specs.Agreeing.{ExprAgrees, ExprsAgree, TestAgrees, UpdateAgrees, BeginAgrees, ReturnAgrees, StmtAgrees, StmtsAgree}
 use Rattle.verified_runs.specs.Rows.{has_row}
@@ -75,10 +75,11 @@ module _ (f : FunCode) where
     mutual
       expr_covered : (g : Scope) (names : agreeing.Scope) (p : ℕ) (a : Expr) → ExprAgrees funs names a → ExprAt funs f h g p a → Covered p (end_expr p a)
       expr_covered g names p (Literal at of c) ok s = one h p (constant_code c) s.0 (constant_row c)
-      expr_covered g names p (Quoted at of text) ok s = nothing p
+      expr_covered g names p (Quoted at of text) ok s = one h p (text_code text) s.0 refl
       expr_covered g names p (Local at of x) ok s = one h p (i.Numbered numbered.Load s.0.local) s.3 refl
       expr_covered g names p (Apply at of o parts) ok s =
-          join p (end_exprs p parts) (end_all (end_exprs p parts) (operation_code o)) (exprs_covered g names p parts ok.0 s.0) (all h (end_exprs p parts) (operation_code o) s.1 (operation_rows o))
+          let q = end_exprs p parts in
+          join p q (end_all q (operation_code o of)) (exprs_covered g names p parts ok.0 s.0) (all h q (operation_code o of) s.1 (operation_rows funs o parts of ok.1 s.2))
       expr_covered g names p (Guarded at of o parts) ok s = nothing p
       expr_covered g names p (Logic at of o left right) ok s =
           let q = end_expr p left in
@@ -91,27 +92,36 @@ module _ (f : FunCode) where
           (join q (suc q) (end_expr (suc r) b) (one h q (i.Numbered numbered.IfZero (suc r)) s.1 refl)
           (join (suc q) r (end_expr (suc r) b) (expr_covered g names (suc q) a ok.1 s.2)
           (join r (suc r) (end_expr (suc r) b) (one h r (i.Numbered numbered.Goto (end_expr (suc r) b)) s.3 refl) (expr_covered g names (suc r) b ok.2 s.4))))
-      expr_covered g names p (Elvis at of left right) ok s = nothing p
+      expr_covered g names p (Elvis at of left right) ok s =
+          let q = end_expr p left in
+          let r = elvis_right q in
+          let e = end_expr r right in
+          join p q e (expr_covered g names p left ok.0 s.0)
+          (join q (suc q) e (one h q (i.Plain plain.Dup) s.1 refl)
+          (join (suc q) (suc (suc q)) e (one h (suc q) (i.Numbered numbered.IfNull (suc (suc (suc q)))) s.2 refl)
+          (join (suc (suc q)) (suc (suc (suc q))) e (one h (suc (suc q)) (i.Numbered numbered.Goto e) s.3 refl)
+          (join (suc (suc (suc q))) r e (one h (suc (suc (suc q))) (i.Plain plain.Pop) s.4 refl) (expr_covered g names r right ok.1 s.5)))))
       expr_covered g names p (Assign at of (target.Local x) parts value) ok s =
           let q = end_expr p value in
           join p q (suc (suc q)) (expr_covered g names p value ok.0 s.0)
           (join q (suc q) (suc (suc q)) (one h q (i.Plain plain.Dup) s.1 refl) (one h (suc q) (i.Numbered numbered.Store s.2.0.local) s.2.4 refl))
       expr_covered g names p (Assign at of other parts value) ok s = absurd ok
       expr_covered g names p (Modify at of (target.Local x) parts change right gives) ok s =
-          let q = change_first gives change p in
+          let q = change_first gives change of p in
           let b = end_all (suc p) (kept_before gives) in
           let r = end_expr q right in
           let o = end_all r (operator_code change.operator) in
-          let c = end_all o (cast_code change.after) in
-          let e = change_last gives change r in
-          join p (suc p) (suc e) (one h p (i.Numbered numbered.Load s.0.local) s.4 refl)
-          (join (suc p) b (suc e) (all h (suc p) (kept_before gives) s.5 (before_rows gives))
-          (join b q (suc e) (all h b (cast_code change.before) s.6 (cast_rows change.before))
-          (join q r (suc e) (expr_covered g names q right ok.0 s.7)
-          (join r o (suc e) (all h r (operator_code change.operator) s.8 (operator_rows change.operator))
-          (join o c (suc e) (all h o (cast_code change.after) s.9 (cast_rows change.after))
-          (join c e (suc e) (all h c (kept_behind gives) s.10 (behind_rows gives))
-          (one h e (i.Numbered numbered.Store s.0.local) s.11 refl)))))))
+          let c = end_all o (cast_code change.after of) in
+          let e = change_last gives change of r in
+          let fits = s.11 in
+          join p (suc p) (suc e) (one h p (i.Numbered numbered.Load s.0.local) s.3 refl)
+          (join (suc p) b (suc e) (all h (suc p) (kept_before gives) s.4 (before_rows gives))
+          (join b q (suc e) (all h b (cast_code change.before of) s.5 (cast_rows change.before of fits.before.asks))
+          (join q r (suc e) (expr_covered g names q right ok.0 s.6)
+          (join r o (suc e) (all h r (operator_code change.operator) s.7 (operator_rows change.operator))
+          (join o c (suc e) (all h o (cast_code change.after of) s.8 (cast_rows change.after of fits.after.asks))
+          (join c e (suc e) (all h c (kept_behind gives) s.9 (behind_rows gives))
+          (one h e (i.Numbered numbered.Store s.0.local) s.10 refl)))))))
       expr_covered g names p (Modify at of other parts change right gives) ok s = absurd ok
       expr_covered g names p (Lambda at of interface function) ok s = nothing p
       expr_covered g names p (Reference at of interface class name) ok s = nothing p
@@ -190,7 +200,9 @@ module _ (f : FunCode) where
       stmt_covered k of looped g names n j p Continue ok s = one h p (i.Numbered numbered.Goto j.on) s refl
       stmt_covered k of looped g names n j p (Return value) ok s =
           join p (end_returned p value) (suc (end_returned p value)) (returned k g names p value of ok s.0) (one h (end_returned p value) (i.Plain plain.Ret) s.1 refl)
-      stmt_covered k of looped g names n j p (Throw value) ok s = nothing p
+      stmt_covered k of looped g names n j p (Throw value) ok s =
+          let q = end_expr p value in
+          join p q (suc q) (expr_covered g names p value ok.0 s.0) (one h q (i.Plain plain.Throw) s.2 refl)
 
       pub stmts_covered : (k : Lying) (of : Ty) (looped : Bool) (g : Scope) (names : agreeing.Scope) (n : ℕ) (j : Jumps) (p : ℕ) (ts : Stmts) → StmtsAgree funs of looped names ts → StmtsAt funs f h k g n j p ts → Covered p (end_stmts p ts)
       stmts_covered k of looped g names n j p Finish ok s = nothing p

@@ -1,15 +1,24 @@
 -- The instructions of what is strict have rows.
-use Rattle.std.proofs.Common.{◌≡◌, ◌&&◌, true, List, [], ◌∷◌, ◌++◌, refl, ◌∙◌}
+use Rattle.std.proofs.Common.{◌≡◌, ◌&&◌, Bool, true, List, [], ◌∷◌, ◌++◌, refl, sym, ap, ◌∙◌}
+use Rattle.std.specs.Prelude.{is_some}
 use Rattle.std.specs.List.{list_all}
 use Rattle.std.proofs.lemmas.List.Folds.{list_all-append}
 use Rattle.pl_types.specs.declared.primitive.Primitive.{Primitive}
 use Rattle.pl_types.specs.declared.primitive.Primitive.TheVariants as prim
 use Rattle.pl_types.specs.declared.ty.Ty.{Ty, out-Ty}
 use Rattle.pl_types.specs.declared.ty.Ty.TheOpen.{Ty-F}
+use Rattle.pl_types.specs.declared.ty.Ty.TheFolds.{fold-roll-Ty}
+use Rattle.pl_types.specs.declared.ty.Ty.TheVariants as t
+use Rattle.pl_types.specs.declared.classes.TheConstants.{STRING}
+use Rattle.pl_types.specs.Texts.{full_text, type_of_full, known_layer, is_known}
+use Rattle.pl_types.proofs.TypeTexts.{read_back}
 use Rattle.pl_types.specs.declared.conversion.Cast.{Cast}
 use Rattle.pl_types.specs.declared.conversion.Cast.TheVariants as cast
 use Rattle.arithmetic.specs.declared.operator.Op.{Op}
 use Rattle.arithmetic.specs.declared.operator.Op.TheVariants as op
+use Rattle.pl_code.specs.declared.kinds.Typed.TheVariants as typed
+use Rattle.pl_code.specs.declared.kinds.Way.{Way}
+use Rattle.pl_code.specs.declared.kinds.Way.TheVariants as way
 use Rattle.pl_code.specs.declared.kinds.Width.{Width}
 use Rattle.pl_code.specs.declared.kinds.Width.TheVariants as width
 use Rattle.pl_code.specs.declared.code.Instruction.{Instruction}
@@ -22,8 +31,11 @@ use Rattle.typed_tree.specs.declared.operation.Operation.{Operation}
 use Rattle.typed_tree.specs.declared.operation.Operation.TheVariants as operation
 use Rattle.typed_tree.specs.declared.operation.Gives.{Gives}
 use Rattle.typed_tree.specs.declared.operation.Gives.TheVariants as gives
+use Rattle.program_meaning.specs.Tree.{Exprs, None', One, Program}
+use Rattle.program_types.specs.Agreeing.{Applies, types_of}
 use Rattle.program_code.specs.Lying.{Lying, Bare, Whole, Absent}
-use Rattle.program_code.specs.Parts.{constant_code, default_code_layer, default_code, arithmetic_code, boolean_code, operator_code, from_int_code, from_long_code, from_byte_code, from_short_code, from_char_code, number_code, cast_code, operation_code, pops, kept_before, kept_behind}
+use Rattle.program_code.specs.Parts.{constant_code, default_code_layer, default_code, arithmetic_code, boolean_code, operator_code, from_int_code, from_long_code, from_byte_code, from_short_code, from_char_code, number_code, run_time_code_layer, run_time_code, cast_code, operation_code, pops, kept_before, kept_behind}
+use Rattle.program_code.specs.Stands.{AsksKnown, Fitting, lyings}
 use Rattle.verified_runs.specs.Rows.{has_row}
 
 -- each of some instructions has a row
@@ -87,6 +99,11 @@ pub operator_rows : (o : Operator) → AllRows (operator_code o)
 operator_rows (operator.Int o) = arithmetic_rows o width.Int
 operator_rows (operator.Long o) = arithmetic_rows o width.Long
 operator_rows (operator.Boolean o) = boolean_rows o
+operator_rows operator.Equal = refl
+operator_rows operator.NotEqual = refl
+operator_rows operator.Same = refl
+operator_rows operator.NotSame = refl
+operator_rows operator.Concat = refl
 operator_rows other = refl
 
 from_int_rows : (p : Primitive) → AllRows (from_int_code p)
@@ -140,16 +157,45 @@ number_rows prim.Long to = from_long_rows to
 both_rows : (xs ys : List Instruction) → AllRows xs → AllRows ys → AllRows (xs ++ ys)
 both_rows xs ys a b = list_all-append has_row xs ys ∙ (λ i. a i && b i)
 
-pub cast_rows : (c : Cast) → AllRows (cast_code c)
-cast_rows (cast.Number from to) = number_rows from to
-cast_rows (cast.Wrap from to) = both_rows (number_code from to) (i.Boxing to ∷ []) (number_rows from to) refl
-cast_rows other = refl
+-- the full text of a known type is read as it
+known_row : (of : Ty) → is_known of ≡ true → is_some (type_of_full (full_text of)) ≡ true
+known_row of known = ap is_some (read_back of known)
 
-pub operation_rows : (o : Operation) → AllRows (operation_code o)
-operation_rows (operation.Operator o) = operator_rows o
-operation_rows (operation.Cast c) = cast_rows c
-operation_rows (operation.Function k) = refl
-operation_rows other = refl
+one_row : (instruction : Instruction) → has_row instruction ≡ true → AllRows (instruction ∷ [])
+one_row instruction row = λ i. row i && true
+
+run_time_layer_rows : (l : Ty-F Ty) (to : Ty) (way : Way) → is_known to ≡ true → AllRows (run_time_code_layer l to way)
+run_time_layer_rows Ty-F.Void to way known = one_row (i.Cast (full_text to) way) (known_row to known)
+run_time_layer_rows Ty-F.Null to way known = one_row (i.Cast (full_text to) way) (known_row to known)
+run_time_layer_rows Ty-F.Def to way known = one_row (i.Cast (full_text to) way) (known_row to known)
+run_time_layer_rows (Ty-F.Prim p) to way known = refl
+run_time_layer_rows (Ty-F.Class class) to way known = one_row (i.Cast (full_text to) way) (known_row to known)
+run_time_layer_rows (Ty-F.Array element) to way known = one_row (i.Cast (full_text to) way) (known_row to known)
+
+run_time_rows : (to : Ty) (way : Way) → is_known to ≡ true → AllRows (run_time_code to way)
+run_time_rows to way known = run_time_layer_rows (out-Ty to) to way known
+
+text_is_known : is_known (t.Class STRING) ≡ true
+text_is_known = ap is_known (sym (t.rolls-Class STRING)) ∙ fold-roll-Ty Bool known_layer (Ty-F.Class STRING)
+
+pub cast_rows : (c : Cast) (to : Ty) → AsksKnown c to → AllRows (cast_code c to)
+cast_rows (cast.Number from into) to asks = number_rows from into
+cast_rows (cast.Wrap from into) to asks = both_rows (number_code from into) (i.Boxing into ∷ []) (number_rows from into) refl
+cast_rows cast.Implicit to asks = run_time_rows to way.Implicit asks
+cast_rows cast.Explicit to asks = run_time_rows to way.Explicit asks
+cast_rows cast.CharToText to asks = one_row (i.Cast (full_text (t.Class STRING)) way.Explicit) (known_row (t.Class STRING) text_is_known)
+cast_rows cast.TextToChar to asks = refl
+cast_rows other to asks = refl
+
+-- an operation on parts that agree and lie as it takes them
+pub operation_rows : (funs : Program) (o : Operation) (parts : Exprs) (of : Ty) → Applies funs o (types_of parts) of → Fitting funs o (lyings parts) of → AllRows (operation_code o of)
+operation_rows funs (operation.Operator o) parts of applies fits = operator_rows o
+operation_rows funs (operation.Cast c) None' of applies fits = absurd applies
+operation_rows funs (operation.Cast c) (One a None') of applies fits = cast_rows c of fits.asks
+operation_rows funs (operation.Cast c) (One a (One b others)) of applies fits = absurd applies
+operation_rows funs (operation.InstanceOf is) parts of applies fits = one_row (i.Typed typed.IsA (full_text is)) (known_row is fits.2)
+operation_rows funs (operation.Function k) parts of applies fits = refl
+operation_rows funs other parts of applies fits = refl
 
 default_layer_rows : (l : Ty-F Ty) → AllRows (default_code_layer l)
 default_layer_rows Ty-F.Void = refl

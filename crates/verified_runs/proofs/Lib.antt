@@ -1,6 +1,8 @@
 mod Words
 mod Operators
 mod Casts
+mod References
+mod FullTypes
 mod Standing
 mod Lowering
 mod Moves

@@ -26,11 +26,12 @@ use Rattle.code_meaning.specs.declared.word.Word.{Word}
 use Rattle.code_meaning.specs.declared.word.Word.TheVariants.{I, J, R}
 use Rattle.code_meaning.specs.Words.{Calculation, NoRow, Calculates, boxed, unboxed, word_of}
 use Rattle.code_meaning.specs.Machine as machine
-use Rattle.code_meaning.specs.Machine.{Frame, Next, Goes, on_top, on_int, on_value, on_local, on_stack, on_turn, on_calculation, unless_zero, to_line, depth_of}
+use Rattle.code_meaning.specs.Machine.{Frame, Next, Goes, on_top, on_int, on_reference, on_value, on_local, on_stack, on_turn, on_calculation, unless_zero, if_null, to_line, depth_of}
 use Rattle.verified_runs.specs.Fits.{kind_of, kinds_of, frame_kinds}
-use Rattle.verified_runs.proofs.Words.{exchanged, on_one, on_one_int, on_one_local, stored, left_is}
+use Rattle.verified_runs.proofs.Words.{exchanged, on_one, on_one_int, on_one_reference, on_one_local, stored, left_is}
 use Rattle.verified_runs.proofs.Operators.{CalculatesTo}
 use Rattle.verified_runs.proofs.Casts.{divisor_is}
+use Rattle.verified_runs.proofs.References.{by_null}
 use Rattle.verified_runs.proofs.Standing.{StandsIn}
 use Rattle.verified_runs.proofs.Lowering.{lines_in, left_at, lines_below, tick_worth, later_is_less, paid_is_less, something_left, frames_most}
 use Rattle.verified_runs.proofs.Moves.{GoesTo, stays, same_reached, Moves, Here, CountsSo, turn_is_paid, lines_are, fits_with, goes_on, goes_next, next_line}
@@ -236,6 +237,12 @@ module _ (allow : AllowList) (code : List FunCode) (limits : Limits) (well : IsW
   branches_at_others to goes leaves =
       on_one_int Moved [] s.left f.stack (λ a stack. unless_zero a (to_line f below w to stack) (to_line f below w (suc f.line) stack)) leaves
       (λ a stack kinds. let x = branches_on to stack goes kinds in by_zero Moved a (to_line f below w to stack) (to_line f below w (suc f.line) stack) x.1 x.0)
+
+  pub branches_at_null : (to : ℕ) → flow_of i ≡ flow.Branches to → exchanged (slot.R ∷ []) [] (kinds_of f.stack) ≡ Some s.left
+      → Moved (on_top f.stack (λ word stack. on_reference word (λ value. if_null value (to_line f below w to stack) (to_line f below w (suc f.line) stack))))
+  branches_at_null to goes leaves =
+      on_one_reference Moved [] s.left f.stack (λ value stack. if_null value (to_line f below w to stack) (to_line f below w (suc f.line) stack)) leaves
+      (λ value stack kinds. let x = branches_on to stack goes kinds in by_null Moved value (to_line f below w to stack) (to_line f below w (suc f.line) stack) x.1 x.0)
 
   -- a turn goes back, and pays a tick
   turned : (to : ℕ) (c : Counted) → flow_of i ≡ flow.Turns to → CountsSo w c → Moved (on_turn code limits c to f below w [])

@@ -1,15 +1,22 @@
 -- What has no row is stuck.
-use Rattle.std.proofs.Common.{◌≡◌, ℕ, false, List, refl, sym}
+use Rattle.std.proofs.Common.{◌≡◌, ℕ, false, List, Option, Some, None, refl, sym}
+use Rattle.std.specs.Prelude.{is_some}
 use Rattle.std.proofs.lemmas.Bool.{false≢true}
+use Rattle.pl_types.specs.declared.ty.Ty.{Ty}
+use Rattle.pl_types.specs.Texts.{type_of_full}
 use Rattle.pl_code.specs.declared.kinds.Plain.{Plain}
 use Rattle.pl_code.specs.declared.kinds.Plain.TheVariants as plain
 use Rattle.pl_code.specs.declared.kinds.Numbered.{Numbered}
 use Rattle.pl_code.specs.declared.kinds.Numbered.TheVariants as numbered
+use Rattle.pl_code.specs.declared.kinds.Quoting.{Quoting}
+use Rattle.pl_code.specs.declared.kinds.Quoting.TheVariants as quoting
+use Rattle.pl_code.specs.declared.kinds.Typed.{Typed}
+use Rattle.pl_code.specs.declared.kinds.Typed.TheVariants as typed
 use Rattle.pl_code.specs.declared.code.FunCode.{FunCode}
 use Rattle.pl_code.specs.declared.code.Instruction.TheVariants as i
 use Rattle.run_world.specs.World.{World, Limits}
-use Rattle.code_meaning.specs.Machine.{Frame, Stuck, plain_act, numbered_act}
-use Rattle.verified_runs.specs.Rows.{plain_has_row, numbered_has_row}
+use Rattle.code_meaning.specs.Machine.{Frame, Next, Stuck, on_type, is_written, plain_act, numbered_act, quoted_act, typed_act, cast_act}
+use Rattle.verified_runs.specs.Rows.{plain_has_row, numbered_has_row, quoting_has_row, typed_has_row}
 use Rattle.verified_runs.specs.Laws.{NoOtherRows}
 
 plain_stuck : (code : List FunCode) (limits : Limits) (p : Plain) (f : Frame) (below : List Frame) (w : World) → plain_has_row p ≡ false → plain_act code limits p f below w ≡ Stuck
@@ -25,16 +32,16 @@ plain_stuck code limits plain.IntToByte f below w none = absurd (false≢true (s
 plain_stuck code limits plain.IntToShort f below w none = absurd (false≢true (sym none))
 plain_stuck code limits plain.IntToChar f below w none = absurd (false≢true (sym none))
 plain_stuck code limits plain.Ret f below w none = absurd (false≢true (sym none))
-plain_stuck code limits plain.Concat f below w none = refl
-plain_stuck code limits plain.Same f below w none = refl
-plain_stuck code limits plain.Equal f below w none = refl
+plain_stuck code limits plain.Concat f below w none = absurd (false≢true (sym none))
+plain_stuck code limits plain.Same f below w none = absurd (false≢true (sym none))
+plain_stuck code limits plain.Equal f below w none = absurd (false≢true (sym none))
 plain_stuck code limits plain.ArrayLength f below w none = refl
 plain_stuck code limits plain.GetIndex f below w none = refl
 plain_stuck code limits plain.PutIndex f below w none = refl
 plain_stuck code limits plain.Iter f below w none = refl
 plain_stuck code limits plain.Has f below w none = refl
 plain_stuck code limits plain.Next f below w none = refl
-plain_stuck code limits plain.Throw f below w none = refl
+plain_stuck code limits plain.Throw f below w none = absurd (false≢true (sym none))
 
 numbered_stuck : (code : List FunCode) (limits : Limits) (n : Numbered) (k : ℕ) (f : Frame) (below : List Frame) (w : World) → numbered_has_row n ≡ false → numbered_act code limits n k f below w ≡ Stuck
 numbered_stuck code limits numbered.Load k f below w none = absurd (false≢true (sym none))
@@ -44,9 +51,29 @@ numbered_stuck code limits numbered.IfZero k f below w none = absurd (false≢tr
 numbered_stuck code limits numbered.IfNotZero k f below w none = absurd (false≢true (sym none))
 numbered_stuck code limits numbered.Loop k f below w none = absurd (false≢true (sym none))
 numbered_stuck code limits numbered.Call k f below w none = absurd (false≢true (sym none))
-numbered_stuck code limits numbered.IfNull k f below w none = refl
+numbered_stuck code limits numbered.IfNull k f below w none = absurd (false≢true (sym none))
 numbered_stuck code limits numbered.List k f below w none = refl
 numbered_stuck code limits numbered.Map k f below w none = refl
+
+quoted_stuck : (code : List FunCode) (limits : Limits) (q : Quoting) (text : List ℕ) (f : Frame) (below : List Frame) (w : World) → quoting_has_row q ≡ false → quoted_act code limits q text f below w ≡ Stuck
+quoted_stuck code limits quoting.Constant text f below w none = absurd (false≢true (sym none))
+quoted_stuck code limits quoting.GetName text f below w none = refl
+quoted_stuck code limits quoting.PutName text f below w none = refl
+
+-- what names no type is stuck
+type_stuck : (o : Option Ty) (next : Ty → Next) → is_some o ≡ false → on_type o next ≡ Stuck
+type_stuck None next none = refl
+type_stuck (Some of) next none = absurd (false≢true (sym none))
+
+-- what is stuck with each type is stuck
+each_stuck : (o : Option Ty) (next : Ty → Next) → ((of : Ty) → next of ≡ Stuck) → on_type o next ≡ Stuck
+each_stuck None next h = refl
+each_stuck (Some of) next h = h of
+
+typed_stuck : (code : List FunCode) (limits : Limits) (t : Typed) (of : List ℕ) (f : Frame) (below : List Frame) (w : World) → typed_has_row t of ≡ false → on_type (type_of_full of) (λ of. typed_act code limits t of f below w) ≡ Stuck
+typed_stuck code limits typed.IsA of f below w none = type_stuck (type_of_full of) (λ of. typed_act code limits typed.IsA of f below w) none
+typed_stuck code limits typed.LoadElement of f below w none = each_stuck (type_of_full of) (λ of. typed_act code limits typed.LoadElement of f below w) (λ of. refl)
+typed_stuck code limits typed.StoreElement of f below w none = each_stuck (type_of_full of) (λ of. typed_act code limits typed.StoreElement of f below w) (λ of. refl)
 
 pub no_other_rows : NoOtherRows
 no_other_rows code limits (i.Plain p) f below w none = plain_stuck code limits p f below w none
@@ -57,9 +84,9 @@ no_other_rows code limits (i.Numbered n k) f below w none = numbered_stuck code 
 no_other_rows code limits (i.Boxing p) f below w none = absurd (false≢true (sym none))
 no_other_rows code limits (i.Unboxing p way) f below w none = absurd (false≢true (sym none))
 no_other_rows code limits (i.Dynamic o) f below w none = refl
-no_other_rows code limits (i.Quoted q text) f below w none = refl
-no_other_rows code limits (i.Cast to way) f below w none = refl
-no_other_rows code limits (i.Typed t of) f below w none = refl
+no_other_rows code limits (i.Quoted q text) f below w none = quoted_stuck code limits q text f below w none
+no_other_rows code limits (i.Cast to way) f below w none = type_stuck (type_of_full to) (λ to. cast_act code limits to (is_written way) f below w) none
+no_other_rows code limits (i.Typed t of) f below w none = typed_stuck code limits t of f below w none
 no_other_rows code limits (i.Sized t of n) f below w none = refl
 no_other_rows code limits (i.DefCall word n) f below w none = refl
 no_other_rows code limits (i.Invoke m) f below w none = refl

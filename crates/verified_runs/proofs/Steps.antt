@@ -1,17 +1,26 @@
 -- A step from a configuration that fits, a family of instructions at a time.
 use Rattle.std.proofs.Common.{◌≡◌, ℕ, true, suc, List, [], ◌∷◌, Some, refl, sym, ap, ◌∙◌, subst}
 use Rattle.std.proofs.lemmas.Bool.{false≢true}
-use Rattle.std.specs.Prelude.{slice_get, pos}
+use Rattle.std.specs.Prelude.{slice_get, is_some, pos}
 use Rattle.std.specs.Int.{w8, w16, w32}
 use Rattle.arithmetic.specs.Arithmetic.{wrapped, low_bits}
 use Rattle.pl_types.specs.declared.ty.Ty.TheVariants as ty
+use Rattle.pl_types.specs.Texts.{type_of_full}
+use Rattle.pl_units.specs.Utf16.{units}
 use Rattle.object_values.specs.declared.value.Value.TheVariants as v
 use Rattle.number_ops.specs.Outcomes.{effect}
 use Rattle.number_ops.specs.Casts.{cast_at_run_time}
+use Rattle.number_ops.specs.Operators.{concatenated}
+use Rattle.number_ops.specs.Relations.{equal, is_same, is_instance, thrown}
 use Rattle.pl_code.specs.declared.kinds.Plain.{Plain}
 use Rattle.pl_code.specs.declared.kinds.Plain.TheVariants as plain
 use Rattle.pl_code.specs.declared.kinds.Numbered.{Numbered}
 use Rattle.pl_code.specs.declared.kinds.Numbered.TheVariants as numbered
+use Rattle.pl_code.specs.declared.kinds.Quoting.{Quoting}
+use Rattle.pl_code.specs.declared.kinds.Quoting.TheVariants as quoting
+use Rattle.pl_code.specs.declared.kinds.Typed.{Typed}
+use Rattle.pl_code.specs.declared.kinds.Typed.TheVariants as typed
+use Rattle.pl_code.specs.declared.kinds.Way.{Way}
 use Rattle.pl_code.specs.declared.kinds.Slot.TheVariants as slot
 use Rattle.pl_code.specs.declared.code.FunCode.{FunCode}
 use Rattle.pl_code.specs.declared.code.Instruction.{Instruction}
@@ -23,19 +32,20 @@ use Rattle.code_shapes.specs.Types.{kind_of_primitive}
 use Rattle.verifier.specs.Shaped.{IsWellShapedCode}
 use Rattle.run_world.specs.World.{World, Limits, acts_in}
 use Rattle.code_meaning.specs.declared.word.Word.TheVariants.{I, J, R}
-use Rattle.code_meaning.specs.Words.{calculation, unboxed}
-use Rattle.code_meaning.specs.Machine.{Frame, Config, Next, to_line, on_outcome, is_written, plain_act, numbered_act, act, acts, lines_of, step}
-use Rattle.verified_runs.specs.Rows.{plain_has_row, numbered_has_row, has_row, HaveRows}
+use Rattle.code_meaning.specs.Words.{calculation, unboxed, bit}
+use Rattle.code_meaning.specs.Machine.{Frame, Config, Next, to_line, on_outcome, on_thrown, on_type, is_written, plain_act, numbered_act, quoted_act, typed_act, cast_act, act, acts, lines_of, step}
+use Rattle.verified_runs.specs.Rows.{plain_has_row, numbered_has_row, quoting_has_row, typed_has_row, has_row, HaveRows}
 use Rattle.verified_runs.specs.Fits.{kinds_of, frame_kinds, FitsConfig}
-use Rattle.verified_runs.proofs.Words.{on_one_int, on_one_long, on_one_reference}
+use Rattle.verified_runs.proofs.Words.{on_one_int, on_one_long, on_one_reference, on_two_references}
 use Rattle.verified_runs.proofs.Operators.{calculates}
 use Rattle.verified_runs.proofs.Casts.{cast_is}
+use Rattle.verified_runs.proofs.References.{whole_is, equal_is, thrown_is, type_is}
 use Rattle.verified_runs.proofs.Standing.{StandsIn, standing}
 use Rattle.verified_runs.proofs.Lowering.{left_at, left_of}
 use Rattle.verified_runs.proofs.Moves.{Moves, Here}
-use Rattle.verified_runs.proofs.Throwing.{effect_moves}
+use Rattle.verified_runs.proofs.Throwing.{effect_moves, throw_moves}
 use Rattle.verified_runs.proofs.Calling.{call_moves, return_moves}
-use Rattle.verified_runs.proofs.Plains.{puts, next_with, copies, pops, dups, dups_two, dups_under_one, dups_under_two, loads_local, stores_local, calculated, boxes, jumps, branches_at_zero, branches_at_others, loops}
+use Rattle.verified_runs.proofs.Plains.{puts, next_with, copies, pops, dups, dups_two, dups_under_one, dups_under_two, loads_local, stores_local, calculated, boxes, jumps, branches_at_zero, branches_at_others, branches_at_null, loops}
 
 module _ (allow : AllowList) (code : List FunCode) (limits : Limits) (well : IsWellShapedCode allow code) (function : FunCode) (f : Frame) (below : List Frame) (w : World) (here : Here allow code limits function f below w) where
   abbrev Moved : Next → Type 0
@@ -68,16 +78,26 @@ module _ (allow : AllowList) (code : List FunCode) (limits : Limits) (well : IsW
       on_one_int Moved (slot.I ∷ []) s.left f.stack (λ a stack. to_line f below w (suc f.line) (I (pos (low_bits 16 a)) ∷ stack)) s.leaves
       (λ a stack kinds. next_with allow code limits well function f below w (i.Plain plain.IntToChar) s here (I (pos (low_bits 16 a)) ∷ stack) refl kinds)
   plain_moves plain.Ret row s = return_moves allow code limits well function f below w s.left here s.leaves
-  plain_moves plain.Concat row s = absurd (false≢true row)
-  plain_moves plain.Same row s = absurd (false≢true row)
-  plain_moves plain.Equal row s = absurd (false≢true row)
+  plain_moves plain.Concat row s =
+      on_two_references Moved (slot.R ∷ []) s.left f.stack (λ b a stack. on_outcome code limits (acts_in w (effect w.store (concatenated w.store.objects a b))) R f below w stack) s.leaves
+      (λ b a stack kinds. effect_moves allow code limits well function f below w (i.Plain plain.Concat) s here R slot.R stack
+      (effect w.store (concatenated w.store.objects a b)) refl kinds (whole_is (effect w.store (concatenated w.store.objects a b))))
+  plain_moves plain.Same row s =
+      on_two_references Moved (slot.I ∷ []) s.left f.stack (λ b a stack. to_line f below w (suc f.line) (I (bit (is_same a b)) ∷ stack)) s.leaves
+      (λ b a stack kinds. next_with allow code limits well function f below w (i.Plain plain.Same) s here (I (bit (is_same a b)) ∷ stack) refl kinds)
+  plain_moves plain.Equal row s =
+      on_two_references Moved (slot.I ∷ []) s.left f.stack (λ b a stack. on_outcome code limits (acts_in w (effect w.store (equal w.store.objects a b))) unboxed f below w stack) s.leaves
+      (λ b a stack kinds. effect_moves allow code limits well function f below w (i.Plain plain.Equal) s here unboxed slot.I stack
+      (effect w.store (equal w.store.objects a b)) refl kinds (equal_is w.store a b))
   plain_moves plain.ArrayLength row s = absurd (false≢true row)
   plain_moves plain.GetIndex row s = absurd (false≢true row)
   plain_moves plain.PutIndex row s = absurd (false≢true row)
   plain_moves plain.Iter row s = absurd (false≢true row)
   plain_moves plain.Has row s = absurd (false≢true row)
   plain_moves plain.Next row s = absurd (false≢true row)
-  plain_moves plain.Throw row s = absurd (false≢true row)
+  plain_moves plain.Throw row s =
+      on_one_reference Moved [] s.left f.stack (λ value stack. on_thrown code limits (acts_in w (thrown w.store value)) f below w) s.leaves
+      (λ value stack kinds. throw_moves allow code limits well function f below w here (thrown w.store value) (thrown_is w.store value))
 
   local_is : (k : ℕ) → slice_get (kinds_of f.locals) k ≡ local_kind function k
   unfolding local_kind
@@ -92,9 +112,33 @@ module _ (allow : AllowList) (code : List FunCode) (limits : Limits) (well : IsW
   numbered_moves numbered.IfNotZero k row s = branches_at_others allow code limits well function f below w (i.Numbered numbered.IfNotZero k) s here k refl s.leaves
   numbered_moves numbered.Loop k row s = loops allow code limits well function f below w (i.Numbered numbered.Loop k) s here k refl s.leaves
   numbered_moves numbered.Call k row s = call_moves allow code limits well function f below w (i.Numbered numbered.Call k) s here k (slice_get code k) refl refl s.leaves
-  numbered_moves numbered.IfNull k row s = absurd (false≢true row)
+  numbered_moves numbered.IfNull k row s = branches_at_null allow code limits well function f below w (i.Numbered numbered.IfNull k) s here k refl s.leaves
   numbered_moves numbered.List k row s = absurd (false≢true row)
   numbered_moves numbered.Map k row s = absurd (false≢true row)
+
+  quoted_moves : (q : Quoting) (text : List ℕ) → quoting_has_row q ≡ true → At (i.Quoted q text) → Moved (quoted_act code limits q text f below w)
+  unfolding effect_of flow_of left_by
+  quoted_moves quoting.Constant text row s = puts allow code limits well function f below w (i.Quoted quoting.Constant text) s here (R (v.Str (units text))) refl s.leaves
+  quoted_moves quoting.GetName text row s = absurd (false≢true row)
+  quoted_moves quoting.PutName text row s = absurd (false≢true row)
+
+  typed_moves : (t : Typed) (of : List ℕ) → typed_has_row t of ≡ true → At (i.Typed t of) → Moved (on_type (type_of_full of) (λ of. typed_act code limits t of f below w))
+  unfolding effect_of flow_of left_by
+  typed_moves typed.IsA of row s =
+      type_is Moved (type_of_full of) (λ of. typed_act code limits typed.IsA of f below w) row
+      (λ is. on_one_reference Moved (slot.I ∷ []) s.left f.stack (λ value stack. to_line f below w (suc f.line) (I (bit (is_instance w.store.objects value is)) ∷ stack)) s.leaves
+      (λ value stack kinds. next_with allow code limits well function f below w (i.Typed typed.IsA of) s here (I (bit (is_instance w.store.objects value is)) ∷ stack) refl kinds))
+  typed_moves typed.LoadElement of row s = absurd (false≢true row)
+  typed_moves typed.StoreElement of row s = absurd (false≢true row)
+
+  cast_moves : (to : List ℕ) (way : Way) → is_some (type_of_full to) ≡ true → At (i.Cast to way) → Moved (on_type (type_of_full to) (λ to. cast_act code limits to (is_written way) f below w))
+  unfolding effect_of flow_of left_by
+  cast_moves to way row s =
+      type_is Moved (type_of_full to) (λ to. cast_act code limits to (is_written way) f below w) row
+      (λ is. on_one_reference Moved (slot.R ∷ []) s.left f.stack
+      (λ value stack. on_outcome code limits (acts_in w (effect w.store (cast_at_run_time w.store.objects value is (is_written way)))) R f below w stack) s.leaves
+      (λ value stack kinds. effect_moves allow code limits well function f below w (i.Cast to way) s here R slot.R stack
+      (effect w.store (cast_at_run_time w.store.objects value is (is_written way))) refl kinds (whole_is (effect w.store (cast_at_run_time w.store.objects value is (is_written way))))))
 
   act_moves : (instruction : Instruction) → has_row instruction ≡ true → At instruction → Moved (act code limits instruction f below w)
   unfolding effect_of flow_of left_by
@@ -111,9 +155,9 @@ module _ (allow : AllowList) (code : List FunCode) (limits : Limits) (well : IsW
       (λ value stack kinds. effect_moves allow code limits well function f below w (i.Unboxing p way) s here unboxed (kind_of_primitive p) stack
       (effect w.store (cast_at_run_time w.store.objects value (ty.Prim p) (is_written way))) refl kinds (cast_is p w.store value (is_written way)))
   act_moves (i.Dynamic o) row s = absurd (false≢true row)
-  act_moves (i.Quoted q text) row s = absurd (false≢true row)
-  act_moves (i.Cast to way) row s = absurd (false≢true row)
-  act_moves (i.Typed t of) row s = absurd (false≢true row)
+  act_moves (i.Quoted q text) row s = quoted_moves q text row s
+  act_moves (i.Cast to way) row s = cast_moves to way row s
+  act_moves (i.Typed t of) row s = typed_moves t of row s
   act_moves (i.Sized t of n) row s = absurd (false≢true row)
   act_moves (i.DefCall word n) row s = absurd (false≢true row)
   act_moves (i.Invoke m) row s = absurd (false≢true row)

@@ -17,9 +17,10 @@ use Rattle.verifier.specs.Shaped.{IsWellShapedCode}
 use Rattle.run_world.specs.World.{World, Limits, Outcome, Given, Raised, Full, acts_in}
 use Rattle.code_meaning.specs.declared.word.Word.{Word}
 use Rattle.code_meaning.specs.declared.word.Word.TheVariants as word
-use Rattle.code_meaning.specs.Machine.{Frame, Next, Goes, traps_at, traps_of, is_instance, lands, unwind, on_outcome, depth_of}
+use Rattle.code_meaning.specs.Machine.{Frame, Next, Goes, traps_at, traps_of, is_instance, lands, unwind, on_outcome, on_thrown, depth_of}
 use Rattle.verified_runs.specs.Fits.{ReachesAllowed, kind_of, kinds_of, frame_kinds, BelowFits}
 use Rattle.verified_runs.proofs.Casts.{EffectIs}
+use Rattle.verified_runs.proofs.References.{GivesNothing}
 use Rattle.verified_runs.proofs.Standing.{StandsIn, Catches, catches_fit}
 use Rattle.verified_runs.proofs.Lowering.{lines_in, weight, left_at, lines_below, tick_worth, later_is_less, below_is_less}
 use Rattle.verified_runs.proofs.Moves.{GoesTo, Moves, Here, lines_are, goes_next}
@@ -132,3 +133,26 @@ module _ (allow : AllowList) (code : List FunCode) (limits : Limits) (well : IsW
       → (to : Value → Word) (k : Slot) (stack : List Word) (e : Effect) → flow_of i ≡ flow.GoesOn → k ∷ kinds_of stack ≡ s.left → EffectIs to k e
       → Moves allow code limits (left_at code limits f below w) (on_outcome code limits (acts_in w e) to f below w stack)
   effect_moves function f below w i s here to k stack e goes kinds is = outcome_moves function f below w i s here to k stack (acts_in w e) goes kinds (acts_so to k w e here.reached is)
+
+  -- ---- what is thrown as it is
+
+  abbrev OutcomeThrows : World → Outcome Value → Type 0
+  OutcomeThrows w (Given value w') = ⊥
+  OutcomeThrows w (Raised id w') = GoesTo allow code limits w w'
+  OutcomeThrows w Full = Unit {0}
+
+  throws_so : (w : World) (e : Effect) → ReachesAllowed allow w → GivesNothing e → OutcomeThrows w (acts_in w e)
+  unfolding acts_in
+  throws_so w (Gives value store) reached nothing = nothing
+  throws_so w (Throws id store) reached nothing = record { ticks = refl; reached = reached }
+  throws_so w NoRoom reached nothing = tt
+
+  throw_moves_on : (function : FunCode) (f : Frame) (below : List Frame) (w : World) → Here allow code limits function f below w → (o : Outcome Value) → OutcomeThrows w o
+      → Moves allow code limits (left_at code limits f below w) (on_thrown code limits o f below w)
+  throw_moves_on function f below w here (Given value w') is = is
+  throw_moves_on function f below w here (Raised id w') is = thrown function f below w w' id here is
+  throw_moves_on function f below w here Full is = here.reached
+
+  pub throw_moves : (function : FunCode) (f : Frame) (below : List Frame) (w : World) → Here allow code limits function f below w → (e : Effect) → GivesNothing e
+      → Moves allow code limits (left_at code limits f below w) (on_thrown code limits (acts_in w e) f below w)
+  throw_moves function f below w here e nothing = throw_moves_on function f below w here (acts_in w e) (throws_so w e here.reached nothing)

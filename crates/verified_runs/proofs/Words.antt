@@ -53,6 +53,17 @@ on_one_reference P gives left (I a ∷ stack) next e h = cc
 on_one_reference P gives left (J a ∷ stack) next e h = cc
 on_one_reference P gives left (R value ∷ stack) next e h = h value stack (left_is gives (kinds_of stack) left e)
 
+pub on_two_references : (P : Next → Type 0) (gives left : List Slot) (stack : List Word) (next : Value → Value → List Word → Next) → exchanged (slot.R ∷ slot.R ∷ []) gives (kinds_of stack) ≡ Some left
+    → ((b a : Value) (rest : List Word) → gives ++ kinds_of rest ≡ left → P (next b a rest))
+    → P (on_top stack (λ upper rest. on_reference upper (λ b. on_top rest (λ lower stack. on_reference lower (λ a. next b a stack)))))
+on_two_references P gives left [] next e h = cc
+on_two_references P gives left (I b ∷ stack) next e h = cc
+on_two_references P gives left (J b ∷ stack) next e h = cc
+on_two_references P gives left (R b ∷ []) next e h = cc
+on_two_references P gives left (R b ∷ I a ∷ stack) next e h = cc
+on_two_references P gives left (R b ∷ J a ∷ stack) next e h = cc
+on_two_references P gives left (R b ∷ R a ∷ stack) next e h = h b a stack (left_is gives (kinds_of stack) left e)
+
 one_slot : (k : Slot) (word : Word) (gives rest left : List Slot) → exchanged (k ∷ []) gives (kind_of word ∷ rest) ≡ Some left → (kind_of word ≡ k) × (gives ++ rest ≡ left)
 one_slot slot.I (I a) gives rest left e = (refl, left_is gives rest left e)
 one_slot slot.J (J a) gives rest left e = (refl, left_is gives rest left e)

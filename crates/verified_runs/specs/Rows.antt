@@ -1,10 +1,15 @@
 -- Which instructions have a row: the others are Stuck wherever they stand. Each row that is built is listed here.
-use Rattle.std.specs.Prelude.{◌≡◌, ℕ, Bool, true, false, List, Some, slice_get}
+use Rattle.std.specs.Prelude.{◌≡◌, ℕ, Bool, true, false, List, Some, is_some, slice_get}
 use Rattle.std.specs.List.{list_all}
+use Rattle.pl_types.specs.Texts.{type_of_full}
 use Rattle.pl_code.specs.declared.kinds.Plain.{Plain}
 use Rattle.pl_code.specs.declared.kinds.Plain.TheVariants as plain
 use Rattle.pl_code.specs.declared.kinds.Numbered.{Numbered}
 use Rattle.pl_code.specs.declared.kinds.Numbered.TheVariants as numbered
+use Rattle.pl_code.specs.declared.kinds.Quoting.{Quoting}
+use Rattle.pl_code.specs.declared.kinds.Quoting.TheVariants as quoting
+use Rattle.pl_code.specs.declared.kinds.Typed.{Typed}
+use Rattle.pl_code.specs.declared.kinds.Typed.TheVariants as typed
 use Rattle.pl_code.specs.declared.code.FunCode.{FunCode}
 use Rattle.pl_code.specs.declared.code.Instruction.{Instruction}
 use Rattle.pl_code.specs.declared.code.Instruction.TheVariants as i
@@ -22,6 +27,10 @@ plain_has_row plain.IntToByte = true
 plain_has_row plain.IntToShort = true
 plain_has_row plain.IntToChar = true
 plain_has_row plain.Ret = true
+plain_has_row plain.Concat = true
+plain_has_row plain.Equal = true
+plain_has_row plain.Same = true
+plain_has_row plain.Throw = true
 plain_has_row other = false
 
 abbrev pub numbered_has_row : Numbered → Bool
@@ -30,9 +39,19 @@ numbered_has_row numbered.Store = true
 numbered_has_row numbered.Goto = true
 numbered_has_row numbered.IfZero = true
 numbered_has_row numbered.IfNotZero = true
+numbered_has_row numbered.IfNull = true
 numbered_has_row numbered.Loop = true
 numbered_has_row numbered.Call = true
 numbered_has_row other = false
+
+abbrev pub quoting_has_row : Quoting → Bool
+quoting_has_row quoting.Constant = true
+quoting_has_row other = false
+
+-- what a cast or a test of instances names is a type in full
+abbrev pub typed_has_row : Typed → List ℕ → Bool
+typed_has_row typed.IsA of = is_some (type_of_full of)
+typed_has_row other of = false
 
 abbrev pub has_row : Instruction → Bool
 has_row (i.Plain p) = plain_has_row p
@@ -42,6 +61,9 @@ has_row (i.Long a) = true
 has_row (i.Numbered n k) = numbered_has_row n
 has_row (i.Boxing p) = true
 has_row (i.Unboxing p way) = true
+has_row (i.Quoted q text) = quoting_has_row q
+has_row (i.Typed t of) = typed_has_row t of
+has_row (i.Cast to way) = is_some (type_of_full to)
 has_row other = false
 
 abbrev pub function_has_rows : FunCode → Bool

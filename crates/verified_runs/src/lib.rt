@@ -4,6 +4,7 @@
 mod arguments;
 mod laws;
 mod rows;
+mod types;
 
 pub use arguments::fit_main;
 pub use laws::verified_run_laws;

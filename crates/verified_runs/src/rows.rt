@@ -4,7 +4,8 @@ ghost use Rattle.std.specs.List.{list_all};
 ghost use Rattle.verified_runs.specs.Rows as rows;
 ghost use Rattle.verified_runs.specs.Rows.{HaveRows};
 
-use pl_code::{Code, FunCode, Instruction, Numbered, Plain};
+use crate::types::is_full_type;
+use pl_code::{Code, FunCode, Instruction, Numbered, Plain, Quoting, Typed};
 
 /// Whether each instruction of code has a row.
 pub fn have_rows(code: &Code) -> bool
@@ -37,6 +38,9 @@ fn has_row(instruction: &Instruction) -> bool
     match instruction {
         Instruction::Plain(kind) => plain_has_row(*kind),
         Instruction::Numbered(kind, _) => numbered_has_row(*kind),
+        Instruction::Quoted(kind, _) => quoting_has_row(*kind),
+        Instruction::Typed(kind, ty) => typed_has_row(*kind, ty.as_str().as_bytes()),
+        Instruction::Cast(ty, _) => is_full_type(ty.as_str().as_bytes()),
         Instruction::Arithmetic(_, _)
         | Instruction::Int(_)
         | Instruction::Long(_)
@@ -61,7 +65,11 @@ fn plain_has_row(kind: Plain) -> bool
         | Plain::IntToByte
         | Plain::IntToShort
         | Plain::IntToChar
-        | Plain::Ret => true,
+        | Plain::Ret
+        | Plain::Concat
+        | Plain::Equal
+        | Plain::Same
+        | Plain::Throw => true,
         _ => false,
     }
 }
@@ -75,8 +83,27 @@ fn numbered_has_row(kind: Numbered) -> bool
         | Numbered::Goto
         | Numbered::IfZero
         | Numbered::IfNotZero
+        | Numbered::IfNull
         | Numbered::Loop
         | Numbered::Call => true,
+        _ => false,
+    }
+}
+
+fn quoting_has_row(kind: Quoting) -> bool
+    ensures { result ≡ rows.quoting_has_row kind }
+{
+    match kind {
+        Quoting::Constant => true,
+        _ => false,
+    }
+}
+
+fn typed_has_row(kind: Typed, ty: &[u8]) -> bool
+    ensures { result ≡ rows.typed_has_row kind ty.now }
+{
+    match kind {
+        Typed::IsA => is_full_type(ty),
         _ => false,
     }
 }
