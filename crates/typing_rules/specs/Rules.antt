@@ -6,5 +6,6 @@ pub mod Casts
 pub mod Operators
 pub mod Places
 pub mod Calls
+pub mod Members
 pub mod Statements
 pub mod Functions

@@ -38,13 +38,18 @@ use Rattle.typing_rules.specs.Rules.Literals.{integer, negated_integer, constant
 use Rattle.typing_rules.specs.Rules.Casts.{cast_to, asked}
 use Rattle.typing_rules.specs.Rules.Operators.{binary_of, unary_of, choice_of, elvis_of, instance_of}
 use Rattle.typing_rules.specs.Rules.Places.{local, written, assign_of, step_of}
+use Rattle.allowlist.specs.Allow.{AllowList}
+use Rattle.pl_tree.specs.declared.operator.Access.{Access}
 use Rattle.typing_rules.specs.Rules.Calls.{call_of}
+use Rattle.typing_rules.specs.Rules.Members.{read_of, field_of, method_of, static_of, new_of}
 use Rattle.typing_rules.specs.Rules.Statements.{reached, deed, expression_of, variable_of, declaration_of, test, loop_test, if_of, loop_of, do_of, break_of, continue_of, return_of, nothing_returned, throw_of, block_of}
 use Rattle.typing_rules.specs.Rules.Functions.{headers, function_start, main_start, finished, main}
 
--- An expression: its first token, its value, its value directly behind a minus that stands at a place, and what it is to be written to.
+-- An expression: its first token, the type that it is where it is none, its value, its value directly behind a minus that stands at a place,
+-- and what it is to be written to.
 pub record Reading : Type 0 where
   pub first : ℕ
+  pub names : Option (Doing Ty)
   pub value : Doing Part
   pub negated : ℕ → Doing Part
   pub place : Doing Place
@@ -66,6 +71,7 @@ Seen = Doing (Unit {0})
 abbrev pub plain : ℕ → Doing Part → Reading
 plain first value = record {
   first = first;
+  names = None;
   value = value;
   negated = λ minus. (do x ← value; by_rule (unary_of sign.Minus minus x));
   place = (do x ← value; pure place.Fixed);
@@ -156,12 +162,25 @@ lambda at ps body = do setting alone; lambda_parameters ps; body; unbuilt at
 abbrev pub for_each : ℕ → Doing Ty → List ℕ → Reading → Doing Step → Doing Step
 for_each at type name over body = do of ← type; x ← over.value; setting (noted name of); y ← looping body; unbuilt at
 
-module _ (hs : List Header) where
+-- a member is not written to yet
+abbrev pub member_place : ℕ → Reading → Doing Place
+member_place at receiver = do x ← receiver.value; unbuilt at
+
+module _ (allow : AllowList) (hs : List Header) where
   abbrev pub call : ℕ → List ℕ → List (Doing Part) → Doing Part
   call at name given = do xs ← parts given; by_rule (call_of hs at name xs)
 
   abbrev pub Open : (Type 0 → Type 0 → Type 0 → Type 0 → Type 0 → Type 0 → Type 0 → Type 0 → Type 0 → Type 0 → Type 0 → Type 0) → Type 0
   Open F = F (Doing Part) (Doing Step) Reading (Doing Step) Seen Doer Braces Seen Doer Seen (Ty → Doing TypedVariable)
+
+  -- a member of a value, or of the class that a type names
+  abbrev pub read : Access → ℕ → Reading → Option (Doing Ty) → List ℕ → Doing Part
+  read access at receiver None name = do x ← receiver.value; by_rule (read_of allow access at name x)
+  read access at receiver (Some type) name = do t ← type; by_rule (field_of allow access at name t)
+
+  abbrev pub method : Access → ℕ → Reading → Option (Doing Ty) → List ℕ → List (Doing Part) → Doing Part
+  method access at receiver None name given = do x ← receiver.value; xs ← parts given; by_rule (method_of allow access at name x xs)
+  method access at receiver (Some type) name given = do t ← type; xs ← parts given; by_rule (static_of allow access at name t xs)
 
   abbrev pub argument_step : Open Argument-F → Doing Part
   argument_step (Argument-F.Value value) = value.value
@@ -192,6 +211,7 @@ module _ (hs : List Header) where
   expression_step (Expr-F.Bracketed at inner) = plain at (do x ← inner.value; pure (bracketed at x))
   expression_step (Expr-F.Integer at spelling) = record {
     first = at;
+    names = None;
     value = by_rule (integer at spelling);
     negated = (λ minus. by_rule (negated_integer minus at spelling));
     place = (do x ← by_rule (integer at spelling); pure place.Fixed);
@@ -202,17 +222,18 @@ module _ (hs : List Header) where
   expression_step (Expr-F.Map at entries) = plain at (do all_seen entries; unbuilt at)
   expression_step (Expr-F.Name at spelling) = record {
     first = at;
+    names = None;
     value = looking (local at spelling);
     negated = (λ minus. (do x ← looking (local at spelling); by_rule (unary_of sign.Minus minus x)));
     place = looking (written at spelling);
   }
   expression_step (Expr-F.Call at spelling given) = plain at (call at spelling given)
-  expression_step (Expr-F.New at of given) = plain at (do t ← by_rule (type_of of); all_seen (map (λ (m : Doing Part). seen m) given); unbuilt at)
+  expression_step (Expr-F.New at of given) = plain at (do t ← by_rule (type_of of); xs ← parts given; by_rule (new_of allow at t xs))
   expression_step (Expr-F.NewArray at of sizes) = plain at (do t ← by_rule (type_of of); all_seen (map (λ (e : Reading). seen e.value) sizes); unbuilt at)
   expression_step (Expr-F.NewItems at of items) = plain at (do t ← by_rule (type_of of); all_seen (map (λ (e : Reading). seen e.value) items); unbuilt at)
-  expression_step (Expr-F.Type of) = plain of.at (do t ← by_rule (type_of of); unbuilt of.at)
-  expression_step (Expr-F.Member access at receiver spelling) = plain receiver.first (do x ← receiver.value; unbuilt at)
-  expression_step (Expr-F.Method access at receiver spelling given) = plain receiver.first (do x ← receiver.value; all_seen (map (λ (m : Doing Part). seen m) given); unbuilt at)
+  expression_step (Expr-F.Type of) = record (plain of.at (do t ← by_rule (type_of of); unbuilt of.at)) { names = Some (by_rule (type_of of)) }
+  expression_step (Expr-F.Member access at receiver spelling) = record (plain receiver.first (read access at receiver receiver.names spelling)) { place = member_place at receiver }
+  expression_step (Expr-F.Method access at receiver spelling given) = plain receiver.first (method access at receiver receiver.names spelling given)
   expression_step (Expr-F.Element access at receiver spelling) = plain receiver.first (do x ← receiver.value; unbuilt at)
   expression_step (Expr-F.Index at receiver index) = plain receiver.first (do x ← receiver.value; y ← index.value; unbuilt at)
 
@@ -286,21 +307,22 @@ module _ (hs : List Header) where
 abbrev pub ran : Doing (List Step) → State → Answer
 ran m s = m s (λ ys t. Ok (ys, t))
 
-abbrev pub function_of : List Header → Function → Header → Out TypedFunction
-function_of hs f h = bind (ran (braces hs f.body).steps (function_start h)) (λ whole. finished f h whole.0)
+abbrev pub function_of : AllowList → List Header → Function → Header → Out TypedFunction
+function_of allow hs f h = bind (ran (braces allow hs f.body).steps (function_start h)) (λ whole. finished f h whole.0)
 
 -- the bodies, each with its header
-abbrev pub functions : List Header → List Function → List Header → Out (List TypedFunction)
-functions hs (f ∷ fs) (h ∷ rest) = bind (function_of hs f h) (λ x. bind (functions hs fs rest) (λ xs. Ok (x ∷ xs)))
-functions hs _ _ = Ok []
+abbrev pub functions : AllowList → List Header → List Function → List Header → Out (List TypedFunction)
+functions allow hs (f ∷ fs) (h ∷ rest) = bind (function_of allow hs f h) (λ x. bind (functions allow hs fs rest) (λ xs. Ok (x ∷ xs)))
+functions allow hs _ _ = Ok []
 
-abbrev pub main_of : ContextTypes → List Header → List Statement → Out TypedFunction
-main_of context hs all = bind (ran (statements true false (map (doer hs) all)) (main_start context)) (λ whole. Ok (main context whole.0))
+abbrev pub main_of : AllowList → ContextTypes → List Header → List Statement → Out TypedFunction
+main_of allow context hs all = bind (ran (statements true false (map (doer allow hs) all)) (main_start context)) (λ whole. Ok (main context whole.0))
 
 abbrev pub program : List TypedFunction → TypedFunction → Program
 program functions main = record { functions = functions; main = main }
 
--- The program of a script, or the first rule that it breaks: headers in their order, then bodies, then the main script.
-abbrev pub typing_of : ContextTypes → Tree → Out Program
-typing_of context tree = bind (headers tree.functions []) (λ hs. bind (functions hs tree.functions hs) (λ fs.
-    bind (main_of context hs tree.statements) (λ m. Ok (program fs m))))
+-- The program of a script under a list of what is allowed, or the first rule that it breaks: headers in their order, then bodies, then the
+-- main script.
+abbrev pub typing_of : AllowList → ContextTypes → Tree → Out Program
+typing_of allow context tree = bind (headers tree.functions []) (λ hs. bind (functions allow hs tree.functions hs) (λ fs.
+    bind (main_of allow context hs tree.statements) (λ m. Ok (program fs m))))

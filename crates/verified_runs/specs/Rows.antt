@@ -1,5 +1,5 @@
 -- Which instructions have a row: the others are Stuck wherever they stand. Each row that is built is listed here.
-use Rattle.std.specs.Prelude.{◌≡◌, ℕ, Bool, true, false, List, Some, is_some, slice_get}
+use Rattle.std.specs.Prelude.{◌≡◌, ℕ, ◌&&◌, Option, None, Bool, true, false, List, Some, is_some, slice_get}
 use Rattle.std.specs.List.{list_all}
 use Rattle.pl_types.specs.Texts.{type_of_full}
 use Rattle.pl_code.specs.declared.kinds.Plain.{Plain}
@@ -10,6 +10,11 @@ use Rattle.pl_code.specs.declared.kinds.Quoting.{Quoting}
 use Rattle.pl_code.specs.declared.kinds.Quoting.TheVariants as quoting
 use Rattle.pl_code.specs.declared.kinds.Typed.{Typed}
 use Rattle.pl_code.specs.declared.kinds.Typed.TheVariants as typed
+use Rattle.allowlist.specs.Allow.{AllowList}
+use Rattle.allowlist.specs.Index.{member_at}
+use Rattle.code_shapes.specs.Members.{method_of, constructor_of, field_of}
+use Rattle.member_acts.specs.Members.{is_built}
+use Rattle.member_acts.specs.Types.{is_plain_member}
 use Rattle.pl_code.specs.declared.code.FunCode.{FunCode}
 use Rattle.pl_code.specs.declared.code.Instruction.{Instruction}
 use Rattle.pl_code.specs.declared.code.Instruction.TheVariants as i
@@ -53,22 +58,31 @@ abbrev pub typed_has_row : Typed → List ℕ → Bool
 typed_has_row typed.IsA of = is_some (type_of_full of)
 typed_has_row other of = false
 
-abbrev pub has_row : Instruction → Bool
-has_row (i.Plain p) = plain_has_row p
-has_row (i.Arithmetic o width) = true
-has_row (i.Int a) = true
-has_row (i.Long a) = true
-has_row (i.Numbered n k) = numbered_has_row n
-has_row (i.Boxing p) = true
-has_row (i.Unboxing p way) = true
-has_row (i.Quoted q text) = quoting_has_row q
-has_row (i.Typed t of) = typed_has_row t of
-has_row (i.Cast to way) = is_some (type_of_full to)
-has_row other = false
+-- a member has a row where it is built, and asks nothing of the references that it takes
+abbrev pub member_has_row : Option ℕ → Bool
+member_has_row None = false
+member_has_row (Some number) = is_built number && is_plain_member (member_at number)
 
-abbrev pub function_has_rows : FunCode → Bool
-function_has_rows f = list_all has_row f.lines
+-- under a list of the members that are allowed
+abbrev pub has_row : AllowList → Instruction → Bool
+has_row allow (i.Plain p) = plain_has_row p
+has_row allow (i.Arithmetic o width) = true
+has_row allow (i.Int a) = true
+has_row allow (i.Long a) = true
+has_row allow (i.Numbered n k) = numbered_has_row n
+has_row allow (i.Boxing p) = true
+has_row allow (i.Unboxing p way) = true
+has_row allow (i.Quoted q text) = quoting_has_row q
+has_row allow (i.Typed t of) = typed_has_row t of
+has_row allow (i.Cast to way) = is_some (type_of_full to)
+has_row allow (i.Invoke method) = member_has_row (method_of allow method)
+has_row allow (i.New constructor) = member_has_row (constructor_of allow constructor)
+has_row allow (i.Field field) = member_has_row (field_of allow field)
+has_row allow other = false
+
+abbrev pub function_has_rows : AllowList → FunCode → Bool
+function_has_rows allow f = list_all (has_row allow) f.lines
 
 -- each instruction of code has a row
-pub record HaveRows (code : List FunCode) : Type 0 where
-  pub each : (function line : ℕ) (f : FunCode) (instruction : Instruction) → slice_get code function ≡ Some f → slice_get f.lines line ≡ Some instruction → has_row instruction ≡ true
+pub record HaveRows (allow : AllowList) (code : List FunCode) : Type 0 where
+  pub each : (function line : ℕ) (f : FunCode) (instruction : Instruction) → slice_get code function ≡ Some f → slice_get f.lines line ≡ Some instruction → has_row allow instruction ≡ true

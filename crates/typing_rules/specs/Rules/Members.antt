@@ -1,0 +1,182 @@
+-- Members: which one a name means, and its call.
+use Rattle.std.specs.Prelude.{ℕ, ◌+◌, ◌-◌, ◌&&◌, ◌||◌, ◌==◌, nat_le, Bool, true, false, List, [], ◌∷◌, ◌++◌, codes, length, Option, Some, None, Ok, if◌then◌else◌}
+use Rattle.std.specs.List.{list_all}
+use Rattle.pl_types.specs.declared.ty.Ty.{Ty, out-Ty}
+use Rattle.pl_types.specs.declared.ty.Ty.TheVariants as t
+use Rattle.pl_types.specs.declared.ty.Ty.TheOpen.{Ty-F}
+use Rattle.pl_types.specs.declared.rules.TheConstants.{UNKNOWN_MEMBER, BAD_NULLABLE, OUT_OF_PROFILE}
+use Rattle.pl_tree.specs.declared.operator.Access.{Access}
+use Rattle.pl_tree.specs.declared.operator.Access.TheVariants as access
+use Rattle.allowlist.specs.declared.member.MemberKind.{MemberKind}
+use Rattle.allowlist.specs.declared.member.MemberKind.TheVariants as kind
+use Rattle.allowlist.specs.declared.member.MemberType.{MemberType}
+use Rattle.allowlist.specs.Allow.{AllowList, own_member, member_of}
+use Rattle.allowlist.specs.Index.{member_at}
+use Rattle.member_acts.specs.Members.{is_built}
+use Rattle.member_names.specs.Names.{text_of}
+use Rattle.typed_tree.specs.declared.operation.Member.{Member}
+use Rattle.typed_tree.specs.declared.operation.Operation.{Operation}
+use Rattle.typed_tree.specs.declared.operation.Operation.TheVariants as o
+use Rattle.typed_tree.specs.declared.typed.Typed.{Typed}
+use Rattle.typed_tree.specs.declared.typed.Node.TheVariants as n
+use Rattle.typing_rules.specs.declared.part.Part.{Part}
+use Rattle.typing_rules.specs.declared.part.Form.TheVariants as f
+use Rattle.typing_rules.specs.Outcomes.{Out, refuse, bind}
+use Rattle.typing_rules.specs.Rules.Nodes.{typed, applied, part, plain, type_of_part}
+use Rattle.typing_rules.specs.Rules.Types.{is_built_class, is_built_layer}
+use Rattle.typing_rules.specs.Rules.Casts.{cast_to}
+use Rattle.typing_rules.specs.Rules.Operators.{primitive_of, is_primitive}
+
+-- ---- which members are built
+
+-- a type that a member that is built may name
+abbrev pub is_open_layer : Ty-F Ty → Bool
+is_open_layer Ty-F.Void = true
+is_open_layer layer = is_built_layer layer
+
+abbrev pub is_open : Ty → Bool
+is_open of = is_open_layer (out-Ty of)
+
+-- Built are the members of the classes that are built, but for those that name another class or an array.
+abbrev pub is_open_member : MemberType → Bool
+is_open_member m = is_built_class m.owner && (list_all is_open m.params && is_open m.result)
+
+-- a member of the kind that is wanted
+abbrev pub is_kind : MemberKind → MemberKind → Bool
+is_kind kind.Constructor kind.Constructor = true
+is_kind kind.Static kind.Static = true
+is_kind kind.Instance kind.Instance = true
+is_kind kind.Field kind.Field = true
+is_kind _ _ = false
+
+abbrev pub wanted_as : MemberKind → ℕ → ℕ → Out ℕ
+wanted_as kind at number =
+    if is_kind kind (member_at number).kind
+    then (if is_built number && is_open_member (member_at number) then Ok number else refuse OUT_OF_PROFILE at)
+    else refuse UNKNOWN_MEMBER at
+
+-- what is found counts where it is of the kind that is wanted; a member that is farther above is not looked at
+abbrev pub wanted : MemberKind → ℕ → Option ℕ → Out ℕ
+wanted kind at None = refuse UNKNOWN_MEMBER at
+wanted kind at (Some number) = wanted_as kind at number
+
+abbrev pub member : ℕ → Member
+member number = record { number = number; text = text_of (member_at number) }
+
+-- each argument cast to its parameter's type
+abbrev pub cast_all : List Ty → List Part → Out (List Typed)
+cast_all (t ∷ ts) (x ∷ xs) = bind (cast_to t x) (λ y. bind (cast_all ts xs) (λ ys. Ok (y ∷ ys)))
+cast_all _ _ = Ok []
+
+-- the arguments of a member's call
+abbrev pub member_arguments : ℕ → List Part → Out (List Typed)
+member_arguments number xs = cast_all (member_at number).params xs
+
+-- what a call behind `?.` gives may be null, and so is no primitive
+abbrev pub guards : Access → Bool
+guards access.Plain = false
+guards access.Guarded = true
+
+abbrev pub gives_primitive : ℕ → Bool
+gives_primitive number = is_primitive (primitive_of (member_at number).result)
+
+abbrev pub nullable : Access → ℕ → ℕ → Part → Out Part
+nullable access at number x = if guards access && gives_primitive number then refuse BAD_NULLABLE at else Ok x
+
+abbrev pub result : ℕ → Ty
+result number = (member_at number).result
+
+-- ---- calls on a value
+
+abbrev pub instance_node : Access → ℕ → ℕ → List Typed → Part
+instance_node access.Plain at number ys = part at f.Deed (typed at (result number) (n.Apply (o.Instance (member number)) ys))
+instance_node access.Guarded at number ys = part at f.Deed (typed at (result number) (n.Guarded (o.Instance (member number)) ys))
+
+abbrev pub instance_call : Access → ℕ → ℕ → Part → List Part → Out Part
+instance_call access at number x xs = bind (member_arguments number xs) (λ ys. nullable access at number (instance_node access at number (x.typed ∷ ys)))
+
+abbrev pub instance_named : AllowList → Access → ℕ → List ℕ → ℕ → Part → List Part → Out Part
+instance_named allow access at name class x xs =
+    bind (wanted kind.Instance at (member_of allow class name (length xs))) (λ number. instance_call access at number x xs)
+
+-- a primitive, void, null and an array have no members, and those of a def are not built
+abbrev pub called_layer : AllowList → Ty-F Ty → Access → ℕ → List ℕ → Part → List Part → Out Part
+called_layer allow (Ty-F.Class c) access at name x xs = instance_named allow access at name c x xs
+called_layer allow Ty-F.Def access at name x xs = refuse OUT_OF_PROFILE at
+called_layer allow _ access at name x xs = refuse UNKNOWN_MEMBER at
+
+abbrev pub method_of : AllowList → Access → ℕ → List ℕ → Part → List Part → Out Part
+method_of allow access at name x xs = called_layer allow (out-Ty (type_of_part x)) access at name x xs
+
+-- ---- calls on a class; `?.` guards nothing there
+
+abbrev pub static_node : ℕ → ℕ → List Typed → Part
+static_node at number ys = part at f.Deed (applied at (result number) (o.Static (member number)) ys)
+
+abbrev pub static_call : Access → ℕ → ℕ → List Part → Out Part
+static_call access at number xs = bind (member_arguments number xs) (λ ys. nullable access at number (static_node at number ys))
+
+abbrev pub static_layer : AllowList → Ty-F Ty → Access → ℕ → List ℕ → List Part → Out Part
+static_layer allow (Ty-F.Class c) access at name xs = bind (wanted kind.Static at (member_of allow c name (length xs))) (λ number. static_call access at number xs)
+static_layer allow _ access at name xs = refuse UNKNOWN_MEMBER at
+
+abbrev pub static_of : AllowList → Access → ℕ → List ℕ → Ty → List Part → Out Part
+static_of allow access at name of xs = static_layer allow (out-Ty of) access at name xs
+
+-- ---- `new`
+
+abbrev pub constructed : ℕ → ℕ → List Part → Out Part
+constructed at number xs = bind (member_arguments number xs) (λ ys. Ok (part at f.Deed (applied at (result number) (o.Constructor (member number)) ys)))
+
+-- a constructor is the class's own
+abbrev pub new_layer : AllowList → Ty-F Ty → ℕ → List Part → Out Part
+new_layer allow (Ty-F.Class c) at xs = bind (wanted kind.Constructor at (own_member allow c [] (length xs))) (λ number. constructed at number xs)
+new_layer allow _ at xs = refuse UNKNOWN_MEMBER at
+
+abbrev pub new_of : AllowList → ℕ → Ty → List Part → Out Part
+new_of allow at of xs = new_layer allow (out-Ty of) at xs
+
+-- ---- names behind a dot
+
+-- the first letter in ASCII upper case
+abbrev pub upper : ℕ → ℕ
+upper b = if nat_le 97 b && nat_le b 122 then b - 32 else b
+
+abbrev pub capital : List ℕ → List ℕ
+capital [] = []
+capital (b ∷ rest) = upper b ∷ rest
+
+abbrev pub or_else : Option ℕ → Option ℕ → Option ℕ
+or_else None other = other
+or_else (Some number) other = Some number
+
+-- the getter of a name
+abbrev pub getter : AllowList → ℕ → List ℕ → Option ℕ
+getter allow class name = or_else (member_of allow class (codes "get" ++ capital name) 0) (member_of allow class (codes "is" ++ capital name) 0)
+
+abbrev pub plainly : Part → Part
+plainly x = plain x.at x.typed
+
+-- what a name of a value means: its getter, which is no statement
+abbrev pub read_named : AllowList → Access → ℕ → List ℕ → ℕ → Part → Out Part
+read_named allow access at name class x =
+    bind (wanted kind.Instance at (getter allow class name)) (λ number. bind (instance_call access at number x []) (λ y. Ok (plainly y)))
+
+abbrev pub read_layer : AllowList → Ty-F Ty → Access → ℕ → List ℕ → Part → Out Part
+read_layer allow (Ty-F.Class c) access at name x = read_named allow access at name c x
+read_layer allow Ty-F.Def access at name x = refuse OUT_OF_PROFILE at
+read_layer allow _ access at name x = refuse UNKNOWN_MEMBER at
+
+abbrev pub read_of : AllowList → Access → ℕ → List ℕ → Part → Out Part
+read_of allow access at name x = read_layer allow (out-Ty (type_of_part x)) access at name x
+
+-- a field of a class
+abbrev pub field_node : ℕ → ℕ → Part
+field_node at number = plain at (applied at (result number) (o.Field (member number)) [])
+
+abbrev pub field_layer : AllowList → Ty-F Ty → Access → ℕ → List ℕ → Out Part
+field_layer allow (Ty-F.Class c) access at name = bind (wanted kind.Field at (member_of allow c name 0)) (λ number. nullable access at number (field_node at number))
+field_layer allow _ access at name = refuse UNKNOWN_MEMBER at
+
+abbrev pub field_of : AllowList → Access → ℕ → List ℕ → Ty → Out Part
+field_of allow access at name of = field_layer allow (out-Ty of) access at name
