@@ -99,6 +99,11 @@ sees (e' ∷ es) g (suc i) e d is = sees es (seen e' ∷ g) i e d.1 is
 pub entry_seen : (es : List Entry) (i : ℕ) (e : Entry) (of : Ty) → Distinct es → slice_get es i ≡ Some e → of ≡ e.of → IsVariable (in_sight es) e.name of
 entry_seen es i e of d is has = record { variable = seen e; is = sees es [] i e d is; has = has }
 
+-- names of types that are built
+abbrev pub AllBuilt : List Named → Type 0
+AllBuilt [] = Unit {0}
+AllBuilt (x ∷ xs) = IsBuilt x.of × AllBuilt xs
+
 module _ (funs : Program) where
   local_if_built : (c : Bool) (es : List Entry) (i : ℕ) (e : Entry) (number at : ℕ) (x : Part) → is_built e.of ≡ c → Distinct es → slice_get es i ≡ Some e
       → (if c then accepted (plain at (typed at e.of (n.Local e.name))) else refuse number at) ≡ accepted x → PartIs funs (in_sight es) x
@@ -145,10 +150,6 @@ module _ (funs : Program) where
 
   pub written_place : (at : ℕ) (name : Name) (s : State) (x : Place) → Known s → written at name s ≡ Ok x → PlaceIs (in_sight s.scopes) x
   written_place at name s x d given = written_found (find name s.scopes) at s x d.0 given
-
-  abbrev pub AllBuilt : List Named → Type 0
-  AllBuilt [] = Unit {0}
-  AllBuilt (x ∷ xs) = IsBuilt x.of × AllBuilt xs
 
   module _ (g : Scope) where
     set_is : (at : ℕ) (name : Name) (of : Ty) (x y : Part) → IsVariable g name of → IsBuilt of → set at name of x ≡ Ok y → PartIs funs g x → PartIs funs g y
