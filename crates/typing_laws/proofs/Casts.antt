@@ -13,9 +13,9 @@ use Rattle.pl_types.specs.declared.classes.TheConstants.{STRING, OBJECT, NUMBER}
 use Rattle.pl_types.specs.Classes.{class_is_below}
 use Rattle.pl_types.specs.Types.{same_primitives, same_types}
 use Rattle.pl_types.specs.Casts.{box_of, unboxed, is_number, widens, keeps, narrows, Row, only_if, to_itself, null_to, widening, narrowing, wrapped_as, boxing, boxing_narrowed, is_plain, boxing_to_parent, boxing_to_def, unwrapped_as, unboxing, unboxing_narrowed, to_parent, to_child, to_def, from_def, array_to_object, object_to_primitive, char_to_text, text_to_char, cast_rows, holds, given_by, first_of_two, cast_from, cast_between, cast_of}
-use Rattle.program_types.specs.Types.{is_reference_layer, IsReference, IsNamed, Converts, Keeps, Same as SameTypes, References as BothReferences, Casts}
+use Rattle.program_types.specs.Types.{is_reference_layer, IsNamed, Converts, Keeps, Same as SameTypes, References as BothReferences, Casts}
 use Rattle.program_types.specs.Agreeing.{IsKnownBefore}
-use Rattle.typing_laws.proofs.Types.{no_unboxed, void_by, prim_by, class_by, prim_layer, def_layer, part_layer, IsOfPart, aim_layer, IsAim}
+use Rattle.typing_laws.proofs.Types.{no_unboxed, prim_by, class_by, def_layer, part_layer, IsOfPart, aim_layer, IsAim}
 
 -- ---- numbers
 
@@ -98,12 +98,17 @@ only_fits : (test : Bool) (c : Cast) (from to : Ty-F Ty) → (test ≡ true → 
 only_fits true c from to h = h refl
 only_fits false c from to h = tt
 
+infixr 5 ◌&◌
+◌&◌ : {A B : Type 0} → A → B → A × B
+a & b = (a, b)
+
 -- ---- row by row
 
 itself_fits : (from to : Ty-F Ty) → FitsIf (to_itself from to) from to
 itself_fits Ty-F.Null Ty-F.Null = References tt tt
 itself_fits Ty-F.Def Ty-F.Def = References tt tt
-itself_fits (Ty-F.Prim p) (Ty-F.Prim q) = only_fits (same_primitives p q) cast.Keep _ _ (λ e. Same p refl (ap Ty-F.Prim (sym (primitives_exact p q e))))
+itself_fits (Ty-F.Prim p) (Ty-F.Prim q) =
+    only_fits (same_primitives p q) cast.Keep _ _ (λ e. Same p refl (ap Ty-F.Prim (sym (primitives_exact p q e))))
 itself_fits (Ty-F.Class a) (Ty-F.Class b) = only_fits (a == b) cast.Keep _ _ (λ e. References tt tt)
 itself_fits (Ty-F.Array a) (Ty-F.Array b) = only_fits (same_types a b) cast.Keep _ _ (λ e. References tt tt)
 itself_fits from to = tt
@@ -122,7 +127,8 @@ narrowing_fits : (from to : Ty-F Ty) → FitsIf (narrowing from to) from to
 narrowing_fits (Ty-F.Prim p) (Ty-F.Prim q) = only_fits (narrows p q) (cast.Number p q) _ _ (λ e. (refl, refl, narrowing_converts p q e))
 narrowing_fits from to = tt
 
-wrapped_fits : (test : Primitive → Primitive → Bool) (p : Primitive) (o : Option Primitive) (class : ℕ) → ((q : Primitive) → test p q ≡ true → Converts p q)
+wrapped_fits : (test : Primitive → Primitive → Bool) (p : Primitive) (o : Option Primitive) (class : ℕ)
+    → ((q : Primitive) → test p q ≡ true → Converts p q)
     → FitsIf (wrapped_as test p o) (Ty-F.Prim p) (Ty-F.Class class)
 wrapped_fits test p None class h = tt
 wrapped_fits test p (Some q) class h = only_fits (test p q) (cast.Wrap p q) _ _ (λ e. (refl, tt, h q e))
@@ -139,7 +145,8 @@ boxing_to_def_fits : (from to : Ty-F Ty) → FitsIf (boxing_to_def from to) from
 boxing_to_def_fits (Ty-F.Prim p) Ty-F.Def = (refl, tt, converts_itself p)
 boxing_to_def_fits from to = tt
 
-unwrapped_fits : (test : Primitive → Primitive → Bool) (o : Option Primitive) (q : Primitive) (from to : Ty-F Ty) → o ≡ None → FitsIf (unwrapped_as test o q) from to
+unwrapped_fits : (test : Primitive → Primitive → Bool) (o : Option Primitive) (q : Primitive) (from to : Ty-F Ty) → o ≡ None
+    → FitsIf (unwrapped_as test o q) from to
 unwrapped_fits test None q from to e = tt
 unwrapped_fits test (Some p) q from to e = cc
 
@@ -213,26 +220,26 @@ module _ (below : ℕ → ℕ → Bool) where
 
     rows_fit : part_layer from → RowsFit cast_rows
     rows_fit h =
-        (itself_fits from to,
-        (null_fits from to,
-        (widening_fits from to,
-        (narrowing_fits from to,
-        (boxing_fits from to,
-        (boxing_narrowed_fits from to,
-        (boxing_to_parent_fits from to,
-        (boxing_to_def_fits from to,
-        (unboxing_fits from to h,
-        (unboxing_narrowed_fits from to h,
-        (to_parent_fits from to,
-        (to_child_fits from to,
-        (to_def_fits from to,
-        (from_def_added from to,
-        (from_def_written from to,
-        (array_fits from to,
-        (object_fits from to,
-        (char_fits from to,
-        (text_fits from to,
-        tt)))))))))))))))))))
+        itself_fits from to &
+        null_fits from to &
+        widening_fits from to &
+        narrowing_fits from to &
+        boxing_fits from to &
+        boxing_narrowed_fits from to &
+        boxing_to_parent_fits from to &
+        boxing_to_def_fits from to &
+        unboxing_fits from to h &
+        unboxing_narrowed_fits from to h &
+        to_parent_fits from to &
+        to_child_fits from to &
+        to_def_fits from to &
+        from_def_added from to &
+        from_def_written from to &
+        array_fits from to &
+        object_fits from to &
+        char_fits from to &
+        text_fits from to &
+        tt
 
     where_held : (held : Bool) (o : Option Cast) → FitsIf o from to → FitsIf (if held then o else None) from to
     where_held true o h = h
@@ -251,9 +258,11 @@ found_fits : (o : Option Cast) (c : Cast) (from to : Ty-F Ty) → o ≡ Some c �
 found_fits None c from to e h = cc
 found_fits (Some x) c from to e h = let same : x ≡ c = cc in subst (λ c. Fits c from to) same h
 
-fitting : (from to : Ty) (written : Bool) (c : Cast) → IsOfPart from → cast_of class_is_below from to written ≡ Some c → Fits c (out-Ty from) (out-Ty to)
+fitting : (from to : Ty) (written : Bool) (c : Cast) → IsOfPart from → cast_of class_is_below from to written ≡ Some c
+    → Fits c (out-Ty from) (out-Ty to)
 unfolding cast_of cast_between
-fitting from to written c h e = found_fits _ c (out-Ty from) (out-Ty to) e (from_rows class_is_below (out-Ty from) (out-Ty to) cast_rows written (rows_fit class_is_below (out-Ty from) (out-Ty to) h.layer))
+fitting from to written c h e =
+    found_fits _ c (out-Ty from) (out-Ty to) e (from_rows class_is_below (out-Ty from) (out-Ty to) cast_rows written (rows_fit class_is_below (out-Ty from) (out-Ty to) h.layer))
 
 -- ---- the same of types
 
@@ -280,7 +289,8 @@ fits_casts cast.CharToText from to h f = (prim_by from prim.Char f.0, class_by t
 fits_casts cast.TextToChar from to h f = (f.0, prim_by to prim.Char f.1)
 
 -- a cast of a part, written or added
-pub part_casts : (from to : Ty) (written : Bool) (c : Cast) → IsOfPart from → IsAim to → cast_of class_is_below from to written ≡ Some c → Casts c from to
+pub part_casts : (from to : Ty) (written : Bool) (c : Cast) → IsOfPart from → IsAim to → cast_of class_is_below from to written ≡ Some c
+    → Casts c from to
 part_casts from to written c h aim e = fits_casts c from to aim (fitting from to written c h e)
 
 -- nothing goes to void
@@ -295,7 +305,8 @@ to_void cast.Explicit from f = f.1
 to_void cast.CharToText from f = let same = f.1 in cc
 to_void cast.TextToChar from f = let same = f.1 in cc
 
-pub none_to_void : (from to : Ty) (written : Bool) (c : Cast) → IsOfPart from → out-Ty to ≡ Ty-F.Void → cast_of class_is_below from to written ≡ Some c → ⊥
+pub none_to_void : (from to : Ty) (written : Bool) (c : Cast) → IsOfPart from → out-Ty to ≡ Ty-F.Void
+    → cast_of class_is_below from to written ≡ Some c → ⊥
 none_to_void from to written c h is e = to_void c (out-Ty from) (subst (Fits c (out-Ty from)) is (fitting from to written c h e))
 
 -- a cast of a primitive type, and one to def, does not look at the value's type
@@ -319,7 +330,8 @@ def_known cast.Explicit from f = f.1
 def_known cast.CharToText from f = tt
 def_known cast.TextToChar from f = tt
 
-pub known_from_prim : (from to : Ty) (p : Primitive) (written : Bool) (c : Cast) → IsOfPart from → out-Ty from ≡ Ty-F.Prim p → cast_of class_is_below from to written ≡ Some c → IsKnownBefore c
+pub known_from_prim : (from to : Ty) (p : Primitive) (written : Bool) (c : Cast) → IsOfPart from → out-Ty from ≡ Ty-F.Prim p
+    → cast_of class_is_below from to written ≡ Some c → IsKnownBefore c
 known_from_prim from to p written c h is e = prim_known c p (out-Ty to) (subst (λ from. Fits c from (out-Ty to)) is (fitting from to written c h e))
 
 pub known_to_def : (from : Ty) (written : Bool) (c : Cast) → IsOfPart from → cast_of class_is_below from t.Def written ≡ Some c → IsKnownBefore c

@@ -3,7 +3,6 @@ use Rattle.std.proofs.Common.{◌≡◌, ℕ, Bool, true, false, List, [], ◌�
 use Rattle.std.specs.Prelude.{◌&&◌, if◌then◌else◌}
 use Rattle.pl_types.specs.declared.primitive.Primitive.TheVariants as prim
 use Rattle.pl_types.specs.declared.ty.Ty.{Ty}
-use Rattle.pl_types.specs.declared.ty.Ty.TheVariants as t
 use Rattle.pl_tree.specs.declared.tree.Spelled.{Spelled}
 use Rattle.pl_tree.specs.declared.tree.TypeName.{TypeName}
 use Rattle.typed_tree.specs.declared.typed.Typed.{Typed}
@@ -25,7 +24,7 @@ use Rattle.program_meaning.specs.Programs.{Before, expr_of, maybe_of, alone, alo
 use Rattle.program_types.specs.Agreeing.{TestAgrees, UpdateAgrees, BeginAgrees, StmtsAgree}
 use Rattle.typing_laws.proofs.Types.{IsBuilt, built_values, built_aim, prim_aim}
 use Rattle.typing_laws.proofs.Parts.{passed, accepted, settled, cast_is}
-use Rattle.typing_laws.proofs.Names.{in_sight, Distinct, Known}
+use Rattle.typing_laws.proofs.Names.{in_sight, Known}
 use Rattle.typing_laws.proofs.Sentences as sentence
 use Rattle.typing_laws.proofs.Sentences.{before_if}
 use Rattle.typing_laws.proofs.Values.{Value, ruled, type_is, PartAt, ReadingIs}
@@ -308,13 +307,15 @@ module _ (funs : Program) where
     is : t ≡ record s { scopes = s.scopes ++ new_entry name.spelling of ∷ [] }
     known : Known t
 
-  declared_by : (found : Option ℕ) (s t : State) (name : Spelled) (of : Ty) → find name.spelling s.scopes ≡ found → declared_if found name.at name.spelling of s ≡ Ok t → Known s → Declared s t name of
+  declared_by : (found : Option ℕ) (s t : State) (name : Spelled) (of : Ty) → find name.spelling s.scopes ≡ found
+      → declared_if found name.at name.spelling of s ≡ Ok t → Known s → Declared s t name of
   declared_by (Some i) s t name of is e d = cc
   declared_by None s t name of is e d =
       settled (λ t. Declared s t name of) (record s { scopes = s.scopes ++ new_entry name.spelling of ∷ [] }) t e
       (record { is = refl; known = (distinct_behind s.scopes (new_entry name.spelling of) d.0 (not_found name.spelling s.scopes is), d.1) })
 
-  pub variable_is : (name : Spelled) (of : Ty) {m : Doing (Option Typed)} → IsBuilt of → Value (BeginAt of) m → Steps funs one_variable (m >>= (λ x. stating (variable_of name of x)))
+  pub variable_is : (name : Spelled) (of : Ty) {m : Doing (Option Typed)} → IsBuilt of → Value (BeginAt of) m
+      → Steps funs one_variable (m >>= (λ x. stating (variable_of name of x)))
   variable_is name of p h = record {
     by = λ s next r d e.
         let a = h.by s (λ x t. stating (variable_of name of x) t next) r d e in

@@ -33,7 +33,7 @@ use Rattle.program_types.specs.Types.{HasValues}
 use Rattle.program_types.specs.Agreeing.{types_in, StmtsAgree, scope_of, HaveValues as VariablesHaveValues, FunAgrees, WellFormed}
 use Rattle.program_types.specs.Reached.{StmtsReached, Reached}
 use Rattle.typing_laws.specs.Laws.{IsNew, AreDistinct, HaveValues, IsContext}
-use Rattle.typing_laws.proofs.Types.{IsBuilt, built_values, built_part, IsOfPart, void_part, part_aim, IsAim, result_aim}
+use Rattle.typing_laws.proofs.Types.{IsBuilt, built_values, built_part, IsOfPart, void_part, part_aim, result_aim}
 use Rattle.typing_laws.proofs.Parts.{passed, accepted, settled}
 use Rattle.typing_laws.proofs.Names.{seen, in_sight, Fresh, Distinct, AllBuilt, Heads}
 use Rattle.typing_laws.proofs.Values.{type_is}

@@ -105,7 +105,8 @@ AllBuilt [] = Unit {0}
 AllBuilt (x ∷ xs) = IsBuilt x.of × AllBuilt xs
 
 module _ (funs : Program) where
-  local_if_built : (c : Bool) (es : List Entry) (i : ℕ) (e : Entry) (number at : ℕ) (x : Part) → is_built e.of ≡ c → Distinct es → slice_get es i ≡ Some e
+  local_if_built : (c : Bool) (es : List Entry) (i : ℕ) (e : Entry) (number at : ℕ) (x : Part) → is_built e.of ≡ c → Distinct es
+      → slice_get es i ≡ Some e
       → (if c then accepted (plain at (typed at e.of (n.Local e.name))) else refuse number at) ≡ accepted x → PartIs funs (in_sight es) x
   local_if_built false es i e number at x b d is given = cc
   local_if_built true es i e number at x b d is given =
@@ -131,18 +132,22 @@ module _ (funs : Program) where
   PlaceIs g (place.Local name of) = IsVariable g name of × IsBuilt of
   PlaceIs g place.Fixed = Unit {0}
 
-  written_entry_to : (fixed : Bool) (es : List Entry) (i : ℕ) (e : Entry) → Distinct es → slice_get es i ≡ Some e → IsBuilt e.of → PlaceIs (in_sight es) (written_to fixed e)
+  written_entry_to : (fixed : Bool) (es : List Entry) (i : ℕ) (e : Entry) → Distinct es → slice_get es i ≡ Some e → IsBuilt e.of
+      → PlaceIs (in_sight es) (written_to fixed e)
   written_entry_to true es i e d is b = tt
   written_entry_to false es i e d is b = (entry_seen es i e e.of d is refl, b)
 
-  written_if_built : (c fixed : Bool) (es : List Entry) (i : ℕ) (e : Entry) (number at : ℕ) (x : Place) → is_built e.of ≡ c → Distinct es → slice_get es i ≡ Some e
+  written_if_built : (c fixed : Bool) (es : List Entry) (i : ℕ) (e : Entry) (number at : ℕ) (x : Place) → is_built e.of ≡ c → Distinct es
+      → slice_get es i ≡ Some e
       → (if c then accepted (written_to fixed e) else refuse number at) ≡ accepted x → PlaceIs (in_sight es) x
   written_if_built false fixed es i e number at x b d is given = cc
-  written_if_built true fixed es i e number at x b d is given = settled (PlaceIs (in_sight es)) (written_to fixed e) x given (written_entry_to fixed es i e d is (record { is = b }))
+  written_if_built true fixed es i e number at x b d is given =
+      settled (PlaceIs (in_sight es)) (written_to fixed e) x given (written_entry_to fixed es i e d is (record { is = b }))
 
   written_entry : (es : List Entry) (at base i : ℕ) (o : Option Entry) (x : Place) → Distinct es → slice_get es i ≡ o → written_if at base i o ≡ Ok x → PlaceIs (in_sight es) x
   written_entry es at base i None x d is given = cc
-  written_entry es at base i (Some e) x d is given = written_if_built (is_built e.of) (is_fixed e.standing || nat_lt i base) es i e _ at x refl d is given
+  written_entry es at base i (Some e) x d is given =
+      written_if_built (is_built e.of) (is_fixed e.standing || nat_lt i base) es i e _ at x refl d is given
 
   written_found : (o : Option ℕ) (at : ℕ) (s : State) (x : Place) → Distinct s.scopes → written_at o at s ≡ Ok x → PlaceIs (in_sight s.scopes) x
   written_found None at s x d given = cc
@@ -152,7 +157,8 @@ module _ (funs : Program) where
   written_place at name s x d given = written_found (find name s.scopes) at s x d.0 given
 
   module _ (g : Scope) where
-    set_is : (at : ℕ) (name : Name) (of : Ty) (x y : Part) → IsVariable g name of → IsBuilt of → set at name of x ≡ Ok y → PartIs funs g x → PartIs funs g y
+    set_is : (at : ℕ) (name : Name) (of : Ty) (x y : Part) → IsVariable g name of → IsBuilt of → set at name of x ≡ Ok y → PartIs funs g x
+        → PartIs funs g y
     set_is at name of x y v b e h =
         let a = passed (cast_to of x) _ y e in
         let value = cast_is funs g of x a.given (built_aim of b) a.first h in
@@ -161,7 +167,8 @@ module _ (funs : Program) where
 
     -- the casts before and after what changes a variable
     changes : (before after : Option Cast) (plan : Plan) (of : Ty) (x : Change) (right : Ty) → change_by before after plan ≡ Some x
-        → ((c : Cast) → before ≡ Some c → IsKnownBefore c × Casts c of (t.Prim plan.left)) → ((c : Cast) → after ≡ Some c → Casts c (t.Prim plan.result) of)
+        → ((c : Cast) → before ≡ Some c → IsKnownBefore c × Casts c of (t.Prim plan.left))
+        → ((c : Cast) → after ≡ Some c → Casts c (t.Prim plan.result) of)
         → PlanFits plan → right ≡ t.Prim plan.right → Changes x of right
     changes None after plan of x right e b a fits is = cc
     changes (Some before) None plan of x right e b a fits is = cc
@@ -176,7 +183,8 @@ module _ (funs : Program) where
           after = a after refl;
         })
 
-    joins : (before after : Option Cast) (of : Ty) (x : Change) (right : Ty) → joining_by before after ≡ Some x → ((c : Cast) → before ≡ Some c → IsKnownBefore c × Casts c of t.Def)
+    joins : (before after : Option Cast) (of : Ty) (x : Change) (right : Ty) → joining_by before after ≡ Some x
+        → ((c : Cast) → before ≡ Some c → IsKnownBefore c × Casts c of t.Def)
         → ((c : Cast) → after ≡ Some c → Casts c string of) → right ≡ t.Def → Changes x of right
     joins None after of x right e b a is = cc
     joins (Some before) None of x right e b a is = cc
@@ -191,14 +199,17 @@ module _ (funs : Program) where
           after = a after refl;
         })
 
-    changed_if : (found : Option Change) (at : ℕ) (name : Name) (of : Ty) (y : Typed) (right : Ty) (gives : Gives) (z : Part) → IsVariable g name of → IsBuilt of
-        → changed_by found at name of y gives ≡ Ok z → TypedIs funs g y right → ((x : Change) → found ≡ Some x → Changes x of (type_of (expr_of y))) → PartIs funs g z
+    changed_if : (found : Option Change) (at : ℕ) (name : Name) (of : Ty) (y : Typed) (right : Ty) (gives : Gives) (z : Part) → IsVariable g name of
+        → IsBuilt of
+        → changed_by found at name of y gives ≡ Ok z → TypedIs funs g y right → ((x : Change) → found ≡ Some x → Changes x of (type_of (expr_of y)))
+        → PartIs funs g z
     changed_if None at name of y right gives z v b e h c = cc
     changed_if (Some x) at name of y right gives z v b e h c =
         settled (PartIs funs g) _ z e (part_of funs g at f.Deed _ of (built_part of b)
         (node_is funs g at of _ _ (change_is at of (target.Local name) [] x y gives) refl (h.agrees, v, c x refl)))
 
-    changed_is : (at : ℕ) (name : Name) (of : Ty) (plan : Plan) (y : Typed) (gives : Gives) (z : Part) → IsVariable g name of → IsBuilt of → PlanFits plan → IsPrimitive of
+    changed_is : (at : ℕ) (name : Name) (of : Ty) (plan : Plan) (y : Typed) (gives : Gives) (z : Part) → IsVariable g name of → IsBuilt of
+        → PlanFits plan → IsPrimitive of
         → changed at name of plan y gives ≡ Ok z → TypedIs funs g y (t.Prim plan.right) → PartIs funs g z
     changed_is at name of plan y gives z v b fits p e h =
         changed_if (change_of plan of) at name of y (t.Prim plan.right) gives z v b e h (λ x found.
@@ -206,7 +217,8 @@ module _ (funs : Program) where
         (λ c found. (known_from_prim of (t.Prim plan.left) p.primitive true c (built_part of b) p.layer found, part_casts of (t.Prim plan.left) true c (built_part of b) (prim_aim plan.left) found))
         (λ c found. part_casts (t.Prim plan.result) of true c (prim_part plan.result) (built_aim of b) found) fits h.is)
 
-    joined_is : (found : Option Operator) (operator : BinaryOperator) (at : ℕ) (name : Name) (of : Ty) (x z : Part) → IsVariable g name of → IsBuilt of
+    joined_is : (found : Option Operator) (operator : BinaryOperator) (at : ℕ) (name : Name) (of : Ty) (x z : Part) → IsVariable g name of
+        → IsBuilt of
         → joined_if found operator at name of x ≡ Ok z → PartIs funs g x → PartIs funs g z
     joined_is None operator at name of x z v b e h = cc
     joined_is (Some relation) operator at name of x z v b e h =
@@ -218,14 +230,16 @@ module _ (funs : Program) where
         (λ c found. part_casts string of true c string_part (built_aim of b) found) right.is)
 
     compound_is : (found : Option Plan) (operator : BinaryOperator) (at : ℕ) (name : Name) (of : Ty) (x z : Part) → IsVariable g name of → IsBuilt of
-        → ((p : Plan) → found ≡ Some p → PlanFits p × IsPrimitive of) → compound found operator at name of x ≡ Ok z → PartIs funs g x → PartIs funs g z
+        → ((p : Plan) → found ≡ Some p → PlanFits p × IsPrimitive of) → compound found operator at name of x ≡ Ok z → PartIs funs g x
+        → PartIs funs g z
     compound_is None operator at name of x z v b fits e h = joined_is (relation_between operator of (type_of_part x)) operator at name of x z v b e h
     compound_is (Some plan) operator at name of x z v b fits e h =
         let a = passed (operand at plan.right x) (λ y. changed at name of plan y gv.New) z e in
         let fit = fits plan refl in
         changed_is at name of plan a.given gv.New z v b fit.0 fit.1 a.then' (operand_is funs g at plan.right x a.given a.first h)
 
-    assigned_is : (operator : Option BinaryOperator) (at : ℕ) (name : Name) (of : Ty) (x z : Part) → IsVariable g name of → IsBuilt of → assigned operator at name of x ≡ Ok z
+    assigned_is : (operator : Option BinaryOperator) (at : ℕ) (name : Name) (of : Ty) (x z : Part) → IsVariable g name of → IsBuilt of
+        → assigned operator at name of x ≡ Ok z
         → PartIs funs g x → PartIs funs g z
     assigned_is None at name of x z v b e h = set_is at name of x z v b e h
     assigned_is (Some operator) at name of x z v b e h =
@@ -246,7 +260,8 @@ module _ (funs : Program) where
     one_is at prim.Char w = absurd w
 
     counted_is : (found : Option Plan) (at : ℕ) (name : Name) (of : Ty) (gives : Gives) (z : Part) → IsVariable g name of → IsBuilt of
-        → ((p : Plan) → found ≡ Some p → PlanFits p × IsPrimitive of) → ((p : Plan) → found ≡ Some p → IsWide p.right) → counted found at name of gives ≡ Ok z → PartIs funs g z
+        → ((p : Plan) → found ≡ Some p → PlanFits p × IsPrimitive of) → ((p : Plan) → found ≡ Some p → IsWide p.right)
+        → counted found at name of gives ≡ Ok z → PartIs funs g z
     counted_is None at name of gives z v b fits wide e = cc
     counted_is (Some plan) at name of gives z v b fits wide e =
         let fit = fits plan refl in
@@ -276,7 +291,8 @@ module _ (funs : Program) where
       agree : ExprsAgree funs g (exprs_of (map expr_of ys))
       types : types_of (exprs_of (map expr_of ys)) ≡ of_names ts
 
-    arguments_are : (ts : List Named) (xs : List Part) (ys : List Typed) → AllBuilt ts → length ts ≡ length xs → arguments ts xs ≡ Ok ys → AllParts xs → ArgumentsAre ts ys
+    arguments_are : (ts : List Named) (xs : List Part) (ys : List Typed) → AllBuilt ts → length ts ≡ length xs → arguments ts xs ≡ Ok ys → AllParts xs
+        → ArgumentsAre ts ys
     arguments_are [] [] ys b l e h = settled (ArgumentsAre []) [] ys e (record { agree = tt; types = refl })
     arguments_are [] (x ∷ xs) ys b l e h = absurd (omega (arith, l))
     arguments_are (p ∷ ts) [] ys b l e h = absurd (omega (arith, l))

@@ -1,5 +1,5 @@
 -- Expressions that rules give agree, where their parts do.
-use Rattle.std.proofs.Common.{◌≡◌, ◌≢◌, ℕ, Bool, true, false, List, [], ◌∷◌, Option, Some, None, Ok, Err, refl, sym, ap, ◌∙◌, subst}
+use Rattle.std.proofs.Common.{◌≡◌, ℕ, Bool, true, false, List, [], ◌∷◌, Option, Some, None, Ok, Err, refl, sym, ap, ◌∙◌, subst}
 use Rattle.std.proofs.lemmas.Bool.{and_parts, or_parts}
 use Rattle.std.specs.Prelude.{◌&&◌, ℤ, pos, neg_ℤ, nat_lt, nat_le, ◌^◌, if◌then◌else◌}
 use Rattle.pl_types.specs.declared.primitive.Primitive.{Primitive}
@@ -46,7 +46,7 @@ use Rattle.program_meaning.specs.Programs.{expr_of}
 use Rattle.program_types.specs.Types.{is_reference_layer, IsReference, string, IsOf, Takes, Casts}
 use Rattle.program_types.specs.Agreeing.{Scope, ExprAgrees}
 use Rattle.typing_laws.proofs.Nodes.{constant_is, text_is, applied_is, logic_is, choice_is, elvis_is}
-use Rattle.typing_laws.proofs.Types.{IsBuilt, prim_by, prim_built, def_built, class_built, built_part, built_aim, built_named, part_layer, IsOfPart, null_part, prim_part, part_aim, IsAim, prim_aim, def_aim, reference_by, def_reference, null_reference, class_reference, prim_layer}
+use Rattle.typing_laws.proofs.Types.{IsBuilt, prim_by, prim_built, def_built, class_built, built_part, built_aim, built_named, part_layer, IsOfPart, null_part, prim_part, part_aim, IsAim, prim_aim, def_aim, def_reference, null_reference, class_reference}
 use Rattle.typing_laws.proofs.Casts.{part_casts, none_to_void}
 use Rattle.typing_laws.proofs.Plans.{PlanFits, IsWide, IsWideIf, promotes, plans_fit}
 
@@ -84,23 +84,28 @@ record Relates (r : Operator) : Type 0 where
   does : Takes r (t.Def ∷ t.Def ∷ []) (type_given r)
   of_part : IsOfPart (type_given r)
 
-gives_boolean : (test : Bool) (r r' : Operator) → only_if test r ≡ Some r' → Relates r → Relates r'
-gives_boolean true r r' e h = let same : r ≡ r' = cc in subst Relates same h
-gives_boolean false r r' e h = cc
+only_relates : (test : Bool) (r r' : Operator) → only_if test r ≡ Some r' → Relates r → Relates r'
+only_relates true r r' e h = let same : r ≡ r' = cc in subst Relates same h
+only_relates false r r' e h = cc
 
 relations_fit : (operator : BinaryOperator) (x y : Side) (r : Operator) → relation_of operator x y ≡ Some r → Relates r
-relations_fit b.Add x y r e = gives_boolean (joins x y) _ r e (record { does = ((def_reference, def_reference), refl); of_part = string_part })
-relations_fit b.Equal x y r e = gives_boolean (compares x y) _ r e (record { does = ((def_reference, def_reference), refl); of_part = prim_part prim.Boolean })
-relations_fit b.NotEqual x y r e = gives_boolean (compares x y) _ r e (record { does = ((def_reference, def_reference), refl); of_part = prim_part prim.Boolean })
-relations_fit b.Same x y r e = gives_boolean (identifies x y) _ r e (record { does = ((def_reference, def_reference), refl); of_part = prim_part prim.Boolean })
-relations_fit b.NotSame x y r e = gives_boolean (identifies x y) _ r e (record { does = ((def_reference, def_reference), refl); of_part = prim_part prim.Boolean })
+relations_fit b.Add x y r e = only_relates (joins x y) _ r e (record { does = ((def_reference, def_reference), refl); of_part = string_part })
+relations_fit b.Equal x y r e =
+    only_relates (compares x y) _ r e (record { does = ((def_reference, def_reference), refl); of_part = prim_part prim.Boolean })
+relations_fit b.NotEqual x y r e =
+    only_relates (compares x y) _ r e (record { does = ((def_reference, def_reference), refl); of_part = prim_part prim.Boolean })
+relations_fit b.Same x y r e =
+    only_relates (identifies x y) _ r e (record { does = ((def_reference, def_reference), refl); of_part = prim_part prim.Boolean })
+relations_fit b.NotSame x y r e =
+    only_relates (identifies x y) _ r e (record { does = ((def_reference, def_reference), refl); of_part = prim_part prim.Boolean })
 relations_fit operator x y r e = cc
 
 common_if_built : (p : Option Primitive) → IsBuilt (common_if p)
 common_if_built None = def_built
 common_if_built (Some q) = prim_built q
 
-common_class_built : (c d : ℕ) (b b' : Bool) → is_built_class c ≡ true → is_built_class d ≡ true → IsBuilt (if b then t.Class d else (if b' then t.Class c else t.Def))
+common_class_built : (c d : ℕ) (b b' : Bool) → is_built_class c ≡ true → is_built_class d ≡ true
+    → IsBuilt (if b then t.Class d else (if b' then t.Class c else t.Def))
 common_class_built c d true b' hc hd = class_built d hd
 common_class_built c d false true hc hd = class_built c hc
 common_class_built c d false false hc hd = def_built
@@ -204,8 +209,10 @@ module _ (funs : Program) (g : Scope) where
       (λ e. ok_if (nat_le (magnitude spelling) (2 ^ 31)) _ at _ y e (int_is minus _))
 
   pub constant_part : (at : ℕ) (v : TreeConstant) (y : Part) → constant at v ≡ Ok y → PartIs y
-  constant_part at c.True y e = settled PartIs _ y e (part_of at f.True _ boolean (prim_part prim.Boolean) (constant_typed at boolean (k.Boolean true) refl))
-  constant_part at c.False y e = settled PartIs _ y e (part_of at f.Literal _ boolean (prim_part prim.Boolean) (constant_typed at boolean (k.Boolean false) refl))
+  constant_part at c.True y e =
+      settled PartIs _ y e (part_of at f.True _ boolean (prim_part prim.Boolean) (constant_typed at boolean (k.Boolean true) refl))
+  constant_part at c.False y e =
+      settled PartIs _ y e (part_of at f.Literal _ boolean (prim_part prim.Boolean) (constant_typed at boolean (k.Boolean false) refl))
   constant_part at c.Null y e = settled PartIs _ y e (part_of at f.Literal _ t.Null null_part (constant_typed at t.Null k.Null null_reference))
 
   pub text_part : (at : ℕ) (spelling : List ℕ) (y : Part) → text at spelling ≡ Ok y → PartIs y
@@ -231,16 +238,20 @@ module _ (funs : Program) (g : Scope) where
 
   -- an operand that is cast to a primitive type
   pub operand_is : (at : ℕ) (q : Primitive) (x : Part) (y : Typed) → operand at q x ≡ Ok y → PartIs x → TypedIs y (t.Prim q)
-  operand_is at q x y e h = cast_given _ x.at at (t.Prim q) x.typed y e (λ cast found. part_casts (type_in x.typed) (t.Prim q) true cast h.built (prim_aim q) found) h.typed
+  operand_is at q x y e h =
+      cast_given _ x.at at (t.Prim q) x.typed y e (λ cast found. part_casts (type_in x.typed) (t.Prim q) true cast h.built (prim_aim q) found) h.typed
 
   as_if : (c : Bool) (v w : Constant) (of : Ty) → (if c then Some v else None) ≡ Some w → IsOf v of → IsOf w of
   as_if true v w of e a = let same : v ≡ w = cc in subst (λ w. IsOf w of) same a
   as_if false v w of e a = cc
 
   standing_is : (form : Form) (to : Ty) (l : Ty-F Ty) (v : Constant) → out-Ty to ≡ l → standing_layer form l ≡ Some v → IsOf v to
-  standing_is (f.Number value) to (Ty-F.Prim prim.Byte) v is e = as_if (within (neg_ℤ (pos 128)) (pos 127) value) (k.Byte value) v to e (prim_by to prim.Byte is)
-  standing_is (f.Number value) to (Ty-F.Prim prim.Short) v is e = as_if (within (neg_ℤ (pos 32768)) (pos 32767) value) (k.Short value) v to e (prim_by to prim.Short is)
-  standing_is (f.Number value) to (Ty-F.Prim prim.Char) v is e = as_if (within (pos 0) (pos 65535) value) (k.Char (unit_of value)) v to e (prim_by to prim.Char is)
+  standing_is (f.Number value) to (Ty-F.Prim prim.Byte) v is e =
+      as_if (within (neg_ℤ (pos 128)) (pos 127) value) (k.Byte value) v to e (prim_by to prim.Byte is)
+  standing_is (f.Number value) to (Ty-F.Prim prim.Short) v is e =
+      as_if (within (neg_ℤ (pos 32768)) (pos 32767) value) (k.Short value) v to e (prim_by to prim.Short is)
+  standing_is (f.Number value) to (Ty-F.Prim prim.Char) v is e =
+      as_if (within (pos 0) (pos 65535) value) (k.Char (unit_of value)) v to e (prim_by to prim.Char is)
   standing_is (f.Number value) to (Ty-F.Prim prim.Boolean) v is e = cc
   standing_is (f.Number value) to (Ty-F.Prim prim.Int) v is e = cc
   standing_is (f.Number value) to (Ty-F.Prim prim.Long) v is e = cc
@@ -272,11 +283,13 @@ module _ (funs : Program) (g : Scope) where
   void_standing f.Deed l e = refl
   void_standing f.Other l e = refl
 
-  void_given : (found : Option Cast) (broken at : ℕ) (to : Ty) (x y : Typed) → cast_by found broken at to x ≡ Ok y → ((cast : Cast) → found ≡ Some cast → ⊥) → ⊥
+  void_given : (found : Option Cast) (broken at : ℕ) (to : Ty) (x y : Typed) → cast_by found broken at to x ≡ Ok y
+      → ((cast : Cast) → found ≡ Some cast → ⊥) → ⊥
   void_given None broken at to x y e no' = cc
   void_given (Some cast) broken at to x y e no' = no' cast refl
 
-  void_or : (found : Option Constant) (at : ℕ) (to : Ty) (other : Out Typed) (y : Typed) → found ≡ None → literal_or found at to other ≡ Ok y → other ≡ Ok y
+  void_or : (found : Option Constant) (at : ℕ) (to : Ty) (other : Out Typed) (y : Typed) → found ≡ None → literal_or found at to other ≡ Ok y
+      → other ≡ Ok y
   void_or None at to other y n e = e
   void_or (Some v) at to other y n e = cc
 
@@ -288,7 +301,8 @@ module _ (funs : Program) (g : Scope) where
 
   -- a cast that is written
   written_is : (at : ℕ) (to : Ty) (x : Part) (y : Typed) → IsAim to → cast_at at to x true ≡ Ok y → PartIs x → TypedIs y to
-  written_is at to x y aim e h = cast_given _ x.at at to x.typed y e (λ cast found. part_casts (type_in x.typed) to true cast h.built aim found) h.typed
+  written_is at to x y aim e h =
+      cast_given _ x.at at to x.typed y e (λ cast found. part_casts (type_in x.typed) to true cast h.built aim found) h.typed
 
   pub asked_is : (at : ℕ) (to : Ty) (x y : Part) → IsBuilt to → asked at to x ≡ Ok y → PartIs x → PartIs y
   asked_is at to x y b e h =
@@ -304,7 +318,8 @@ module _ (funs : Program) (g : Scope) where
   two_types : (P : List Ty → Type 0) (a b p q : Ty) → a ≡ p → b ≡ q → P (p ∷ q ∷ []) → P (a ∷ b ∷ [])
   two_types P a b p q x y h = subst (λ a. P (a ∷ b ∷ [])) (sym x) (subst (λ b. P (p ∷ b ∷ [])) (sym y) h)
 
-  related_is : (found : Option Operator) (operator : BinaryOperator) (at : ℕ) (x y z : Part) → related found operator at x y ≡ Ok z → ((r : Operator) → found ≡ Some r → Relates r)
+  related_is : (found : Option Operator) (operator : BinaryOperator) (at : ℕ) (x y z : Part) → related found operator at x y ≡ Ok z
+      → ((r : Operator) → found ≡ Some r → Relates r)
       → PartIs x → PartIs y → PartIs z
   related_is None operator at x y z e takes hx hy = cc
   related_is (Some relation) operator at x y z e takes hx hy =
@@ -318,7 +333,8 @@ module _ (funs : Program) (g : Scope) where
         two_types (λ ofs. Takes relation ofs (type_given relation)) _ _ t.Def t.Def left.is right.is (takes relation refl).does,
       )))
 
-  strict_is : (plan : Option Plan) (operator : BinaryOperator) (at : ℕ) (x y z : Part) → strict plan operator at x y ≡ Ok z → ((p : Plan) → plan ≡ Some p → PlanFits p)
+  strict_is : (plan : Option Plan) (operator : BinaryOperator) (at : ℕ) (x y z : Part) → strict plan operator at x y ≡ Ok z
+      → ((p : Plan) → plan ≡ Some p → PlanFits p)
       → PartIs x → PartIs y → PartIs z
   strict_is None operator at x y z e fits hx hy =
       related_is (relation_between operator (type_of_part x) (type_of_part y)) operator at x y z e (relations_fit operator (side_of (type_of_part x)) (side_of (type_of_part y))) hx hy
@@ -357,7 +373,8 @@ module _ (funs : Program) (g : Scope) where
   binary_is b.Subtract at x y z e hx hy = strict_is _ b.Subtract at x y z e (plans_fit b.Subtract (type_of_part x) (type_of_part y)) hx hy
   binary_is b.ShiftLeft at x y z e hx hy = strict_is _ b.ShiftLeft at x y z e (plans_fit b.ShiftLeft (type_of_part x) (type_of_part y)) hx hy
   binary_is b.ShiftRight at x y z e hx hy = strict_is _ b.ShiftRight at x y z e (plans_fit b.ShiftRight (type_of_part x) (type_of_part y)) hx hy
-  binary_is b.ShiftRightUnsigned at x y z e hx hy = strict_is _ b.ShiftRightUnsigned at x y z e (plans_fit b.ShiftRightUnsigned (type_of_part x) (type_of_part y)) hx hy
+  binary_is b.ShiftRightUnsigned at x y z e hx hy =
+      strict_is _ b.ShiftRightUnsigned at x y z e (plans_fit b.ShiftRightUnsigned (type_of_part x) (type_of_part y)) hx hy
   binary_is b.Less at x y z e hx hy = strict_is _ b.Less at x y z e (plans_fit b.Less (type_of_part x) (type_of_part y)) hx hy
   binary_is b.LessEqual at x y z e hx hy = strict_is _ b.LessEqual at x y z e (plans_fit b.LessEqual (type_of_part x) (type_of_part y)) hx hy
   binary_is b.Greater at x y z e hx hy = strict_is _ b.Greater at x y z e (plans_fit b.Greater (type_of_part x) (type_of_part y)) hx hy
@@ -452,7 +469,8 @@ module _ (funs : Program) (g : Scope) where
   elvis_node : (at : ℕ) (of : Ty) (x y : Typed) → TypedIs x of → TypedIs y of → IsReference of → TypedIs (typed at of (n.Elvis x y)) of
   elvis_node at of x y hx hy r = node_is at of _ _ (elvis_is at of x y) refl (hx.agrees, hy.agrees, hx.is, hy.is, r)
 
-  elvis_known : (needless : Bool) (at : ℕ) (of : Ty) (x y : Typed) (w : Part) → elvis_by needless at of x y ≡ Ok w → IsOfPart of → (needless ≡ false → IsReference of)
+  elvis_known : (needless : Bool) (at : ℕ) (of : Ty) (x y : Typed) (w : Part) → elvis_by needless at of x y ≡ Ok w → IsOfPart of
+      → (needless ≡ false → IsReference of)
       → TypedIs x of → TypedIs y of → PartIs w
   elvis_known true at of x y w e b r hx hy = cc
   elvis_known false at of x y w e b r hx hy = settled PartIs _ w e (part_of at f.Other _ of b (elvis_node at of x y hx hy (r refl)))
@@ -469,7 +487,8 @@ module _ (funs : Program) (g : Scope) where
 
   -- ---- `instanceof`
 
-  instance_if : (c : Bool) (number at : ℕ) (of : Ty) (x : Typed) (y : Part) → (if c then accepted (plain at (applied at boolean (o.InstanceOf of) (x ∷ []))) else refuse number at) ≡ accepted y
+  instance_if : (c : Bool) (number at : ℕ) (of : Ty) (x : Typed) (y : Part)
+      → (if c then accepted (plain at (applied at boolean (o.InstanceOf of) (x ∷ []))) else refuse number at) ≡ accepted y
       → (c ≡ true → IsReference (type_in x)) → IsBuilt of → TypedIs x (type_in x) → PartIs y
   instance_if false number at of x y e r b h = cc
   instance_if true number at of x y e r b h =

@@ -186,7 +186,8 @@ pub record IsPrimitive (of : Ty) : Type 0 where
   pub primitive : Primitive
   pub layer : out-Ty of ≡ Ty-F.Prim primitive
 
-primitive_if : (o : BinaryOperator) (of : Ty) (l : Ty-F Ty) (q : Option Primitive) (x : Plan) → out-Ty of ≡ l → plan_if o (primitive_layer l) q ≡ Some x → IsPrimitive of
+primitive_if : (o : BinaryOperator) (of : Ty) (l : Ty-F Ty) (q : Option Primitive) (x : Plan) → out-Ty of ≡ l
+    → plan_if o (primitive_layer l) q ≡ Some x → IsPrimitive of
 primitive_if o of (Ty-F.Prim p) q x is e = record { primitive = p; layer = is }
 primitive_if o of Ty-F.Void q x is e = cc
 primitive_if o of Ty-F.Null q x is e = cc

@@ -187,11 +187,13 @@ module _ (funs : Program) where
       let value = cast_is funs (in_sight s.scopes) s.result x a.given aim a.first h in
       settled (StepAt s) _ y a.then' (step_at s (step true false at (node.Return (Some a.given))) (Return (Given (expr_of a.given))) (sentence.return_is at (Some a.given)) (value.agrees, value.is) tt (λ e. absurd (false≢true (sym e))))
 
-  expression_if : (c : Bool) (s : State) (at : ℕ) (x : Part) (y : Step) → IsAim s.result → (if c then give_back at s.result x else deed at x) ≡ Ok y → PartAt funs s x → StepAt s y
+  expression_if : (c : Bool) (s : State) (at : ℕ) (x : Part) (y : Step) → IsAim s.result → (if c then give_back at s.result x else deed at x) ≡ Ok y
+      → PartAt funs s x → StepAt s y
   expression_if true s at x y aim e h = gives_back s at x y aim e h
   expression_if false s at x y aim e h = deed_is s at x y e h
 
-  pub expression_step : (s : State) (at : ℕ) (last : Bool) (x : Part) (y : Step) → IsAim s.result → expression_of at last x s ≡ Ok y → PartAt funs s x → StepAt s y
+  pub expression_step : (s : State) (at : ℕ) (last : Bool) (x : Part) (y : Step) → IsAim s.result → expression_of at last x s ≡ Ok y → PartAt funs s x
+      → StepAt s y
   expression_step s at last x y aim e h = expression_if (is_result last x s) s at x y aim e h
 
   pub return_step : (s : State) (at : ℕ) (x : Part) (y : Step) → IsAim s.result → return_of at x s ≡ Ok y → PartAt funs s x → StepAt s y

@@ -1,5 +1,5 @@
 -- Types that parts of expressions have, and types to which they are cast.
-use Rattle.std.proofs.Common.{◌≡◌, ◌≢◌, ℕ, Bool, true, false, ◌||◌, ◌&&◌, Option, Some, None, refl, sym, ap, ◌∙◌, subst, arith, ◌≤◌, ◌<◌, nat_lt, ◌⊎◌, inl, inr}
+use Rattle.std.proofs.Common.{◌≡◌, ℕ, Bool, true, false, ◌||◌, ◌&&◌, Some, None, refl, sym, ap, ◌∙◌, subst, arith, ◌≤◌, ◌<◌, nat_lt, ◌⊎◌, inl, inr}
 use Rattle.std.specs.Prelude.{nat_le, ◌==◌, if◌then◌else◌}
 use Rattle.std.proofs.lemmas.Bool.{and_parts, or_cases, eqb-true, leb-true, lt-ltb, ne_eqb}
 use Rattle.pl_types.specs.declared.classes.TheConstants.{CHAR_SEQUENCE, STRING, STRING_BUILDER, EXCEPTION, STRING_INDEX_OUT_OF_BOUNDS_EXCEPTION, PRELUDE, BYTE, SHORT, INTEGER, LONG, CHARACTER, BOOLEAN}
@@ -29,12 +29,15 @@ lies c e = first (or_cases (nat_le c CHAR_SEQUENCE) _ e)
         let least = leb-true EXCEPTION c both.0 in
         let most = leb-true c STRING_INDEX_OUT_OF_BOUNDS_EXCEPTION both.1 in
         High (omega (arith, least)) (omega (arith, most))
+
     third : ((c == STRING_BUILDER) ≡ true) ⊎ ((nat_le EXCEPTION c && nat_le c STRING_INDEX_OUT_OF_BOUNDS_EXCEPTION) ≡ true) → Lies c
     third (inl e) = let is = eqb-true c STRING_BUILDER e in High (omega (arith, is)) (omega (arith, is))
     third (inr e) = fourth e
+
     second : ((c == STRING) ≡ true) ⊎ ((c == STRING_BUILDER || (nat_le EXCEPTION c && nat_le c STRING_INDEX_OUT_OF_BOUNDS_EXCEPTION)) ≡ true) → Lies c
     second (inl e) = let is = eqb-true c STRING e in High (omega (arith, is)) (omega (arith, is))
     second (inr e) = third (or_cases (c == STRING_BUILDER) _ e)
+
     first : (nat_le c CHAR_SEQUENCE ≡ true) ⊎ ((c == STRING || (c == STRING_BUILDER || (nat_le EXCEPTION c && nat_le c STRING_INDEX_OUT_OF_BOUNDS_EXCEPTION))) ≡ true) → Lies c
     first (inl e) = let most = leb-true c CHAR_SEQUENCE e in Low most
     first (inr e) = second (or_cases (c == STRING) _ e)
@@ -120,7 +123,8 @@ built_values of b = by_layer (out-Ty of) b.is
     by_layer (Ty-F.Array u) is = cc
 
 listed_by : (of : Ty) (l : Ty-F Ty) → out-Ty of ≡ l → is_listed of ≡ listed_layer (map-Ty Ty Bool is_listed l)
-listed_by of l e = ap is_listed (sym (roll-out-Ty of)) ∙ (fold-roll-Ty Bool listed_layer (out-Ty of) ∙ ap (λ l. listed_layer (map-Ty Ty Bool is_listed l)) e)
+listed_by of l e =
+    ap is_listed (sym (roll-out-Ty of)) ∙ (fold-roll-Ty Bool listed_layer (out-Ty of) ∙ ap (λ l. listed_layer (map-Ty Ty Bool is_listed l)) e)
 
 -- code may name each type that is built
 pub built_named : (of : Ty) → IsBuilt of → IsNamed of

@@ -1,5 +1,5 @@
 -- What steps of typing give, where they refuse nothing: expressions leave what is known as it was.
-use Rattle.std.proofs.Common.{◌≡◌, ℕ, List, [], ◌∷◌, Ok, Err, refl, sym}
+use Rattle.std.proofs.Common.{◌≡◌, ℕ, List, [], ◌∷◌, Ok, Err, refl}
 use Rattle.std.specs.Prelude.{Bool, true, false, if◌then◌else◌}
 use Rattle.pl_types.specs.declared.ty.Ty.{Ty}
 use Rattle.pl_types.specs.declared.ty.Ty.TheVariants as t
@@ -13,7 +13,7 @@ use Rattle.typing_rules.specs.declared.part.Place.TheVariants as place
 use Rattle.typing_rules.specs.declared.state.State.{State}
 use Rattle.pl_types.specs.declared.refusal.Refusal.{Refusal}
 use Rattle.pl_types.specs.declared.rules.TheConstants.{OUT_OF_PROFILE}
-use Rattle.typing_rules.specs.Outcomes.{Out, refusal, refuse, bind}
+use Rattle.typing_rules.specs.Outcomes.{Out, refusal, refuse}
 use Rattle.typing_rules.specs.Doing.{Whole, Answer, Doing, ◌>>=◌, ◌>>◌, pure, and_then, by_rule, looking, setting}
 use Rattle.typing_rules.specs.Rules.Types.{is_built_class, base_of, bracketed as with_brackets, type_of}
 use Rattle.typing_rules.specs.Rules.Operators.{unary_of}
@@ -95,7 +95,8 @@ bracketed_is : (at : ℕ) (brackets : List ℕ) (from of : Ty) → with_brackets
 bracketed_is at [] from of e b = settled IsBuilt from of e b
 bracketed_is at (x ∷ brackets) from of e b = cc
 
-class_is : (c : Bool) (number at class : ℕ) (of : Ty) → is_built_class class ≡ c → (if c then accepted (t.Class class) else refuse number at) ≡ accepted of → IsBuilt of
+class_is : (c : Bool) (number at class : ℕ) (of : Ty) → is_built_class class ≡ c
+    → (if c then accepted (t.Class class) else refuse number at) ≡ accepted of → IsBuilt of
 class_is true number at class of is e = settled IsBuilt (t.Class class) of e (class_built class is)
 class_is false number at class of is e = cc
 
@@ -157,7 +158,8 @@ module _ (funs : Program) where
   }
 
   -- what a rule gives that looks at what is known
-  pub looks : {A : Type 0} {good : State → A → Type 0} (rule : State → Out A) → ((s : State) (a : A) → Known s → rule s ≡ Ok a → good s a) → Value good (looking rule)
+  pub looks : {A : Type 0} {good : State → A → Type 0} (rule : State → Out A) → ((s : State) (a : A) → Known s → rule s ≡ Ok a → good s a)
+      → Value good (looking rule)
   looks rule f = record {
     by = λ s next r d e.
         let a = ruled (rule s) (λ a. next a s) r e in
