@@ -1,9 +1,8 @@
 -- Statements with statements in them.
 use Rattle.std.proofs.Common.{◌≡◌, ℕ, Bool, true, false, List, [], ◌∷◌, ◌++◌, length, Option, Some, None, Ok, refl, sym, ap, ◌∙◌, subst}
 use Rattle.std.specs.Prelude.{◌&&◌, if◌then◌else◌}
-use Rattle.pl_types.specs.declared.primitive.Primitive.{Primitive}
-use Rattle.pl_types.specs.declared.ty.Ty.{Ty, out-Ty}
-use Rattle.pl_types.specs.declared.ty.Ty.TheVariants as t
+use Rattle.pl_types.specs.declared.primitive.Primitive.TheVariants as prim
+use Rattle.pl_types.specs.declared.ty.Ty.{Ty}
 use Rattle.pl_tree.specs.declared.tree.Spelled.{Spelled}
 use Rattle.pl_tree.specs.declared.tree.TypeName.{TypeName}
 use Rattle.typed_tree.specs.declared.typed.Typed.{Typed}
@@ -22,22 +21,15 @@ use Rattle.typing_rules.specs.Rules.Statements.{reached, deed, variable, variabl
 use Rattle.typing_rules.specs.Typing.{scoped, looping, perhaps, Doer, Reading, is_empty, statements, variables, initial, loop_condition, loop_update}
 use Rattle.program_meaning.specs.Tree.{If, While, DoWhile, Block, Stmts, Finish, Then, Missing, Program}
 use Rattle.program_meaning.specs.Programs.{Before, expr_of, maybe_of, alone, alone_if, declared, before}
-use Rattle.program_types.specs.Types.{HasValues}
 use Rattle.program_types.specs.Agreeing.{TestAgrees, UpdateAgrees, BeginAgrees, StmtsAgree}
+use Rattle.typing_laws.proofs.Types.{IsBuilt, built_values, built_aim, prim_aim}
 use Rattle.typing_laws.proofs.Parts.{passed, accepted, settled, cast_is}
-use Rattle.typing_laws.proofs.Names.{in_sight, Distinct}
+use Rattle.typing_laws.proofs.Names.{in_sight, Known}
 use Rattle.typing_laws.proofs.Sentences as sentence
 use Rattle.typing_laws.proofs.Sentences.{before_if}
-use Rattle.typing_laws.proofs.Values.{Value, ruled, IsPrimitive, type_is, PartAt, ReadingIs}
+use Rattle.typing_laws.proofs.Values.{Value, ruled, type_is, PartAt, ReadingIs}
 use Rattle.typing_laws.proofs.Steps.{Grew, stays, grew_on, closes, sight_grows, not_found, distinct_behind, Kind, Leads, of_step, of_first, Steps, Bodies, step_at, StepAt}
 use Rattle.typing_laws.proofs.Reaching.{Reaches, AloneReached, alone_reached, nothing_alone, stmt_reaches, declared_reaches, one_falls, in_a_row, nothing_reaches, by_any, none_escapes, row_reaches}
-
-some_values : (q : Primitive) → HasValues (t.Prim q)
-unfolding out-Ty denote.Hole.Carrier.out
-some_values q = tt
-
-pub has_values : (of : Ty) → IsPrimitive of → HasValues of
-has_values of p = subst HasValues (sym p.1) (some_values p.0)
 
 module _ (funs : Program) where
   -- ---- tests, updates, first values
@@ -49,7 +41,7 @@ module _ (funs : Program) where
   test_if true s x o e h = settled (TestAt s) None o e tt
   test_if false s x o e h =
       let a = passed (cast_to boolean x) _ o e in
-      let value = cast_is funs (in_sight s.scopes) boolean x a.given a.first h in
+      let value = cast_is funs (in_sight s.scopes) boolean x a.given (prim_aim prim.Boolean) a.first h in
       settled (TestAt s) (Some a.given) o a.then' (value.agrees, value.is)
 
   pub condition_is : (x : Reading) → ReadingIs funs x → Value TestAt (loop_condition (Some x))
@@ -149,7 +141,7 @@ module _ (funs : Program) where
     by = λ s next r d e.
         let a = hx.value.by s _ r d e in
         let b = ruled (test a.given) (λ x. (m >>= (λ y. n >>= (λ n. pure (if_of at x y n)))) s next) r a.goes in
-        let value = cast_is funs (in_sight s.scopes) boolean a.given b.given b.has a.has in
+        let value = cast_is funs (in_sight s.scopes) boolean a.given b.given (prim_aim prim.Boolean) b.has a.has in
         let y = hm.by s (λ y t. n t (λ n t. next (if_of at b.given y n) t)) r d b.goes in
         let z = hn.by s (λ n t. next (if_of at b.given y.given n) t) r d y.goes in
         record {
@@ -212,9 +204,9 @@ module _ (funs : Program) where
         let last : Step → State → Answer = λ x t. next x (closed (length s.scopes) t) in
         let f = hf.by s (λ f t. c' t (λ c t. u t (λ u t. looping n t (λ y t. last (loop_of at (Some f) c u y) t)))) r d e in
         let t = f.state in
-        let c = hc.by t (λ c t. u t (λ u t. looping n t (λ y t. last (loop_of at (Some f.given) c u y) t))) r f.grew.distinct f.goes in
-        let v = hu.by t (λ u t. looping n t (λ y t. last (loop_of at (Some f.given) c.given u y) t)) r f.grew.distinct c.goes in
-        let y = (looping_is stmts_if escapes_if hn).by t (λ y t. last (loop_of at (Some f.given) c.given v.given y) t) r f.grew.distinct v.goes in
+        let c = hc.by t (λ c t. u t (λ u t. looping n t (λ y t. last (loop_of at (Some f.given) c u y) t))) r f.grew.known f.goes in
+        let v = hu.by t (λ u t. looping n t (λ y t. last (loop_of at (Some f.given) c.given u y) t)) r f.grew.known c.goes in
+        let y = (looping_is stmts_if escapes_if hn).by t (λ y t. last (loop_of at (Some f.given) c.given v.given y) t) r f.grew.known v.goes in
         let loop = While (maybe_of c.given) (maybe_of v.given) (stmts_if y.given) in
         let body = f.leads (Then loop Finish) (brought s t (Then loop Finish) f.grew ((c.has, v.has, y.has.0), tt)) in
         let reached = f.reaches.reached (Then loop Finish) (y.has.1.reached, tt, tt) (by_any {rest = Then loop Finish}) in
@@ -266,7 +258,7 @@ module _ (funs : Program) where
         (λ x' t. and_then (reached after x.at x') (λ y. statements in_main y.escapes xs t (λ ys t. next (y ∷ ys) t))) r d e in
         let b = ruled (reached after x.at a.given) (λ y. statements in_main y.escapes xs a.state (λ ys t. next (y ∷ ys) t)) r a.goes in
         let same = reached_if after _ x.at a.given b.given b.has in
-        let rest = (statements_are in_main b.given.escapes xs h.1).by a.state (λ ys t. next (b.given ∷ ys) t) r a.grew.distinct b.goes in
+        let rest = (statements_are in_main b.given.escapes xs h.1).by a.state (λ ys t. next (b.given ∷ ys) t) r a.grew.known b.goes in
         record {
           given = b.given ∷ rest.given;
           state = rest.state;
@@ -293,12 +285,12 @@ module _ (funs : Program) where
   abbrev pub BeginAt : Ty → State → Option Typed → Type 0
   BeginAt of s o = BeginAgrees funs (in_sight s.scopes) (maybe_of o) of
 
-  pub initial_some : (of : Ty) {m : Doing Part} → Value (PartAt funs) m → Value (BeginAt of) (initial of (Some m))
-  initial_some of h = record {
+  pub initial_some : (of : Ty) {m : Doing Part} → IsBuilt of → Value (PartAt funs) m → Value (BeginAt of) (initial of (Some m))
+  initial_some of p h = record {
     by = λ s next r d e.
         let a = h.by s (λ x t. and_then (cast_to of x) (λ y. next (Some y) t)) r d e in
         let b = ruled (cast_to of a.given) (λ y. next (Some y) s) r a.goes in
-        let value = cast_is funs (in_sight s.scopes) of a.given b.given b.has a.has in
+        let value = cast_is funs (in_sight s.scopes) of a.given b.given (built_aim of p) b.has a.has in
         record { given = Some b.given; has = (value.agrees, value.is); goes = b.goes };
   }
 
@@ -313,15 +305,17 @@ module _ (funs : Program) where
 
   record Declared (s t : State) (name : Spelled) (of : Ty) : Type 0 where
     is : t ≡ record s { scopes = s.scopes ++ new_entry name.spelling of ∷ [] }
-    distinct : Distinct t.scopes
+    known : Known t
 
-  declared_by : (found : Option ℕ) (s t : State) (name : Spelled) (of : Ty) → find name.spelling s.scopes ≡ found → declared_if found name.at name.spelling of s ≡ Ok t → Distinct s.scopes → Declared s t name of
+  declared_by : (found : Option ℕ) (s t : State) (name : Spelled) (of : Ty) → find name.spelling s.scopes ≡ found
+      → declared_if found name.at name.spelling of s ≡ Ok t → Known s → Declared s t name of
   declared_by (Some i) s t name of is e d = cc
   declared_by None s t name of is e d =
       settled (λ t. Declared s t name of) (record s { scopes = s.scopes ++ new_entry name.spelling of ∷ [] }) t e
-      (record { is = refl; distinct = distinct_behind s.scopes (new_entry name.spelling of) d (not_found name.spelling s.scopes is) })
+      (record { is = refl; known = (distinct_behind s.scopes (new_entry name.spelling of) d.0 (not_found name.spelling s.scopes is), d.1) })
 
-  pub variable_is : (name : Spelled) (of : Ty) {m : Doing (Option Typed)} → IsPrimitive of → Value (BeginAt of) m → Steps funs one_variable (m >>= (λ x. stating (variable_of name of x)))
+  pub variable_is : (name : Spelled) (of : Ty) {m : Doing (Option Typed)} → IsBuilt of → Value (BeginAt of) m
+      → Steps funs one_variable (m >>= (λ x. stating (variable_of name of x)))
   variable_is name of p h = record {
     by = λ s next r d e.
         let a = h.by s (λ x t. stating (variable_of name of x) t next) r d e in
@@ -334,8 +328,8 @@ module _ (funs : Program) where
         record {
           given = variable name of a.given;
           state = c.given;
-          grew = record { more = new_entry name.spelling of ∷ []; is = made.is; distinct = made.distinct };
-          leads = λ rest h. (a.has, has_values of p, subst (λ g. StmtsAgree funs s.result s.looped g rest) sight h);
+          grew = record { more = new_entry name.spelling of ∷ []; is = made.is; known = made.known };
+          leads = λ rest h. (a.has, built_values of p, subst (λ g. StmtsAgree funs s.result s.looped g rest) sight h);
           reaches = tt;
           goes = goes;
         };
@@ -350,7 +344,7 @@ module _ (funs : Program) where
   variables_are of (m ∷ ms) h = record {
     by = λ s next r d e.
         let a = h.0.by s (λ x t. variables of ms t (λ xs t. next (x ∷ xs) t)) r d e in
-        let rest = (variables_are of ms h.1).by a.state (λ xs t. next (a.given ∷ xs) t) r a.grew.distinct a.goes in
+        let rest = (variables_are of ms h.1).by a.state (λ xs t. next (a.given ∷ xs) t) r a.grew.known a.goes in
         record {
           given = a.given ∷ rest.given;
           state = rest.state;
@@ -361,7 +355,7 @@ module _ (funs : Program) where
         };
   }
 
-  pub declaration_step : (at : ℕ) (of : TypeName) (ms : List (Ty → Doing TypedVariable)) → ((of : Ty) → IsPrimitive of → AllVariables of ms)
+  pub declaration_step : (at : ℕ) (of : TypeName) (ms : List (Ty → Doing TypedVariable)) → ((of : Ty) → IsBuilt of → AllVariables of ms)
       → Steps funs (of_first funs) (by_rule (named_type of) >>= (λ of. variables of ms >>= (λ vs. pure (declaration_of at vs))))
   declaration_step at of ms h = record {
     by = λ s next r d e.

@@ -33,11 +33,11 @@ use Rattle.program_types.specs.Types.{HasValues}
 use Rattle.program_types.specs.Agreeing.{types_in, StmtsAgree, scope_of, HaveValues as VariablesHaveValues, FunAgrees, WellFormed}
 use Rattle.program_types.specs.Reached.{StmtsReached, Reached}
 use Rattle.typing_laws.specs.Laws.{IsNew, AreDistinct, HaveValues, IsContext}
-use Rattle.typing_laws.proofs.Casts.{IsBuilt, IsPrim, IsVoid}
+use Rattle.typing_laws.proofs.Types.{IsBuilt, built_values, built_part, IsOfPart, void_part, part_aim, result_aim}
 use Rattle.typing_laws.proofs.Parts.{passed, accepted, settled}
-use Rattle.typing_laws.proofs.Names.{seen, in_sight, Fresh, Distinct, Heads}
-use Rattle.typing_laws.proofs.Values.{IsPrimitive, type_is}
-use Rattle.typing_laws.proofs.Compounds.{has_values, AllSteps, statements_are}
+use Rattle.typing_laws.proofs.Names.{seen, in_sight, Fresh, Distinct, AllBuilt, Heads}
+use Rattle.typing_laws.proofs.Values.{type_is}
+use Rattle.typing_laws.proofs.Compounds.{AllSteps, statements_are}
 use Rattle.typing_laws.proofs.Tree.{statement_is, block_is}
 
 -- ---- names that a body begins with
@@ -67,7 +67,8 @@ types_are (n ∷ ns) = ap (λ xs. n.of ∷ xs) (types_are ns)
 pub record HeaderIs (h : Header) : Type 0 where
   pub distinct : AreDistinct h.parameters
   pub present : HaveValues h.parameters
-  pub built : IsBuilt h.result
+  pub all_built : AllBuilt h.parameters
+  pub built : IsOfPart h.result
 
 new_name : (x : List ℕ) (ns : List Named) → is_named x ns ≡ false → IsNew x ns
 new_name x [] is = tt
@@ -89,13 +90,17 @@ values_behind : (ns : List Named) (n : Named) → HaveValues ns → HasValues n.
 values_behind [] n h v = (v, tt)
 values_behind (m ∷ ns) n h v = (h.0, values_behind ns n h.1 v)
 
-parameter_is : (at : ℕ) (o : Option TypeName) (of : Ty) → parameter_type at o ≡ Ok of → IsPrimitive of
+built_behind : (ns : List Named) (n : Named) → AllBuilt ns → IsBuilt n.of → AllBuilt (ns ++ n ∷ [])
+built_behind [] n h b = (b, tt)
+built_behind (m ∷ ns) n h b = (h.0, built_behind ns n h.1 b)
+
+parameter_is : (at : ℕ) (o : Option TypeName) (of : Ty) → parameter_type at o ≡ Ok of → IsBuilt of
 parameter_is at None of e = cc
 parameter_is at (Some name) of e = type_is name of e
 
 record Grown (before : List Named) (n : Named) : Type 0 where
   is : IsNew n.name before
-  has : HasValues n.of
+  built : IsBuilt n.of
 
 named_if : (c : Bool) (number at : ℕ) (before : List Named) (n m : Named) → (if c then refuse number at else accepted n) ≡ accepted m → (c ≡ false → Grown before n) → Grown before m
 named_if true number at before n m e h = cc
@@ -105,22 +110,23 @@ parameter_grows : (p : Parameter) (before : List Named) (n : Named) → paramete
 parameter_grows p before n e =
     let a = passed (parameter_type p.name.at p.of) (λ of. if is_named p.name.spelling before then refuse _ p.name.at else accepted (named p.name.spelling of)) n e in
     named_if (is_named p.name.spelling before) _ p.name.at before (named p.name.spelling a.given) n a.then' (λ no'.
-    record { is = new_name p.name.spelling before no'; has = has_values a.given (parameter_is p.name.at p.of a.given a.first) })
+    record { is = new_name p.name.spelling before no'; built = parameter_is p.name.at p.of a.given a.first })
 
 record Names (ns : List Named) : Type 0 where
   distinct : AreDistinct ns
   present : HaveValues ns
+  all_built : AllBuilt ns
 
 parameters_are : (ps : List Parameter) (before ns : List Named) → parameters ps before ≡ Ok ns → Names before → Names ns
 parameters_are [] before ns e h = settled Names before ns e h
 parameters_are (p ∷ ps) before ns e h =
     let a = passed (parameter p before) (λ n. parameters ps (before ++ n ∷ [])) ns e in
     let one = parameter_grows p before a.given a.first in
-    parameters_are ps (before ++ a.given ∷ []) ns a.then' (record { distinct = names_behind before a.given h.distinct one.is; present = values_behind before a.given h.present one.has })
+    parameters_are ps (before ++ a.given ∷ []) ns a.then' (record { distinct = names_behind before a.given h.distinct one.is; present = values_behind before a.given h.present (built_values a.given.of one.built); all_built = built_behind before a.given h.all_built one.built })
 
-result_if : (c : Bool) (name : TypeName) (of : Ty) → (if c then accepted t.Void else type_of name) ≡ accepted of → IsBuilt of
-result_if true name of e = settled IsBuilt t.Void of e (IsVoid refl)
-result_if false name of e = let p = type_is name of e in IsPrim p.0 p.1
+result_if : (c : Bool) (name : TypeName) (of : Ty) → (if c then accepted t.Void else type_of name) ≡ accepted of → IsOfPart of
+result_if true name of e = settled IsOfPart t.Void of e void_part
+result_if false name of e = built_part of (type_is name of e)
 
 header_if : (c : Bool) (number at : ℕ) (h g : Header) → (if c then refuse number at else accepted h) ≡ accepted g → HeaderIs h → HeaderIs g
 header_if true number at h g e x = cc
@@ -130,9 +136,9 @@ header_is : (f : Function) (before : List Header) (h : Header) → header_of f b
 header_is f before h e =
     let a = passed (result_of f.result) (λ result. bind (parameters f.parameters []) (λ ps. if is_there (found_function before f.name.spelling (length ps)) then refuse _ f.name.at else accepted (header f.name.spelling ps result))) h e in
     let b = passed (parameters f.parameters []) (λ ps. if is_there (found_function before f.name.spelling (length ps)) then refuse _ f.name.at else accepted (header f.name.spelling ps a.given)) h a.then' in
-    let names = parameters_are f.parameters [] b.given b.first (record { distinct = tt; present = tt }) in
+    let names = parameters_are f.parameters [] b.given b.first (record { distinct = tt; present = tt; all_built = tt }) in
     header_if (is_there (found_function before f.name.spelling (length b.given))) _ f.name.at (header f.name.spelling b.given a.given) h b.then'
-    (record { distinct = names.distinct; present = names.present; built = result_if (names_void f.result) f.result a.given a.first })
+    (record { distinct = names.distinct; present = names.present; all_built = names.all_built; built = result_if (names_void f.result) f.result a.given a.first })
 
 abbrev AllHeaders : List Header → Type 0
 AllHeaders [] = Unit {0}
@@ -224,7 +230,7 @@ module _ (hs : List Header) where
     body_is f h x good e =
         let a = passed (ran (braces hs f.body).steps (function_start h)) (λ whole. finished f h whole.0) x e in
         let is = finished_is f h a.given.0 x a.then' in
-        let got = (block_is funs hs heads f.body).by (function_start h) (λ ys t. accepted (ys, t)) a.given (distinct_entries standing.Variable h.parameters good.distinct) a.first in
+        let got = (block_is funs hs heads f.body).by (function_start h) (λ ys t. accepted (ys, t)) a.given (distinct_entries standing.Variable h.parameters good.distinct, part_aim h.result good.built) a.first in
         let agrees = began standing.Variable h.parameters h.result (stmts_of (statements_of got.given)) (got.leads Finish tt) in
         let same : got.given ≡ a.given.0 = settled (λ (p : Whole). got.given ≡ p.0) (got.given, got.state) a.given got.goes refl in
         subst (λ (x : TypedFunction). FunIs funs (fun_of x)) (sym is) (record {
@@ -254,7 +260,7 @@ module _ (hs : List Header) where
     main_is : (context : ContextTypes) (all : List Statement) (x : TypedFunction) → IsContext context → main_of context hs all ≡ Ok x → FunIs funs (fun_of x)
     main_is context all x good e =
         let a = passed (ran (statements true false (map (doer hs) all)) (main_start context)) (λ whole. accepted (main context whole.0)) x e in
-        let got = (statements_are funs true false (map (doer hs) all) (all_statements all)).by (main_start context) (λ ys t. accepted (ys, t)) a.given (distinct_entries standing.Fixed context.variables good.distinct) a.first in
+        let got = (statements_are funs true false (map (doer hs) all) (all_statements all)).by (main_start context) (λ ys t. accepted (ys, t)) a.given (distinct_entries standing.Fixed context.variables good.distinct, result_aim context.result good.result) a.first in
         let agrees = began standing.Fixed context.variables context.result (stmts_of (statements_of got.given)) (got.leads Finish tt) in
         let same : got.given ≡ a.given.0 = settled (λ (p : Whole). got.given ≡ p.0) (got.given, got.state) a.given got.goes refl in
         settled (λ (x : TypedFunction). FunIs funs (fun_of x)) (main context a.given.0) x a.then' (record {
@@ -287,6 +293,7 @@ heads_of hs fs xs m e h = record {
         takes = types_are there.fun.parameters ∙ ap (λ ns. map (λ (n : Named). n.of) ns) there.shape.parameters;
         gives = there.shape.result;
         built = (header_at hs number head h.all is).built;
+        all_built = (header_at hs number head h.all is).all_built;
       };
 }
 

@@ -1,4 +1,5 @@
 pub mod Nodes
+pub mod Types
 pub mod Casts
 pub mod Plans
 pub mod Parts

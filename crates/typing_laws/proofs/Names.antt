@@ -8,20 +8,23 @@ use Rattle.std.proofs.lemmas.Option.{get_or_from_slice_get}
 use Rattle.std.proofs.lemmas.Bool.{and_parts}
 use Rattle.pl_types.specs.declared.primitive.Primitive.{Primitive}
 use Rattle.pl_types.specs.declared.primitive.Primitive.TheVariants as prim
-use Rattle.pl_types.specs.declared.ty.Ty.{Ty, out-Ty}
+use Rattle.pl_types.specs.declared.ty.Ty.{Ty}
 use Rattle.pl_types.specs.declared.ty.Ty.TheVariants as t
-use Rattle.pl_types.specs.declared.ty.Ty.TheOpen.{Ty-F}
 use Rattle.pl_types.specs.declared.conversion.Cast.{Cast}
+use Rattle.pl_types.specs.Casts.{cast_of}
+use Rattle.pl_types.specs.Classes.{class_is_below}
 use Rattle.pl_tree.specs.declared.operator.BinaryOperator.{BinaryOperator}
 use Rattle.pl_tree.specs.declared.operator.Step.{Step as TreeStep}
 use Rattle.pl_tree.specs.declared.operator.Step.TheVariants as step
 use Rattle.typed_tree.specs.declared.operation.Constant.TheVariants as k
 use Rattle.typed_tree.specs.declared.operation.Operation.TheVariants as o
+use Rattle.typed_tree.specs.declared.operation.Operator.{Operator}
 use Rattle.typed_tree.specs.declared.operation.Target.TheVariants as target
 use Rattle.typed_tree.specs.declared.operation.Change.{Change}
 use Rattle.typed_tree.specs.declared.operation.Gives.{Gives}
 use Rattle.typed_tree.specs.declared.operation.Gives.TheVariants as gv
 use Rattle.typed_tree.specs.declared.program.Named.{Named}
+use Rattle.typed_tree.specs.declared.typed.Node.TheVariants as n
 use Rattle.typed_tree.specs.declared.typed.Typed.{Typed}
 use Rattle.typing_rules.specs.declared.header.Header.{Header}
 use Rattle.typing_rules.specs.declared.part.Form.TheVariants as f
@@ -32,19 +35,22 @@ use Rattle.typing_rules.specs.declared.rules.plans.Plan.{Plan}
 use Rattle.typing_rules.specs.declared.scopes.Entry.{Entry}
 use Rattle.typing_rules.specs.declared.state.State.{State}
 use Rattle.typing_rules.specs.Scopes.{find}
-use Rattle.typing_rules.specs.Rules.Nodes.{type_of_part}
+use Rattle.typing_rules.specs.Outcomes.{refuse}
+use Rattle.typing_rules.specs.Rules.Types.{is_built}
+use Rattle.typing_rules.specs.Rules.Nodes.{typed, plain, type_of_part}
 use Rattle.typing_rules.specs.Rules.Casts.{cast_to}
-use Rattle.typing_rules.specs.Rules.Operators.{operand, plan_between}
-use Rattle.typing_rules.specs.Rules.Places.{entry_if, local_layer, local_if, local, is_fixed, written_layer, written_if, written_at, written, set, change, change_by, cast_before, cast_after, change_of, changed_by, changed, compound, assigned, assign_of, one, counted, operator_of, step_of}
+use Rattle.typing_rules.specs.Rules.Operators.{operand, plan_between, relation_between, reference}
+use Rattle.typing_rules.specs.Rules.Places.{entry_if, local_if, local, is_fixed, written_to, written_if, written_at, written, set, change, change_by, cast_before, cast_after, change_of, changed_by, changed, joining, joining_by, joining_of, joined_if, compound, assigned, assign_of, one, counted, operator_of, step_of}
 use Rattle.typing_rules.specs.Rules.Calls.{function_of, arguments, called, called_if, call_of}
 use Rattle.program_meaning.specs.Tree.{Name, Variable, Fun, Program, type_of}
 use Rattle.program_meaning.specs.Programs.{exprs_of, expr_of}
-use Rattle.program_types.specs.Types.{Takes, Casts}
-use Rattle.program_types.specs.Agreeing.{Scope, variable_of, IsVariable, types_of, types_in, Changes, ExprsAgree, scope_of}
+use Rattle.program_types.specs.Types.{IsReference, string, Takes, Casts}
+use Rattle.program_types.specs.Agreeing.{Scope, variable_of, IsVariable, types_of, types_in, IsKnownBefore, Changes, ExprsAgree, scope_of}
 use Rattle.typing_laws.proofs.Nodes.{local_is, applied_is, assign_is, change_is}
-use Rattle.typing_laws.proofs.Casts.{IsBuilt, by_layer, primitive_casts}
-use Rattle.typing_laws.proofs.Plans.{PlanFits, IsWide, plans_fit, add_right, subtract_right}
-use Rattle.typing_laws.proofs.Parts.{passed, accepted, settled, built, TypedIs, PartIs, node_is, part_of, constant_typed, operand_is, cast_is}
+use Rattle.typing_laws.proofs.Types.{IsBuilt, built_part, built_aim, IsOfPart, prim_part, IsAim, prim_aim, def_aim, def_reference}
+use Rattle.typing_laws.proofs.Casts.{part_casts, known_from_prim, known_to_def}
+use Rattle.typing_laws.proofs.Plans.{PlanFits, IsWide, plans_fit, add_right, subtract_right, IsPrimitive, left_primitive}
+use Rattle.typing_laws.proofs.Parts.{passed, accepted, settled, string_part, TypedIs, PartIs, node_is, part_of, constant_typed, operand_is, cast_is, reference_is}
 
 -- ---- names in sight
 
@@ -62,6 +68,10 @@ Fresh x (e ∷ es) = (e.name ≢ x) × Fresh x es
 abbrev pub Distinct : List Entry → Type 0
 Distinct [] = Unit {0}
 Distinct (e ∷ es) = Fresh e.name es × Distinct es
+
+-- what is known while a body is typed: the names are distinct, and its result is a type to which parts are cast
+abbrev pub Known : State → Type 0
+Known s = Distinct s.scopes × IsAim s.result
 
 other_name : (x y : Name) (v : Variable) (o : Option Variable) → y ≢ x → (if bytes_eq x y then Some v else o) ≡ o
 other_name x y v o h = pick (bytes_eq x y) refl
@@ -89,115 +99,157 @@ sees (e' ∷ es) g (suc i) e d is = sees es (seen e' ∷ g) i e d.1 is
 pub entry_seen : (es : List Entry) (i : ℕ) (e : Entry) (of : Ty) → Distinct es → slice_get es i ≡ Some e → of ≡ e.of → IsVariable (in_sight es) e.name of
 entry_seen es i e of d is has = record { variable = seen e; is = sees es [] i e d is; has = has }
 
+-- names of types that are built
+abbrev pub AllBuilt : List Named → Type 0
+AllBuilt [] = Unit {0}
+AllBuilt (x ∷ xs) = IsBuilt x.of × AllBuilt xs
+
 module _ (funs : Program) where
-  local_layered : (es : List Entry) (i : ℕ) (e : Entry) (l : Ty-F Ty) (at : ℕ) (x : Part) → Distinct es → slice_get es i ≡ Some e → out-Ty e.of ≡ l → local_layer l at e ≡ Ok x → PartIs funs (in_sight es) x
-  local_layered es i e (Ty-F.Prim q) at x d is layer given =
+  local_if_built : (c : Bool) (es : List Entry) (i : ℕ) (e : Entry) (number at : ℕ) (x : Part) → is_built e.of ≡ c → Distinct es
+      → slice_get es i ≡ Some e
+      → (if c then accepted (plain at (typed at e.of (n.Local e.name))) else refuse number at) ≡ accepted x → PartIs funs (in_sight es) x
+  local_if_built false es i e number at x b d is given = cc
+  local_if_built true es i e number at x b d is given =
       settled (PartIs funs (in_sight es)) _ x given
-      (part_of funs (in_sight es) at f.Other _ (t.Prim q) (built q)
-      (node_is funs (in_sight es) at (t.Prim q) _ _ (local_is at (t.Prim q) e.name) refl (entry_seen es i e (t.Prim q) d is (sym (by_layer e.of q layer)))))
-  local_layered es i e Ty-F.Void at x d is layer given = cc
-  local_layered es i e Ty-F.Null at x d is layer given = cc
-  local_layered es i e Ty-F.Def at x d is layer given = cc
-  local_layered es i e (Ty-F.Class c) at x d is layer given = cc
-  local_layered es i e (Ty-F.Array u) at x d is layer given = cc
+      (part_of funs (in_sight es) at f.Other _ e.of (built_part e.of (record { is = b }))
+      (node_is funs (in_sight es) at e.of _ _ (local_is at e.of e.name) refl (entry_seen es i e e.of d is refl)))
 
   local_at : (es : List Entry) (i : ℕ) (o : Option Entry) (at : ℕ) (x : Part) → Distinct es → slice_get es i ≡ o → local_if o at ≡ Ok x → PartIs funs (in_sight es) x
   local_at es i None at x d is given = cc
-  local_at es i (Some e) at x d is given = local_layered es i e (out-Ty e.of) at x d is refl given
+  local_at es i (Some e) at x d is given = local_if_built (is_built e.of) es i e _ at x refl d is given
 
   local_found : (es : List Entry) (o : Option ℕ) (at : ℕ) (x : Part) → Distinct es → local_if (entry_if o es) at ≡ Ok x → PartIs funs (in_sight es) x
   local_found es None at x d given = cc
   local_found es (Some i) at x d given = local_at es i (slice_get es i) at x d refl given
 
   -- a name's value
-  pub local_part : (at : ℕ) (name : Name) (s : State) (x : Part) → Distinct s.scopes → local at name s ≡ Ok x → PartIs funs (in_sight s.scopes) x
-  local_part at name s x d given = local_found s.scopes (find name s.scopes) at x d given
+  pub local_part : (at : ℕ) (name : Name) (s : State) (x : Part) → Known s → local at name s ≡ Ok x → PartIs funs (in_sight s.scopes) x
+  local_part at name s x d given = local_found s.scopes (find name s.scopes) at x d.0 given
 
   -- ---- what is written to
 
   abbrev pub PlaceIs : Scope → Place → Type 0
-  PlaceIs g (place.Local name of) = IsVariable g name of × ((q : Primitive) × (of ≡ t.Prim q))
+  PlaceIs g (place.Local name of) = IsVariable g name of × IsBuilt of
   PlaceIs g place.Fixed = Unit {0}
 
-  fixed_or : (c : Bool) (es : List Entry) (x : Place) (y : Place) → (if c then accepted place.Fixed else accepted x) ≡ accepted y → PlaceIs (in_sight es) x → PlaceIs (in_sight es) y
-  fixed_or true es x y e h = settled (PlaceIs (in_sight es)) place.Fixed y e tt
-  fixed_or false es x y e h = settled (PlaceIs (in_sight es)) x y e h
+  written_entry_to : (fixed : Bool) (es : List Entry) (i : ℕ) (e : Entry) → Distinct es → slice_get es i ≡ Some e → IsBuilt e.of
+      → PlaceIs (in_sight es) (written_to fixed e)
+  written_entry_to true es i e d is b = tt
+  written_entry_to false es i e d is b = (entry_seen es i e e.of d is refl, b)
 
-  written_layered : (es : List Entry) (i : ℕ) (e : Entry) (l : Ty-F Ty) (at : ℕ) (fixed : Bool) (x : Place) → Distinct es → slice_get es i ≡ Some e → out-Ty e.of ≡ l → written_layer l at fixed e ≡ Ok x
-      → PlaceIs (in_sight es) x
-  written_layered es i e (Ty-F.Prim q) at fixed x d is layer given =
-      fixed_or fixed es (place.Local e.name (t.Prim q)) x given (entry_seen es i e (t.Prim q) d is (sym (by_layer e.of q layer)), (q, refl))
-  written_layered es i e Ty-F.Void at fixed x d is layer given = cc
-  written_layered es i e Ty-F.Null at fixed x d is layer given = cc
-  written_layered es i e Ty-F.Def at fixed x d is layer given = cc
-  written_layered es i e (Ty-F.Class c) at fixed x d is layer given = cc
-  written_layered es i e (Ty-F.Array u) at fixed x d is layer given = cc
+  written_if_built : (c fixed : Bool) (es : List Entry) (i : ℕ) (e : Entry) (number at : ℕ) (x : Place) → is_built e.of ≡ c → Distinct es
+      → slice_get es i ≡ Some e
+      → (if c then accepted (written_to fixed e) else refuse number at) ≡ accepted x → PlaceIs (in_sight es) x
+  written_if_built false fixed es i e number at x b d is given = cc
+  written_if_built true fixed es i e number at x b d is given =
+      settled (PlaceIs (in_sight es)) (written_to fixed e) x given (written_entry_to fixed es i e d is (record { is = b }))
 
   written_entry : (es : List Entry) (at base i : ℕ) (o : Option Entry) (x : Place) → Distinct es → slice_get es i ≡ o → written_if at base i o ≡ Ok x → PlaceIs (in_sight es) x
   written_entry es at base i None x d is given = cc
-  written_entry es at base i (Some e) x d is given = written_layered es i e (out-Ty e.of) at (is_fixed e.standing || nat_lt i base) x d is refl given
+  written_entry es at base i (Some e) x d is given =
+      written_if_built (is_built e.of) (is_fixed e.standing || nat_lt i base) es i e _ at x refl d is given
 
   written_found : (o : Option ℕ) (at : ℕ) (s : State) (x : Place) → Distinct s.scopes → written_at o at s ≡ Ok x → PlaceIs (in_sight s.scopes) x
   written_found None at s x d given = cc
   written_found (Some i) at s x d given = written_entry s.scopes at s.base i (slice_get s.scopes i) x d refl given
 
-  pub written_place : (at : ℕ) (name : Name) (s : State) (x : Place) → Distinct s.scopes → written at name s ≡ Ok x → PlaceIs (in_sight s.scopes) x
-  written_place at name s x d given = written_found (find name s.scopes) at s x d given
+  pub written_place : (at : ℕ) (name : Name) (s : State) (x : Place) → Known s → written at name s ≡ Ok x → PlaceIs (in_sight s.scopes) x
+  written_place at name s x d given = written_found (find name s.scopes) at s x d.0 given
 
   module _ (g : Scope) where
-    set_is : (at : ℕ) (name : Name) (q : Primitive) (x y : Part) → IsVariable g name (t.Prim q) → set at name (t.Prim q) x ≡ Ok y → PartIs funs g x → PartIs funs g y
-    set_is at name q x y v e h =
-        let a = passed (cast_to (t.Prim q) x) _ y e in
-        let value = cast_is funs g (t.Prim q) x a.given a.first h in
-        settled (PartIs funs g) _ y a.then' (part_of funs g at f.Deed _ (t.Prim q) (built q)
-        (node_is funs g at (t.Prim q) _ _ (assign_is at (t.Prim q) (target.Local name) [] a.given) refl (value.agrees, v, value.is)))
+    set_is : (at : ℕ) (name : Name) (of : Ty) (x y : Part) → IsVariable g name of → IsBuilt of → set at name of x ≡ Ok y → PartIs funs g x
+        → PartIs funs g y
+    set_is at name of x y v b e h =
+        let a = passed (cast_to of x) _ y e in
+        let value = cast_is funs g of x a.given (built_aim of b) a.first h in
+        settled (PartIs funs g) _ y a.then' (part_of funs g at f.Deed _ of (built_part of b)
+        (node_is funs g at of _ _ (assign_is at of (target.Local name) [] a.given) refl (value.agrees, v, value.is)))
 
-    changes : (before after : Option Cast) (plan : Plan) (q : Primitive) (x : Change) (right : Ty) → change_by before after plan ≡ Some x
-        → ((c : Cast) → before ≡ Some c → Casts c (t.Prim q) (t.Prim plan.left)) → ((c : Cast) → after ≡ Some c → Casts c (t.Prim plan.result) (t.Prim q))
-        → PlanFits plan → right ≡ t.Prim plan.right → Changes x (t.Prim q) right
-    changes None after plan q x right e b a fits is = cc
-    changes (Some before) None plan q x right e b a fits is = cc
-    changes (Some before) (Some after) plan q x right e b a fits is =
+    -- the casts before and after what changes a variable
+    changes : (before after : Option Cast) (plan : Plan) (of : Ty) (x : Change) (right : Ty) → change_by before after plan ≡ Some x
+        → ((c : Cast) → before ≡ Some c → IsKnownBefore c × Casts c of (t.Prim plan.left))
+        → ((c : Cast) → after ≡ Some c → Casts c (t.Prim plan.result) of)
+        → PlanFits plan → right ≡ t.Prim plan.right → Changes x of right
+    changes None after plan of x right e b a fits is = cc
+    changes (Some before) None plan of x right e b a fits is = cc
+    changes (Some before) (Some after) plan of x right e b a fits is =
         let same : change before plan after ≡ x = cc in
-        subst (λ x. Changes x (t.Prim q) right) same (record {
+        subst (λ x. Changes x of right) same (record {
           left = t.Prim plan.left;
           result = t.Prim plan.result;
-          before = b before refl;
+          known = (b before refl).0;
+          before = (b before refl).1;
           does = subst (λ right. Takes plan.operator (t.Prim plan.left ∷ right ∷ []) (t.Prim plan.result)) (sym is) fits.does;
           after = a after refl;
         })
 
-    changed_if : (found : Option Change) (at : ℕ) (name : Name) (q : Primitive) (y : Typed) (right : Ty) (gives : Gives) (z : Part) → IsVariable g name (t.Prim q)
-        → changed_by found at name (t.Prim q) y gives ≡ Ok z → TypedIs funs g y right → ((x : Change) → found ≡ Some x → Changes x (t.Prim q) (type_of (expr_of y))) → PartIs funs g z
-    changed_if None at name q y right gives z v e h c = cc
-    changed_if (Some x) at name q y right gives z v e h c =
-        settled (PartIs funs g) _ z e (part_of funs g at f.Deed _ (t.Prim q) (built q)
-        (node_is funs g at (t.Prim q) _ _ (change_is at (t.Prim q) (target.Local name) [] x y gives) refl (h.agrees, v, c x refl)))
+    joins : (before after : Option Cast) (of : Ty) (x : Change) (right : Ty) → joining_by before after ≡ Some x
+        → ((c : Cast) → before ≡ Some c → IsKnownBefore c × Casts c of t.Def)
+        → ((c : Cast) → after ≡ Some c → Casts c string of) → right ≡ t.Def → Changes x of right
+    joins None after of x right e b a is = cc
+    joins (Some before) None of x right e b a is = cc
+    joins (Some before) (Some after) of x right e b a is =
+        let same : joining before after ≡ x = cc in
+        subst (λ x. Changes x of right) same (record {
+          left = t.Def;
+          result = string;
+          known = (b before refl).0;
+          before = (b before refl).1;
+          does = ((def_reference, subst IsReference (sym is) def_reference), refl);
+          after = a after refl;
+        })
 
-    changed_is : (at : ℕ) (name : Name) (q : Primitive) (plan : Plan) (y : Typed) (gives : Gives) (z : Part) → IsVariable g name (t.Prim q) → PlanFits plan
-        → changed at name (t.Prim q) plan y gives ≡ Ok z → TypedIs funs g y (t.Prim plan.right) → PartIs funs g z
-    changed_is at name q plan y gives z v fits e h =
-        changed_if (change_of plan (t.Prim q)) at name q y (t.Prim plan.right) gives z v e h (λ x found.
-        changes (cast_before plan (t.Prim q)) (cast_after plan (t.Prim q)) plan q x _ found
-        (λ c found. primitive_casts (t.Prim q) plan.left true c (built q) found) (λ c found. primitive_casts (t.Prim plan.result) q true c (built plan.result) found) fits h.is)
+    changed_if : (found : Option Change) (at : ℕ) (name : Name) (of : Ty) (y : Typed) (right : Ty) (gives : Gives) (z : Part) → IsVariable g name of
+        → IsBuilt of
+        → changed_by found at name of y gives ≡ Ok z → TypedIs funs g y right → ((x : Change) → found ≡ Some x → Changes x of (type_of (expr_of y)))
+        → PartIs funs g z
+    changed_if None at name of y right gives z v b e h c = cc
+    changed_if (Some x) at name of y right gives z v b e h c =
+        settled (PartIs funs g) _ z e (part_of funs g at f.Deed _ of (built_part of b)
+        (node_is funs g at of _ _ (change_is at of (target.Local name) [] x y gives) refl (h.agrees, v, c x refl)))
 
-    compound_is : (found : Option Plan) (at : ℕ) (name : Name) (q : Primitive) (x z : Part) → IsVariable g name (t.Prim q) → ((p : Plan) → found ≡ Some p → PlanFits p)
-        → compound found at name (t.Prim q) x ≡ Ok z → PartIs funs g x → PartIs funs g z
-    compound_is None at name q x z v fits e h = cc
-    compound_is (Some plan) at name q x z v fits e h =
-        let a = passed (operand at plan.right x) (λ y. changed at name (t.Prim q) plan y gv.New) z e in
-        changed_is at name q plan a.given gv.New z v (fits plan refl) a.then' (operand_is funs g at plan.right x a.given a.first h)
+    changed_is : (at : ℕ) (name : Name) (of : Ty) (plan : Plan) (y : Typed) (gives : Gives) (z : Part) → IsVariable g name of → IsBuilt of
+        → PlanFits plan → IsPrimitive of
+        → changed at name of plan y gives ≡ Ok z → TypedIs funs g y (t.Prim plan.right) → PartIs funs g z
+    changed_is at name of plan y gives z v b fits p e h =
+        changed_if (change_of plan of) at name of y (t.Prim plan.right) gives z v b e h (λ x found.
+        changes (cast_before plan of) (cast_after plan of) plan of x _ found
+        (λ c found. (known_from_prim of (t.Prim plan.left) p.primitive true c (built_part of b) p.layer found, part_casts of (t.Prim plan.left) true c (built_part of b) (prim_aim plan.left) found))
+        (λ c found. part_casts (t.Prim plan.result) of true c (prim_part plan.result) (built_aim of b) found) fits h.is)
 
-    assigned_is : (operator : Option BinaryOperator) (at : ℕ) (name : Name) (q : Primitive) (x z : Part) → IsVariable g name (t.Prim q) → assigned operator at name (t.Prim q) x ≡ Ok z
+    joined_is : (found : Option Operator) (operator : BinaryOperator) (at : ℕ) (name : Name) (of : Ty) (x z : Part) → IsVariable g name of
+        → IsBuilt of
+        → joined_if found operator at name of x ≡ Ok z → PartIs funs g x → PartIs funs g z
+    joined_is None operator at name of x z v b e h = cc
+    joined_is (Some relation) operator at name of x z v b e h =
+        let a = passed (reference x) (λ y. changed_by (joining_of of) at name of y gv.New) z e in
+        let right = reference_is funs g x a.given a.first h in
+        changed_if (joining_of of) at name of a.given t.Def gv.New z v b a.then' right (λ x found.
+        joins (cast_of class_is_below of t.Def true) (cast_of class_is_below string of true) of x _ found
+        (λ c found. (known_to_def of true c (built_part of b) found, part_casts of t.Def true c (built_part of b) def_aim found))
+        (λ c found. part_casts string of true c string_part (built_aim of b) found) right.is)
+
+    compound_is : (found : Option Plan) (operator : BinaryOperator) (at : ℕ) (name : Name) (of : Ty) (x z : Part) → IsVariable g name of → IsBuilt of
+        → ((p : Plan) → found ≡ Some p → PlanFits p × IsPrimitive of) → compound found operator at name of x ≡ Ok z → PartIs funs g x
+        → PartIs funs g z
+    compound_is None operator at name of x z v b fits e h = joined_is (relation_between operator of (type_of_part x)) operator at name of x z v b e h
+    compound_is (Some plan) operator at name of x z v b fits e h =
+        let a = passed (operand at plan.right x) (λ y. changed at name of plan y gv.New) z e in
+        let fit = fits plan refl in
+        changed_is at name of plan a.given gv.New z v b fit.0 fit.1 a.then' (operand_is funs g at plan.right x a.given a.first h)
+
+    assigned_is : (operator : Option BinaryOperator) (at : ℕ) (name : Name) (of : Ty) (x z : Part) → IsVariable g name of → IsBuilt of
+        → assigned operator at name of x ≡ Ok z
         → PartIs funs g x → PartIs funs g z
-    assigned_is None at name q x z v e h = set_is at name q x z v e h
-    assigned_is (Some operator) at name q x z v e h = compound_is _ at name q x z v (plans_fit operator (t.Prim q) (type_of_part x)) e h
+    assigned_is None at name of x z v b e h = set_is at name of x z v b e h
+    assigned_is (Some operator) at name of x z v b e h =
+        compound_is (plan_between operator of (type_of_part x)) operator at name of x z v b
+        (λ p found. (plans_fit operator of (type_of_part x) p found, left_primitive operator of (type_of_part x) p found)) e h
 
     -- an assignment
     pub assign_part : (p : Place) (at : ℕ) (operator : Option BinaryOperator) (x z : Part) → PlaceIs g p → assign_of at operator p x ≡ Ok z → PartIs funs g x → PartIs funs g z
     assign_part place.Fixed at operator x z v e h = cc
-    assign_part (place.Local name of) at operator x z v e h =
-        assigned_is operator at name v.1.0 x z (subst (IsVariable g name) v.1.1 v.0) (subst (λ of. assigned operator at name of x ≡ Ok z) v.1.1 e) h
+    assign_part (place.Local name of) at operator x z v e h = assigned_is operator at name of x z v.0 v.1 e h
 
     one_is : (at : ℕ) (q : Primitive) → IsWide q → TypedIs funs g (one at q) (t.Prim q)
     one_is at prim.Int w = constant_typed funs g at (t.Prim prim.Int) (k.Int (pos 1)) refl
@@ -207,10 +259,13 @@ module _ (funs : Program) where
     one_is at prim.Short w = absurd w
     one_is at prim.Char w = absurd w
 
-    counted_is : (found : Option Plan) (at : ℕ) (name : Name) (q : Primitive) (gives : Gives) (z : Part) → IsVariable g name (t.Prim q) → ((p : Plan) → found ≡ Some p → PlanFits p)
-        → ((p : Plan) → found ≡ Some p → IsWide p.right) → counted found at name (t.Prim q) gives ≡ Ok z → PartIs funs g z
-    counted_is None at name q gives z v fits wide e = cc
-    counted_is (Some plan) at name q gives z v fits wide e = changed_is at name q plan _ gives z v (fits plan refl) e (one_is at plan.right (wide plan refl))
+    counted_is : (found : Option Plan) (at : ℕ) (name : Name) (of : Ty) (gives : Gives) (z : Part) → IsVariable g name of → IsBuilt of
+        → ((p : Plan) → found ≡ Some p → PlanFits p × IsPrimitive of) → ((p : Plan) → found ≡ Some p → IsWide p.right)
+        → counted found at name of gives ≡ Ok z → PartIs funs g z
+    counted_is None at name of gives z v b fits wide e = cc
+    counted_is (Some plan) at name of gives z v b fits wide e =
+        let fit = fits plan refl in
+        changed_is at name of plan _ gives z v b fit.0 fit.1 e (one_is at plan.right (wide plan refl))
 
     step_right : (s : TreeStep) (p q : Ty) (x : Plan) → plan_between (operator_of s) p q ≡ Some x → IsWide x.right
     step_right step.Increment p q x e = add_right p q x e
@@ -220,8 +275,8 @@ module _ (funs : Program) where
     pub step_part : (p : Place) (at : ℕ) (s : TreeStep) (gives : Gives) (z : Part) → PlaceIs g p → step_of at s gives p ≡ Ok z → PartIs funs g z
     step_part place.Fixed at s gives z v e = cc
     step_part (place.Local name of) at s gives z v e =
-        counted_is _ at name v.1.0 gives z (subst (IsVariable g name) v.1.1 v.0) (plans_fit (operator_of s) (t.Prim v.1.0) (t.Prim prim.Int)) (step_right s (t.Prim v.1.0) (t.Prim prim.Int))
-        (subst (λ of. counted (plan_between (operator_of s) of (t.Prim prim.Int)) at name of gives ≡ Ok z) v.1.1 e)
+        counted_is (plan_between (operator_of s) of (t.Prim prim.Int)) at name of gives z v.0 v.1
+        (λ p found. (plans_fit (operator_of s) of (t.Prim prim.Int) p found, left_primitive (operator_of s) of (t.Prim prim.Int) p found)) (step_right s of (t.Prim prim.Int)) e
 
     -- ---- calls
 
@@ -236,18 +291,19 @@ module _ (funs : Program) where
       agree : ExprsAgree funs g (exprs_of (map expr_of ys))
       types : types_of (exprs_of (map expr_of ys)) ≡ of_names ts
 
-    arguments_are : (ts : List Named) (xs : List Part) (ys : List Typed) → length ts ≡ length xs → arguments ts xs ≡ Ok ys → AllParts xs → ArgumentsAre ts ys
-    arguments_are [] [] ys l e h = settled (ArgumentsAre []) [] ys e (record { agree = tt; types = refl })
-    arguments_are [] (x ∷ xs) ys l e h = absurd (omega (arith, l))
-    arguments_are (p ∷ ts) [] ys l e h = absurd (omega (arith, l))
-    arguments_are (p ∷ ts) (x ∷ xs) ys l e h =
+    arguments_are : (ts : List Named) (xs : List Part) (ys : List Typed) → AllBuilt ts → length ts ≡ length xs → arguments ts xs ≡ Ok ys → AllParts xs
+        → ArgumentsAre ts ys
+    arguments_are [] [] ys b l e h = settled (ArgumentsAre []) [] ys e (record { agree = tt; types = refl })
+    arguments_are [] (x ∷ xs) ys b l e h = absurd (omega (arith, l))
+    arguments_are (p ∷ ts) [] ys b l e h = absurd (omega (arith, l))
+    arguments_are (p ∷ ts) (x ∷ xs) ys b l e h =
         let a = passed (cast_to p.of x) _ ys e in
-        let b = passed (arguments ts xs) _ ys a.then' in
-        let first = cast_is funs g p.of x a.given a.first h.0 in
-        let rest = arguments_are ts xs b.given (omega (arith, l)) b.first h.1 in
-        settled (ArgumentsAre (p ∷ ts)) (a.given ∷ b.given) ys b.then' (record {
+        let others = passed (arguments ts xs) _ ys a.then' in
+        let first = cast_is funs g p.of x a.given (built_aim p.of b.0) a.first h.0 in
+        let rest = arguments_are ts xs others.given b.1 (omega (arith, l)) others.first h.1 in
+        settled (ArgumentsAre (p ∷ ts)) (a.given ∷ others.given) ys others.then' (record {
           agree = (first.agrees, rest.agree);
-          types = ap (λ of. of ∷ types_of (exprs_of (map expr_of b.given))) first.is ∙ ap (λ ofs. p.of ∷ ofs) rest.types;
+          types = ap (λ of. of ∷ types_of (exprs_of (map expr_of others.given))) first.is ∙ ap (λ ofs. p.of ∷ ofs) rest.types;
         })
 
   -- the functions of the program are those of the headers
@@ -256,7 +312,8 @@ module _ (funs : Program) where
     pub is : slice_get funs (suc number) ≡ Some fun
     pub takes : types_in fun.params ≡ map (λ (x : Named). x.of) h.parameters
     pub gives : fun.result ≡ h.result
-    pub built : IsBuilt h.result
+    pub built : IsOfPart h.result
+    pub all_built : AllBuilt h.parameters
 
   pub record Heads (hs : List Header) : Type 0 where
     pub each : (number : ℕ) (h : Header) → slice_get hs number ≡ Some h → Head number h
@@ -267,8 +324,8 @@ module _ (funs : Program) where
     called_is hs None at number xs z heads is l e h = cc
     called_is hs (Some head) at number xs z heads is l e h =
         let a = passed (arguments head.parameters xs) _ z e in
-        let given = arguments_are g head.parameters xs a.given (l head refl) a.first h in
         let fun = heads.each number head is in
+        let given = arguments_are g head.parameters xs a.given fun.all_built (l head refl) a.first h in
         let one : suc number ≡ number + 1 = omega arith in
         settled (PartIs funs g) _ z a.then' (part_of funs g at f.Deed _ head.result fun.built
         (node_is funs g at head.result _ _ (applied_is at head.result (o.Function (number + 1)) a.given) refl

@@ -12,7 +12,7 @@ use Rattle.typed_tree.specs.declared.typed.Typed.{Typed}
 use Rattle.typed_tree.specs.declared.typed.Node.TheVariants as n
 use Rattle.typed_tree.specs.declared.typed.Node.TheOpen.{Node-F}
 use Rattle.typed_tree.specs.declared.typed.Node.TheFolds.{fold-Node, fold-roll-Typed, fold-roll-Node}
-use Rattle.program_meaning.specs.Tree.{Name, Expr, Literal, Local, Apply, Logic, Conditional, Assign, Modify}
+use Rattle.program_meaning.specs.Tree.{Name, Expr, Literal, Quoted, Local, Apply, Logic, Conditional, Elvis, Assign, Modify}
 use Rattle.program_meaning.specs.Programs.{exprs_of, node_expr, typed_expr, expr_of}
 use Rattle.typing_rules.specs.Rules.Nodes.{typed, applied}
 
@@ -22,6 +22,9 @@ at_node at of node = fold-roll-Typed (ℕ → Ty → Expr) Expr node_expr typed_
 
 pub constant_is : (at : ℕ) (of : Ty) (c : Constant) → expr_of (typed at of (n.Constant c)) ≡ Literal at of c
 constant_is at of c = at_node at of (n.Constant c) ∙ ap (λ f. f at of) (ap (fold-Node (ℕ → Ty → Expr) Expr node_expr typed_expr) (sym (n.rolls-Constant c)) ∙ fold-roll-Node (ℕ → Ty → Expr) Expr node_expr typed_expr (Node-F.Constant c))
+
+pub text_is : (at : ℕ) (of : Ty) (text : List ℕ) → expr_of (typed at of (n.Text text)) ≡ Quoted at of text
+text_is at of text = at_node at of (n.Text text) ∙ ap (λ f. f at of) (ap (fold-Node (ℕ → Ty → Expr) Expr node_expr typed_expr) (sym (n.rolls-Text text)) ∙ fold-roll-Node (ℕ → Ty → Expr) Expr node_expr typed_expr (Node-F.Text text))
 
 pub local_is : (at : ℕ) (of : Ty) (x : Name) → expr_of (typed at of (n.Local x)) ≡ Local at of x
 local_is at of x = at_node at of (n.Local x) ∙ ap (λ f. f at of) (ap (fold-Node (ℕ → Ty → Expr) Expr node_expr typed_expr) (sym (n.rolls-Local x)) ∙ fold-roll-Node (ℕ → Ty → Expr) Expr node_expr typed_expr (Node-F.Local x))
@@ -37,6 +40,10 @@ logic_is at of o left right = at_node at of (n.Logical o left right) ∙ ap (λ 
 pub choice_is : (at : ℕ) (of : Ty) (z x y : Typed) → expr_of (typed at of (n.Conditional z x y)) ≡ Conditional at of (expr_of z) (expr_of x) (expr_of y)
 unfolding expr_of
 choice_is at of z x y = at_node at of (n.Conditional z x y) ∙ ap (λ f. f at of) (ap (fold-Node (ℕ → Ty → Expr) Expr node_expr typed_expr) (sym (n.rolls-Conditional z x y)) ∙ fold-roll-Node (ℕ → Ty → Expr) Expr node_expr typed_expr (Node-F.Conditional z x y))
+
+pub elvis_is : (at : ℕ) (of : Ty) (left right : Typed) → expr_of (typed at of (n.Elvis left right)) ≡ Elvis at of (expr_of left) (expr_of right)
+unfolding expr_of
+elvis_is at of left right = at_node at of (n.Elvis left right) ∙ ap (λ f. f at of) (ap (fold-Node (ℕ → Ty → Expr) Expr node_expr typed_expr) (sym (n.rolls-Elvis left right)) ∙ fold-roll-Node (ℕ → Ty → Expr) Expr node_expr typed_expr (Node-F.Elvis left right))
 
 pub assign_is : (at : ℕ) (of : Ty) (to : Target) (parts : List Typed) (value : Typed) → expr_of (typed at of (n.Assign to parts value)) ≡ Assign at of to (exprs_of (map expr_of parts)) (expr_of value)
 unfolding expr_of

@@ -5,14 +5,15 @@ use Rattle.arithmetic.specs.declared.operator.Op.{Op}
 use Rattle.arithmetic.specs.declared.operator.Op.TheVariants as op
 use Rattle.pl_types.specs.declared.primitive.Primitive.{Primitive}
 use Rattle.pl_types.specs.declared.primitive.Primitive.TheVariants as prim
-use Rattle.pl_types.specs.declared.ty.Ty.{Ty}
+use Rattle.pl_types.specs.declared.ty.Ty.{Ty, out-Ty}
+use Rattle.pl_types.specs.declared.ty.Ty.TheOpen.{Ty-F}
 use Rattle.pl_types.specs.declared.ty.Ty.TheVariants as t
 use Rattle.pl_types.specs.Promotions.{promote_of}
 use Rattle.pl_tree.specs.declared.operator.BinaryOperator.{BinaryOperator}
 use Rattle.pl_tree.specs.declared.operator.BinaryOperator.TheVariants as b
 use Rattle.typed_tree.specs.declared.operation.Operator.TheVariants as operator
 use Rattle.typing_rules.specs.declared.rules.plans.Plan.{Plan}
-use Rattle.typing_rules.specs.Rules.Operators.{primitive_of, plan, on_numbers, shift_of, of_booleans, bits, equality, plan_of, plan_if, plan_between}
+use Rattle.typing_rules.specs.Rules.Operators.{primitive_layer, primitive_of, plan, on_numbers, shift_of, of_booleans, bits, equality, plan_of, plan_if, plan_between}
 use Rattle.program_types.specs.Types.{Takes}
 
 pub record PlanFits (x : Plan) : Type 0 where
@@ -179,3 +180,20 @@ add_right p q x e = right_if b.Add (primitive_of p) (primitive_of q) x (λ p q e
 
 pub subtract_right : (p q : Ty) (x : Plan) → plan_between b.Subtract p q ≡ Some x → IsWide x.right
 subtract_right p q x e = right_if b.Subtract (primitive_of p) (primitive_of q) x (λ p q e. arithmetic_right op.Sub (promote_of p q) (promotes p q) x e) e
+
+-- a plan is there for primitive types alone
+pub record IsPrimitive (of : Ty) : Type 0 where
+  pub primitive : Primitive
+  pub layer : out-Ty of ≡ Ty-F.Prim primitive
+
+primitive_if : (o : BinaryOperator) (of : Ty) (l : Ty-F Ty) (q : Option Primitive) (x : Plan) → out-Ty of ≡ l
+    → plan_if o (primitive_layer l) q ≡ Some x → IsPrimitive of
+primitive_if o of (Ty-F.Prim p) q x is e = record { primitive = p; layer = is }
+primitive_if o of Ty-F.Void q x is e = cc
+primitive_if o of Ty-F.Null q x is e = cc
+primitive_if o of Ty-F.Def q x is e = cc
+primitive_if o of (Ty-F.Class c) q x is e = cc
+primitive_if o of (Ty-F.Array u) q x is e = cc
+
+pub left_primitive : (o : BinaryOperator) (p q : Ty) (x : Plan) → plan_between o p q ≡ Some x → IsPrimitive p
+left_primitive o p q x e = primitive_if o p (out-Ty p) (primitive_of q) x refl e

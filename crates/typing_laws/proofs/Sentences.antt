@@ -7,7 +7,7 @@ use Rattle.typed_tree.specs.declared.statement.TypedVariable.{TypedVariable}
 use Rattle.typed_tree.specs.declared.statement.StatementNode.TheVariants as n
 use Rattle.typed_tree.specs.declared.statement.StatementNode.TheOpen.{StatementNode-F}
 use Rattle.typed_tree.specs.declared.statement.StatementNode.TheFolds.{fold-StatementNode, fold-roll-TypedStatement, fold-roll-StatementNode}
-use Rattle.program_meaning.specs.Tree.{Do, If, While, DoWhile, Block, Break, Continue, Return, Stmts, Finish, Then}
+use Rattle.program_meaning.specs.Tree.{Do, If, While, DoWhile, Block, Break, Continue, Return, Throw, Stmts, Finish, Then}
 use Rattle.program_meaning.specs.Programs.{Before, Caught, expr_of, maybe_of, alone, alone_if, in_row, declared, begun, catch_before, node_before, statement_before, before}
 
 abbrev fold : StatementNode → Before
@@ -60,3 +60,7 @@ continue_is at rest = ap (λ f. f rest) (at_step at n.Continue ∙ (ap fold (sym
 pub return_is : (at : ℕ) (v : Option Typed) (rest : Stmts) → before (roll-TypedStatement (record { at = at; node = n.Return v })) rest ≡ Then (Return (maybe_of v)) rest
 unfolding before
 return_is at v rest = ap (λ f. f rest) (at_step at (n.Return v) ∙ (ap fold (sym (n.rolls-Return v)) ∙ fold-roll-StatementNode Before Caught Before node_before catch_before statement_before (StatementNode-F.Return v)))
+
+pub throw_is : (at : ℕ) (value : Typed) (rest : Stmts) → before (roll-TypedStatement (record { at = at; node = n.Throw value })) rest ≡ Then (Throw (expr_of value)) rest
+unfolding before
+throw_is at value rest = ap (λ f. f rest) (at_step at (n.Throw value) ∙ (ap fold (sym (n.rolls-Throw value)) ∙ fold-roll-StatementNode Before Caught Before node_before catch_before statement_before (StatementNode-F.Throw value)))

@@ -6,7 +6,8 @@ use Rattle.std.proofs.lemmas.Bool.{false≢true, ltb-false}
 use Rattle.std.specs.Str.{bytes_eq}
 use Rattle.std.proofs.Math.Seq.{take-append_seam}
 use Rattle.std.proofs.lemmas.Slice.Eq.{bytes_eq-Decides}
-use Rattle.pl_types.specs.declared.ty.Ty.{Ty, out-Ty, roll-Ty, roll-out-Ty}
+use Rattle.pl_types.specs.declared.classes.TheConstants.{EXCEPTION}
+use Rattle.pl_types.specs.declared.ty.Ty.{Ty, out-Ty}
 use Rattle.pl_types.specs.declared.ty.Ty.TheVariants as t
 use Rattle.pl_types.specs.declared.ty.Ty.TheOpen.{Ty-F}
 use Rattle.typed_tree.specs.declared.statement.StatementNode.TheVariants as node
@@ -21,13 +22,15 @@ use Rattle.typing_rules.specs.Outcomes.{refuse}
 use Rattle.typing_rules.specs.Doing.{Whole, Answer, Doing}
 use Rattle.typing_rules.specs.Rules.Nodes.{is_void, is_void_layer}
 use Rattle.typing_rules.specs.Rules.Casts.{cast_to}
-use Rattle.typing_rules.specs.Rules.Statements.{step, is_deed, deed, give_back, is_result, expression_of, break_of, continue_of, return_of, nothing_returned}
-use Rattle.program_meaning.specs.Tree.{Name, Stmt, Do, Break, Continue, Return, Stmts, Then, Missing, Given, Program}
+use Rattle.typing_rules.specs.Rules.Statements.{step, is_deed, deed, give_back, is_result, expression_of, break_of, continue_of, return_of, nothing_returned, throw_of}
+use Rattle.program_meaning.specs.Tree.{Name, Stmt, Do, Break, Continue, Return, Throw, Stmts, Then, Missing, Given, Program}
 use Rattle.program_meaning.specs.Falls.{falls}
 use Rattle.program_meaning.specs.Programs.{Before, expr_of, alone, before}
 use Rattle.program_types.specs.Agreeing.{Scope, StmtAgrees, StmtsAgree, scope_of}
+use Rattle.program_types.specs.Types.{IsReference}
+use Rattle.typing_laws.proofs.Types.{void_by, class_built, built_aim, IsAim, class_reference}
 use Rattle.typing_laws.proofs.Parts.{passed, accepted, settled, cast_is}
-use Rattle.typing_laws.proofs.Names.{seen, in_sight, Fresh, Distinct}
+use Rattle.typing_laws.proofs.Names.{seen, in_sight, Fresh, Distinct, Known}
 use Rattle.typing_laws.proofs.Sentences as sentence
 use Rattle.typing_laws.proofs.Sentences.{before_if}
 use Rattle.program_types.specs.Reached.{StmtReached}
@@ -74,12 +77,12 @@ pub distinct_behind : (es : List Entry) (e : Entry) → Distinct es → Fresh e.
 distinct_behind [] e d f = (tt, tt)
 distinct_behind (e' ∷ es) e d f = (fresh_behind e'.name es e d.0 (λ same. f.0 (sym same)), distinct_behind es e d.1 f.1)
 
-noted_by : (found : Option ℕ) (name : Name) (of : Ty) (s : State) → find name s.scopes ≡ found → Distinct s.scopes → Distinct (noted_if found name of s).scopes
-noted_by None name of s is d = distinct_behind s.scopes (new_entry name of) d (not_found name s.scopes is)
+noted_by : (found : Option ℕ) (name : Name) (of : Ty) (s : State) → find name s.scopes ≡ found → Known s → Known (noted_if found name of s)
+noted_by None name of s is d = (distinct_behind s.scopes (new_entry name of) d.0 (not_found name s.scopes is), d.1)
 noted_by (Some i) name of s is d = d
 
-pub noted_distinct : (name : Name) (of : Ty) (s : State) → Distinct s.scopes → Distinct (noted name of s).scopes
-noted_distinct name of s d = noted_by (find name s.scopes) name of s refl d
+pub noted_known : (name : Name) (of : Ty) (s : State) → Known s → Known (noted name of s)
+noted_known name of s d = noted_by (find name s.scopes) name of s refl d
 
 -- ---- what is known behind a statement
 
@@ -87,16 +90,16 @@ noted_distinct name of s d = noted_by (find name s.scopes) name of s refl d
 pub record Grew (s t : State) : Type 0 where
   pub more : List Entry
   pub is : t ≡ record s { scopes = s.scopes ++ more }
-  pub distinct : Distinct t.scopes
+  pub known : Known t
 
-pub stays : (s : State) → Distinct s.scopes → Grew s s
-stays s d = record { more = []; is = ap (λ es. record s { scopes = es }) (sym (append-nil s.scopes)); distinct = d }
+pub stays : (s : State) → Known s → Grew s s
+stays s d = record { more = []; is = ap (λ es. record s { scopes = es }) (sym (append-nil s.scopes)); known = d }
 
 pub grew_on : (s t u : State) → Grew s t → Grew t u → Grew s u
 grew_on s t u x y = record {
   more = x.more ++ y.more;
   is = y.is ∙ (ap (λ (t : State). record t { scopes = t.scopes ++ y.more }) x.is ∙ ap (λ es. record s { scopes = es }) (append_assoc s.scopes x.more y.more));
-  distinct = y.distinct;
+  known = y.known;
 }
 
 -- where a scope ends, what is known is as before it
@@ -130,7 +133,7 @@ module _ (funs : Program) where
 
   -- a statement, or several
   pub record Steps {A : Type 0} (k : Kind A) (m : Doing A) : Type 0 where
-    pub by : (s : State) (next : A → State → Answer) (r : Whole) → Distinct s.scopes → m s next ≡ Ok r → GotStep k s next r
+    pub by : (s : State) (next : A → State → Answer) (r : Whole) → Known s → m s next ≡ Ok r → GotStep k s next r
 
   pub first_is_step : {m : Doing Step} → Steps of_first m → Steps of_step m
   first_is_step v = record {
@@ -178,24 +181,34 @@ module _ (funs : Program) where
   deed_is : (s : State) (at : ℕ) (x : Part) (y : Step) → deed at x ≡ Ok y → PartAt funs s x → StepAt s y
   deed_is s at x y e h = let z = deed_first s at x y e h in (z.0, never_escapes y.escapes (before y.statement) z.1)
 
-  gives_back : (s : State) (at : ℕ) (x : Part) (y : Step) → give_back at s.result x ≡ Ok y → PartAt funs s x → StepAt s y
-  gives_back s at x y e h =
+  gives_back : (s : State) (at : ℕ) (x : Part) (y : Step) → IsAim s.result → give_back at s.result x ≡ Ok y → PartAt funs s x → StepAt s y
+  gives_back s at x y aim e h =
       let a = passed (cast_to s.result x) _ y e in
-      let value = cast_is funs (in_sight s.scopes) s.result x a.given a.first h in
+      let value = cast_is funs (in_sight s.scopes) s.result x a.given aim a.first h in
       settled (StepAt s) _ y a.then' (step_at s (step true false at (node.Return (Some a.given))) (Return (Given (expr_of a.given))) (sentence.return_is at (Some a.given)) (value.agrees, value.is) tt (λ e. absurd (false≢true (sym e))))
 
-  expression_if : (c : Bool) (s : State) (at : ℕ) (x : Part) (y : Step) → (if c then give_back at s.result x else deed at x) ≡ Ok y → PartAt funs s x → StepAt s y
-  expression_if true s at x y e h = gives_back s at x y e h
-  expression_if false s at x y e h = deed_is s at x y e h
+  expression_if : (c : Bool) (s : State) (at : ℕ) (x : Part) (y : Step) → IsAim s.result → (if c then give_back at s.result x else deed at x) ≡ Ok y
+      → PartAt funs s x → StepAt s y
+  expression_if true s at x y aim e h = gives_back s at x y aim e h
+  expression_if false s at x y aim e h = deed_is s at x y e h
 
-  pub expression_step : (s : State) (at : ℕ) (last : Bool) (x : Part) (y : Step) → expression_of at last x s ≡ Ok y → PartAt funs s x → StepAt s y
-  expression_step s at last x y e h = expression_if (is_result last x s) s at x y e h
+  pub expression_step : (s : State) (at : ℕ) (last : Bool) (x : Part) (y : Step) → IsAim s.result → expression_of at last x s ≡ Ok y → PartAt funs s x
+      → StepAt s y
+  expression_step s at last x y aim e h = expression_if (is_result last x s) s at x y aim e h
 
-  pub return_step : (s : State) (at : ℕ) (x : Part) (y : Step) → return_of at x s ≡ Ok y → PartAt funs s x → StepAt s y
-  return_step s at x y e h = gives_back s at x y e h
+  pub return_step : (s : State) (at : ℕ) (x : Part) (y : Step) → IsAim s.result → return_of at x s ≡ Ok y → PartAt funs s x → StepAt s y
+  return_step s at x y aim e h = gives_back s at x y aim e h
+
+  -- what is thrown
+  pub throw_step : (s : State) (at : ℕ) (x : Part) (y : Step) → throw_of at x ≡ Ok y → PartAt funs s x → StepAt s y
+  throw_step s at x y e h =
+      let a = passed (cast_to (t.Class EXCEPTION) x) _ y e in
+      let value = cast_is funs (in_sight s.scopes) (t.Class EXCEPTION) x a.given (built_aim (t.Class EXCEPTION) (class_built EXCEPTION refl)) a.first h in
+      settled (StepAt s) _ y a.then' (step_at s (step true false at (node.Throw a.given)) (Throw (expr_of a.given)) (sentence.throw_is at a.given)
+      (value.agrees, subst IsReference (sym value.is) (class_reference EXCEPTION)) tt (λ e. absurd (false≢true (sym e))))
 
   void_is : (of : Ty) (l : Ty-F Ty) → out-Ty of ≡ l → is_void_layer l ≡ true → of ≡ t.Void
-  void_is of Ty-F.Void is e = sym (roll-out-Ty of) ∙ (ap roll-Ty is ∙ t.rolls-Void)
+  void_is of Ty-F.Void is e = void_by of is
   void_is of Ty-F.Null is e = cc
   void_is of Ty-F.Def is e = cc
   void_is of (Ty-F.Prim p) is e = cc

@@ -1,5 +1,5 @@
 -- Every tree's typing gives what agrees: by induction over trees.
-use Rattle.std.proofs.Common.{◌≡◌, ℕ, zero, suc, Bool, true, false, List, [], ◌∷◌, map, take, length, Option, Some, None, Ok, sym, subst}
+use Rattle.std.proofs.Common.{ℕ, zero, suc, Bool, true, false, List, [], ◌∷◌, map, take, length, Option, Some, None, sym, subst}
 use Rattle.pl_types.specs.declared.ty.Ty.{Ty}
 use Rattle.pl_types.specs.declared.ty.Ty.TheVariants as t
 use Rattle.pl_tree.specs.declared.operator.BinaryOperator.{BinaryOperator}
@@ -34,18 +34,19 @@ use Rattle.typing_rules.specs.State.{closed, noted}
 use Rattle.typing_rules.specs.Doing.{Doing, ◌>>=◌, ◌>>◌, pure, and_then, by_rule, looking, setting}
 use Rattle.typing_rules.specs.Rules.Types.{type_of}
 use Rattle.typing_rules.specs.Rules.Nodes.{bracketed}
-use Rattle.typing_rules.specs.Rules.Literals.{integer, negated_integer, constant}
+use Rattle.typing_rules.specs.Rules.Literals.{integer, negated_integer, constant, text}
 use Rattle.typing_rules.specs.Rules.Casts.{asked}
-use Rattle.typing_rules.specs.Rules.Operators.{binary_of, unary_of, choice_of}
+use Rattle.typing_rules.specs.Rules.Operators.{binary_of, unary_of, choice_of, elvis_of, instance_of}
 use Rattle.typing_rules.specs.Rules.Places.{local, written, assign_of, step_of}
 use Rattle.typing_rules.specs.Rules.Calls.{call_of}
-use Rattle.typing_rules.specs.Rules.Statements.{escapes_if, last_escapes, expression_of, break_of, continue_of, return_of, nothing_returned, deed}
+use Rattle.typing_rules.specs.Rules.Statements.{escapes_if, last_escapes, expression_of, break_of, continue_of, return_of, nothing_returned, throw_of, deed}
 use Rattle.typing_rules.specs.Typing.{Reading, Doer, Braces, Seen, unbuilt, seen, all_seen, scoped, looping, parts, alone, parameter_type, lambda_parameters, lambda, for_each, call, initial, returned, loop_step, argument_step, body_step, unary, expression_step, first_step, lambda_step, statement_step, block_step, catch_step, declaration_step, entry_step, variable_step, reading, argument, body, doer, braces}
 use Rattle.program_meaning.specs.Tree.{Program}
-use Rattle.typing_laws.proofs.Parts.{integer_is, negated_is, constant_part, bracketed_is, asked_is, binary_is, unary_is, choice_part}
-use Rattle.typing_laws.proofs.Names.{Fresh, Distinct, in_sight, AllParts, Heads, local_part, written_place, assign_part, step_part, call_part}
-use Rattle.typing_laws.proofs.Values.{Value, ruled, never, Looked, looked, in_order, followed, rule_looked, pure_looked, setting_looked, seen_looked, ends_unbuilt, ends_unbuilt', is_unbuilt, IsPrimitive, type_is, PartAt, ReadingIs, one_part, two_parts, three_parts, looks, by_one_rule, plain_is, fixed_place, minus_part}
-use Rattle.typing_laws.proofs.Steps.{Kind, of_step, of_first, Steps, Bodies, StepAt, FirstAt, steps_of, firsts_of, first_is_step, noted_distinct, deed_first, expression_step as expression_agrees, return_step, nothing_step, break_step, continue_step}
+use Rattle.typing_laws.proofs.Types.{IsBuilt, def_aim}
+use Rattle.typing_laws.proofs.Parts.{integer_is, negated_is, constant_part, text_part, bracketed_is, asked_is, binary_is, unary_is, choice_part, elvis_part, instance_part}
+use Rattle.typing_laws.proofs.Names.{Fresh, Distinct, Known, in_sight, AllParts, Heads, local_part, written_place, assign_part, step_part, call_part}
+use Rattle.typing_laws.proofs.Values.{Value, ruled, never, Looked, looked, in_order, followed, rule_looked, pure_looked, setting_looked, seen_looked, ends_unbuilt, ends_unbuilt', is_unbuilt, type_is, PartAt, ReadingIs, one_part, two_parts, three_parts, looks, by_one_rule, plain_is, fixed_place, minus_part}
+use Rattle.typing_laws.proofs.Steps.{Kind, of_step, of_first, Steps, Bodies, StepAt, FirstAt, steps_of, firsts_of, first_is_step, noted_known, deed_first, expression_step as expression_agrees, return_step, throw_step, nothing_step, break_step, continue_step}
 use Rattle.typing_laws.proofs.Compounds.{condition_is, no_condition, update_is, no_update, RunsAlone, scoped_is, stmts_if, perhaps_some, perhaps_none, row, block_body, if_step, while_step, for_step, for_first_step, do_step, AllSteps, block_steps, BeginAt, initial_some, initial_none, one_variable, variable_is, AllVariables, declaration_step as declaration_agrees}
 
 module _ (funs : Program) (hs : List Header) (heads : Heads funs hs) where
@@ -98,7 +99,7 @@ module _ (funs : Program) (hs : List Header) (heads : Heads funs hs) where
   OfEntry x = Looked (entry x)
 
   abbrev OfVariable : Variable → Type 0
-  OfVariable x = (of : Ty) → IsPrimitive of → Steps funs (one_variable funs) (variable x of)
+  OfVariable x = (of : Ty) → IsBuilt of → Steps funs (one_variable funs) (variable x of)
 
   abbrev WithArgument : Type 0
   WithArgument = Argument-F ((x : Argument) × OfArgument x) ((x : Body) × OfBody x) ((x : Expr) × OfExpr x) ((x : First) × OfFirst x) ((x : LambdaBody) × OfLambdaBody x) ((x : Statement) × OfStatement x) ((x : Block) × OfBlock x) ((x : Catch) × OfCatch x) ((x : Declaration) × OfDeclaration x) ((x : Entry) × OfEntry x) ((x : Variable) × OfVariable x)
@@ -197,7 +198,7 @@ module _ (funs : Program) (hs : List Header) (heads : Heads funs hs) where
   row_steps [] = tt
   row_steps (y ∷ ys) = (y.1, row_steps ys)
 
-  all_variables : (of : Ty) → IsPrimitive of → (ys : List ((x : Variable) × OfVariable x)) → AllVariables funs of (map variable (map (λ e. e.0) ys))
+  all_variables : (of : Ty) → IsBuilt of → (ys : List ((x : Variable) × OfVariable x)) → AllVariables funs of (map variable (map (λ e. e.0) ys))
   all_variables of p [] = tt
   all_variables of p (y ∷ ys) = (y.1 of p, all_variables of p ys)
 
@@ -234,7 +235,16 @@ module _ (funs : Program) (hs : List Header) (heads : Heads funs hs) where
         let p = type_is of to.given to.has in
         let x = h.value.by s (λ x t. and_then (asked at to.given x) (λ z. next z t)) r d to.goes in
         let z = ruled (asked at to.given x.given) (λ z. next z s) r x.goes in
-        record { given = z.given; has = asked_is funs (in_sight s.scopes) at p.0 x.given z.given (subst (λ to. asked at to x.given ≡ Ok z.given) p.1 z.has) x.has; goes = z.goes };
+        record { given = z.given; has = asked_is funs (in_sight s.scopes) at to.given x.given z.given p z.has x.has; goes = z.goes };
+  }
+
+  instance_value : (at : ℕ) (of : TypeName) (operand : Reading) → ReadingIs funs operand → Value (PartAt funs) (operand.value >>= (λ x. by_rule (type_of of) >>= (λ t. by_rule (instance_of at x t))))
+  instance_value at of operand h = record {
+    by = λ s next r d e.
+        let x = h.value.by s (λ x t. and_then (type_of of) (λ to. and_then (instance_of at x to) (λ z. next z t))) r d e in
+        let to = ruled (type_of of) (λ to. and_then (instance_of at x.given to) (λ z. next z s)) r x.goes in
+        let z = ruled (instance_of at x.given to.given) (λ z. next z s) r to.goes in
+        record { given = z.given; has = instance_part funs (in_sight s.scopes) at x.given to.given z.given z.has (type_is of to.given to.has) x.has; goes = z.goes };
   }
 
   bracketed_value : (at : ℕ) (x : Reading) → ReadingIs funs x → Value (PartAt funs) (x.value >>= (λ y. pure (bracketed at y)))
@@ -269,9 +279,9 @@ module _ (funs : Program) (hs : List Header) (heads : Heads funs hs) where
   expr_layer : (y : WithExpr) → OfExpr (roll-Expr (bareExpr y))
   expr_layer (Expr-F.Assign operator at target value) = subst (ReadingIs funs) (sym (fold-roll-Expr (Doing Part) (Doing Step) Reading (Doing Step) Seen Doer Braces Seen Doer Seen (Ty → Doing TypedVariable) (argument_step hs) (body_step hs) (expression_step hs) (first_step hs) (lambda_step hs) (statement_step hs) (block_step hs) (catch_step hs) (declaration_step hs) (entry_step hs) (variable_step hs) (Expr-F.Assign operator at target.0 value.0))) (plain_is funs _ _ (assign_value operator at (reading hs target.0) (reading hs value.0) target.1 value.1))
   expr_layer (Expr-F.Conditional at z x y) = subst (ReadingIs funs) (sym (fold-roll-Expr (Doing Part) (Doing Step) Reading (Doing Step) Seen Doer Braces Seen Doer Seen (Ty → Doing TypedVariable) (argument_step hs) (body_step hs) (expression_step hs) (first_step hs) (lambda_step hs) (statement_step hs) (block_step hs) (catch_step hs) (declaration_step hs) (entry_step hs) (variable_step hs) (Expr-F.Conditional at z.0 x.0 y.0))) (plain_is funs _ _ (three_parts funs (choice_of at) z.1.value x.1.value y.1.value (λ s z x y w e hz hx hy. choice_part funs (in_sight s.scopes) at z x y w e hz hx hy)))
-  expr_layer (Expr-F.Elvis at left right) = subst (ReadingIs funs) (sym (fold-roll-Expr (Doing Part) (Doing Step) Reading (Doing Step) Seen Doer Braces Seen Doer Seen (Ty → Doing TypedVariable) (argument_step hs) (body_step hs) (expression_step hs) (first_step hs) (lambda_step hs) (statement_step hs) (block_step hs) (catch_step hs) (declaration_step hs) (entry_step hs) (variable_step hs) (Expr-F.Elvis at left.0 right.0))) (plain_is funs _ _ (record { by = λ s next r d e. let a = left.1.value.by s _ r d e in let b = right.1.value.by s _ r d a.goes in never at r b.goes }))
+  expr_layer (Expr-F.Elvis at left right) = subst (ReadingIs funs) (sym (fold-roll-Expr (Doing Part) (Doing Step) Reading (Doing Step) Seen Doer Braces Seen Doer Seen (Ty → Doing TypedVariable) (argument_step hs) (body_step hs) (expression_step hs) (first_step hs) (lambda_step hs) (statement_step hs) (block_step hs) (catch_step hs) (declaration_step hs) (entry_step hs) (variable_step hs) (Expr-F.Elvis at left.0 right.0))) (plain_is funs _ _ (two_parts funs (elvis_of at) left.1.value right.1.value (λ s x y z e hx hy. elvis_part funs (in_sight s.scopes) at x y z e hx hy)))
   expr_layer (Expr-F.Binary operator at left right) = subst (ReadingIs funs) (sym (fold-roll-Expr (Doing Part) (Doing Step) Reading (Doing Step) Seen Doer Braces Seen Doer Seen (Ty → Doing TypedVariable) (argument_step hs) (body_step hs) (expression_step hs) (first_step hs) (lambda_step hs) (statement_step hs) (block_step hs) (catch_step hs) (declaration_step hs) (entry_step hs) (variable_step hs) (Expr-F.Binary operator at left.0 right.0))) (plain_is funs _ _ (two_parts funs (binary_of operator at) left.1.value right.1.value (λ s x y z e hx hy. binary_is funs (in_sight s.scopes) operator at x y z e hx hy)))
-  expr_layer (Expr-F.Instanceof at operand of) = subst (ReadingIs funs) (sym (fold-roll-Expr (Doing Part) (Doing Step) Reading (Doing Step) Seen Doer Braces Seen Doer Seen (Ty → Doing TypedVariable) (argument_step hs) (body_step hs) (expression_step hs) (first_step hs) (lambda_step hs) (statement_step hs) (block_step hs) (catch_step hs) (declaration_step hs) (entry_step hs) (variable_step hs) (Expr-F.Instanceof at operand.0 of))) (plain_is funs _ _ (record { by = λ s next r d e. let a = operand.1.value.by s _ r d e in let b = ruled (type_of of) _ r a.goes in never at r b.goes }))
+  expr_layer (Expr-F.Instanceof at operand of) = subst (ReadingIs funs) (sym (fold-roll-Expr (Doing Part) (Doing Step) Reading (Doing Step) Seen Doer Braces Seen Doer Seen (Ty → Doing TypedVariable) (argument_step hs) (body_step hs) (expression_step hs) (first_step hs) (lambda_step hs) (statement_step hs) (block_step hs) (catch_step hs) (declaration_step hs) (entry_step hs) (variable_step hs) (Expr-F.Instanceof at operand.0 of))) (plain_is funs _ _ (instance_value at of (reading hs operand.0) operand.1))
   expr_layer (Expr-F.Unary operator at operand) = subst (ReadingIs funs) (sym (fold-roll-Expr (Doing Part) (Doing Step) Reading (Doing Step) Seen Doer Braces Seen Doer Seen (Ty → Doing TypedVariable) (argument_step hs) (body_step hs) (expression_step hs) (first_step hs) (lambda_step hs) (statement_step hs) (block_step hs) (catch_step hs) (declaration_step hs) (entry_step hs) (variable_step hs) (Expr-F.Unary operator at operand.0))) (unary_is_plain operator at (reading hs operand.0) operand.1)
   expr_layer (Expr-F.Prefix step at target) = subst (ReadingIs funs) (sym (fold-roll-Expr (Doing Part) (Doing Step) Reading (Doing Step) Seen Doer Braces Seen Doer Seen (Ty → Doing TypedVariable) (argument_step hs) (body_step hs) (expression_step hs) (first_step hs) (lambda_step hs) (statement_step hs) (block_step hs) (catch_step hs) (declaration_step hs) (entry_step hs) (variable_step hs) (Expr-F.Prefix step at target.0))) (plain_is funs _ _ (step_value at step gv.New (reading hs target.0) target.1))
   expr_layer (Expr-F.Postfix step at target) = subst (ReadingIs funs) (sym (fold-roll-Expr (Doing Part) (Doing Step) Reading (Doing Step) Seen Doer Braces Seen Doer Seen (Ty → Doing TypedVariable) (argument_step hs) (body_step hs) (expression_step hs) (first_step hs) (lambda_step hs) (statement_step hs) (block_step hs) (catch_step hs) (declaration_step hs) (entry_step hs) (variable_step hs) (Expr-F.Postfix step at target.0))) (plain_is funs _ _ (step_value at step gv.Old (reading hs target.0) target.1))
@@ -282,7 +292,7 @@ module _ (funs : Program) (hs : List Header) (heads : Heads funs hs) where
     negated = λ minus. by_one_rule funs (negated_integer minus at spelling) (λ s x e. negated_is funs (in_sight s.scopes) minus at spelling x e);
     place = fixed_place funs (by_one_rule funs (integer at spelling) (λ s x e. integer_is funs (in_sight s.scopes) at spelling x e));
   })
-  expr_layer (Expr-F.Text at spelling) = subst (ReadingIs funs) (sym (fold-roll-Expr (Doing Part) (Doing Step) Reading (Doing Step) Seen Doer Braces Seen Doer Seen (Ty → Doing TypedVariable) (argument_step hs) (body_step hs) (expression_step hs) (first_step hs) (lambda_step hs) (statement_step hs) (block_step hs) (catch_step hs) (declaration_step hs) (entry_step hs) (variable_step hs) (Expr-F.Text at spelling))) (plain_is funs _ _ (is_unbuilt at))
+  expr_layer (Expr-F.Text at spelling) = subst (ReadingIs funs) (sym (fold-roll-Expr (Doing Part) (Doing Step) Reading (Doing Step) Seen Doer Braces Seen Doer Seen (Ty → Doing TypedVariable) (argument_step hs) (body_step hs) (expression_step hs) (first_step hs) (lambda_step hs) (statement_step hs) (block_step hs) (catch_step hs) (declaration_step hs) (entry_step hs) (variable_step hs) (Expr-F.Text at spelling))) (plain_is funs _ _ (by_one_rule funs (text at spelling) (λ s x e. text_part funs (in_sight s.scopes) at spelling x e)))
   expr_layer (Expr-F.Constant c at) = subst (ReadingIs funs) (sym (fold-roll-Expr (Doing Part) (Doing Step) Reading (Doing Step) Seen Doer Braces Seen Doer Seen (Ty → Doing TypedVariable) (argument_step hs) (body_step hs) (expression_step hs) (first_step hs) (lambda_step hs) (statement_step hs) (block_step hs) (catch_step hs) (declaration_step hs) (entry_step hs) (variable_step hs) (Expr-F.Constant c at))) (plain_is funs _ _ (by_one_rule funs (constant at c) (λ s x e. constant_part funs (in_sight s.scopes) at c x e)))
   expr_layer (Expr-F.List at items) = subst (ReadingIs funs) (sym (fold-roll-Expr (Doing Part) (Doing Step) Reading (Doing Step) Seen Doer Braces Seen Doer Seen (Ty → Doing TypedVariable) (argument_step hs) (body_step hs) (expression_step hs) (first_step hs) (lambda_step hs) (statement_step hs) (block_step hs) (catch_step hs) (declaration_step hs) (entry_step hs) (variable_step hs) (Expr-F.List at (map (λ e. e.0) items)))) (plain_is funs _ _ (ends_unbuilt' at (seen_values items)))
   expr_layer (Expr-F.Map at entries) = subst (ReadingIs funs) (sym (fold-roll-Expr (Doing Part) (Doing Step) Reading (Doing Step) Seen Doer Braces Seen Doer Seen (Ty → Doing TypedVariable) (argument_step hs) (body_step hs) (expression_step hs) (first_step hs) (lambda_step hs) (statement_step hs) (block_step hs) (catch_step hs) (declaration_step hs) (entry_step hs) (variable_step hs) (Expr-F.Map at (map (λ e. e.0) entries)))) (plain_is funs _ _ (ends_unbuilt' at (seen_entries entries)))
@@ -303,18 +313,18 @@ module _ (funs : Program) (hs : List Header) (heads : Heads funs hs) where
 
   -- ---- what is not built is looked through
 
-  alone_distinct : (s : State) → Distinct s.scopes → Distinct (alone s).scopes
-  alone_distinct s d = d
+  alone_known : (s : State) → Known s → Known (alone s)
+  alone_known s d = (d.0, def_aim)
 
   parameters_looked : (ps : List Parameter) → Looked (lambda_parameters ps)
   parameters_looked [] = pure_looked tt
-  parameters_looked (p ∷ ps) = in_order (rule_looked (parameter_type p.of)) (λ of. followed (setting_looked (noted p.name.spelling of) (λ s d. noted_distinct p.name.spelling of s d)) (parameters_looked ps))
+  parameters_looked (p ∷ ps) = in_order (rule_looked (parameter_type p.of)) (λ of. followed (setting_looked (noted p.name.spelling of) (λ s d. noted_known p.name.spelling of s d)) (parameters_looked ps))
 
   lambda_value : (at : ℕ) (ps : List Parameter) {m : Seen} → Looked m → Value (PartAt funs) (lambda at ps m)
   lambda_value at ps {m = m} h = record {
     by = λ s next r d e.
-        let a = (parameters_looked ps).by (alone s) (λ u t. m t (λ u t. unbuilt {A = Part} at t next)) r d e in
-        let b = h.by a.state (λ u t. unbuilt {A = Part} at t next) r a.distinct a.goes in
+        let a = (parameters_looked ps).by (alone s) (λ u t. m t (λ u t. unbuilt {A = Part} at t next)) r (alone_known s d) e in
+        let b = h.by a.state (λ u t. unbuilt {A = Part} at t next) r a.known a.goes in
         never at r b.goes;
   }
 
@@ -322,13 +332,13 @@ module _ (funs : Program) (hs : List Header) (heads : Heads funs hs) where
   each_value at of name over {m = m} ho hv hm = record {
     by = λ s next r d e.
         let a = ho.by s (λ of t. over.value t (λ x t. looping m (noted name of t) (λ y t. unbuilt {A = Step} at t next))) r d e in
-        let b = hv.value.by a.state (λ x t. looping m (noted name a.given t) (λ y t. unbuilt {A = Step} at t next)) r a.distinct a.goes in
-        let c = hm.by (record (noted name a.given a.state) { looped = true }) (λ y t. unbuilt {A = Step} at (record t { looped = (noted name a.given a.state).looped }) next) r (noted_distinct name a.given a.state a.distinct) b.goes in
+        let b = hv.value.by a.state (λ x t. looping m (noted name a.given t) (λ y t. unbuilt {A = Step} at t next)) r a.known a.goes in
+        let c = hm.by (record (noted name a.given a.state) { looped = true }) (λ y t. unbuilt {A = Step} at (record t { looped = (noted name a.given a.state).looped }) next) r (noted_known name a.given a.state a.known) b.goes in
         never at r c.goes;
   }
 
   steps_looked : {A : Type 0} {k : Kind A} {m : Doing A} → Steps funs k m → Looked m
-  steps_looked h = record { by = λ s next r d e. let a = h.by s next r d e in record { given = a.given; state = a.state; distinct = a.grew.distinct; goes = a.goes } }
+  steps_looked h = record { by = λ s next r d e. let a = h.by s next r d e in record { given = a.given; state = a.state; known = a.grew.known; goes = a.goes } }
 
   if_looked : {m : Doing (Option Step)} → Value (RunsAlone funs (stmts_if funs) escapes_if) m → Looked m
   if_looked h = looked h
@@ -346,7 +356,15 @@ module _ (funs : Program) (hs : List Header) (heads : Heads funs hs) where
     by = λ s next r d e.
         let a = h.by s (λ x t. and_then (return_of at x t) (λ y. next y t)) r d e in
         let b = ruled (return_of at a.given s) (λ y. next y s) r a.goes in
-        record { given = b.given; has = return_step funs s at a.given b.given b.has a.has; goes = b.goes };
+        record { given = b.given; has = return_step funs s at a.given b.given d.1 b.has a.has; goes = b.goes };
+  }
+
+  throw_value : (at : ℕ) (x : Reading) → ReadingIs funs x → Value (StepAt funs) (x.value >>= (λ y. by_rule (throw_of at y)))
+  throw_value at x h = record {
+    by = λ s next r d e.
+        let a = h.value.by s (λ y t. and_then (throw_of at y) (λ z. next z t)) r d e in
+        let b = ruled (throw_of at a.given) (λ z. next z s) r a.goes in
+        record { given = b.given; has = throw_step funs s at a.given b.given b.has a.has; goes = b.goes };
   }
 
   expression_value : (at : ℕ) (last : Bool) (x : Reading) → ReadingIs funs x → Value (StepAt funs) (x.value >>= (λ y. looking (expression_of at last y)))
@@ -354,7 +372,7 @@ module _ (funs : Program) (hs : List Header) (heads : Heads funs hs) where
     by = λ s next r d e.
         let a = h.value.by s (λ y t. and_then (expression_of at last y t) (λ z. next z t)) r d e in
         let b = ruled (expression_of at last a.given s) (λ z. next z s) r a.goes in
-        record { given = b.given; has = expression_agrees funs s at last a.given b.given b.has a.has; goes = b.goes };
+        record { given = b.given; has = expression_agrees funs s at last a.given b.given d.1 b.has a.has; goes = b.goes };
   }
 
   try_value : (at : ℕ) (block : (x : Block) × OfBlock x) (catches : List ((x : Catch) × OfCatch x))
@@ -382,8 +400,8 @@ module _ (funs : Program) (hs : List Header) (heads : Heads funs hs) where
     by = λ s next r d e.
         let to = ruled (type_of of) (λ of. scoped (setting (noted name of) >> seen (braces hs block.0).steps) s next) r e in
         let n = noted name to.given s in
-        let b = (steps_looked block.1).by n (λ x t. next tt (closed (length s.scopes) t)) r (noted_distinct name to.given s d) to.goes in
-        record { given = tt; state = closed (length s.scopes) b.state; distinct = shorter (length s.scopes) b.state.scopes b.distinct; goes = b.goes };
+        let b = (steps_looked block.1).by n (λ x t. next tt (closed (length s.scopes) t)) r (noted_known name to.given s d) to.goes in
+        record { given = tt; state = closed (length s.scopes) b.state; known = (shorter (length s.scopes) b.state.scopes b.known.0, b.known.1); goes = b.goes };
   }
 
   argument_layer : (y : WithArgument) → OfArgument (roll-Argument (bareArgument y))
@@ -435,7 +453,7 @@ module _ (funs : Program) (hs : List Header) (heads : Heads funs hs) where
   statement_layer (Statement-F.Break at) = subst (λ (d : Doer). (last : Bool) → Steps funs (of_step funs) (d.typed last)) (sym (fold-roll-Statement (Doing Part) (Doing Step) Reading (Doing Step) Seen Doer Braces Seen Doer Seen (Ty → Doing TypedVariable) (argument_step hs) (body_step hs) (expression_step hs) (first_step hs) (lambda_step hs) (statement_step hs) (block_step hs) (catch_step hs) (declaration_step hs) (entry_step hs) (variable_step hs) (Statement-F.Break at))) (λ last. steps_of funs (looks funs (break_of at) (λ s x d e. break_step funs s at x e)))
   statement_layer (Statement-F.Return at None) = subst (λ (d : Doer). (last : Bool) → Steps funs (of_step funs) (d.typed last)) (sym (fold-roll-Statement (Doing Part) (Doing Step) Reading (Doing Step) Seen Doer Braces Seen Doer Seen (Ty → Doing TypedVariable) (argument_step hs) (body_step hs) (expression_step hs) (first_step hs) (lambda_step hs) (statement_step hs) (block_step hs) (catch_step hs) (declaration_step hs) (entry_step hs) (variable_step hs) (Statement-F.Return at None))) (λ last. steps_of funs (looks funs (nothing_returned at) (λ s x d e. nothing_step funs s at x e)))
   statement_layer (Statement-F.Return at (Some v)) = subst (λ (d : Doer). (last : Bool) → Steps funs (of_step funs) (d.typed last)) (sym (fold-roll-Statement (Doing Part) (Doing Step) Reading (Doing Step) Seen Doer Braces Seen Doer Seen (Ty → Doing TypedVariable) (argument_step hs) (body_step hs) (expression_step hs) (first_step hs) (lambda_step hs) (statement_step hs) (block_step hs) (catch_step hs) (declaration_step hs) (entry_step hs) (variable_step hs) (Statement-F.Return at (Some v.0)))) (λ last. steps_of funs (return_value at v.1))
-  statement_layer (Statement-F.Throw at value) = subst (λ (d : Doer). (last : Bool) → Steps funs (of_step funs) (d.typed last)) (sym (fold-roll-Statement (Doing Part) (Doing Step) Reading (Doing Step) Seen Doer Braces Seen Doer Seen (Ty → Doing TypedVariable) (argument_step hs) (body_step hs) (expression_step hs) (first_step hs) (lambda_step hs) (statement_step hs) (block_step hs) (catch_step hs) (declaration_step hs) (entry_step hs) (variable_step hs) (Statement-F.Throw at value.0))) (λ last. steps_of funs (ends_unbuilt at (looked value.1.value)))
+  statement_layer (Statement-F.Throw at value) = subst (λ (d : Doer). (last : Bool) → Steps funs (of_step funs) (d.typed last)) (sym (fold-roll-Statement (Doing Part) (Doing Step) Reading (Doing Step) Seen Doer Braces Seen Doer Seen (Ty → Doing TypedVariable) (argument_step hs) (body_step hs) (expression_step hs) (first_step hs) (lambda_step hs) (statement_step hs) (block_step hs) (catch_step hs) (declaration_step hs) (entry_step hs) (variable_step hs) (Statement-F.Throw at value.0))) (λ last. steps_of funs (throw_value at (reading hs value.0) value.1))
   statement_layer (Statement-F.«Statement::Expression» at value) = subst (λ (d : Doer). (last : Bool) → Steps funs (of_step funs) (d.typed last)) (sym (fold-roll-Statement (Doing Part) (Doing Step) Reading (Doing Step) Seen Doer Braces Seen Doer Seen (Ty → Doing TypedVariable) (argument_step hs) (body_step hs) (expression_step hs) (first_step hs) (lambda_step hs) (statement_step hs) (block_step hs) (catch_step hs) (declaration_step hs) (entry_step hs) (variable_step hs) (Statement-F.«Statement::Expression» at value.0))) (λ last. steps_of funs (expression_value at last (reading hs value.0) value.1))
 
   block_layer : (y : WithBlock) → OfBlock (roll-Block (bareBlock y))
@@ -458,13 +476,13 @@ module _ (funs : Program) (hs : List Header) (heads : Heads funs hs) where
   bare_of None = None
   bare_of (Some v) = Some v.0
 
-  variable_first : (name : Spelled) (v : Option ((x : Argument) × OfArgument x)) (of : Ty) → Value (BeginAt funs of) (initial of (option_of v))
-  variable_first name None of = initial_none funs of
-  variable_first name (Some v) of = initial_some funs of v.1
+  variable_first : (name : Spelled) (v : Option ((x : Argument) × OfArgument x)) (of : Ty) → IsBuilt of → Value (BeginAt funs of) (initial of (option_of v))
+  variable_first name None of p = initial_none funs of
+  variable_first name (Some v) of p = initial_some funs of p v.1
 
   varied : (name : Spelled) (v : Option ((x : Argument) × OfArgument x)) → OfVariable (roll-Variable (record { name = name; value = bare_of v }))
-  varied name None = subst (λ (v : Ty → Doing TypedVariable). (of : Ty) → IsPrimitive of → Steps funs (one_variable funs) (v of)) (sym (fold-roll-Variable (Doing Part) (Doing Step) Reading (Doing Step) Seen Doer Braces Seen Doer Seen (Ty → Doing TypedVariable) (argument_step hs) (body_step hs) (expression_step hs) (first_step hs) (lambda_step hs) (statement_step hs) (block_step hs) (catch_step hs) (declaration_step hs) (entry_step hs) (variable_step hs) (record { name = name; value = None }))) (λ of p. variable_is funs name of p (variable_first name None of))
-  varied name (Some v) = subst (λ (v : Ty → Doing TypedVariable). (of : Ty) → IsPrimitive of → Steps funs (one_variable funs) (v of)) (sym (fold-roll-Variable (Doing Part) (Doing Step) Reading (Doing Step) Seen Doer Braces Seen Doer Seen (Ty → Doing TypedVariable) (argument_step hs) (body_step hs) (expression_step hs) (first_step hs) (lambda_step hs) (statement_step hs) (block_step hs) (catch_step hs) (declaration_step hs) (entry_step hs) (variable_step hs) (record { name = name; value = Some v.0 }))) (λ of p. variable_is funs name of p (variable_first name (Some v) of))
+  varied name None = subst (λ (v : Ty → Doing TypedVariable). (of : Ty) → IsBuilt of → Steps funs (one_variable funs) (v of)) (sym (fold-roll-Variable (Doing Part) (Doing Step) Reading (Doing Step) Seen Doer Braces Seen Doer Seen (Ty → Doing TypedVariable) (argument_step hs) (body_step hs) (expression_step hs) (first_step hs) (lambda_step hs) (statement_step hs) (block_step hs) (catch_step hs) (declaration_step hs) (entry_step hs) (variable_step hs) (record { name = name; value = None }))) (λ of p. variable_is funs name of p (variable_first name None of p))
+  varied name (Some v) = subst (λ (v : Ty → Doing TypedVariable). (of : Ty) → IsBuilt of → Steps funs (one_variable funs) (v of)) (sym (fold-roll-Variable (Doing Part) (Doing Step) Reading (Doing Step) Seen Doer Braces Seen Doer Seen (Ty → Doing TypedVariable) (argument_step hs) (body_step hs) (expression_step hs) (first_step hs) (lambda_step hs) (statement_step hs) (block_step hs) (catch_step hs) (declaration_step hs) (entry_step hs) (variable_step hs) (record { name = name; value = Some v.0 }))) (λ of p. variable_is funs name of p (variable_first name (Some v) of p))
 
   bared : (name : Spelled) (v : Option ((x : Argument) × OfArgument x)) → OfVariable (roll-Variable (bareVariable (record { name = name; value = v })))
   bared name None = varied name None

@@ -1,6 +1,6 @@
 -- What steps of typing give, where they refuse nothing: expressions leave what is known as it was.
-use Rattle.std.proofs.Common.{◌≡◌, ℕ, List, [], ◌∷◌, Ok, Err, refl, sym}
-use Rattle.pl_types.specs.declared.primitive.Primitive.{Primitive}
+use Rattle.std.proofs.Common.{◌≡◌, ℕ, List, [], ◌∷◌, Ok, Err, refl}
+use Rattle.std.specs.Prelude.{Bool, true, false, if◌then◌else◌}
 use Rattle.pl_types.specs.declared.ty.Ty.{Ty}
 use Rattle.pl_types.specs.declared.ty.Ty.TheVariants as t
 use Rattle.pl_tree.specs.declared.operator.UnaryOperator.TheVariants as sign
@@ -13,14 +13,15 @@ use Rattle.typing_rules.specs.declared.part.Place.TheVariants as place
 use Rattle.typing_rules.specs.declared.state.State.{State}
 use Rattle.pl_types.specs.declared.refusal.Refusal.{Refusal}
 use Rattle.pl_types.specs.declared.rules.TheConstants.{OUT_OF_PROFILE}
-use Rattle.typing_rules.specs.Outcomes.{Out, refusal, refuse, bind}
+use Rattle.typing_rules.specs.Outcomes.{Out, refusal, refuse}
 use Rattle.typing_rules.specs.Doing.{Whole, Answer, Doing, ◌>>=◌, ◌>>◌, pure, and_then, by_rule, looking, setting}
-use Rattle.typing_rules.specs.Rules.Types.{base_of, bracketed as with_brackets, type_of}
+use Rattle.typing_rules.specs.Rules.Types.{is_built_class, base_of, bracketed as with_brackets, type_of}
 use Rattle.typing_rules.specs.Rules.Operators.{unary_of}
 use Rattle.typing_rules.specs.Typing.{Reading, plain, unbuilt, seen}
 use Rattle.program_meaning.specs.Tree.{Program}
-use Rattle.typing_laws.proofs.Parts.{PartIs, unary_is}
-use Rattle.typing_laws.proofs.Names.{Distinct, in_sight, PlaceIs}
+use Rattle.typing_laws.proofs.Types.{IsBuilt, prim_built, def_built, class_built}
+use Rattle.typing_laws.proofs.Parts.{passed, accepted, settled, PartIs, unary_is}
+use Rattle.typing_laws.proofs.Names.{Known, in_sight, PlaceIs}
 
 -- what was given, and how it goes on
 pub record Got {A : Type 0} (good : A → Type 0) (next : A → Answer) (r : Whole) : Type 0 where
@@ -30,7 +31,7 @@ pub record Got {A : Type 0} (good : A → Type 0) (next : A → Answer) (r : Who
 
 -- a step that leaves what is known as it was, and what it gives
 pub record Value {A : Type 0} (good : State → A → Type 0) (m : Doing A) : Type 0 where
-  pub by : (s : State) (next : A → State → Answer) (r : Whole) → Distinct s.scopes → m s next ≡ Ok r → Got (good s) (λ a. next a s) r
+  pub by : (s : State) (next : A → State → Answer) (r : Whole) → Known s → m s next ≡ Ok r → Got (good s) (λ a. next a s) r
 
 -- what is given by a rule
 pub ruled : {A : Type 0} (o : Out A) (next : A → Answer) (r : Whole) → and_then o next ≡ Ok r → Got (λ a. o ≡ Ok a) next r
@@ -47,30 +48,30 @@ never at r e = cc
 pub record Passes {A : Type 0} (next : A → State → Answer) (r : Whole) : Type 0 where
   pub given : A
   pub state : State
-  pub distinct : Distinct state.scopes
+  pub known : Known state
   pub goes : next given state ≡ Ok r
 
 pub record Looked {A : Type 0} (m : Doing A) : Type 0 where
-  pub by : (s : State) (next : A → State → Answer) (r : Whole) → Distinct s.scopes → m s next ≡ Ok r → Passes next r
+  pub by : (s : State) (next : A → State → Answer) (r : Whole) → Known s → m s next ≡ Ok r → Passes next r
 
 pub looked : {A : Type 0} {good : State → A → Type 0} {m : Doing A} → Value good m → Looked m
-looked v = record { by = λ s next r d e. let x = v.by s next r d e in record { given = x.given; state = s; distinct = d; goes = x.goes } }
+looked v = record { by = λ s next r d e. let x = v.by s next r d e in record { given = x.given; state = s; known = d; goes = x.goes } }
 
 -- a step behind others
 pub in_order : {A B : Type 0} {m : Doing A} {n : A → Doing B} → Looked m → ((a : A) → Looked (n a)) → Looked (m >>= n)
-in_order {n = n} x y = record { by = λ s next r d e. let a = x.by s (λ a t. n a t next) r d e in (y a.given).by a.state next r a.distinct a.goes }
+in_order {n = n} x y = record { by = λ s next r d e. let a = x.by s (λ a t. n a t next) r d e in (y a.given).by a.state next r a.known a.goes }
 
 pub followed : {A B : Type 0} {m : Doing A} {n : Doing B} → Looked m → Looked n → Looked (m >> n)
-followed {n = n} x y = record { by = λ s next r d e. let a = x.by s (λ a t. n t next) r d e in y.by a.state next r a.distinct a.goes }
+followed {n = n} x y = record { by = λ s next r d e. let a = x.by s (λ a t. n t next) r d e in y.by a.state next r a.known a.goes }
 
 pub rule_looked : {A : Type 0} (o : Out A) → Looked (by_rule o)
-rule_looked o = record { by = λ s next r d e. let a = ruled o (λ a. next a s) r e in record { given = a.given; state = s; distinct = d; goes = a.goes } }
+rule_looked o = record { by = λ s next r d e. let a = ruled o (λ a. next a s) r e in record { given = a.given; state = s; known = d; goes = a.goes } }
 
 pub pure_looked : {A : Type 0} (a : A) → Looked (pure a)
-pure_looked a = record { by = λ s next r d e. record { given = a; state = s; distinct = d; goes = e } }
+pure_looked a = record { by = λ s next r d e. record { given = a; state = s; known = d; goes = e } }
 
-pub setting_looked : (f : State → State) → ((s : State) → Distinct s.scopes → Distinct (f s).scopes) → Looked (setting f)
-setting_looked f keeps = record { by = λ s next r d e. record { given = tt; state = f s; distinct = keeps s d; goes = e } }
+pub setting_looked : (f : State → State) → ((s : State) → Known s → Known (f s)) → Looked (setting f)
+setting_looked f keeps = record { by = λ s next r d e. record { given = tt; state = f s; known = keeps s d; goes = e } }
 
 pub seen_looked : {A : Type 0} {m : Doing A} → Looked m → Looked (seen m)
 seen_looked x = in_order x (λ a. pure_looked tt)
@@ -88,24 +89,27 @@ ends_unbuilt' {B = B} at x = record { by = λ s next r d e. let a = x.by s _ r d
 pub is_unbuilt : {B : Type 0} {good : State → B → Type 0} (at : ℕ) → Value good (unbuilt {A = B} at)
 is_unbuilt {B = B} at = record { by = λ s next r d e. never at r e }
 
--- ---- types are primitive
+-- ---- types are built
 
-bracketed_is : (at : ℕ) (brackets : List ℕ) (p : Primitive) (of : Ty) → with_brackets at brackets (t.Prim p) ≡ Ok of → (q : Primitive) × (of ≡ t.Prim q)
-bracketed_is at [] p of e = let same : t.Prim p ≡ of = cc in (p, sym same)
-bracketed_is at (b ∷ brackets) p of e = cc
+bracketed_is : (at : ℕ) (brackets : List ℕ) (from of : Ty) → with_brackets at brackets from ≡ Ok of → IsBuilt from → IsBuilt of
+bracketed_is at [] from of e b = settled IsBuilt from of e b
+bracketed_is at (x ∷ brackets) from of e b = cc
 
--- a type that is primitive
-abbrev pub IsPrimitive : Ty → Type 0
-IsPrimitive of = (q : Primitive) × (of ≡ t.Prim q)
+class_is : (c : Bool) (number at class : ℕ) (of : Ty) → is_built_class class ≡ c
+    → (if c then accepted (t.Class class) else refuse number at) ≡ accepted of → IsBuilt of
+class_is true number at class of is e = settled IsBuilt (t.Class class) of e (class_built class is)
+class_is false number at class of is e = cc
 
-base_is : (at : ℕ) (base : TypeBase) (brackets : List ℕ) (of : Ty) → bind (base_of at base) (with_brackets at brackets) ≡ Ok of → IsPrimitive of
-base_is at base.Def brackets of e = cc
-base_is at (base.Primitive p) brackets of e = bracketed_is at brackets p of e
-base_is at (base.Class c) brackets of e = cc
-base_is at (base.Name name) brackets of e = cc
+base_is : (at : ℕ) (base : TypeBase) (of : Ty) → base_of at base ≡ Ok of → IsBuilt of
+base_is at base.Def of e = settled IsBuilt t.Def of e def_built
+base_is at (base.Primitive p) of e = settled IsBuilt (t.Prim p) of e (prim_built p)
+base_is at (base.Class c) of e = class_is (is_built_class c) _ at c of refl e
+base_is at (base.Name name) of e = cc
 
-pub type_is : (name : TypeName) (of : Ty) → type_of name ≡ Ok of → IsPrimitive of
-type_is name of e = base_is name.at name.base name.brackets of e
+pub type_is : (name : TypeName) (of : Ty) → type_of name ≡ Ok of → IsBuilt of
+type_is name of e =
+    let a = passed (base_of name.at name.base) (with_brackets name.at name.brackets) of e in
+    bracketed_is name.at name.brackets a.given of a.then' (base_is name.at name.base a.given a.first)
 
 -- ---- expressions
 
@@ -154,7 +158,8 @@ module _ (funs : Program) where
   }
 
   -- what a rule gives that looks at what is known
-  pub looks : {A : Type 0} {good : State → A → Type 0} (rule : State → Out A) → ((s : State) (a : A) → Distinct s.scopes → rule s ≡ Ok a → good s a) → Value good (looking rule)
+  pub looks : {A : Type 0} {good : State → A → Type 0} (rule : State → Out A) → ((s : State) (a : A) → Known s → rule s ≡ Ok a → good s a)
+      → Value good (looking rule)
   looks rule f = record {
     by = λ s next r d e.
         let a = ruled (rule s) (λ a. next a s) r e in
