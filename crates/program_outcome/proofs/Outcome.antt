@@ -14,8 +14,7 @@ use Rattle.program_meaning.specs.Laws.{Stays}
 use Rattle.program_meaning.proofs.Greater.{stays_above}
 use Rattle.code_meaning.specs.declared.word.Word.{Word}
 use Rattle.program_code.specs.Lying.{lying_of, lying_of_layer, low}
-use Rattle.program_code.specs.Correct.{end_of, source_in, words_of, IsCodeOf, program_ends}
-use Rattle.program_code.proofs.Correct.{ends_alike}
+use Rattle.program_code.specs.Correct.{EndsAlike, end_of, source_in, words_of, IsCodeOf, program_ends}
 use Rattle.program_types.specs.Types.{has_values_layer, HaveAll}
 use Rattle.program_types.specs.Agreeing.{types_in, HaveValues, WellFormed}
 use Rattle.program_types.specs.Enough.{enough, IsEnough}
@@ -71,9 +70,9 @@ stays_end of (Thrown id s e) other end x is = ap (end_of of) x ∙ is
 stays_end of (Over limit w) other end x is = ap (end_of of) x ∙ is
 stays_end of More other end x is = cc
 
-pub programs_end : (p : Program) (code : List FunCode) → WellFormed (program_of p) → IsCodeOf p code → (limits : Limits) (args : List Value)
+pub programs_end : EndsAlike → (p : Program) (code : List FunCode) → WellFormed (program_of p) → IsCodeOf p code → (limits : Limits) (args : List Value)
     → HaveAll (types_in (fun_of p.main).params) args → (w : World) → Outcome p code limits args w
-programs_end p code formed made limits args have w =
+programs_end ends_alike p code formed made limits args have w =
     let funs = program_of p in
     let main = fun_of p.main in
     let bound = enough funs w in

@@ -71,6 +71,16 @@ made l NoRoom h = tt
 pub made_has : (of : Ty) (x : Effect) → of ≡ string → EffectHas of x
 made_has of x is = made (out-Ty of) x (λ value. text_has of value is)
 
+-- what acts on the store and may give any value
+abbrev IsActs : Operated → Type 0
+IsActs (Acts x) = Unit {0}
+IsActs other = ⊥
+
+pub text_acts : (o : Operated) → IsActs o → OperatedHas string o
+text_acts Meaningless h = absurd h
+text_acts (Gives_it value) h = absurd h
+text_acts (Acts x) h = made_has string x refl
+
 -- ---- equality
 
 walked_has : (of : Ty) (store : Store) (w : Walked) → of ≡ t.Prim prim.Boolean → EffectHas of (effect store (found_of w))

@@ -26,7 +26,7 @@ use Rattle.program_meaning.specs.Operating.{Operated, of_ints, of_longs, of_flag
 use Rattle.program_types.specs.Types.{HasPrimitive, Has, HaveAll, IsReference, Gives, of_one, of_two, right_side, of_one_flag, of_two_flags, TakesNumbers, TakesFlags, TakesReferences, Takes, Converts, Keeps, Same, References, string, Casts}
 use Rattle.program_types.specs.Agreeing.{IsKnownBefore}
 use Rattle.program_types.proofs.Values.{bare, dressed, has_flag, has_int, has_long, is_flag, is_int, is_long, truth_has, reference_has}
-use Rattle.program_types.proofs.Effects.{EffectHas, OperatedHas, divides, made_has, equal_has, unequal_has, cast_has}
+use Rattle.program_types.proofs.Effects.{EffectHas, OperatedHas, divides, made_has, text_acts, equal_has, unequal_has, cast_has}
 
 -- ---- operators
 
@@ -380,7 +380,9 @@ casts_fit (cast.Unwrap p q) from to value store x h = absurd x
 casts_fit cast.Implicit from to value store x h = cast_has to store value false
 casts_fit cast.Explicit from to value store x h = cast_has to store value true
 casts_fit cast.CharToText from to value store x h =
-    subst (λ of. EffectHas of (effect store (cast_at_run_time store.objects value string true))) (sym x.1) (cast_has string store value true)
+    let unit = bare prim.Char value (subst (λ of. Has of value) x.0 h) in
+    subst (λ of. OperatedHas of (casts cast.CharToText to value store)) (sym x.1)
+    (subst (λ value. OperatedHas string (casts cast.CharToText to value store)) (sym unit.1) (text_acts (casts cast.CharToText to (v.Char unit.0) store) tt))
 casts_fit cast.TextToChar from to value store x h =
     subst (λ of. EffectHas of (effect store (cast_at_run_time store.objects value (t.Prim prim.Char) true))) (sym x.1) (cast_has (t.Prim prim.Char) store value true)
 
