@@ -121,7 +121,7 @@ pub record Guards (funs : Known) (o : Operation) (ofs : List Ty) (of : Ty) : Typ
   pub member : Member
   pub is : o ≡ operation.Instance member
   pub agrees : MemberAgrees funs kind.Instance member ofs of
-  pub open : is_primitive of ≡ false
+  pub whole : is_primitive of ≡ false
 
 abbrev mutual
   pub ExprAgrees : Known → Scope → Expr → Type 0
