@@ -19,9 +19,9 @@ use Rattle.typing_rules.specs.Rules.Types.{type_of as named_type}
 use Rattle.typing_rules.specs.Rules.Casts.{cast_to}
 use Rattle.typing_rules.specs.Rules.Statements.{reached, deed, variable, variable_of, declaration_of, test, is_true, loop_test, escapes_if, last_escapes, statement_if, if_of, loop_of, do_of, block_of, statements_of}
 use Rattle.typing_rules.specs.Typing.{scoped, looping, perhaps, Doer, Reading, is_empty, statements, variables, initial, loop_condition, loop_update}
-use Rattle.program_meaning.specs.Tree.{If, While, DoWhile, Block, Stmts, Finish, Then, Missing, Program}
+use Rattle.program_meaning.specs.Tree.{If, While, DoWhile, Block, Stmts, Finish, Then, Missing}
 use Rattle.program_meaning.specs.Programs.{Before, expr_of, maybe_of, alone, alone_if, declared, before}
-use Rattle.program_types.specs.Agreeing.{TestAgrees, UpdateAgrees, BeginAgrees, StmtsAgree}
+use Rattle.program_types.specs.Agreeing.{Known as Script, TestAgrees, UpdateAgrees, BeginAgrees, StmtsAgree}
 use Rattle.typing_laws.proofs.Types.{IsBuilt, built_values, built_aim, prim_aim}
 use Rattle.typing_laws.proofs.Parts.{passed, accepted, settled, cast_is}
 use Rattle.typing_laws.proofs.Names.{in_sight, Known}
@@ -31,7 +31,7 @@ use Rattle.typing_laws.proofs.Values.{Value, ruled, type_is, PartAt, ReadingIs}
 use Rattle.typing_laws.proofs.Steps.{Grew, stays, grew_on, closes, sight_grows, not_found, distinct_behind, Kind, Leads, of_step, of_first, Steps, Bodies, step_at, StepAt}
 use Rattle.typing_laws.proofs.Reaching.{Reaches, AloneReached, alone_reached, nothing_alone, stmt_reaches, declared_reaches, one_falls, in_a_row, nothing_reaches, by_any, none_escapes, row_reaches}
 
-module _ (funs : Program) where
+module _ (funs : Script) where
   -- ---- tests, updates, first values
 
   abbrev pub TestAt : State → Option Typed → Type 0

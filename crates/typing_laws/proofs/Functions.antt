@@ -30,7 +30,8 @@ use Rattle.typing_rules.specs.Typing.{doer, braces, statements, ran, function_of
 use Rattle.program_meaning.specs.Tree.{Fun, Program, Stmts, Finish}
 use Rattle.program_meaning.specs.Programs.{before, stmts_of, variable_of, fun_of, program_of}
 use Rattle.program_types.specs.Types.{HasValues}
-use Rattle.program_types.specs.Agreeing.{types_in, StmtsAgree, scope_of, HaveValues as VariablesHaveValues, FunAgrees, WellFormed}
+use Rattle.allowlist.specs.Allow.{AllowList}
+use Rattle.program_types.specs.Agreeing.{Known as Script, known, types_in, StmtsAgree, scope_of, HaveValues as VariablesHaveValues, FunAgrees, WellFormed}
 use Rattle.program_types.specs.Reached.{StmtsReached, Reached}
 use Rattle.typing_laws.specs.Laws.{IsNew, AreDistinct, HaveValues, IsContext}
 use Rattle.typing_laws.proofs.Types.{IsBuilt, built_values, built_part, IsOfPart, void_part, part_aim, result_aim}
@@ -178,21 +179,21 @@ finished_is : (f : Function) (h : Header) (ys : List Step) (x : TypedFunction) �
 finished_is f h ys x e = made_if (not (is_void h.result) && not (last_escapes ys)) _ f.name.at f h ys x e
 
 -- a function agrees in its types, and each of its statements is reached
-record FunIs (funs : Program) (fun : Fun) : Type 0 where
+record FunIs (funs : Script) (fun : Fun) : Type 0 where
   agrees : FunAgrees funs fun
   reached : StmtsReached fun.body
 
-record ProgramIs (funs : Program) : Type 0 where
-  each : (number : ℕ) (fun : Fun) → slice_get funs number ≡ Some fun → FunIs funs fun
+record ProgramIs (funs : Script) : Type 0 where
+  each : (number : ℕ) (fun : Fun) → slice_get funs.functions number ≡ Some fun → FunIs funs fun
 
-module _ (hs : List Header) where
+module _ (allow : AllowList) (hs : List Header) where
   record FunctionIs (h : Header) (x : TypedFunction) : Type 0 where
     parameters : x.parameters ≡ h.parameters
     result : x.result ≡ h.result
 
-  shaped : (f : Function) (h : Header) (x : TypedFunction) → function_of hs f h ≡ Ok x → FunctionIs h x
+  shaped : (f : Function) (h : Header) (x : TypedFunction) → function_of allow hs f h ≡ Ok x → FunctionIs h x
   shaped f h x e =
-      let a = passed (ran (braces hs f.body).steps (function_start h)) (λ whole. finished f h whole.0) x e in
+      let a = passed (ran (braces allow hs f.body).steps (function_start h)) (λ whole. finished f h whole.0) x e in
       let is = finished_is f h a.given.0 x a.then' in
       record { parameters = ap (λ (x : TypedFunction). x.parameters) is; result = ap (λ (x : TypedFunction). x.result) is }
 
@@ -205,30 +206,33 @@ module _ (hs : List Header) where
   at_of : (xs ys : List TypedFunction) (number : ℕ) (h : Header) → xs ≡ ys → At xs number h → At ys number h
   at_of xs ys number h same x = subst (λ xs. At xs number h) same x
 
-  functions_at : (fs : List Function) (rest : List Header) (xs : List TypedFunction) → functions hs fs rest ≡ Ok xs → length rest ≡ length fs → (number : ℕ) (h : Header) → slice_get rest number ≡ Some h → At xs number h
+  functions_at : (fs : List Function) (rest : List Header) (xs : List TypedFunction) → functions allow hs fs rest ≡ Ok xs → length rest ≡ length fs → (number : ℕ) (h : Header) → slice_get rest number ≡ Some h → At xs number h
   functions_at [] [] xs e l number h is = cc
   functions_at [] (g ∷ rest) xs e l number h is = absurd (omega (arith, l))
   functions_at (f ∷ fs) [] xs e l number h is = cc
   functions_at (f ∷ fs) (g ∷ rest) xs e l zero h is =
-      let a = passed (function_of hs f g) (λ x. bind (functions hs fs rest) (λ xs. accepted (x ∷ xs))) xs e in
-      let b = passed (functions hs fs rest) (λ ys. accepted (a.given ∷ ys)) xs a.then' in
+      let a = passed (function_of allow hs f g) (λ x. bind (functions allow hs fs rest) (λ xs. accepted (x ∷ xs))) xs e in
+      let b = passed (functions allow hs fs rest) (λ ys. accepted (a.given ∷ ys)) xs a.then' in
       let same : g ≡ h = cc in
       settled (λ xs. At xs zero h) (a.given ∷ b.given) xs b.then' (record { fun = a.given; is = refl; shape = subst (λ h. FunctionIs h a.given) same (shaped f g a.given a.first) })
   functions_at (f ∷ fs) (g ∷ rest) xs e l (suc number) h is =
-      let a = passed (function_of hs f g) (λ x. bind (functions hs fs rest) (λ xs. accepted (x ∷ xs))) xs e in
-      let b = passed (functions hs fs rest) (λ ys. accepted (a.given ∷ ys)) xs a.then' in
+      let a = passed (function_of allow hs f g) (λ x. bind (functions allow hs fs rest) (λ xs. accepted (x ∷ xs))) xs e in
+      let b = passed (functions allow hs fs rest) (λ ys. accepted (a.given ∷ ys)) xs a.then' in
       let there = functions_at fs rest b.given b.first (omega (arith, l)) number h is in
       settled (λ xs. At xs (suc number) h) (a.given ∷ b.given) xs b.then' (record { fun = there.fun; is = there.is; shape = there.shape })
 
   -- ---- bodies agree
 
-  module _ (funs : Program) (heads : Heads funs hs) where
+  module _ (script : Program) (heads : Heads (known allow script) hs) where
+    abbrev funs : Script
+    funs = known allow script
+
     began : (s : Standing) (ns : List Named) (of : Ty) (xs : Stmts) → StmtsAgree funs of false (in_sight (entries s ns)) xs → StmtsAgree funs of false (scope_of (map variable_of ns) []) xs
     began s ns of xs h = subst (λ vs. StmtsAgree funs of false (scope_of vs []) xs) (sight_of s ns) h
 
-    body_is : (f : Function) (h : Header) (x : TypedFunction) → HeaderIs h → function_of hs f h ≡ Ok x → FunIs funs (fun_of x)
+    body_is : (f : Function) (h : Header) (x : TypedFunction) → HeaderIs h → function_of allow hs f h ≡ Ok x → FunIs funs (fun_of x)
     body_is f h x good e =
-        let a = passed (ran (braces hs f.body).steps (function_start h)) (λ whole. finished f h whole.0) x e in
+        let a = passed (ran (braces allow hs f.body).steps (function_start h)) (λ whole. finished f h whole.0) x e in
         let is = finished_is f h a.given.0 x a.then' in
         let got = (block_is funs hs heads f.body).by (function_start h) (λ ys t. accepted (ys, t)) a.given (distinct_entries standing.Variable h.parameters good.distinct, part_aim h.result good.built) a.first in
         let agrees = began standing.Variable h.parameters h.result (stmts_of (statements_of got.given)) (got.leads Finish tt) in
@@ -245,22 +249,22 @@ module _ (hs : List Header) where
     AllAgree [] = Unit {0}
     AllAgree (x ∷ xs) = FunIs funs (fun_of x) × AllAgree xs
 
-    bodies_are : (fs : List Function) (rest : List Header) (xs : List TypedFunction) → functions hs fs rest ≡ Ok xs → AllHeaders rest → AllAgree xs
+    bodies_are : (fs : List Function) (rest : List Header) (xs : List TypedFunction) → functions allow hs fs rest ≡ Ok xs → AllHeaders rest → AllAgree xs
     bodies_are [] rest xs e h = settled AllAgree [] xs e tt
     bodies_are (f ∷ fs) [] xs e h = settled AllAgree [] xs e tt
     bodies_are (f ∷ fs) (g ∷ rest) xs e h =
-        let a = passed (function_of hs f g) (λ x. bind (functions hs fs rest) (λ xs. accepted (x ∷ xs))) xs e in
-        let b = passed (functions hs fs rest) (λ ys. accepted (a.given ∷ ys)) xs a.then' in
+        let a = passed (function_of allow hs f g) (λ x. bind (functions allow hs fs rest) (λ xs. accepted (x ∷ xs))) xs e in
+        let b = passed (functions allow hs fs rest) (λ ys. accepted (a.given ∷ ys)) xs a.then' in
         settled AllAgree (a.given ∷ b.given) xs b.then' (body_is f g a.given h.0 a.first, bodies_are fs rest b.given b.first h.1)
 
-    all_statements : (all : List Statement) → AllSteps funs (map (doer hs) all)
+    all_statements : (all : List Statement) → AllSteps funs (map (doer allow hs) all)
     all_statements [] = tt
     all_statements (x ∷ xs) = (statement_is funs hs heads x, all_statements xs)
 
-    main_is : (context : ContextTypes) (all : List Statement) (x : TypedFunction) → IsContext context → main_of context hs all ≡ Ok x → FunIs funs (fun_of x)
+    main_is : (context : ContextTypes) (all : List Statement) (x : TypedFunction) → IsContext context → main_of allow context hs all ≡ Ok x → FunIs funs (fun_of x)
     main_is context all x good e =
-        let a = passed (ran (statements true false (map (doer hs) all)) (main_start context)) (λ whole. accepted (main context whole.0)) x e in
-        let got = (statements_are funs true false (map (doer hs) all) (all_statements all)).by (main_start context) (λ ys t. accepted (ys, t)) a.given (distinct_entries standing.Fixed context.variables good.distinct, result_aim context.result good.result) a.first in
+        let a = passed (ran (statements true false (map (doer allow hs) all)) (main_start context)) (λ whole. accepted (main context whole.0)) x e in
+        let got = (statements_are funs true false (map (doer allow hs) all) (all_statements all)).by (main_start context) (λ ys t. accepted (ys, t)) a.given (distinct_entries standing.Fixed context.variables good.distinct, result_aim context.result good.result) a.first in
         let agrees = began standing.Fixed context.variables context.result (stmts_of (statements_of got.given)) (got.leads Finish tt) in
         let same : got.given ≡ a.given.0 = settled (λ (p : Whole). got.given ≡ p.0) (got.given, got.state) a.given got.goes refl in
         settled (λ (x : TypedFunction). FunIs funs (fun_of x)) (main context a.given.0) x a.then' (record {
@@ -278,15 +282,15 @@ mapped [] number x is = cc
 mapped (y ∷ xs) zero x is = let same : y ≡ x = cc in ap (λ (x : TypedFunction). Some (fun_of x)) same
 mapped (y ∷ xs) (suc number) x is = mapped xs number x is
 
-each_agrees : (hs : List Header) (funs : Program) (heads : Heads funs hs) (xs : List TypedFunction) (number : ℕ) (fun : Fun) → AllAgree hs funs heads xs → slice_get (map fun_of xs) number ≡ Some fun → FunIs funs fun
-each_agrees hs funs heads [] number fun a is = cc
-each_agrees hs funs heads (x ∷ xs) zero fun a is = let same : fun_of x ≡ fun = cc in subst (FunIs funs) same a.0
-each_agrees hs funs heads (x ∷ xs) (suc number) fun a is = each_agrees hs funs heads xs number fun a.1 is
+each_agrees : (allow : AllowList) (hs : List Header) (all : Program) (heads : Heads (known allow all) hs) (xs : List TypedFunction) (number : ℕ) (fun : Fun) → AllAgree allow hs all heads xs → slice_get (map fun_of xs) number ≡ Some fun → FunIs (known allow all) fun
+each_agrees allow hs all heads [] number fun a is = cc
+each_agrees allow hs all heads (x ∷ xs) zero fun a is = let same : fun_of x ≡ fun = cc in subst (FunIs (known allow all)) same a.0
+each_agrees allow hs all heads (x ∷ xs) (suc number) fun a is = each_agrees allow hs all heads xs number fun a.1 is
 
-heads_of : (hs : List Header) (fs : List Function) (xs : List TypedFunction) (m : TypedFunction) → functions hs fs hs ≡ Ok xs → HeadersAre (length fs) hs → Heads (program_of (program xs m)) hs
-heads_of hs fs xs m e h = record {
+heads_of : (allow : AllowList) (hs : List Header) (fs : List Function) (xs : List TypedFunction) (m : TypedFunction) → functions allow hs fs hs ≡ Ok xs → HeadersAre (length fs) hs → Heads (known allow (program_of (program xs m))) hs
+heads_of allow hs fs xs m e h = record {
   each = λ number head is.
-      let there = functions_at hs fs hs xs e h.many number head is in
+      let there = functions_at allow hs fs hs xs e h.many number head is in
       record {
         fun = fun_of there.fun;
         is = mapped xs number there.fun there.is;
@@ -297,25 +301,25 @@ heads_of hs fs xs m e h = record {
       };
 }
 
-formed : (hs : List Header) (fs : List Function) (all : List Statement) (context : ContextTypes) (xs : List TypedFunction) (m : TypedFunction) → IsContext context
-    → functions hs fs hs ≡ Ok xs → main_of context hs all ≡ Ok m → HeadersAre (length fs) hs → ProgramIs (program_of (program xs m))
-formed hs fs all context xs m good made ended h =
-    let funs = program_of (program xs m) in
-    let heads = heads_of hs fs xs m made h in
-    let bodies = bodies_are hs funs heads fs hs xs made h.all in
-    let first = main_is hs funs heads context all m good ended in
-    record { each = elim [ zero ↦ λ fun is. (let same : fun_of m ≡ fun = cc in subst (FunIs funs) same first) | suc number ↦ λ fun is. each_agrees hs funs heads xs number fun bodies is ] }
+formed : (allow : AllowList) (hs : List Header) (fs : List Function) (all : List Statement) (context : ContextTypes) (xs : List TypedFunction) (m : TypedFunction) → IsContext context
+    → functions allow hs fs hs ≡ Ok xs → main_of allow context hs all ≡ Ok m → HeadersAre (length fs) hs → ProgramIs (known allow (program_of (program xs m)))
+formed allow hs fs all context xs m good made ended h =
+    let script = program_of (program xs m) in
+    let heads = heads_of allow hs fs xs m made h in
+    let bodies = bodies_are allow hs script heads fs hs xs made h.all in
+    let first = main_is allow hs script heads context all m good ended in
+    record { each = elim [ zero ↦ λ fun is. (let same : fun_of m ≡ fun = cc in subst (FunIs (known allow script)) same first) | suc number ↦ λ fun is. each_agrees allow hs script heads xs number fun bodies is ] }
 
-sound : (context : ContextTypes) (tree : Tree) (p : typed.Program) → IsContext context → typing_of context tree ≡ Ok p → ProgramIs (program_of p)
-sound context tree p good e =
-    let a = passed (headers tree.functions []) (λ hs. bind (functions hs tree.functions hs) (λ fs. bind (main_of context hs tree.statements) (λ m. accepted (program fs m)))) p e in
-    let b = passed (functions a.given tree.functions a.given) (λ fs. bind (main_of context a.given tree.statements) (λ m. accepted (program fs m))) p a.then' in
-    let c = passed (main_of context a.given tree.statements) (λ m. accepted (program b.given m)) p b.then' in
+sound : (allow : AllowList) (context : ContextTypes) (tree : Tree) (p : typed.Program) → IsContext context → typing_of allow context tree ≡ Ok p → ProgramIs (known allow (program_of p))
+sound allow context tree p good e =
+    let a = passed (headers tree.functions []) (λ hs. bind (functions allow hs tree.functions hs) (λ fs. bind (main_of allow context hs tree.statements) (λ m. accepted (program fs m)))) p e in
+    let b = passed (functions allow a.given tree.functions a.given) (λ fs. bind (main_of allow context a.given tree.statements) (λ m. accepted (program fs m))) p a.then' in
+    let c = passed (main_of allow context a.given tree.statements) (λ m. accepted (program b.given m)) p b.then' in
     let h = headers_are tree.functions [] a.given a.first tt in
-    settled (λ p. ProgramIs (program_of p)) (program b.given c.given) p c.then' (formed a.given tree.functions tree.statements context b.given c.given good b.first c.first (record { all = h.all; many = omega (arith, h.many) }))
+    settled (λ p. ProgramIs (known allow (program_of p))) (program b.given c.given) p c.then' (formed allow a.given tree.functions tree.statements context b.given c.given good b.first c.first (record { all = h.all; many = omega (arith, h.many) }))
 
-pub typing_is_sound : (context : ContextTypes) (tree : Tree) (p : typed.Program) → IsContext context → typing_of context tree ≡ Ok p → WellFormed (program_of p)
-typing_is_sound context tree p good e = record { each = λ number fun is. ((sound context tree p good e).each number fun is).agrees }
+pub typing_is_sound : (allow : AllowList) (context : ContextTypes) (tree : Tree) (p : typed.Program) → IsContext context → typing_of allow context tree ≡ Ok p → WellFormed (known allow (program_of p))
+typing_is_sound allow context tree p good e = record { each = λ number fun is. ((sound allow context tree p good e).each number fun is).agrees }
 
-pub typing_reaches : (context : ContextTypes) (tree : Tree) (p : typed.Program) → IsContext context → typing_of context tree ≡ Ok p → Reached (program_of p)
-typing_reaches context tree p good e = record { each = λ number fun is. ((sound context tree p good e).each number fun is).reached }
+pub typing_reaches : (allow : AllowList) (context : ContextTypes) (tree : Tree) (p : typed.Program) → IsContext context → typing_of allow context tree ≡ Ok p → Reached (program_of p)
+typing_reaches allow context tree p good e = record { each = λ number fun is. ((sound allow context tree p good e).each number fun is).reached }

@@ -4,6 +4,7 @@ pub mod Casts
 pub mod Plans
 pub mod Parts
 pub mod Names
+pub mod Members
 pub mod Sentences
 pub mod Values
 pub mod Reaching

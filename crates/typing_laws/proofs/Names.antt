@@ -42,10 +42,10 @@ use Rattle.typing_rules.specs.Rules.Casts.{cast_to}
 use Rattle.typing_rules.specs.Rules.Operators.{operand, plan_between, relation_between, reference}
 use Rattle.typing_rules.specs.Rules.Places.{entry_if, local_if, local, is_fixed, written_to, written_if, written_at, written, set, change, change_by, cast_before, cast_after, change_of, changed_by, changed, joining, joining_by, joining_of, joined_if, compound, assigned, assign_of, one, counted, operator_of, step_of}
 use Rattle.typing_rules.specs.Rules.Calls.{function_of, arguments, called, called_if, call_of}
-use Rattle.program_meaning.specs.Tree.{Name, Variable, Fun, Program, type_of}
+use Rattle.program_meaning.specs.Tree.{Name, Variable, Fun, type_of}
 use Rattle.program_meaning.specs.Programs.{exprs_of, expr_of}
 use Rattle.program_types.specs.Types.{IsReference, string, Takes, Casts}
-use Rattle.program_types.specs.Agreeing.{Scope, variable_of, IsVariable, types_of, types_in, IsKnownBefore, Changes, ExprsAgree, scope_of}
+use Rattle.program_types.specs.Agreeing.{Known as Script, Scope, variable_of, IsVariable, types_of, types_in, IsKnownBefore, Changes, ExprsAgree, scope_of}
 use Rattle.typing_laws.proofs.Nodes.{local_is, applied_is, assign_is, change_is}
 use Rattle.typing_laws.proofs.Types.{IsBuilt, built_part, built_aim, IsOfPart, prim_part, IsAim, prim_aim, def_aim, def_reference}
 use Rattle.typing_laws.proofs.Casts.{part_casts, known_from_prim, known_to_def}
@@ -104,7 +104,7 @@ abbrev pub AllBuilt : List Named → Type 0
 AllBuilt [] = Unit {0}
 AllBuilt (x ∷ xs) = IsBuilt x.of × AllBuilt xs
 
-module _ (funs : Program) where
+module _ (funs : Script) where
   local_if_built : (c : Bool) (es : List Entry) (i : ℕ) (e : Entry) (number at : ℕ) (x : Part) → is_built e.of ≡ c → Distinct es
       → slice_get es i ≡ Some e
       → (if c then accepted (plain at (typed at e.of (n.Local e.name))) else refuse number at) ≡ accepted x → PartIs funs (in_sight es) x
@@ -309,7 +309,7 @@ module _ (funs : Program) where
   -- the functions of the program are those of the headers
   pub record Head (number : ℕ) (h : Header) : Type 0 where
     pub fun : Fun
-    pub is : slice_get funs (suc number) ≡ Some fun
+    pub is : slice_get funs.functions (suc number) ≡ Some fun
     pub takes : types_in fun.params ≡ map (λ (x : Named). x.of) h.parameters
     pub gives : fun.result ≡ h.result
     pub built : IsOfPart h.result
@@ -329,7 +329,7 @@ module _ (funs : Program) where
         let one : suc number ≡ number + 1 = omega arith in
         settled (PartIs funs g) _ z a.then' (part_of funs g at f.Deed _ head.result fun.built
         (node_is funs g at head.result _ _ (applied_is at head.result (o.Function (number + 1)) a.given) refl
-        (given.agree, record { fun = fun.fun; is = subst (λ k. slice_get funs k ≡ Some fun.fun) one fun.is; takes = given.types ∙ sym fun.takes; gives = sym fun.gives })))
+        (given.agree, record { fun = fun.fun; is = subst (λ k. slice_get funs.functions k ≡ Some fun.fun) one fun.is; takes = given.types ∙ sym fun.takes; gives = sym fun.gives })))
 
     called_found : (hs : List Header) (found : Option ℕ) (name : Name) (at : ℕ) (xs : List Part) (z : Part) → Heads hs → function_of hs name (length xs) ≡ found
         → called_if hs at found xs ≡ Ok z → AllParts g xs → PartIs funs g z

@@ -12,7 +12,7 @@ use Rattle.typed_tree.specs.declared.typed.Typed.{Typed}
 use Rattle.typed_tree.specs.declared.typed.Node.TheVariants as n
 use Rattle.typed_tree.specs.declared.typed.Node.TheOpen.{Node-F}
 use Rattle.typed_tree.specs.declared.typed.Node.TheFolds.{fold-Node, fold-roll-Typed, fold-roll-Node}
-use Rattle.program_meaning.specs.Tree.{Name, Expr, Literal, Quoted, Local, Apply, Logic, Conditional, Elvis, Assign, Modify}
+use Rattle.program_meaning.specs.Tree.{Name, Expr, Literal, Quoted, Local, Apply, Guarded, Logic, Conditional, Elvis, Assign, Modify}
 use Rattle.program_meaning.specs.Programs.{exprs_of, node_expr, typed_expr, expr_of}
 use Rattle.typing_rules.specs.Rules.Nodes.{typed, applied}
 
@@ -32,6 +32,10 @@ local_is at of x = at_node at of (n.Local x) ∙ ap (λ f. f at of) (ap (fold-No
 pub applied_is : (at : ℕ) (of : Ty) (o : Operation) (parts : List Typed) → expr_of (applied at of o parts) ≡ Apply at of o (exprs_of (map expr_of parts))
 unfolding expr_of
 applied_is at of o parts = at_node at of (n.Apply o parts) ∙ ap (λ f. f at of) (ap (fold-Node (ℕ → Ty → Expr) Expr node_expr typed_expr) (sym (n.rolls-Apply o parts)) ∙ fold-roll-Node (ℕ → Ty → Expr) Expr node_expr typed_expr (Node-F.Apply o parts))
+
+pub guarded_is : (at : ℕ) (of : Ty) (o : Operation) (parts : List Typed) → expr_of (typed at of (n.Guarded o parts)) ≡ Guarded at of o (exprs_of (map expr_of parts))
+unfolding expr_of
+guarded_is at of o parts = at_node at of (n.Guarded o parts) ∙ ap (λ f. f at of) (ap (fold-Node (ℕ → Ty → Expr) Expr node_expr typed_expr) (sym (n.rolls-Guarded o parts)) ∙ fold-roll-Node (ℕ → Ty → Expr) Expr node_expr typed_expr (Node-F.Guarded o parts))
 
 pub logic_is : (at : ℕ) (of : Ty) (o : Logical) (left right : Typed) → expr_of (typed at of (n.Logical o left right)) ≡ Logic at of o (expr_of left) (expr_of right)
 unfolding expr_of

@@ -41,10 +41,10 @@ use Rattle.typing_rules.specs.Rules.Digits.{is_long, magnitude, unmarked}
 use Rattle.typing_rules.specs.Rules.Casts.{within, unit_of, standing_layer, standing, cast_by, cast_at, literal_or, cast_to, asked}
 use Rattle.typing_rules.specs.Rules.Operators.{primitive_layer, primitive_of, on_numbers, operand, Side, side_layer, side_of, joins, compares, identifies, only_if, relation_of, relation_between, type_given, reference, related, strict, side, logical, binary_of, promoted_if, promoted, signed, plus_as, not_of, unary_of, common_if, common_layer, common, choice_as, choice_of, is_literal, is_primitive, needs_no_other, elvis_by, common_of, elvis_of, may_be_instance, has_instances_layer, instance_of}
 use Rattle.typing_rules.specs.Rules.Types.{is_built_class}
-use Rattle.program_meaning.specs.Tree.{Expr, Literal, Program, type_of}
+use Rattle.program_meaning.specs.Tree.{Expr, Literal, type_of}
 use Rattle.program_meaning.specs.Programs.{expr_of}
 use Rattle.program_types.specs.Types.{is_reference_layer, IsReference, string, IsOf, Takes, Casts}
-use Rattle.program_types.specs.Agreeing.{Scope, ExprAgrees}
+use Rattle.program_types.specs.Agreeing.{Known as Script, Scope, ExprAgrees}
 use Rattle.typing_laws.proofs.Nodes.{constant_is, text_is, applied_is, logic_is, choice_is, elvis_is}
 use Rattle.typing_laws.proofs.Types.{IsBuilt, prim_by, prim_built, def_built, class_built, built_part, built_aim, built_named, part_layer, IsOfPart, null_part, prim_part, part_aim, IsAim, prim_aim, def_aim, def_reference, null_reference, class_reference}
 use Rattle.typing_laws.proofs.Casts.{part_casts, none_to_void}
@@ -162,7 +162,7 @@ instance_layer (Ty-F.Array u) e = tt
 instance_reference : (of : Ty) → may_be_instance (side_of of) ≡ true → IsReference of
 instance_reference of e = instance_layer (out-Ty of) e
 
-module _ (funs : Program) (g : Scope) where
+module _ (funs : Script) (g : Scope) where
   pub record TypedIs (y : Typed) (of : Ty) : Type 0 where
     pub agrees : ExprAgrees funs g (expr_of y)
     pub is : type_of (expr_of y) ≡ of

@@ -23,10 +23,10 @@ use Rattle.typing_rules.specs.Doing.{Whole, Answer, Doing}
 use Rattle.typing_rules.specs.Rules.Nodes.{is_void, is_void_layer}
 use Rattle.typing_rules.specs.Rules.Casts.{cast_to}
 use Rattle.typing_rules.specs.Rules.Statements.{step, is_deed, deed, give_back, is_result, expression_of, break_of, continue_of, return_of, nothing_returned, throw_of}
-use Rattle.program_meaning.specs.Tree.{Name, Stmt, Do, Break, Continue, Return, Throw, Stmts, Then, Missing, Given, Program}
+use Rattle.program_meaning.specs.Tree.{Name, Stmt, Do, Break, Continue, Return, Throw, Stmts, Then, Missing, Given}
 use Rattle.program_meaning.specs.Falls.{falls}
 use Rattle.program_meaning.specs.Programs.{Before, expr_of, alone, before}
-use Rattle.program_types.specs.Agreeing.{Scope, StmtAgrees, StmtsAgree, scope_of}
+use Rattle.program_types.specs.Agreeing.{Known as Script, Scope, StmtAgrees, StmtsAgree, scope_of}
 use Rattle.program_types.specs.Types.{IsReference}
 use Rattle.typing_laws.proofs.Types.{void_by, class_built, built_aim, IsAim, class_reference}
 use Rattle.typing_laws.proofs.Parts.{passed, accepted, settled, cast_is}
@@ -111,7 +111,7 @@ pub record Kind (A : Type 0) : Type 1 where
   pub before : A → Before
   pub reaches : A → Type 0
 
-module _ (funs : Program) where
+module _ (funs : Script) where
   -- what stands in the scope behind a statement agrees before it, with the statement
   abbrev pub Leads : State → State → Before → Type 0
   Leads s t b = (rest : Stmts) → StmtsAgree funs s.result s.looped (in_sight t.scopes) rest → StmtsAgree funs s.result s.looped (in_sight s.scopes) (b rest)

@@ -1,8 +1,8 @@
 -- Types that parts of expressions have, and types to which they are cast.
 use Rattle.std.proofs.Common.{◌≡◌, ℕ, Bool, true, false, ◌||◌, ◌&&◌, Some, None, refl, sym, ap, ◌∙◌, subst, arith, ◌≤◌, ◌<◌, nat_lt, ◌⊎◌, inl, inr}
-use Rattle.std.specs.Prelude.{nat_le, ◌==◌, if◌then◌else◌}
+use Rattle.std.specs.Prelude.{nat_le, not, ◌==◌, if◌then◌else◌}
 use Rattle.std.proofs.lemmas.Bool.{and_parts, or_cases, eqb-true, leb-true, lt-ltb, ne_eqb}
-use Rattle.pl_types.specs.declared.classes.TheConstants.{CHAR_SEQUENCE, STRING, STRING_BUILDER, EXCEPTION, STRING_INDEX_OUT_OF_BOUNDS_EXCEPTION, PRELUDE, BYTE, SHORT, INTEGER, LONG, CHARACTER, BOOLEAN}
+use Rattle.pl_types.specs.declared.classes.TheConstants.{CHAR_SEQUENCE, STRING, STRING_BUILDER, EXCEPTION, STRING_INDEX_OUT_OF_BOUNDS_EXCEPTION, PRELUDE, NUMBER, BYTE, SHORT, INTEGER, LONG, CHARACTER, BOOLEAN}
 use Rattle.pl_types.specs.declared.primitive.Primitive.{Primitive}
 use Rattle.pl_types.specs.declared.primitive.Primitive.TheVariants as prim
 use Rattle.pl_types.specs.declared.ty.Ty.{Ty, out-Ty, roll-Ty, roll-out-Ty}
@@ -10,6 +10,7 @@ use Rattle.pl_types.specs.declared.ty.Ty.TheVariants as t
 use Rattle.pl_types.specs.declared.ty.Ty.TheOpen.{Ty-F}
 use Rattle.pl_types.specs.declared.ty.Ty.TheFolds.{fold-roll-Ty, map-Ty}
 use Rattle.pl_types.specs.Casts.{unboxed}
+use Rattle.member_acts.specs.Types.{is_plain_class}
 use Rattle.typing_rules.specs.Rules.Types.{is_built_class, is_built_layer, is_built}
 use Rattle.program_types.specs.Types.{is_reference_layer, IsReference, has_values_layer, HasValues, listed_layer, is_listed, IsNamed}
 use Rattle.typing_laws.specs.Laws.{may_be_result, MayBeResult}
@@ -46,8 +47,8 @@ lies_listed : (c : ℕ) → Lies c → nat_lt c PRELUDE ≡ true
 lies_listed c (Low most) = lt-ltb c 55 (omega (arith, most))
 lies_listed c (High least most) = lt-ltb c 55 most
 
--- no box is built
-no_box : (c k : ℕ) → 4 ≤ k → k ≤ 9 → Lies c → (c == k) ≡ false
+-- neither Number nor a box is built
+no_box : (c k : ℕ) → 3 ≤ k → k ≤ 9 → Lies c → (c == k) ≡ false
 no_box c k a b (Low most) = ne_eqb c k (λ same. absurd (omega (arith, a, most, same)))
 no_box c k a b (High least most) = ne_eqb c k (λ same. absurd (omega (arith, b, least, same)))
 
@@ -61,6 +62,14 @@ no_unboxed c e =
     unboxed_by (c == BOOLEAN) (c == BYTE) (c == SHORT) (c == CHARACTER) (c == INTEGER) (c == LONG)
     (no_box c 9 (omega arith) (omega arith) x) (no_box c 4 (omega arith) (omega arith) x) (no_box c 5 (omega arith) (omega arith) x)
     (no_box c 8 (omega arith) (omega arith) x) (no_box c 6 (omega arith) (omega arith) x) (no_box c 7 (omega arith) (omega arith) x)
+
+pub plain_class : (c : ℕ) → is_built_class c ≡ true → is_plain_class c ≡ true
+plain_class c e =
+    let x = lies c e in
+    plain_by (c == NUMBER) (c == CHARACTER) (c == BOOLEAN) (no_box c 3 (omega arith) (omega arith) x) (no_box c 8 (omega arith) (omega arith) x) (no_box c 9 (omega arith) (omega arith) x)
+  where
+    plain_by : (a b c : Bool) → a ≡ false → b ≡ false → c ≡ false → (not a && (not b && not c)) ≡ true
+    plain_by a b c x y z = cc
 
 -- ---- types by their layers
 

@@ -1,5 +1,5 @@
 -- What steps of typing give, where they refuse nothing: expressions leave what is known as it was.
-use Rattle.std.proofs.Common.{◌≡◌, ℕ, List, [], ◌∷◌, Ok, Err, refl}
+use Rattle.std.proofs.Common.{◌≡◌, ℕ, List, [], ◌∷◌, Option, Some, None, Ok, Err, refl}
 use Rattle.std.specs.Prelude.{Bool, true, false, if◌then◌else◌}
 use Rattle.pl_types.specs.declared.ty.Ty.{Ty}
 use Rattle.pl_types.specs.declared.ty.Ty.TheVariants as t
@@ -18,7 +18,7 @@ use Rattle.typing_rules.specs.Doing.{Whole, Answer, Doing, ◌>>=◌, ◌>>◌, 
 use Rattle.typing_rules.specs.Rules.Types.{is_built_class, base_of, bracketed as with_brackets, type_of}
 use Rattle.typing_rules.specs.Rules.Operators.{unary_of}
 use Rattle.typing_rules.specs.Typing.{Reading, plain, unbuilt, seen}
-use Rattle.program_meaning.specs.Tree.{Program}
+use Rattle.program_types.specs.Agreeing.{Known as Script}
 use Rattle.typing_laws.proofs.Types.{IsBuilt, prim_built, def_built, class_built}
 use Rattle.typing_laws.proofs.Parts.{passed, accepted, settled, PartIs, unary_is}
 use Rattle.typing_laws.proofs.Names.{Known, in_sight, PlaceIs}
@@ -113,7 +113,12 @@ type_is name of e =
 
 -- ---- expressions
 
-module _ (funs : Program) where
+-- what the name of a type gives
+abbrev pub NamesAre : Option (Doing Ty) → Type 0
+NamesAre None = Unit {0}
+NamesAre (Some m) = Value (λ s of. IsBuilt of) m
+
+module _ (funs : Script) where
   abbrev pub PartAt : State → Part → Type 0
   PartAt s x = PartIs funs (in_sight s.scopes) x
 
@@ -121,6 +126,7 @@ module _ (funs : Program) where
   PlaceAt s x = PlaceIs funs (in_sight s.scopes) x
 
   pub record ReadingIs (x : Reading) : Type 0 where
+    pub names : NamesAre x.names
     pub value : Value PartAt x.value
     pub negated : (minus : ℕ) → Value PartAt (x.negated minus)
     pub place : Value PlaceAt x.place
@@ -181,7 +187,16 @@ module _ (funs : Program) where
 
   -- what is no literal and no name
   pub plain_is : (first : ℕ) (m : Doing Part) → Value PartAt m → ReadingIs (plain first m)
-  plain_is first m x = record { value = x; negated = λ minus. negated_part minus x; place = fixed x }
+  plain_is first m x = record { names = tt; value = x; negated = λ minus. negated_part minus x; place = fixed x }
+
+  -- a type
+  pub type_name_is : (first : ℕ) (m : Doing Part) (n : Doing Ty) → Value PartAt m → Value (λ s of. IsBuilt of) n
+      → ReadingIs (record (plain first m) { names = Some n })
+  type_name_is first m n x y = record { names = y; value = x; negated = λ minus. negated_part minus x; place = fixed x }
+
+  -- what may be written to
+  pub placed_is : (first : ℕ) (m : Doing Part) (p : Doing Place) → Value PartAt m → Value PlaceAt p → ReadingIs (record (plain first m) { place = p })
+  placed_is first m p x y = record { names = tt; value = x; negated = λ minus. negated_part minus x; place = y }
 
   pub fixed_place : {m : Doing Part} → Value PartAt m → Value PlaceAt (m >>= (λ x. pure place.Fixed))
   fixed_place = fixed
