@@ -16,7 +16,7 @@ use Rattle.code_meaning.specs.declared.word.Word.{Word}
 use Rattle.program_code.specs.Lying.{lying_of, lying_of_layer, low}
 use Rattle.program_code.specs.Correct.{EndsAlike, end_of, source_in, words_of, IsCodeOf, program_ends}
 use Rattle.program_types.specs.Types.{has_values_layer, HaveAll}
-use Rattle.program_types.specs.Agreeing.{types_in, HaveValues, WellFormed}
+use Rattle.program_types.specs.Agreeing.{types_in, known, HaveValues, WellFormed}
 use Rattle.program_types.specs.Enough.{enough, IsEnough}
 use Rattle.program_types.proofs.Enough.{comes_to_an_end}
 use Rattle.program_outcome.specs.Outcome.{Outcome}
@@ -70,14 +70,14 @@ stays_end of (Thrown id s e) other end x is = ap (end_of of) x ∙ is
 stays_end of (Over limit w) other end x is = ap (end_of of) x ∙ is
 stays_end of More other end x is = cc
 
-pub programs_end : EndsAlike → (p : Program) (code : List FunCode) → WellFormed (program_of p) → IsCodeOf p code → (limits : Limits) (args : List Value)
+pub programs_end : EndsAlike → (p : Program) (code : List FunCode) (limits : Limits) → WellFormed (known limits.allowed (program_of p)) → IsCodeOf p code → (args : List Value)
     → HaveAll (types_in (fun_of p.main).params) args → (w : World) → Outcome p code limits args w
-programs_end ends_alike p code formed made limits args have w =
+programs_end ends_alike p code limits formed made args have w =
     let funs = program_of p in
     let main = fun_of p.main in
     let bound = enough funs w in
     let words = have_words main.params args (formed.each 0 main refl).present have in
-    let ran = comes_to_an_end funs formed limits main refl args have w bound (omega arith) in
+    let ran = comes_to_an_end (known limits.allowed funs) formed limits main refl refl args have w bound (omega arith) in
     let last = comes main.result ((meaning funs limits bound).stmts (record { text = Script; depth = 0 }) (record { world = w; turns = 0 }) ran.0 main.body) ran.2 in
     let ends : (k : ℕ) → bound ≤ k → program_ends p limits k args w ≡ Some last.end = λ k h.
     ap (λ o. source_in funs limits k main o w) ran.1

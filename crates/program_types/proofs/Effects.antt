@@ -28,7 +28,7 @@ use Rattle.number_ops.specs.Casts.{number_as, only_unit, char_given, to_primitiv
 use Rattle.number_ops.specs.Names.{cannot_cast, cast_message}
 use Rattle.number_ops.specs.Operators.{number_in, is_null}
 use Rattle.number_ops.specs.Order.{found_of}
-use Rattle.number_ops.specs.Outcomes.{effect, class_raised, says, zero_divisor}
+use Rattle.number_ops.specs.Outcomes.{effect, class_raised, says, null_error, zero_divisor}
 use Rattle.number_ops.specs.Relations.{equal, equal_if}
 use Rattle.program_meaning.specs.Operating.{Operated, Meaningless, Gives as Gives_it, Acts, negated}
 use Rattle.program_types.specs.Types.{HasPrimitive, HasLayer, Has, string}
@@ -59,11 +59,14 @@ says_has : (l : Ty-F Ty) (store : Store) (raised : Raised) (message : List ℕ) 
 unfolding says
 says_has l store raised message = thrown_has l store (class_raised raised) (Some (units message))
 
+pub null_throws : (of : Ty) (store : Store) → EffectHas of (effect store null_error)
+null_throws of store = thrown_has (out-Ty of) store NULL_POINTER_EXCEPTION None
+
 pub divides : (of : Ty) (store : Store) → EffectHas of (effect store zero_divisor)
 divides of store = says_has (out-Ty of) store _ (codes "/ by zero")
 
 -- where every value is of a type
-made : (l : Ty-F Ty) (x : Effect) → ((value : Value) → HasLayer l value) → LayerHas l x
+pub made : (l : Ty-F Ty) (x : Effect) → ((value : Value) → HasLayer l value) → LayerHas l x
 made l (Gives_value value store) h = h value
 made l (Throws id store) h = tt
 made l NoRoom h = tt

@@ -9,7 +9,7 @@ use Rattle.run_world.specs.World.{World, Limits}
 use Rattle.program_meaning.specs.Tree.{Fun, Program}
 use Rattle.program_meaning.specs.Meaning.{Env, Out, Done, Thrown, Over, More, Flow, Normal, Broke, Continued, Returned, entry, meaning}
 use Rattle.program_types.specs.Types.{HaveAll}
-use Rattle.program_types.specs.Agreeing.{Scope, types_in, scope_of, WellFormed}
+use Rattle.program_types.specs.Agreeing.{Scope, types_in, Known, scope_of, WellFormed}
 use Rattle.program_types.specs.Enough.{stmts_size, size_of, enough, IsEnough}
 use Rattle.program_types.proofs.Scopes.{enters}
 use Rattle.program_types.proofs.Never.{Fine, FlowHas, all_good}
@@ -38,15 +38,15 @@ ends of g k (Thrown id s e) x = tt
 ends of g k (Over limit w) x = tt
 ends of g k More x = x
 
-pub comes_to_an_end : (funs : Program) → WellFormed funs → (limits : Limits) (main : Fun) → slice_get funs 0 ≡ Some main
-    → (args : List Value) → HaveAll (types_in main.params) args → (w : World) (bound : ℕ) → enough funs w ≤ bound
+pub comes_to_an_end : (funs : Known) → WellFormed funs → (limits : Limits) (main : Fun) → limits.allowed ≡ funs.allowed → slice_get funs.functions 0 ≡ Some main
+    → (args : List Value) → HaveAll (types_in main.params) args → (w : World) (bound : ℕ) → enough funs.functions w ≤ bound
     → (e : Env) × (entry main.params args [] ≡ Some e)
-    × IsEnough main.result ((meaning funs limits bound).stmts (record { text = Script; depth = 0 }) (record { world = w; turns = 0 }) e main.body)
-comes_to_an_end funs formed limits main is args have w bound h =
-    let most = size_of funs in
+    × IsEnough main.result ((meaning funs.functions limits bound).stmts (record { text = Script; depth = 0 }) (record { world = w; turns = 0 }) e main.body)
+comes_to_an_end funs formed limits main same is args have w bound h =
+    let most = size_of funs.functions in
     let start = enters main.params args [] [] have tt in
-    let good = all_good funs limits formed most (λ k. k * suc most) (holds funs) (λ k k' h. mul-le-mul_right (suc most) h) (spends most) bound in
-    let size = holds funs 0 main is in
+    let good = all_good funs limits same formed most (λ k. k * suc most) (holds funs.functions) (λ k k' h. mul-le-mul_right (suc most) h) (spends most) bound in
+    let size = holds funs.functions 0 main is in
     let ran = good.stmts main.body (record { text = Script; depth = 0 }) (record { world = w; turns = 0 }) start.env (scope_of main.params []) main.result false (formed.each 0 main is).body start.bound
     (omega (arith, size, whole w.ticks most bound h)) in
     (start.env, start.is, ends main.result (scope_of main.params []) w.ticks _ ran.by)

@@ -1,12 +1,21 @@
 -- At a bound that is enough, a well-formed program never comes to More: each turn and each call is paid by a tick, and a tick is worth
 -- more than any function is large.
-use Rattle.std.proofs.Common.{◌≡◌, ℕ, zero, suc, ◌+◌, ◌≤◌, Bool, true, false, List, [], ◌∷◌, Option, Some, refl, sym, subst, arith}
+use Rattle.std.proofs.Common.{◌≡◌, ℕ, zero, suc, ◌+◌, ◌≤◌, Bool, true, false, List, [], ◌∷◌, Option, Some, refl, sym, ap, ◌∙◌, subst, arith}
 use Rattle.std.specs.Prelude.{◌-◌, slice_get, nat_lt, if◌then◌else◌}
 use Rattle.std.proofs.lemmas.Bool.{ltb-true}
-use Rattle.pl_types.specs.declared.ty.Ty.{Ty}
+use Rattle.std.proofs.lemmas.Option.{get_or_from_slice_get}
+use Rattle.pl_types.specs.declared.ty.Ty.{Ty, out-Ty}
+use Rattle.allowlist.specs.declared.member.MemberKind.{MemberKind}
+use Rattle.allowlist.specs.declared.member.MemberKind.TheVariants as kind
+use Rattle.allowlist.specs.declared.member.MemberType.{MemberType}
+use Rattle.allowlist.specs.Allow.{AllowList, flag}
+use Rattle.allowlist.specs.Catalogue.{catalogue, constructor}
+use Rattle.allowlist.specs.Index.{member_at}
 use Rattle.object_values.specs.declared.value.Value.{Value}
 use Rattle.object_values.specs.declared.value.Value.TheVariants as v
 use Rattle.object_heap.specs.Effects.{Effect, Gives as Gives_value, Throws, NoRoom}
+use Rattle.object_heap.specs.Store.{Store}
+use Rattle.typed_tree.specs.declared.operation.Member.{Member}
 use Rattle.typed_tree.specs.declared.operation.Operation.{Operation}
 use Rattle.typed_tree.specs.declared.operation.Operation.TheVariants as operation
 use Rattle.typed_tree.specs.declared.operation.Logical.{Logical}
@@ -18,15 +27,19 @@ use Rattle.typed_tree.specs.declared.operation.Gives.{Gives}
 use Rattle.typed_tree.specs.declared.operation.Gives.TheVariants as gives
 use Rattle.number_ops.specs.Operators.{is_null}
 use Rattle.number_ops.specs.Relations.{thrown}
-use Rattle.run_world.specs.World.{World, Limits, Loop, Depth, Ticks, acts_in, Counted, Counts, Passes, pay_tick, take_turn, goes_deeper, enter}
-use Rattle.program_meaning.specs.Tree.{Name, Expr, Literal, Quoted, Local, Apply, Guarded, Logic, Conditional, Elvis, Assign, Modify, Lambda, Reference, NewReference, Exprs, None', One, Maybe, Missing, Given as Present, Stmt, Do, If, While, DoWhile, ForEach, Try, Block, Break, Continue, Return, Throw, Stmts, Finish, Then, Declare, Variable, Fun, Program, type_of}
+use Rattle.run_world.specs.World.{World, Limits, Loop, Depth, Ticks, acts_in, Counted, Counts, Passes, pay_tick, take_turn, goes_deeper, enter, reach, reaches, pay_member}
+use Rattle.member_acts.specs.Members.{is_built, does}
+use Rattle.member_acts.specs.Types.{asked_by_member}
+use Rattle.program_meaning.specs.Tree.{Name, Expr, Literal, Quoted, Local, Apply, Guarded, Logic, Conditional, Elvis, Assign, Modify, Lambda, Reference, NewReference, Exprs, None', One, Maybe, Missing, Given as Present, Stmt, Do, If, While, DoWhile, ForEach, Try, Block, Break, Continue, Return, Throw, Stmts, Finish, Then, Declare, Variable, Fun, type_of}
 use Rattle.program_meaning.specs.Operating.{Operated, Meaningless, Gives as Gives_it, Acts}
-use Rattle.program_meaning.specs.Meaning.{State, Env, Place, Out, Done, Thrown, Over, More, Flow, Normal, Broke, Continued, Returned, bind, leave, found, effect, operated, choose, given_by, goes_next, goes_again, back, Meaning, entered, called, applied, logic, modified, expr_of, exprs_of, value_if, turned, done_turn, stmt_of, value_or, stmts_of, layer, meaning}
+use Rattle.program_meaning.specs.Members.{Sending, Unsent, OnNull, Sends, Reads, sent}
+use Rattle.program_meaning.specs.Meaning.{State, Env, Place, Out, Done, Thrown, Over, More, Flow, Normal, Broke, Continued, Returned, bind, leave, found, effect, operated, choose, given_by, goes_next, goes_again, back, Meaning, entered, called, acted, paid, member_called, member_applied, of_member, applied, logic, modified, expr_of, exprs_of, value_if, turned, done_turn, stmt_of, value_or, stmts_of, layer, meaning}
 use Rattle.program_types.specs.Types.{Has, HaveAll}
-use Rattle.program_types.specs.Agreeing.{Scope, IsVariable, boolean, types_of, Calls, Applies, Changes, ExprAgrees, ExprsAgree, TestAgrees, UpdateAgrees, BeginAgrees, ReturnAgrees, StmtAgrees, StmtsAgree, scope_of, FunAgrees, WellFormed}
+use Rattle.program_types.specs.Agreeing.{Scope, IsVariable, boolean, types_of, Known, Calls, MemberAgrees, Applies, Changes, ExprAgrees, ExprsAgree, TestAgrees, UpdateAgrees, BeginAgrees, ReturnAgrees, StmtAgrees, StmtsAgree, scope_of, FunAgrees, WellFormed}
 use Rattle.program_types.specs.Enough.{expr_size, exprs_size, maybe_size, stmt_size, stmts_size}
 use Rattle.program_types.proofs.Values.{has_flag, nothing_has, is_flag, text_has, constant_has, default_has}
-use Rattle.program_types.proofs.Effects.{EffectHas, OperatedHas}
+use Rattle.program_types.proofs.Effects.{EffectHas, OperatedHas, null_throws}
+use Rattle.program_types.proofs.Members.{SendingSuits, sent_suits, Comes, member_comes, null_has}
 use Rattle.program_types.proofs.Operations.{takes_fit, casts_fit, begins_fit}
 use Rattle.program_types.proofs.Scopes.{Bound, reads, writes, leaves, enters}
 
@@ -176,10 +189,18 @@ call_costs : (limits : Limits) (depth : ℕ) (w : World) → Costs (enter limits
 unfolding enter
 call_costs limits depth w = deeper_costs (pay_tick w) limits depth w.ticks (pays w)
 
+member_costs : (number : ℕ) (w : World) → Costs (pay_member number w) w.ticks
+unfolding pay_member reaches reach
+member_costs number w = either (pay_tick w) (pays w)
+  where
+    either : (c : Counted) → Costs c w.ticks → Costs (reaches number c) w.ticks
+    either (Counts w') x = x
+    either (Passes limit w') x = tt
+
 -- ---- the induction; `cost` is what so many ticks are worth, and `most` more than the size of any body
 
-module _ (funs : Program) (limits : Limits) (formed : WellFormed funs) (most : ℕ) (cost : ℕ → ℕ)
-    (holds : (number : ℕ) (f : Fun) → slice_get funs number ≡ Some f → stmts_size f.body ≤ most)
+module _ (funs : Known) (limits : Limits) (same : limits.allowed ≡ funs.allowed) (formed : WellFormed funs) (most : ℕ) (cost : ℕ → ℕ)
+    (holds : (number : ℕ) (f : Fun) → slice_get funs.functions number ≡ Some f → stmts_size f.body ≤ most)
     (keeps : (k k' : ℕ) → k ≤ k' → cost k ≤ cost k')
     (spends : (k k' : ℕ) → suc k ≤ k' → cost k + suc most ≤ cost k') where
   pub record Good (n : ℕ) (m : Meaning) : Type 0 where
@@ -197,25 +218,55 @@ module _ (funs : Program) (limits : Limits) (formed : WellFormed funs) (most : �
 
     entered_ends : (c : Counted) (d : Place) (s : State) (e : Env) (g : Scope) (f : Fun) (o : Option Env) (args : Env) → Costs c s.world.ticks → o ≡ Some args
         → Bound (scope_of f.params []) args → FunAgrees funs f → stmts_size f.body ≤ most → Bound g e → cost s.world.ticks ≤ n
-        → Ends (Has f.result) g s.world.ticks (entered funs limits m c d s e f.result f.body o)
+        → Ends (Has f.result) g s.world.ticks (entered funs.functions limits m c d s e f.result f.body o)
     entered_ends (Passes limit w') d s e g f o args c is inner x size b h =
-        subst (λ o. Ends (Has f.result) g s.world.ticks (entered funs limits m (Passes limit w') d s e f.result f.body o)) (sym is) (record { by = tt })
+        subst (λ o. Ends (Has f.result) g s.world.ticks (entered funs.functions limits m (Passes limit w') d s e f.result f.body o)) (sym is) (record { by = tt })
     entered_ends (Counts w) d s e g f o args c is inner x size b h =
         let spent = spends w.ticks s.world.ticks c in
         let ran = ih.stmts f.body (record { text = d.text; depth = suc d.depth }) (record { world = w; turns = 0 }) args (scope_of f.params []) f.result false x.body inner (omega (arith, spent, size, h)) in
-        subst (λ o. Ends (Has f.result) g s.world.ticks (entered funs limits m (Counts w) d s e f.result f.body o)) (sym is)
+        subst (λ o. Ends (Has f.result) g s.world.ticks (entered funs.functions limits m (Counts w) d s e f.result f.body o)) (sym is)
         (within (omega (arith, c)) (record { by = backs f.result (scope_of f.params []) g w.ticks s.turns e _ b ran.by }))
 
     called_ends : (number : ℕ) (ofs : List Ty) (of : Ty) (values : List Value) (d : Place) (s : State) (e : Env) (g : Scope) → Calls funs number ofs of → HaveAll ofs values → Bound g e
-        → cost s.world.ticks ≤ n → Ends (Has of) g s.world.ticks (called funs limits m (slice_get funs number) d s e values)
+        → cost s.world.ticks ≤ n → Ends (Has of) g s.world.ticks (called funs.functions limits m (slice_get funs.functions number) d s e values)
     called_ends number ofs of values d s e g x h b c =
         let args = enters x.fun.params values [] [] (subst (λ ofs. HaveAll ofs values) x.takes h) tt in
-        subst (λ o. Ends (Has of) g s.world.ticks (called funs limits m o d s e values)) (sym x.is)
-        (subst (λ of. Ends (Has of) g s.world.ticks (called funs limits m (Some x.fun) d s e values)) (sym x.gives)
+        subst (λ o. Ends (Has of) g s.world.ticks (called funs.functions limits m o d s e values)) (sym x.is)
+        (subst (λ of. Ends (Has of) g s.world.ticks (called funs.functions limits m (Some x.fun) d s e values)) (sym x.gives)
         (entered_ends (enter limits d.depth s.world) d s e g x.fun _ args.env (call_costs limits d.depth s.world) args.is args.bound (formed.each number x.fun x.is) (holds number x.fun x.is) b c))
 
+    -- ---- members
+
+    acted_ends : (of : Ty) (g : Scope) (s : State) (e : Env) (o : Option Effect) → Comes of o → Bound g e → Ends (Has of) g s.world.ticks (acted funs.functions limits m o s e)
+    acted_ends of g s e o x b = subst (λ o. Ends (Has of) g s.world.ticks (acted funs.functions limits m o s e)) (sym x.is) (acts_end of g s e x.effect x.has b)
+
+    paid_ends : (c : Counted) (number : ℕ) (arguments : List Value) (of : Ty) (s : State) (e : Env) (g : Scope) → Costs c s.world.ticks
+        → ((store : Store) → Comes of (does number arguments store)) → Bound g e → Ends (Has of) g s.world.ticks (paid funs.functions limits m c number arguments s e)
+    paid_ends (Passes limit w') number arguments of s e g c x b = record { by = tt }
+    paid_ends (Counts w) number arguments of s e g c x b = within (omega (arith, c)) (acted_ends of g (record { world = w; turns = s.turns }) e _ (x w.store) b)
+
+    sending_ends : (x : Sending) (number : ℕ) (member : MemberType) (s : State) (e : Env) (g : Scope) → slice_get catalogue number ≡ Some member → is_built number ≡ true
+        → SendingSuits (asked_by_member member) x → Bound g e → Ends (Has member.result) g s.world.ticks (member_called funs.functions limits m x number s e)
+    sending_ends Unsent number member s e g is built x b = absurd x
+    sending_ends OnNull number member s e g is built x b = acts_end member.result g s e _ (null_throws member.result s.world.store) b
+    sending_ends (Sends arguments) number member s e g is built x b =
+        paid_ends (pay_member number s.world) number arguments member.result s e g (member_costs number s.world) (λ store. member_comes number member arguments store is built x) b
+    sending_ends Reads number member s e g is built x b = acted_ends member.result g s e _ (member_comes number member [] s.world.store is built x) b
+
+    member_ends : (sort : MemberKind) (c : Member) (ofs : List Ty) (of : Ty) (values : List Value) (s : State) (e : Env) (g : Scope) → MemberAgrees funs sort c ofs of → HaveAll ofs values
+        → Bound g e → Ends (Has of) g s.world.ticks (of_member funs.functions limits m c values s e)
+    member_ends sort c ofs of values s e g x h b =
+        let at : member_at c.number ≡ x.member = get_or_from_slice_get catalogue c.number x.member (constructor 0 []) x.is in
+        let allowed : flag limits.allowed.members c.number ≡ true = ap (λ (a : AllowList). flag a.members c.number) same ∙ x.allowed in
+        subst (λ of. Ends (Has of) g s.world.ticks (of_member funs.functions limits m c values s e)) (sym x.gives)
+        (subst (λ is. Ends (Has x.member.result) g s.world.ticks (member_applied funs.functions limits m is c.number values s e)) (sym allowed)
+        (subst (λ member. Ends (Has x.member.result) g s.world.ticks (member_called funs.functions limits m (sent member values) c.number s e)) (sym at)
+        (sending_ends (sent x.member values) c.number x.member s e g x.is x.built (sent_suits c.number x.member sort ofs values x.is x.sort x.plain x.takes h) b)))
+
+    -- ---- operations
+
     applied_ends : (o : Operation) (ofs : List Ty) (of : Ty) (values : List Value) (d : Place) (s : State) (e : Env) (g : Scope) → Applies funs o ofs of → HaveAll ofs values → Bound g e
-        → cost s.world.ticks ≤ n → Ends (Has of) g s.world.ticks (applied funs limits m o d s e of values)
+        → cost s.world.ticks ≤ n → Ends (Has of) g s.world.ticks (applied funs.functions limits m o d s e of values)
     applied_ends (operation.Operator o) ofs of values d s e g x h b c = operated_ends of g s e _ (takes_fit o ofs of values s.world.store x h) b
     applied_ends (operation.Cast k) [] of values d s e g x h b c = absurd x
     applied_ends (operation.Cast k) (from ∷ []) of [] d s e g x h b c = absurd h
@@ -228,10 +279,10 @@ module _ (funs : Program) (limits : Limits) (formed : WellFormed funs) (most : �
     applied_ends (operation.InstanceOf to) (from ∷ []) of (value ∷ []) d s e g x h b c = done (has_flag of _ x.2) b (omega arith)
     applied_ends (operation.InstanceOf to) (from ∷ []) of (value ∷ other ∷ values) d s e g x h b c = absurd h.1
     applied_ends (operation.InstanceOf to) (from ∷ other ∷ ofs) of values d s e g x h b c = absurd x
-    applied_ends (operation.Instance member) ofs of values d s e g x h b c = absurd x
-    applied_ends (operation.Static member) ofs of values d s e g x h b c = absurd x
-    applied_ends (operation.Constructor member) ofs of values d s e g x h b c = absurd x
-    applied_ends (operation.Field member) ofs of values d s e g x h b c = absurd x
+    applied_ends (operation.Instance member) ofs of values d s e g x h b c = member_ends kind.Instance member ofs of values s e g x h b
+    applied_ends (operation.Static member) ofs of values d s e g x h b c = member_ends kind.Static member ofs of values s e g x h b
+    applied_ends (operation.Constructor member) ofs of values d s e g x h b c = member_ends kind.Constructor member ofs of values s e g x h b
+    applied_ends (operation.Field member) ofs of values d s e g x h b c = member_ends kind.Field member ofs of values s e g x h b
     applied_ends (operation.Host member) ofs of values d s e g x h b c = absurd x
     applied_ends (operation.DefCall name) ofs of values d s e g x h b c = absurd x
     applied_ends (operation.DefName name) ofs of values d s e g x h b c = absurd x
@@ -244,7 +295,7 @@ module _ (funs : Program) (limits : Limits) (formed : WellFormed funs) (most : �
     lesser k k' z n' h c = omega (arith, keeps k k' h, c)
 
     logic_ends : (o : Logical) (value : Value) (right : Expr) (d : Place) (s : State) (e : Env) (g : Scope) → Has boolean value → ExprAgrees funs g right → type_of right ≡ boolean → Bound g e
-        → cost s.world.ticks + expr_size right ≤ n → Ends (Has boolean) g s.world.ticks (logic funs limits m o d s e value right)
+        → cost s.world.ticks + expr_size right ≤ n → Ends (Has boolean) g s.world.ticks (logic funs.functions limits m o d s e value right)
     logic_ends And value right d s e g h x is b c = chosen value h (subst (λ of. Ends (Has of) g s.world.ticks (m.expr d s e right)) is (ih.expr right d s e g x b c)) (done (has_flag boolean false refl) b (omega arith))
     logic_ends Or value right d s e g h x is b c = chosen value h (done (has_flag boolean true refl) b (omega arith)) (subst (λ of. Ends (Has of) g s.world.ticks (m.expr d s e right)) is (ih.expr right d s e g x b c))
 
@@ -254,7 +305,7 @@ module _ (funs : Program) (limits : Limits) (formed : WellFormed funs) (most : �
     of_type a of d s e g x is b c = subst (λ of. Ends (Has of) g s.world.ticks (m.expr d s e a)) is (ih.expr a d s e g x b c)
 
     assigns_end : (at : ℕ) (of : Ty) (to : Target) (parts : Exprs) (value : Expr) (d : Place) (s : State) (e : Env) (g : Scope) → ExprAgrees funs g (Assign at of to parts value) → Bound g e
-        → cost s.world.ticks + expr_size value ≤ n → Ends (Has of) g s.world.ticks (expr_of funs limits m d s e (Assign at of to parts value))
+        → cost s.world.ticks + expr_size value ≤ n → Ends (Has of) g s.world.ticks (expr_of funs.functions limits m d s e (Assign at of to parts value))
     assigns_end at of (target.Local x) parts value d s e g a b c =
         then' (of_type value of d s e g a.0 a.2 b c) (λ new s e h b k.
         done h (writes g e x a.1.variable new a.1.is (subst (λ of. Has of new) a.1.has h) b) (omega arith))
@@ -265,7 +316,7 @@ module _ (funs : Program) (limits : Limits) (formed : WellFormed funs) (most : �
 
     modified_ends : (x : Name) (of : Ty) (change : Change) (right : Expr) (given : Gives) (old : Value) (d : Place) (s : State) (e : Env) (g : Scope)
         → IsVariable g x of → Changes change of (type_of right) → ExprAgrees funs g right → Has of old → Bound g e → cost s.world.ticks + expr_size right ≤ n
-        → Ends (Has of) g s.world.ticks (modified funs limits m x of change d s e right given old)
+        → Ends (Has of) g s.world.ticks (modified funs.functions limits m x of change d s e right given old)
     modified_ends x of change right given old d s e g y z a h b c =
         then' (operated_ends z.left g s e _ (begins_fit change.before of z.left old s.world.store z.known z.before h) b) (λ l s' e h' b k.
         then' (ih.expr right d s' e g a b (lesser _ _ _ n k c)) (λ r s e hr b k.
@@ -275,7 +326,7 @@ module _ (funs : Program) (limits : Limits) (formed : WellFormed funs) (most : �
 
     changes_end : (at : ℕ) (of : Ty) (to : Target) (parts : Exprs) (change : Change) (right : Expr) (given : Gives) (d : Place) (s : State) (e : Env) (g : Scope)
         → ExprAgrees funs g (Modify at of to parts change right given) → Bound g e → cost s.world.ticks + expr_size right ≤ n
-        → Ends (Has of) g s.world.ticks (expr_of funs limits m d s e (Modify at of to parts change right given))
+        → Ends (Has of) g s.world.ticks (expr_of funs.functions limits m d s e (Modify at of to parts change right given))
     changes_end at of (target.Local x) parts change right given d s e g a b c =
         let old = reads g e x a.1.variable a.1.is b in
         then' (found_ends (Has of) g s e _ old.value old.is (subst (λ of. Has of old.value) (sym a.1.has) old.has) b) (λ value s' e h b k.
@@ -286,7 +337,7 @@ module _ (funs : Program) (limits : Limits) (formed : WellFormed funs) (most : �
     changes_end at of (target.DefName name) parts change right given d s e g a b c = absurd a
 
     expr_ends : (x : Expr) (d : Place) (s : State) (e : Env) (g : Scope) → ExprAgrees funs g x → Bound g e → cost s.world.ticks + expr_size x ≤ suc n
-        → Ends (Has (type_of x)) g s.world.ticks (expr_of funs limits m d s e x)
+        → Ends (Has (type_of x)) g s.world.ticks (expr_of funs.functions limits m d s e x)
     expr_ends (Literal at of k) d s e g a b c = done (constant_has k of a) b (omega arith)
     expr_ends (Quoted at of text) d s e g a b c = done (text_has of _ a) b (omega arith)
     expr_ends (Local at of x) d s e g a b c =
@@ -295,10 +346,17 @@ module _ (funs : Program) (limits : Limits) (formed : WellFormed funs) (most : �
     expr_ends (Apply at of o parts) d s e g a b c =
         then' (ih.exprs parts d s e g a.0 b (omega (arith, c))) (λ values s' e h b k.
         applied_ends o (types_of parts) of values d s' e g a.1 h b (omega (arith, lesser s'.world.ticks s.world.ticks 0 n k (omega (arith, c)))))
-    expr_ends (Guarded at of o parts) d s e g a b c = absurd a
+    expr_ends (Guarded at of o None') d s e g a b c = absurd a
+    expr_ends (Guarded at of o (One x others)) d s e g a b c =
+        then' (ih.expr x d s e g a.0 b (omega (arith, c))) (λ value s' e h b k.
+        unless (is_null value)
+        (then' (ih.exprs others d s' e g a.1 b (lesser _ s.world.ticks _ n k (omega (arith, c)))) (λ values s'' e hs b k'.
+        applied_ends o (type_of x ∷ types_of others) of (value ∷ values) d s'' e g (subst (λ o. Applies funs o (type_of x ∷ types_of others) of) (sym a.2.is) a.2.agrees) (h, hs) b
+        (omega (arith, lesser s''.world.ticks s.world.ticks 0 n (omega (arith, k, k')) (omega (arith, c))))))
+        (done (null_has (out-Ty of) a.2.whole) b (omega arith)))
     expr_ends (Logic at of o left right) d s e g a b c =
         then' (of_type left boolean d s e g a.0 a.2 b (omega (arith, c))) (λ value s' e h b k.
-        subst (λ of. Ends (Has of) g s'.world.ticks (logic funs limits m o d s' e value right)) (sym a.4)
+        subst (λ of. Ends (Has of) g s'.world.ticks (logic funs.functions limits m o d s' e value right)) (sym a.4)
         (logic_ends o value right d s' e g h a.1 a.3 b (lesser _ s.world.ticks _ n k (omega (arith, c)))))
     expr_ends (Conditional at of x y z) d s e g a b c =
         then' (of_type x boolean d s e g a.0 a.3 b (omega (arith, c))) (λ value s' e h b k.
@@ -315,7 +373,7 @@ module _ (funs : Program) (limits : Limits) (formed : WellFormed funs) (most : �
     expr_ends (NewReference at of interface made) d s e g a b c = absurd a
 
     exprs_end : (x : Exprs) (d : Place) (s : State) (e : Env) (g : Scope) → ExprsAgree funs g x → Bound g e → cost s.world.ticks + exprs_size x ≤ suc n
-        → Ends (HaveAll (types_of x)) g s.world.ticks (exprs_of funs limits m d s e x)
+        → Ends (HaveAll (types_of x)) g s.world.ticks (exprs_of funs.functions limits m d s e x)
     exprs_end None' d s e g a b c = done tt b (omega arith)
     exprs_end (One x others) d s e g a b c =
         then' (ih.expr x d s e g a.0 b (omega (arith, c))) (λ value s' e h b k.
@@ -325,7 +383,7 @@ module _ (funs : Program) (limits : Limits) (formed : WellFormed funs) (most : �
     -- ---- statements
 
     test_ends : (test : Maybe) (d : Place) (s : State) (e : Env) (g : Scope) → TestAgrees funs g test → Bound g e → cost s.world.ticks + maybe_size test ≤ n
-        → Ends (Has boolean) g s.world.ticks (value_if funs limits m test (v.Bool true) d s e)
+        → Ends (Has boolean) g s.world.ticks (value_if funs.functions limits m test (v.Bool true) d s e)
     test_ends Missing d s e g a b c = done (has_flag boolean true refl) b (omega arith)
     test_ends (Present x) d s e g a b c = of_type x boolean d s e g a.0 a.1 b c
 
@@ -336,13 +394,13 @@ module _ (funs : Program) (limits : Limits) (formed : WellFormed funs) (most : �
     any of g k More x = x
 
     update_ends : (update : Maybe) (d : Place) (s : State) (e : Env) (g : Scope) → UpdateAgrees funs g update → Bound g e → cost s.world.ticks + maybe_size update ≤ n
-        → Ends Any g s.world.ticks (value_if funs limits m update v.Null d s e)
+        → Ends Any g s.world.ticks (value_if funs.functions limits m update v.Null d s e)
     update_ends Missing d s e g a b c = done tt b (omega arith)
     update_ends (Present x) d s e g a b c = record { by = any (type_of x) g s.world.ticks _ (ih.expr x d s e g a b c).by }
 
     turned_ends : (c : Counted) (test update : Maybe) (body : Stmts) (d : Place) (s : State) (e : Env) (g : Scope) (of : Ty) (looped : Bool) → Costs c s.world.ticks
         → StmtAgrees funs of looped g (While test update body) → Bound g e → cost s.world.ticks + stmt_size (While test update body) ≤ suc n
-        → Ends (FlowHas of looped) g s.world.ticks (turned funs limits m c d s e test update body)
+        → Ends (FlowHas of looped) g s.world.ticks (turned funs.functions limits m c d s e test update body)
     turned_ends (Passes limit w') test update body d s e g of looped p a b c = record { by = tt }
     turned_ends (Counts w) test update body d s e g of looped p a b c =
         let spent = spends w.ticks s.world.ticks p in
@@ -354,7 +412,7 @@ module _ (funs : Program) (limits : Limits) (formed : WellFormed funs) (most : �
 
     done_ends : (c : Counted) (body : Stmts) (test : Maybe) (d : Place) (s : State) (e : Env) (g : Scope) (of : Ty) (looped : Bool) → Costs c s.world.ticks
         → StmtAgrees funs of looped g (DoWhile body test) → Bound g e → cost s.world.ticks + stmt_size (DoWhile body test) ≤ suc n
-        → Ends (FlowHas of looped) g s.world.ticks (done_turn funs limits m c d s e body test)
+        → Ends (FlowHas of looped) g s.world.ticks (done_turn funs.functions limits m c d s e body test)
     done_ends (Passes limit w') body test d s e g of looped p a b c = record { by = tt }
     done_ends (Counts w) body test d s e g of looped p a b c =
         let spent = spends w.ticks s.world.ticks p in
@@ -367,12 +425,12 @@ module _ (funs : Program) (limits : Limits) (formed : WellFormed funs) (most : �
         (done tt b (omega arith))))))
 
     returns_end : (value : Maybe) (of : Ty) (looped : Bool) (d : Place) (s : State) (e : Env) (g : Scope) → ReturnAgrees funs g value of → Bound g e → cost s.world.ticks + maybe_size value ≤ n
-        → Ends (FlowHas of looped) g s.world.ticks (bind (value_if funs limits m value v.Null d s e) (λ value s e. Done (Returned value) s e))
+        → Ends (FlowHas of looped) g s.world.ticks (bind (value_if funs.functions limits m value v.Null d s e) (λ value s e. Done (Returned value) s e))
     returns_end Missing of looped d s e g a b c = done (subst (λ of. Has of v.Null) (sym a) (nothing_has v.Null)) b (omega arith)
     returns_end (Present x) of looped d s e g a b c = then' (of_type x of d s e g a.0 a.1 b c) (λ value s e h b k. done h b (omega arith))
 
     stmt_ends : (x : Stmt) (d : Place) (s : State) (e : Env) (g : Scope) (of : Ty) (looped : Bool) → StmtAgrees funs of looped g x → Bound g e → cost s.world.ticks + stmt_size x ≤ suc n
-        → Ends (FlowHas of looped) g s.world.ticks (stmt_of funs limits m d s e x)
+        → Ends (FlowHas of looped) g s.world.ticks (stmt_of funs.functions limits m d s e x)
     stmt_ends (Do x) d s e g of looped a b c = then' (ih.expr x d s e g a b (omega (arith, c))) (λ value s e h b k. done tt b (omega arith))
     stmt_ends (If x y z) d s e g of looped a b c =
         then' (of_type x boolean d s e g a.0 a.1 b (omega (arith, c))) (λ value s' e h b k.
@@ -396,12 +454,12 @@ module _ (funs : Program) (limits : Limits) (formed : WellFormed funs) (most : �
         then' (throws_end g s' e (thrown s'.world.store value) b) (λ value s e h b k. done tt b (omega arith)))
 
     begins_end : (value : Maybe) (of : Ty) (d : Place) (s : State) (e : Env) (g : Scope) → BeginAgrees funs g value of → Bound g e → cost s.world.ticks + maybe_size value ≤ n
-        → Ends (Has of) g s.world.ticks (value_or funs limits m value of d s e)
+        → Ends (Has of) g s.world.ticks (value_or funs.functions limits m value of d s e)
     begins_end Missing of d s e g a b c = done (default_has of) b (omega arith)
     begins_end (Present x) of d s e g a b c = of_type x of d s e g a.0 a.1 b c
 
     stmts_end : (x : Stmts) (d : Place) (s : State) (e : Env) (g : Scope) (of : Ty) (looped : Bool) → StmtsAgree funs of looped g x → Bound g e → cost s.world.ticks + stmts_size x ≤ suc n
-        → Ends (FlowHas of looped) g s.world.ticks (stmts_of funs limits m d s e x)
+        → Ends (FlowHas of looped) g s.world.ticks (stmts_of funs.functions limits m d s e x)
     stmts_end Finish d s e g of looped a b c = done tt b (omega arith)
     stmts_end (Then x rest) d s e g of looped a b c =
         then' (ih.stmt x d s e g of looped a.0 b (omega (arith, c))) (λ flow s' e h b k.
@@ -411,7 +469,7 @@ module _ (funs : Program) (limits : Limits) (formed : WellFormed funs) (most : �
         let y : Variable = record { name = x; of = to } in
         record { by = leaving (FlowHas of looped) g s'.world.ticks y _ (ih.stmts rest d s' (record { name = x; value = first } ∷ e) (y ∷ g) of looped a.2 (refl, h, b) (lesser _ s.world.ticks _ n k (omega (arith, c)))).by })
 
-    deeper : Good (suc n) (layer funs limits m)
+    deeper : Good (suc n) (layer funs.functions limits m)
     deeper = record { expr = expr_ends; exprs = exprs_end; stmt = stmt_ends; stmts = stmts_end }
 
   -- nothing has no size
@@ -452,11 +510,11 @@ module _ (funs : Program) (limits : Limits) (formed : WellFormed funs) (most : �
   some_stmts (Then x rest) = omega arith
   some_stmts (Declare x of value rest) = omega arith
 
-  pub all_good : (n : ℕ) → Good n (meaning funs limits n)
+  pub all_good : (n : ℕ) → Good n (meaning funs.functions limits n)
   all_good zero = record {
     expr = λ x d s e g a b c. absurd (omega (arith, some_expr x, c));
     exprs = λ x d s e g a b c. absurd (omega (arith, some_exprs x, c));
     stmt = λ x d s e g of looped a b c. absurd (omega (arith, some_stmt x, c));
     stmts = λ x d s e g of looped a b c. absurd (omega (arith, some_stmts x, c));
   }
-  all_good (suc n) = deeper n (meaning funs limits n) (all_good n)
+  all_good (suc n) = deeper n (meaning funs.functions limits n) (all_good n)
