@@ -8,6 +8,7 @@ ghost use Rattle.program_code.specs.Stands.{AsksKnown, CastFits, ChangeFits};
 use crate::error::CodeError;
 use crate::lying::{Lies, alike, cast_gives, cast_takes, lies_of, operator_gives, operator_takes};
 use crate::scopes::present;
+use pl_types::classes::CLASS_COUNT;
 use pl_types::{Cast, Ty};
 use typed_tree::Change;
 
@@ -20,7 +21,7 @@ fn is_known(of: &Ty) -> bool
         Ty::Null => true,
         Ty::Def => true,
         Ty::Prim(_) => true,
-        Ty::Class(class) => *class < 57,
+        Ty::Class(class) => *class < CLASS_COUNT,
         Ty::Array(element) => is_known(element.get()),
     }
 }

@@ -1,7 +1,5 @@
-use Rattle.std.proofs.Common.{sym, ◌∙◌, subst, refl}
+use Rattle.std.proofs.Common.{sym, ◌∙◌, refl}
 use Rattle.code_generator.specs.Jobs.{jobs, All}
-use Rattle.program_code.specs.Lying.{Lying}
-use Rattle.program_code.specs.Stands.{AllLie, lyings}
 use Rattle.code_generator.proofs.Plans.{apply_plan}
 use Rattle.code_generator.proofs.Steps.{instead, never}
 use Rattle.code_generator.proofs.Fitting.{operator_gives, operator_takes}

@@ -1,4 +1,4 @@
-use Rattle.std.proofs.Common.{sym, ◌∙◌, ap, subst, refl}
+use Rattle.std.proofs.Common.{sym, subst, refl}
 use Rattle.code_generator.specs.Jobs.{jobs}
 use Rattle.program_code.specs.Lying.{Lying}
 use Rattle.program_code.specs.Stands.{ChangeFits}
