@@ -4,6 +4,7 @@ pub mod Nodes
 pub mod Literals
 pub mod Casts
 pub mod Operators
+pub mod Sides
 pub mod Places
 pub mod Calls
 pub mod Statements

@@ -10,6 +10,7 @@ mod refuse;
 pub mod rules;
 mod scopes;
 mod state;
+mod texts;
 
 pub use header::{ContextTypes, Header};
 pub use part::{Form, Part, Place, Step};

@@ -9,5 +9,7 @@ mod nodes;
 pub mod operators;
 pub mod places;
 pub mod plans;
+mod references;
+mod sides;
 pub mod statements;
 pub mod types;

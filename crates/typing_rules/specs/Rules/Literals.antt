@@ -12,7 +12,7 @@ use Rattle.typing_rules.specs.declared.part.Part.{Part}
 use Rattle.typing_rules.specs.declared.part.Form.TheVariants as f
 use Rattle.typing_rules.specs.Outcomes.{Out, refuse}
 use Rattle.typing_rules.specs.Rules.Digits.{is_long, magnitude, unmarked}
-use Rattle.typing_rules.specs.Rules.Nodes.{boolean, typed, part, plain}
+use Rattle.typing_rules.specs.Rules.Nodes.{boolean, typed, part}
 
 abbrev pub int_literal : ℕ → ℤ → Part
 int_literal at value = part at (f.Number value) (typed at (t.Prim Int) (n.Constant (k.Int value)))

@@ -1,8 +1,7 @@
 -- Names, and what is written to them.
 use Rattle.std.specs.Prelude.{ℕ, pos, Bool, true, false, ◌||◌, nat_lt, List, [], Option, Some, None, Ok, slice_get, if◌then◌else◌}
-use Rattle.pl_types.specs.declared.ty.Ty.{Ty, out-Ty}
+use Rattle.pl_types.specs.declared.ty.Ty.{Ty}
 use Rattle.pl_types.specs.declared.ty.Ty.TheVariants as t
-use Rattle.pl_types.specs.declared.ty.Ty.TheOpen.{Ty-F}
 use Rattle.pl_types.specs.declared.primitive.Primitive.{Primitive}
 use Rattle.pl_types.specs.declared.primitive.Primitive.TheVariants as p
 use Rattle.pl_types.specs.declared.conversion.Cast.{Cast}

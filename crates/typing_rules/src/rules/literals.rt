@@ -4,22 +4,36 @@ ghost use Rattle.std.specs.Prelude.{◌≡◌, ◌≤◌, ◌^◌, pos, neg_ℤ,
 ghost use Rattle.typing_rules.specs.Outcomes.{Keeps};
 ghost use Rattle.typing_rules.specs.Rules.Literals as spec;
 ghost use Rattle.typing_rules.specs.Rules.Nodes as nodes;
+ghost use Rattle.pl_tree.specs.declared.operator.Constant.TheVariants as tree;
 ghost use Rattle.typed_tree.specs.declared.typed.Node.TheVariants as node;
 ghost use Rattle.typed_tree.specs.declared.operation.Constant.TheVariants as constant;
 
 use crate::digits::{is_long, magnitude, unmarked};
 use crate::part::{Form, Part};
 use crate::refuse::refuse;
-use crate::rules::nodes::{boolean, plain, typed};
-use pl_types::{Fail, Primitive, Ty, rules};
+use crate::rules::nodes::{boolean, typed};
+use crate::texts::{unescaped, unquoted};
+use pl_types::{Fail, Primitive, Ty, classes, rules};
+use plain_data::Subtree;
 use std::alloc::{AllocError, Global};
-use typed_tree::{Constant, Node};
+use typed_tree::{Constant, Node, Typed};
 
 /// How many ints are not negative.
 const INTS: u64 = 2_147_483_648;
 
 /// How many longs are not negative.
 const LONGS: u64 = 9_223_372_036_854_775_808;
+
+/// A literal that is no int and not `true`.
+fn literal(at: u32, typed: Subtree<Typed>) -> Part
+    ensures { result ≡ nodes.part at Form.Literal typed }
+{
+    Part {
+        at,
+        form: Form::Literal,
+        typed,
+    }
+}
 
 fn int_literal(alloc: Global, at: u32, value: i32) -> Result<Part, Fail>
     ensures { Keeps (Ok (spec.int_literal at value)) result }
@@ -38,7 +52,7 @@ fn long_literal(alloc: Global, at: u32, value: i64) -> Result<Part, Fail>
 {
     let node = Node::Constant(Constant::Long(value));
     let typed = typed(alloc, at, Ty::Prim(Primitive::Long), node)?;
-    Ok(plain(at, typed))
+    Ok(literal(at, typed))
 }
 
 /// An integer literal.
@@ -97,15 +111,33 @@ fn truth(alloc: Global, at: u32, value: bool, form: Form) -> Result<Part, AllocE
     Ok(Part { at, form, typed })
 }
 
-/// `true` or `false`.
-///
-/// OutOfProfile (19): `null`, which is not built.
+fn null(alloc: Global, at: u32) -> Result<Part, Fail>
+    ensures { Keeps (spec.constant at tree.Null) result }
+{
+    let node = Node::Constant(Constant::Null);
+    let typed = typed(alloc, at, Ty::Null, node)?;
+    Ok(literal(at, typed))
+}
+
+/// `true`, `false` or `null`.
 pub fn constant(alloc: Global, at: u32, constant: pl_tree::Constant) -> Result<Part, Fail>
     ensures { Keeps (spec.constant at constant) result }
 {
     match constant {
         pl_tree::Constant::True => Ok(truth(alloc, at, true, Form::True)?),
-        pl_tree::Constant::False => Ok(truth(alloc, at, false, Form::Other)?),
-        pl_tree::Constant::Null => Err(refuse(rules::OUT_OF_PROFILE, at)),
+        pl_tree::Constant::False => Ok(truth(alloc, at, false, Form::Literal)?),
+        pl_tree::Constant::Null => null(alloc, at),
     }
+}
+
+/// A text literal, with its quotes, which are one byte each.
+pub fn text(alloc: Global, at: u32, spelling: &str) -> Result<Part, Fail>
+    ensures { Keeps (spec.text at spelling.now) result }
+{
+    let Some(written) = unquoted(spelling) else {
+        return Err(Fail::NoMemory);
+    };
+    let node = Node::Text(unescaped(alloc, written)?);
+    let typed = typed(alloc, at, Ty::Class(classes::STRING), node)?;
+    Ok(literal(at, typed))
 }

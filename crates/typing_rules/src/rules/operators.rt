@@ -1,7 +1,9 @@
-//! Operators and the conditional.
+//! Operators and the conditional. What is done with references stands apart.
 
 ghost use Rattle.std.specs.Prelude.{◌≡◌};
-ghost use Rattle.typing_rules.specs.Outcomes.{Keeps};
+ghost use Rattle.pl_tree.specs.declared.operator.BinaryOperator.TheVariants as binary;
+ghost use Rattle.typing_rules.specs.Outcomes.{Keeps, refusal};
+ghost use Rattle.typing_rules.specs.Rules.Nodes.{type_of_part};
 ghost use Rattle.typing_rules.specs.Rules.Operators as spec;
 
 use crate::part::Part;
@@ -9,6 +11,9 @@ use crate::refuse::refuse;
 use crate::rules::casts::{cast_at, cast_to};
 use crate::rules::nodes::{applied_to_one, applied_to_two, boolean, is_void, plain, typed};
 use crate::rules::plans::{Plan, on_numbers, plan_between, primitive_of};
+use crate::rules::references::{common, related};
+pub use crate::rules::references::{elvis_of, instance_of};
+use crate::rules::sides::{refused_between, relation_between};
 use arithmetic::Op;
 use pl_tree::{BinaryOperator, UnaryOperator};
 use pl_types::{Fail, Primitive, Ty, promote, rules};
@@ -29,11 +34,19 @@ pub(crate) fn operand(
     cast_at(alloc, at, &of, x, true)
 }
 
-fn strict(alloc: Global, plan: Option<Plan>, at: u32, x: Part, y: Part) -> Result<Part, Fail>
-    ensures { Keeps (spec.strict plan at x y) result }
+fn strict(
+    alloc: Global,
+    plan: Option<Plan>,
+    operator: BinaryOperator,
+    at: u32,
+    x: Part,
+    y: Part,
+) -> Result<Part, Fail>
+    ensures { Keeps (spec.strict plan operator at x y) result }
 {
     let Some(plan) = plan else {
-        return Err(refuse(rules::BAD_OPERAND, at));
+        let relation = relation_between(operator, x.of(), y.of());
+        return related(alloc, relation, operator, at, x, y);
     };
     let left = x.at;
     let right = y.at;
@@ -69,7 +82,8 @@ fn logical(alloc: Global, operator: Logical, at: u32, x: Part, y: Part) -> Resul
 
 /// An operator between two operands, at the operator.
 ///
-/// BadCast (9): a side of `&&` or `||` that is no boolean. BadOperand (10): sides of types that the operator does not take.
+/// BadCast (9): a side of `&&` or `||` that is no boolean. BadOperand (10): sides of types that the operator does not take. OutOfProfile
+/// (19): the type of one is found when the script runs.
 pub fn binary_of(
     alloc: Global,
     operator: BinaryOperator,
@@ -84,7 +98,7 @@ pub fn binary_of(
         BinaryOperator::OrOr => logical(alloc, Logical::Or, at, x, y),
         _ => {
             let plan = plan_between(operator, x.of(), y.of());
-            strict(alloc, plan, at, x, y)
+            strict(alloc, plan, operator, at, x, y)
         }
     }
 }
@@ -98,6 +112,14 @@ fn promoted(x: &Part) -> Option<Primitive>
     }
 }
 
+/// What is told where an operator does nothing with its one operand.
+fn refused_one(at: u32, x: &Part) -> Fail
+    ensures { result ≡ Fail.Refused (refusal (spec.broken_by binary.Add (spec.side_of (type_of_part x.now)) (spec.side_of (Ty.Prim Primitive.Int))) at) }
+{
+    let int = Ty::Prim(Primitive::Int);
+    refused_between(BinaryOperator::Add, at, x.of(), &int)
+}
+
 fn signed(
     alloc: Global,
     op: Op,
@@ -108,7 +130,7 @@ fn signed(
     ensures { Keeps (spec.signed op promoted at x) result }
 {
     let Some(primitive) = promoted else {
-        return Err(refuse(rules::BAD_OPERAND, at));
+        return Err(refused_one(at, &x));
     };
     let place = x.at;
     let x = operand(alloc, place, primitive, x)?;
@@ -122,12 +144,14 @@ fn signed(
 fn plus_as(alloc: Global, promoted: Option<Primitive>, at: u32, x: Part) -> Result<Part, Fail>
     ensures { Keeps (spec.plus_as promoted at x) result }
 {
-    let Some(primitive) = promoted else {
-        return Err(refuse(rules::BAD_OPERAND, at));
-    };
-    let place = x.at;
-    let x = operand(alloc, place, primitive, x)?;
-    Ok(plain(at, x))
+    match promoted {
+        None => Err(refused_one(at, &x)),
+        Some(primitive) => {
+            let place = x.at;
+            let x = operand(alloc, place, primitive, x)?;
+            Ok(plain(at, x))
+        }
+    }
 }
 
 fn not_of(alloc: Global, at: u32, x: Part) -> Result<Part, Fail>
@@ -140,7 +164,8 @@ fn not_of(alloc: Global, at: u32, x: Part) -> Result<Part, Fail>
 
 /// An operator before its operand.
 ///
-/// BadCast (9): the operand of `!` is no boolean. BadOperand (10): an operand of a type that the operator does not take.
+/// BadCast (9): the operand of `!` is no boolean. BadOperand (10): an operand of a type that the operator does not take. OutOfProfile
+/// (19): its type is found when the script runs.
 pub fn unary_of(alloc: Global, operator: UnaryOperator, at: u32, x: Part) -> Result<Part, Fail>
     ensures { Keeps (spec.unary_of operator at x) result }
 {
@@ -151,36 +176,6 @@ pub fn unary_of(alloc: Global, operator: UnaryOperator, at: u32, x: Part) -> Res
         UnaryOperator::Complement => signed(alloc, Op::Not, primitive, at, x),
         UnaryOperator::Not => not_of(alloc, at, x),
     }
-}
-
-/// The common type of two that are not the same.
-fn common(a: &Ty, b: &Ty) -> Ty
-    ensures { result ≡ spec.common a.now b.now }
-{
-    match (primitive_of(a), primitive_of(b)) {
-        (Some(a), Some(b)) => match promote(a, b) {
-            Some(promoted) => Ty::Prim(promoted),
-            None => Ty::Def,
-        },
-        _ => Ty::Def,
-    }
-}
-
-fn choice_typed(
-    alloc: Global,
-    at: u32,
-    to: Ty,
-    condition: Subtree<Typed>,
-    yes: Subtree<Typed>,
-    no: Subtree<Typed>,
-) -> Result<Part, Fail>
-    ensures { Keeps (spec.choice_typed at to condition yes no) result }
-{
-    if let Ty::Def = &to {
-        return Err(refuse(rules::OUT_OF_PROFILE, at));
-    }
-    let node = Node::Conditional { condition, yes, no };
-    Ok(plain(at, typed(alloc, at, to, node)?))
 }
 
 fn choice_to(
@@ -195,12 +190,13 @@ fn choice_to(
 {
     let yes = cast_to(alloc, &to, x)?;
     let no = cast_to(alloc, &to, y)?;
-    choice_typed(alloc, at, to, condition, yes, no)
+    let node = Node::Conditional { condition, yes, no };
+    Ok(plain(at, typed(alloc, at, to, node)?))
 }
 
 /// `condition ? yes : no`, at the `?`.
 ///
-/// BadCast (9): the condition is no boolean, or one side alone is void. OutOfProfile (19): the sides have no common type that is built.
+/// BadCast (9): the condition is no boolean, or one side alone is void.
 pub fn choice_of(alloc: Global, at: u32, condition: Part, yes: Part, no: Part) -> Result<Part, Fail>
     ensures { Keeps (spec.choice_of at condition yes no) result }
 {

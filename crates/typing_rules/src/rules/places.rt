@@ -12,13 +12,16 @@ use crate::rules::casts::cast_to;
 use crate::rules::nodes::{deed, plain, typed};
 use crate::rules::operators::operand;
 use crate::rules::plans::{Plan, plan_between};
+use crate::rules::references::reference;
+use crate::rules::sides::{refused_between, relation_between};
+use crate::rules::types::is_built;
 use crate::scopes::{Entry, Scopes, Standing};
 use crate::state::State;
 use pl_tree::{BinaryOperator, Step};
-use pl_types::{Cast, Fail, Primitive, Ty, cast, rules};
+use pl_types::{Cast, Fail, Primitive, Ty, cast, classes, rules};
 use plain_data::{Items, Subtree, Text};
 use std::alloc::{AllocError, Global};
-use typed_tree::{Change, Constant, Gives, Node, Target, Typed};
+use typed_tree::{Change, Constant, Gives, Node, Operator, Target, Typed};
 
 /// A copy of a name.
 pub(crate) fn copy(alloc: Global, name: &Text) -> Result<Text, AllocError>
@@ -30,11 +33,12 @@ pub(crate) fn copy(alloc: Global, name: &Text) -> Result<Text, AllocError>
 fn local_of(alloc: Global, at: u32, e: &Entry) -> Result<Part, Fail>
     ensures { Keeps (spec.local_of at e.now) result }
 {
-    let Ty::Prim(primitive) = &e.of else {
+    if !is_built(&e.of) {
         return Err(refuse(rules::OUT_OF_PROFILE, at));
-    };
+    }
+    let of = e.of.share(alloc)?;
     let node = Node::Local(copy(alloc, &e.name)?);
-    Ok(plain(at, typed(alloc, at, Ty::Prim(*primitive), node)?))
+    Ok(plain(at, typed(alloc, at, of, node)?))
 }
 
 fn entry_of<'a>(scopes: &'a Scopes, name: &Text) -> Option<&'a Entry>
@@ -67,19 +71,26 @@ fn is_fixed(standing: Standing) -> bool
     }
 }
 
-fn written_of(alloc: Global, at: u32, fixed: bool, e: &Entry) -> Result<Place, Fail>
-    ensures { Keeps (spec.written_of at fixed e.now) result }
+fn written_to(alloc: Global, fixed: bool, e: &Entry) -> Result<Place, AllocError>
+    ensures { IfOk result (λ place. place ≡ spec.written_to fixed e.now) }
 {
-    let Ty::Prim(primitive) = &e.of else {
-        return Err(refuse(rules::OUT_OF_PROFILE, at));
-    };
     if fixed {
         return Ok(Place::Fixed);
     }
+    let of = e.of.share(alloc)?;
     Ok(Place::Local {
         name: copy(alloc, &e.name)?,
-        of: Ty::Prim(*primitive),
+        of,
     })
+}
+
+fn written_of(alloc: Global, at: u32, fixed: bool, e: &Entry) -> Result<Place, Fail>
+    ensures { Keeps (spec.written_of at fixed e.now) result }
+{
+    if !is_built(&e.of) {
+        return Err(refuse(rules::OUT_OF_PROFILE, at));
+    }
+    Ok(written_to(alloc, fixed, e)?)
 }
 
 /// A name as what is written to. The refusals are those of [`local`].
@@ -133,18 +144,18 @@ fn change_of(plan: Plan, of: &Ty) -> Option<Change>
     }
 }
 
-fn changed(
+fn changed_by(
     alloc: Global,
+    change: Option<Change>,
     at: u32,
     name: Text,
     of: Ty,
-    plan: Plan,
     right: Subtree<Typed>,
     gives: Gives,
 ) -> Result<Part, Fail>
-    ensures { Keeps (spec.changed at name of plan right gives) result }
+    ensures { Keeps (spec.changed_by change at name of right gives) result }
 {
-    let Some(change) = change_of(plan, &of) else {
+    let Some(change) = change else {
         return Err(refuse(rules::BAD_CAST, at));
     };
     let node = Node::Change {
@@ -157,18 +168,76 @@ fn changed(
     Ok(deed(at, typed(alloc, at, of, node)?))
 }
 
-fn compound(
+fn changed(
     alloc: Global,
-    plan: Option<Plan>,
+    at: u32,
+    name: Text,
+    of: Ty,
+    plan: Plan,
+    right: Subtree<Typed>,
+    gives: Gives,
+) -> Result<Part, Fail>
+    ensures { Keeps (spec.changed at name of plan right gives) result }
+{
+    let change = change_of(plan, &of);
+    changed_by(alloc, change, at, name, of, right, gives)
+}
+
+fn joining_by(before: Option<Cast>, after: Option<Cast>) -> Option<Change>
+    ensures { result ≡ spec.joining_by before after }
+{
+    match (before, after) {
+        (Some(before), Some(after)) => Some(Change {
+            before,
+            operator: Operator::Concat,
+            after,
+        }),
+        _ => None,
+    }
+}
+
+/// The change of a variable to which a text is joined.
+fn joining_of(of: &Ty) -> Option<Change>
+    ensures { result ≡ spec.joining_of of.now }
+{
+    let before = cast(&Classes, of, &Ty::Def, true);
+    let after = cast(&Classes, &Ty::Class(classes::STRING), of, true);
+    joining_by(before, after)
+}
+
+fn joined_if(
+    alloc: Global,
+    relation: Option<Operator>,
+    operator: BinaryOperator,
     at: u32,
     name: Text,
     of: Ty,
     x: Part,
 ) -> Result<Part, Fail>
-    ensures { Keeps (spec.compound plan at name of x) result }
+    ensures { Keeps (spec.joined_if relation operator at name of x) result }
+{
+    if relation.is_none() {
+        return Err(refused_between(operator, at, &of, x.of()));
+    }
+    let right = reference(alloc, x)?;
+    let change = joining_of(&of);
+    changed_by(alloc, change, at, name, of, right, Gives::New)
+}
+
+fn compound(
+    alloc: Global,
+    plan: Option<Plan>,
+    operator: BinaryOperator,
+    at: u32,
+    name: Text,
+    of: Ty,
+    x: Part,
+) -> Result<Part, Fail>
+    ensures { Keeps (spec.compound plan operator at name of x) result }
 {
     let Some(plan) = plan else {
-        return Err(refuse(rules::BAD_OPERAND, at));
+        let relation = relation_between(operator, &of, x.of());
+        return joined_if(alloc, relation, operator, at, name, of, x);
     };
     let right = operand(alloc, at, plan.right, x)?;
     changed(alloc, at, name, of, plan, right, Gives::New)
@@ -177,7 +246,7 @@ fn compound(
 /// An assignment, plain or with an operator, at its operator.
 ///
 /// NotAssignable (15): its left side is not written to. BadCast (9): its right side has another type. BadOperand (10): the operator does
-/// not take the two sides.
+/// not take the two sides. OutOfProfile (19): the type of one is found when the script runs.
 pub fn assign_of(
     alloc: Global,
     at: u32,
@@ -194,7 +263,7 @@ pub fn assign_of(
         None => set(alloc, at, name, of, x),
         Some(operator) => {
             let plan = plan_between(operator, &of, x.of());
-            compound(alloc, plan, at, name, of, x)
+            compound(alloc, plan, operator, at, name, of, x)
         }
     }
 }
@@ -230,7 +299,7 @@ fn operator_of(step: Step) -> BinaryOperator
 
 /// `++` or `--`, at its first token.
 ///
-/// NotAssignable (15): its operand is not written to. BadOperand (10): it is no number.
+/// NotAssignable (15): its operand is not written to. BadOperand (10): it is no number. OutOfProfile (19): it is def.
 pub fn step_of(alloc: Global, at: u32, step: Step, gives: Gives, place: Place) -> Result<Part, Fail>
     ensures { Keeps (spec.step_of at step gives place) result }
 {
@@ -239,7 +308,7 @@ pub fn step_of(alloc: Global, at: u32, step: Step, gives: Gives, place: Place) -
     };
     let int = Ty::Prim(Primitive::Int);
     let Some(plan) = plan_between(operator_of(step), &of, &int) else {
-        return Err(refuse(rules::BAD_OPERAND, at));
+        return Err(refused_between(BinaryOperator::Add, at, &of, &int));
     };
     let right = one(alloc, at, plan.right)?;
     changed(alloc, at, name, of, plan, right, gives)

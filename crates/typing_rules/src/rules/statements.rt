@@ -12,7 +12,7 @@ use crate::rules::nodes::{boolean, is_void};
 use crate::rules::places::copy;
 use crate::state::State;
 use pl_tree::Spelled;
-use pl_types::{Fail, Ty, rules};
+use pl_types::{Fail, Ty, classes, rules};
 use plain_data::{Items, Subtree};
 use std::alloc::{AllocError, Global};
 use typed_tree::{StatementNode, Typed, TypedStatement, TypedVariable};
@@ -303,6 +303,16 @@ pub fn nothing_returned(alloc: Global, at: u32, state: &State) -> Result<Step, F
         return Err(refuse(rules::MISSING_RETURN, at));
     }
     Ok(step(alloc, true, false, at, StatementNode::Return(None))?)
+}
+
+/// A `throw`.
+///
+/// BadCast (9): what is thrown is no exception.
+pub fn throw_of(alloc: Global, at: u32, x: Part) -> Result<Step, Fail>
+    ensures { Keeps (spec.throw_of at x) result }
+{
+    let thrown = cast_to(alloc, &Ty::Class(classes::EXCEPTION), x)?;
+    Ok(step(alloc, true, false, at, StatementNode::Throw(thrown))?)
 }
 
 pub(crate) fn last_escapes(steps: &[Step]) -> bool

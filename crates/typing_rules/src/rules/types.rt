@@ -1,25 +1,59 @@
 //! Types as they are written.
 
 ghost use Rattle.std.specs.Prelude.{◌≡◌};
+ghost use Rattle.pl_tree.specs.declared.tree.TypeBase.TheVariants as base;
 ghost use Rattle.typing_rules.specs.Outcomes.{Keeps};
 ghost use Rattle.typing_rules.specs.Rules.Types as spec;
 
 use crate::refuse::refuse;
 use pl_tree::{TypeBase, TypeName};
-use pl_types::{Fail, Ty, rules};
+use pl_types::{Fail, Ty, classes, rules};
+
+/// Whether a class is built: Object, Comparable, CharSequence, String, StringBuilder, and those of exceptions.
+fn is_built_class(class: u32) -> bool
+    ensures { result ≡ spec.is_built_class class }
+{
+    class <= classes::CHAR_SEQUENCE
+        || (class == classes::STRING
+            || (class == classes::STRING_BUILDER
+                || (classes::EXCEPTION <= class
+                    && class <= classes::STRING_INDEX_OUT_OF_BOUNDS_EXCEPTION)))
+}
+
+/// Whether variables of a type are built.
+pub(crate) fn is_built(of: &Ty) -> bool
+    ensures { result ≡ spec.is_built of.now }
+{
+    match of {
+        Ty::Prim(_) => true,
+        Ty::Def => true,
+        Ty::Class(class) => is_built_class(*class),
+        _ => false,
+    }
+}
+
+fn class_of(at: u32, class: u32) -> Result<Ty, Fail>
+    ensures { Keeps (spec.base_of at (base.Class class)) result }
+{
+    if is_built_class(class) {
+        Ok(Ty::Class(class))
+    } else {
+        Err(refuse(rules::OUT_OF_PROFILE, at))
+    }
+}
 
 fn base_of(at: u32, base: &TypeBase) -> Result<Ty, Fail>
     ensures { Keeps (spec.base_of at base.now) result }
 {
     match base {
-        TypeBase::Def => Err(refuse(rules::OUT_OF_PROFILE, at)),
+        TypeBase::Def => Ok(Ty::Def),
         TypeBase::Primitive(primitive) => Ok(Ty::Prim(*primitive)),
-        TypeBase::Class(_) => Err(refuse(rules::OUT_OF_PROFILE, at)),
+        TypeBase::Class(class) => class_of(at, *class),
         TypeBase::Name(_) => Err(refuse(rules::UNKNOWN_TYPE, at)),
     }
 }
 
-/// The type that is written. Only the primitive types are built.
+/// The type that is written. Built are the primitive types, def, and some classes.
 ///
 /// UnknownType (6): a name that means no class. OutOfProfile (19): any other type.
 pub fn type_of(of: &TypeName) -> Result<Ty, Fail>
