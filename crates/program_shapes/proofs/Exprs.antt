@@ -3,8 +3,10 @@ use Rattle.std.proofs.Common.{◌≡◌, ℕ, suc, List, [], ◌∷◌, length, 
 use Rattle.pl_types.specs.declared.ty.Ty.{Ty}
 use Rattle.pl_types.specs.declared.primitive.Primitive.TheVariants as prim
 use Rattle.pl_code.specs.declared.kinds.Slot.{Slot}
-use Rattle.pl_code.specs.declared.kinds.Slot.TheVariants.{I}
+use Rattle.pl_code.specs.declared.kinds.Slot.TheVariants.{I, R}
+use Rattle.pl_types.specs.Texts.{full_text}
 use Rattle.pl_code.specs.declared.kinds.Numbered.TheVariants as numbered
+use Rattle.pl_code.specs.declared.kinds.Typed.TheVariants as typed
 use Rattle.pl_code.specs.declared.code.FunCode.{FunCode}
 use Rattle.pl_code.specs.declared.code.Instruction.TheVariants as i
 use Rattle.allowlist.specs.Allow.{AllowList}
@@ -20,12 +22,13 @@ use Rattle.typed_tree.specs.declared.operation.Change.{Change}
 use Rattle.typed_tree.specs.declared.operation.Gives.{Gives}
 use Rattle.program_meaning.specs.Tree.{Name, Expr, Literal, Quoted, Local, Apply, Guarded, Logic, Conditional, Elvis, Assign, Modify, Lambda, Reference, NewReference, Exprs, None', One, Program, type_of}
 use Rattle.program_code.specs.Parts.{operator_code, operation_code, cast_code, kept_before, kept_behind}
-use Rattle.program_code.specs.Stands.{Scope, end_all, end_expr, end_exprs, change_first, settled, settles, ExprAt, ExprsAt, Compiled}
+use Rattle.program_code.specs.Stands.{Scope, end_all, end_expr, end_exprs, change_first, elvis_right, settled, settles, ExprAt, ExprsAt, Compiled}
+use Rattle.program_types.specs.Types.{IsReference}
 use Rattle.program_types.specs.Agreeing.{types_of, Applies, ExprAgrees, ExprsAgree, WellFormed}
 use Rattle.program_shapes.proofs.Lines.{grows, Has, Have, first, rest, cut}
-use Rattle.program_shapes.proofs.Runs.{fine_none, fine_one, join, Runs, then_, step, Passes, Straight, run_is, spans_end, straight, goto, Branches, branch, if_zero, if_not_zero}
+use Rattle.program_shapes.proofs.Runs.{fine_none, fine_one, join, Runs, then_, step, Passes, Straight, run_is, spans_end, straight, goto, Branches, branch, if_zero, if_not_zero, if_null}
 use Rattle.program_shapes.proofs.Parts.{push, push_types, kept, left_kinds, changed_kinds, expr_kinds, exprs_kinds, expr_ends, exprs_ends}
-use Rattle.program_shapes.proofs.Steps.{push_is, int_passes, constant_passes, operator_straight, cast_straight, copy_passes, before_straight, behind_straight, load_passes, store_passes, call_passes}
+use Rattle.program_shapes.proofs.Steps.{push_is, push_reference, int_passes, pop_passes, dup_passes, constant_passes, quoted_passes, operator_straight, is_a_passes, cast_straight, begins_straight, copy_passes, before_straight, behind_straight, load_passes, store_passes, call_passes}
 use Rattle.program_shapes.proofs.Scopes.{names, HaveLocals, local_of}
 
 module _ (allow : AllowList) (funs : Program) (functions : List FunCode) (formed : WellFormed funs) (made : Compiled funs functions) (f : FunCode) (shapes : List (List Slot)) (many : length shapes ≡ length f.lines) where
@@ -46,13 +49,16 @@ module _ (allow : AllowList) (funs : Program) (functions : List FunCode) (formed
   literal_fits : (g : Scope) (at : ℕ) (of : Ty) (c : Constant) → ExprFits g (Literal at of c)
   literal_fits g at of c h p s locals agrees stands have next = step allow functions f shapes stands.0 (constant_passes allow functions f c of s agrees) (first have) next
 
+  text_fits : (g : Scope) (at : ℕ) (of : Ty) (text : List ℕ) → ExprFits g (Quoted at of text)
+  text_fits g at of text h p s locals agrees stands have next = step allow functions f shapes stands.0 (quoted_passes allow functions f text of s agrees) (first have) next
+
   name_fits : (g : Scope) (at : ℕ) (of : Ty) (x : Name) → ExprFits g (Local at of x)
   name_fits g at of x h p s locals agrees stands have next =
       let y = stands.0 in
       let local = local_of f g x y of locals stands.1 agrees in
       step allow functions f shapes stands.3 (load_passes allow functions f y.local of s local.has local.values) (first have) next
 
-  operation_straight : (o : Operation) (ofs : List Ty) (of : Ty) (s : List Slot) → Applies funs o ofs of → Straight allow functions f (operation_code o) (push_types ofs s) (push of s)
+  operation_straight : (o : Operation) (ofs : List Ty) (of : Ty) (s : List Slot) → Applies funs o ofs of → Straight allow functions f (operation_code o of) (push_types ofs s) (push of s)
   operation_straight (operation.Operator o) ofs of s h = operator_straight allow functions f o ofs of s h
   operation_straight (operation.Cast c) [] of s h = absurd h
   operation_straight (operation.Cast c) (from ∷ []) of s h = cast_straight allow functions f c from of s h
@@ -63,12 +69,19 @@ module _ (allow : AllowList) (funs : Program) (functions : List FunCode) (formed
         subst (λ ofs. Passes allow functions f (i.Numbered numbered.Call number) (push_types ofs s) (push h.fun.result s)) (sym h.takes) passes,
         ap (λ of. push of s) (sym h.gives),
       )
+  operation_straight (operation.InstanceOf is) [] of s h = absurd h
+  operation_straight (operation.InstanceOf is) (from ∷ []) of s h = (
+    I ∷ s,
+    subst (λ j. Passes allow functions f (i.Typed typed.IsA (full_text is)) j (I ∷ s)) (sym (push_reference from s h.0)) (is_a_passes allow functions f is s h.1),
+    sym (push_is of prim.Boolean s h.2),
+  )
+  operation_straight (operation.InstanceOf is) (from ∷ other ∷ ofs) of s h = absurd h
   operation_straight other ofs of s h = absurd h
 
   apply_fits : (g : Scope) (at : ℕ) (of : Ty) (o : Operation) (parts : Exprs) → ExprsFit g parts → ExprFits g (Apply at of o parts)
   apply_fits g at of o parts ih h p s locals agrees stands have next =
       let c = cut (exprs_ends allow functions f p s parts) have in
-      then_ allow functions f shapes (straight allow functions f shapes h (operation_code o) (end_exprs p parts) (push_types (types_of parts) s) (push of s) stands.1 (operation_straight o (types_of parts) of s agrees.1) c.1 next)
+      then_ allow functions f shapes (straight allow functions f shapes h (operation_code o of) (end_exprs p parts) (push_types (types_of parts) s) (push of s) stands.1 (operation_straight o (types_of parts) of s agrees.1) c.1 next)
       (λ n. ih h p s locals agrees.0 stands.0 c.0 n)
 
   settles_branches : (o : Logical) (to : ℕ) (s : List Slot) → Branches allow functions f shapes many (settles o to) to (I ∷ s) s
@@ -130,6 +143,35 @@ module _ (allow : AllowList) (funs : Program) (functions : List FunCode) (formed
             };
       }
 
+  elvis_fits : (g : Scope) (at : ℕ) (of : Ty) (left right : Expr) → ExprFits g left → ExprFits g right → ExprFits g (Elvis at of left right)
+  elvis_fits g at of left right left_fits right_fits h p s locals agrees stands have next =
+      let q = end_expr p left in
+      let last = end_expr (elvis_right q) right in
+      let reference : IsReference (type_of left) = subst IsReference (sym agrees.2) agrees.4 in
+      let out : Has shapes last (R ∷ s) = subst (λ t. Has shapes last t) (push_reference of s agrees.4) next in
+      let c = cut (expr_ends allow functions f p s left) have in
+      let d = rest (rest c.1) in
+      let b = left_as (ap (λ of. push of s) agrees.3) (right_fits h (elvis_right q) s locals agrees.1 stands.5 (rest (rest d))) next in
+      let drop = step allow functions f shapes stands.4 (pop_passes allow functions f R s) (first (rest d)) b.has in
+      let copy = step allow functions f shapes stands.1 (dup_passes allow functions f R s) (first c.1) (first (rest c.1)) in
+      let a = left_as (push_reference (type_of left) s reference) (left_fits h p s locals agrees.0 stands.0 c.0) (first c.1) in
+      let longer = grows (expr_ends allow functions f (elvis_right q) s right) in
+      record {
+        has = a.has;
+        runs = λ led.
+            let x = a.runs led in
+            let y = copy.runs x.led in
+            let test = branch allow functions f shapes many stands.2 (if_null allow functions f shapes many (suc (suc (suc q))) (R ∷ s)) (first (rest c.1)) (first d) (first (rest d)) (omega arith) y.led in
+            let over = goto allow functions f shapes many stands.3 (first d) out (omega (arith, longer)) test.1 in
+            let z = drop.runs test.2 in
+            let r = b.runs z.led in
+            record {
+              fine = join allow functions f shapes x.fine (join allow functions f shapes y.fine (join allow functions f shapes (fine_one allow functions f shapes test.0)
+                  (join allow functions f shapes (fine_one allow functions f shapes over.0) (join allow functions f shapes z.fine r.fine))));
+              led = r.led;
+            };
+      }
+
   assign_fits : (g : Scope) (at : ℕ) (of : Ty) (x : Name) (parts : Exprs) (value : Expr) → ExprFits g value → ExprFits g (Assign at of (target.Local x) parts value)
   assign_fits g at of x parts value ih h p s locals agrees stands have next =
       let y = stands.2.0 in
@@ -148,37 +190,37 @@ module _ (allow : AllowList) (funs : Program) (functions : List FunCode) (formed
       let left = left_kinds allow functions f of change gives s in
       let both = push (type_of right) left in
       let changed = changed_kinds allow functions f of change (type_of right) gives s in
-      let cast_first = cast_straight allow functions f change.before of changes.left k changes.before in
-      let left_is : left ≡ push changes.left k = run_is allow functions f (cast_code change.before) (push of k) (push changes.left k) cast_first in
-      let before : Straight allow functions f (cast_code change.before) (push of k) left =
-      subst (λ l. Straight allow functions f (cast_code change.before) (push of k) l) (sym left_is) cast_first in
+      let cast_first = begins_straight allow functions f change.before of of changes.left k changes.known changes.before in
+      let left_is : left ≡ push changes.left k = run_is allow functions f (cast_code change.before of) (push of k) (push changes.left k) cast_first in
+      let before : Straight allow functions f (cast_code change.before of) (push of k) left =
+      subst (λ l. Straight allow functions f (cast_code change.before of) (push of k) l) (sym left_is) cast_first in
       let does : Straight allow functions f (operator_code change.operator) both (push changes.result k) =
       subst (λ l. Straight allow functions f (operator_code change.operator) (push (type_of right) l) (push changes.result k)) (sym left_is)
       (operator_straight allow functions f change.operator (changes.left ∷ type_of right ∷ []) changes.result k changes.does) in
       let changed_is : changed ≡ push changes.result k = run_is allow functions f (operator_code change.operator) both (push changes.result k) does in
       let operator : Straight allow functions f (operator_code change.operator) both changed =
       subst (λ c. Straight allow functions f (operator_code change.operator) both c) (sym changed_is) does in
-      let after : Straight allow functions f (cast_code change.after) changed (push of k) =
-      subst (λ c. Straight allow functions f (cast_code change.after) c (push of k)) (sym changed_is) (cast_straight allow functions f change.after changes.result of k changes.after) in
+      let after : Straight allow functions f (cast_code change.after of) changed (push of k) =
+      subst (λ c. Straight allow functions f (cast_code change.after of) c (push of k)) (sym changed_is) (cast_straight allow functions f change.after changes.result of k changes.after) in
       let q1 = end_all (suc p) (kept_before gives) in
-      let q2 = change_first gives change p in
+      let q2 = change_first gives change of p in
       let q3 = end_expr q2 right in
       let q4 = end_all q3 (operator_code change.operator) in
-      let q5 = end_all q4 (cast_code change.after) in
+      let q5 = end_all q4 (cast_code change.after of) in
       let c1 = cut (spans_end allow functions f (kept_before gives) (suc p) (push of s)) (rest have) in
-      let c2 = cut (spans_end allow functions f (cast_code change.before) q1 (push of k)) c1.1 in
+      let c2 = cut (spans_end allow functions f (cast_code change.before of) q1 (push of k)) c1.1 in
       let c3 = cut (expr_ends allow functions f q2 left right) c2.1 in
       let c4 = cut (spans_end allow functions f (operator_code change.operator) q3 both) c3.1 in
-      let c5 = cut (spans_end allow functions f (cast_code change.after) q4 changed) c4.1 in
+      let c5 = cut (spans_end allow functions f (cast_code change.after of) q4 changed) c4.1 in
       let c6 = cut (spans_end allow functions f (kept_behind gives) q5 (push of k)) c5.1 in
-      then_ allow functions f shapes (step allow functions f shapes stands.11 (store_passes allow functions f y.local of (push of s) local.has local.values) (first c6.1) next) (λ n.
-      then_ allow functions f shapes (straight allow functions f shapes h (kept_behind gives) q5 (push of k) (push of (push of s)) stands.10 (behind_straight allow functions f gives of s local.values) c6.0 n) (λ n.
-      then_ allow functions f shapes (straight allow functions f shapes h (cast_code change.after) q4 changed (push of k) stands.9 after c5.0 n) (λ n.
-      then_ allow functions f shapes (straight allow functions f shapes h (operator_code change.operator) q3 both changed stands.8 operator c4.0 n) (λ n.
-      then_ allow functions f shapes (ih h q2 left locals agrees.0 stands.7 c3.0 n) (λ n.
-      then_ allow functions f shapes (straight allow functions f shapes h (cast_code change.before) q1 (push of k) left stands.6 before c2.0 n) (λ n.
-      then_ allow functions f shapes (straight allow functions f shapes h (kept_before gives) (suc p) (push of s) (push of k) stands.5 (before_straight allow functions f gives of s local.values) c1.0 n) (λ n.
-      step allow functions f shapes stands.4 (load_passes allow functions f y.local of s local.has local.values) (first have) n)))))))
+      then_ allow functions f shapes (step allow functions f shapes stands.10 (store_passes allow functions f y.local of (push of s) local.has local.values) (first c6.1) next) (λ n.
+      then_ allow functions f shapes (straight allow functions f shapes h (kept_behind gives) q5 (push of k) (push of (push of s)) stands.9 (behind_straight allow functions f gives of s local.values) c6.0 n) (λ n.
+      then_ allow functions f shapes (straight allow functions f shapes h (cast_code change.after of) q4 changed (push of k) stands.8 after c5.0 n) (λ n.
+      then_ allow functions f shapes (straight allow functions f shapes h (operator_code change.operator) q3 both changed stands.7 operator c4.0 n) (λ n.
+      then_ allow functions f shapes (ih h q2 left locals agrees.0 stands.6 c3.0 n) (λ n.
+      then_ allow functions f shapes (straight allow functions f shapes h (cast_code change.before of) q1 (push of k) left stands.5 before c2.0 n) (λ n.
+      then_ allow functions f shapes (straight allow functions f shapes h (kept_before gives) (suc p) (push of s) (push of k) stands.4 (before_straight allow functions f gives of s local.values) c1.0 n) (λ n.
+      step allow functions f shapes stands.3 (load_passes allow functions f y.local of s local.has local.values) (first have) n)))))))
 
   -- ---- parts
 
@@ -194,13 +236,13 @@ module _ (allow : AllowList) (funs : Program) (functions : List FunCode) (formed
   mutual
     pub expr_fits : (g : Scope) (e : Expr) → ExprFits g e
     expr_fits g (Literal at of c) h p s locals agrees stands have next = literal_fits g at of c h p s locals agrees stands have next
-    expr_fits g (Quoted at of text) h p s locals agrees stands have next = absurd agrees
+    expr_fits g (Quoted at of text) h p s locals agrees stands have next = text_fits g at of text h p s locals agrees stands have next
     expr_fits g (Local at of x) h p s locals agrees stands have next = name_fits g at of x h p s locals agrees stands have next
     expr_fits g (Apply at of o parts) h p s locals agrees stands have next = apply_fits g at of o parts (exprs_fit g parts) h p s locals agrees stands have next
     expr_fits g (Guarded at of o parts) h p s locals agrees stands have next = absurd agrees
     expr_fits g (Logic at of o left right) h p s locals agrees stands have next = logic_fits g at of o left right (expr_fits g left) (expr_fits g right) h p s locals agrees stands have next
     expr_fits g (Conditional at of c a b) h p s locals agrees stands have next = conditional_fits g at of c a b (expr_fits g c) (expr_fits g a) (expr_fits g b) h p s locals agrees stands have next
-    expr_fits g (Elvis at of left right) h p s locals agrees stands have next = absurd agrees
+    expr_fits g (Elvis at of left right) h p s locals agrees stands have next = elvis_fits g at of left right (expr_fits g left) (expr_fits g right) h p s locals agrees stands have next
     expr_fits g (Assign at of (target.Local x) parts value) h p s locals agrees stands have next = assign_fits g at of x parts value (expr_fits g value) h p s locals agrees stands have next
     expr_fits g (Assign at of other parts value) h p s locals agrees stands have next = absurd agrees
     expr_fits g (Modify at of (target.Local x) parts change right gives) h p s locals agrees stands have next = modify_fits g at of x parts change right gives (expr_fits g right) h p s locals agrees stands have next

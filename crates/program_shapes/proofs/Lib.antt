@@ -1,6 +1,7 @@
 mod Lines
 mod Runs
 mod Parts
+mod Named
 mod Steps
 mod Scopes
 mod Exprs

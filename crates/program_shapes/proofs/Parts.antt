@@ -2,7 +2,7 @@
 use Rattle.std.proofs.Common.{ℕ, suc, Bool, true, false, List, [], ◌∷◌, ◌++◌}
 use Rattle.pl_types.specs.declared.ty.Ty.{Ty}
 use Rattle.pl_code.specs.declared.kinds.Slot.{Slot}
-use Rattle.pl_code.specs.declared.kinds.Slot.TheVariants.{I}
+use Rattle.pl_code.specs.declared.kinds.Slot.TheVariants.{I, R}
 use Rattle.pl_code.specs.declared.code.FunCode.{FunCode}
 use Rattle.allowlist.specs.Allow.{AllowList}
 use Rattle.code_shapes.specs.Effects.{result_kinds}
@@ -37,7 +37,7 @@ module _ (allow : AllowList) (functions : List FunCode) (f : FunCode) where
 
   -- before the right side of a change, and behind the operator
   abbrev pub left_kinds : Ty → Change → Gives → List Slot → List Slot
-  left_kinds of change gives s = run allow functions f (cast_code change.before) (push of (kept gives of s))
+  left_kinds of change gives s = run allow functions f (cast_code change.before of) (push of (kept gives of s))
 
   abbrev pub changed_kinds : Ty → Change → Ty → Gives → List Slot → List Slot
   changed_kinds of change right gives s = run allow functions f (operator_code change.operator) (push right (left_kinds of change gives s))
@@ -45,21 +45,21 @@ module _ (allow : AllowList) (functions : List FunCode) (f : FunCode) where
   abbrev mutual
     pub expr_kinds : List Slot → Expr → List (List Slot)
     expr_kinds s (Literal at of c) = s ∷ []
-    expr_kinds s (Quoted at of text) = []
+    expr_kinds s (Quoted at of text) = s ∷ []
     expr_kinds s (Local at of x) = s ∷ []
-    expr_kinds s (Apply at of o parts) = exprs_kinds s parts ++ spans allow functions f (operation_code o) (push_types (types_of parts) s)
+    expr_kinds s (Apply at of o parts) = exprs_kinds s parts ++ spans allow functions f (operation_code o of) (push_types (types_of parts) s)
     expr_kinds s (Guarded at of o parts) = []
     expr_kinds s (Logic at of o left right) = expr_kinds s left ++ ((I ∷ s) ∷ (expr_kinds s right ++ ((I ∷ s) ∷ s ∷ [])))
     expr_kinds s (Conditional at of c a b) = expr_kinds s c ++ ((I ∷ s) ∷ (expr_kinds s a ++ (push of s ∷ expr_kinds s b)))
-    expr_kinds s (Elvis at of left right) = []
+    expr_kinds s (Elvis at of left right) = expr_kinds s left ++ ((R ∷ s) ∷ (R ∷ R ∷ s) ∷ (R ∷ s) ∷ (R ∷ s) ∷ expr_kinds s right)
     expr_kinds s (Assign at of to parts value) = expr_kinds s value ++ (push of s ∷ push of (push of s) ∷ [])
     expr_kinds s (Modify at of to parts change right gives) =
         s
         ∷ (spans allow functions f (kept_before gives) (push of s)
-        ++ (spans allow functions f (cast_code change.before) (push of (kept gives of s))
+        ++ (spans allow functions f (cast_code change.before of) (push of (kept gives of s))
         ++ (expr_kinds (left_kinds of change gives s) right
         ++ (spans allow functions f (operator_code change.operator) (push (type_of right) (left_kinds of change gives s))
-        ++ (spans allow functions f (cast_code change.after) (changed_kinds of change (type_of right) gives s)
+        ++ (spans allow functions f (cast_code change.after of) (changed_kinds of change (type_of right) gives s)
         ++ (spans allow functions f (kept_behind gives) (push of (kept gives of s)) ++ (push of (push of s) ∷ [])))))))
     expr_kinds s (Lambda at of interface function) = []
     expr_kinds s (Reference at of interface class name) = []
@@ -112,7 +112,7 @@ module _ (allow : AllowList) (functions : List FunCode) (f : FunCode) where
     stmt_kinds Break = [] ∷ []
     stmt_kinds Continue = [] ∷ []
     stmt_kinds (Return value) = returned_kinds value
-    stmt_kinds (Throw value) = []
+    stmt_kinds (Throw value) = expr_kinds [] value ++ ((R ∷ []) ∷ [])
 
     pub stmts_kinds : Stmts → List (List Slot)
     stmts_kinds Finish = []
@@ -132,21 +132,21 @@ module _ (allow : AllowList) (functions : List FunCode) (f : FunCode) where
   mutual
     pub expr_ends : (p : ℕ) (s : List Slot) (e : Expr) → Ends p (expr_kinds s e) (end_expr p e)
     expr_ends p s (Literal at of c) = one s
-    expr_ends p s (Quoted at of text) = ended
+    expr_ends p s (Quoted at of text) = one s
     expr_ends p s (Local at of x) = one s
-    expr_ends p s (Apply at of o parts) = joined (exprs_ends p s parts) (spans_end allow functions f (operation_code o) _ _)
+    expr_ends p s (Apply at of o parts) = joined (exprs_ends p s parts) (spans_end allow functions f (operation_code o of) _ _)
     expr_ends p s (Guarded at of o parts) = ended
     expr_ends p s (Logic at of o left right) = joined (expr_ends p s left) (behind (I ∷ s) (joined (expr_ends _ s right) (behind (I ∷ s) (one s))))
     expr_ends p s (Conditional at of c a b) = joined (expr_ends p s c) (behind (I ∷ s) (joined (expr_ends _ s a) (behind (push of s) (expr_ends _ s b))))
-    expr_ends p s (Elvis at of left right) = ended
+    expr_ends p s (Elvis at of left right) = joined (expr_ends p s left) (behind (R ∷ s) (behind (R ∷ R ∷ s) (behind (R ∷ s) (behind (R ∷ s) (expr_ends _ s right)))))
     expr_ends p s (Assign at of to parts value) = joined (expr_ends p s value) (behind (push of s) (one (push of (push of s))))
     expr_ends p s (Modify at of to parts change right gives) =
         behind s
         (joined (spans_end allow functions f (kept_before gives) (suc p) (push of s))
-        (joined (spans_end allow functions f (cast_code change.before) _ (push of (kept gives of s)))
-        (joined (expr_ends (change_first gives change p) (left_kinds of change gives s) right)
+        (joined (spans_end allow functions f (cast_code change.before of) _ (push of (kept gives of s)))
+        (joined (expr_ends (change_first gives change of p) (left_kinds of change gives s) right)
         (joined (spans_end allow functions f (operator_code change.operator) _ (push (type_of right) (left_kinds of change gives s)))
-        (joined (spans_end allow functions f (cast_code change.after) _ (changed_kinds of change (type_of right) gives s))
+        (joined (spans_end allow functions f (cast_code change.after of) _ (changed_kinds of change (type_of right) gives s))
         (joined (spans_end allow functions f (kept_behind gives) _ (push of (kept gives of s))) (one (push of (push of s)))))))))
     expr_ends p s (Lambda at of interface function) = ended
     expr_ends p s (Reference at of interface class name) = ended
@@ -197,7 +197,7 @@ module _ (allow : AllowList) (functions : List FunCode) (f : FunCode) where
     stmt_ends p Break = one []
     stmt_ends p Continue = one []
     stmt_ends p (Return value) = returned_ends p value
-    stmt_ends p (Throw value) = ended
+    stmt_ends p (Throw value) = joined (expr_ends p [] value) (one (R ∷ []))
 
     pub stmts_ends : (p : ℕ) (t : Stmts) → Ends p (stmts_kinds t) (end_stmts p t)
     stmts_ends p Finish = ended

@@ -236,6 +236,10 @@ module _ (allow : AllowList) (functions : List FunCode) (f : FunCode) (shapes : 
     unfolding is_bad_target is_bad_member flow_of effect_of left_by
     if_not_zero to s = record { flow = refl; target = refl; member = refl; leaves = refl }
 
+    pub if_null : (to : ℕ) (s : List Slot) → Branches (i.Numbered numbered.IfNull to) to (R ∷ s) s
+    unfolding is_bad_target is_bad_member flow_of effect_of left_by
+    if_null to s = record { flow = refl; target = refl; member = refl; leaves = refl }
+
     -- the end of a turn: nothing is left, and a turn begins again or does not
     pub loop : {h : Handlers} {p to : ℕ} → At f h p (i.Numbered numbered.Loop to) → Has shapes p (I ∷ []) → Has shapes (suc p) [] → Has shapes to [] → to ≤ p → Runs p (I ∷ []) (suc p) []
     unfolding is_bad_target is_bad_member is_bad_jump flow_of effect_of left_by
@@ -275,6 +279,24 @@ module _ (allow : AllowList) (functions : List FunCode) (f : FunCode) (shapes : 
       is = a.here;
       left = [];
       leaves = ap (left_in (effect_of allow functions f (i.Plain plain.Ret))) same ∙ given f.result;
+      goes = λ to g. absurd (false≢true g);
+      turns = λ to g. absurd (false≢true g);
+      target = refl;
+      member = refl;
+      jump = refl;
+    }
+
+    -- a value is thrown
+    pub throws : {h : Handlers} {p : ℕ} {s : List Slot} → At f h p (i.Plain plain.Throw) → Has shapes p (R ∷ s) → Leads allow functions f shapes p (R ∷ s) → Good p
+    unfolding is_bad_target is_bad_member is_bad_jump flow_of effect_of left_by
+    throws {h} {p} {s} a has led = record {
+      kinds = R ∷ s;
+      has = has;
+      led = led;
+      instruction = i.Plain plain.Throw;
+      is = a.here;
+      left = s;
+      leaves = refl;
       goes = λ to g. absurd (false≢true g);
       turns = λ to g. absurd (false≢true g);
       target = refl;

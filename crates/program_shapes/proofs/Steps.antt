@@ -1,5 +1,5 @@
 -- What the instructions of each strict part take and leave, by the types of its operands.
-use Rattle.std.proofs.Common.{◌≡◌, ℕ, ℤ, pos, ◌+◌, leb, false, List, [], ◌∷◌, ◌++◌, reverse, length, Some, refl, sym, ap, ◌∙◌, subst, arith, option_map, append_assoc, length-append}
+use Rattle.std.proofs.Common.{◌≡◌, ℕ, ℤ, pos, ◌+◌, leb, false, not, List, [], ◌∷◌, ◌++◌, reverse, length, Some, refl, sym, ap, ◌∙◌, subst, arith, option_map, append_assoc, length-append}
 use Rattle.std.specs.Prelude.{slice_get}
 use Rattle.std.proofs.lemmas.List.{reverse-append}
 use Rattle.std.proofs.lemmas.Bool.{lt-leb}
@@ -9,6 +9,7 @@ use Rattle.pl_types.specs.declared.primitive.Primitive.TheVariants as prim
 use Rattle.pl_types.specs.declared.ty.Ty.{Ty, out-Ty}
 use Rattle.pl_types.specs.declared.ty.Ty.TheVariants as t
 use Rattle.pl_types.specs.declared.ty.Ty.TheOpen.{Ty-F}
+use Rattle.pl_types.specs.Texts.{full_text}
 use Rattle.pl_types.specs.declared.conversion.Cast.{Cast}
 use Rattle.pl_types.specs.declared.conversion.Cast.TheVariants as cast
 use Rattle.arithmetic.specs.declared.operator.Op.{Op}
@@ -20,6 +21,9 @@ use Rattle.pl_code.specs.declared.kinds.Width.TheVariants as width
 use Rattle.pl_code.specs.declared.kinds.Plain.{Plain}
 use Rattle.pl_code.specs.declared.kinds.Plain.TheVariants as plain
 use Rattle.pl_code.specs.declared.kinds.Numbered.TheVariants as numbered
+use Rattle.pl_code.specs.declared.kinds.Typed.TheVariants as typed
+use Rattle.pl_code.specs.declared.kinds.Way.{Way}
+use Rattle.pl_code.specs.declared.kinds.Way.TheVariants as way
 use Rattle.pl_code.specs.declared.kinds.Slot.{Slot}
 use Rattle.pl_code.specs.declared.kinds.Slot.TheVariants.{I, J, R}
 use Rattle.pl_code.specs.declared.code.FunCode.{FunCode}
@@ -39,10 +43,11 @@ use Rattle.typed_tree.specs.declared.operation.Gives.{Gives}
 use Rattle.typed_tree.specs.declared.operation.Gives.TheVariants as gives
 use Rattle.program_meaning.specs.Tree.{Variable, Fun, Program}
 use Rattle.program_code.specs.Lying.{lying_of_layer, lying_of, kind_of_primitive, kind_of_layer, kind_of, result_of_layer}
-use Rattle.program_code.specs.Parts.{constant_code, default_code_layer, default_code, arithmetic_code, boolean_code, operator_code, from_int_code, number_code, cast_code, pops, kept_before, kept_behind}
+use Rattle.program_code.specs.Parts.{text_code, constant_code, default_code_layer, default_code, arithmetic_code, boolean_code, turned_round, operator_code, from_int_code, number_code, run_time_code_layer, run_time_code, cast_code, pops, kept_before, kept_behind}
 use Rattle.program_code.specs.Stands.{HasLocal, kinds_of, Compiled}
-use Rattle.program_types.specs.Types.{is_reference_layer, IsReference, has_values_layer, HasValues, IsOf, TakesNumbers, TakesFlags, Takes, Converts, Casts}
-use Rattle.program_types.specs.Agreeing.{types_in, HaveValues}
+use Rattle.program_types.specs.Types.{is_reference_layer, IsReference, has_values_layer, HasValues, IsOf, TakesNumbers, TakesFlags, TakesReferences, string, Takes, Converts, IsNamed, Keeps, Same, References, Casts}
+use Rattle.program_types.specs.Agreeing.{types_in, IsKnownBefore, HaveValues}
+use Rattle.program_shapes.proofs.Named.{IsListedLayer, listed_has_values, named_is_known, string_named}
 use Rattle.program_shapes.proofs.Runs.{Passes, Straight}
 use Rattle.program_shapes.proofs.Parts.{push, push_types, kept}
 
@@ -66,7 +71,7 @@ reference_layer (Ty-F.Prim p) s r = absurd r
 reference_layer (Ty-F.Class class) s r = refl
 reference_layer (Ty-F.Array of) s r = refl
 
-push_reference : (of : Ty) (s : List Slot) → IsReference of → push of s ≡ R ∷ s
+pub push_reference : (of : Ty) (s : List Slot) → IsReference of → push of s ≡ R ∷ s
 push_reference of s r = reference_layer (out-Ty of) s r
 
 value_layer : (l : Ty-F Ty) (s : List Slot) → has_values_layer l → push_layer l s ≡ kind_of_layer l ∷ s
@@ -79,6 +84,17 @@ value_layer (Ty-F.Array of) s h = refl
 
 pub push_value : (of : Ty) (s : List Slot) → HasValues of → push of s ≡ kind_of of ∷ s
 push_value of s h = value_layer (out-Ty of) s h
+
+string_reference : IsReference string
+unfolding out-Ty denote.Hole.Carrier.out
+string_reference = tt
+
+-- a text
+pub push_text : (of : Ty) (s : List Slot) → of ≡ string → push of s ≡ R ∷ s
+push_text of s x = ap (λ of. push of s) x ∙ push_reference string s string_reference
+
+two_references : (x y : Ty) (s : List Slot) → IsReference x → IsReference y → push y (push x s) ≡ R ∷ R ∷ s
+two_references x y s e g = ap (push y) (push_reference x s e) ∙ push_reference y (R ∷ s) g
 
 two : (x y : Ty) (p q : Primitive) (j k : Slot) (s : List Slot) → x ≡ t.Prim p → y ≡ t.Prim q → kind_of_primitive p ≡ j → kind_of_primitive q ≡ k → push y (push x s) ≡ k ∷ j ∷ s
 two x y p q j k s e g kinds kinds' = ap (push y) (push_is x p s e ∙ ap (λ k. k ∷ s) kinds) ∙ push_is y q (j ∷ s) g ∙ ap (λ k. k ∷ j ∷ s) kinds'
@@ -151,11 +167,11 @@ module _ (allow : AllowList) (functions : List FunCode) (f : FunCode) where
   unfolding is_bad_target is_bad_member flow_of effect_of left_by
   null_passes s = record { flow = refl; target = refl; member = refl; leaves = refl }
 
-  pop_passes : (k : Slot) (s : List Slot) → Passes allow functions f (i.Plain plain.Pop) (k ∷ s) s
+  pub pop_passes : (k : Slot) (s : List Slot) → Passes allow functions f (i.Plain plain.Pop) (k ∷ s) s
   unfolding is_bad_target is_bad_member flow_of effect_of left_by
   pop_passes k s = record { flow = refl; target = refl; member = refl; leaves = refl }
 
-  dup_passes : (k : Slot) (s : List Slot) → Passes allow functions f (i.Plain plain.Dup) (k ∷ s) (k ∷ k ∷ s)
+  pub dup_passes : (k : Slot) (s : List Slot) → Passes allow functions f (i.Plain plain.Dup) (k ∷ s) (k ∷ k ∷ s)
   unfolding is_bad_target is_bad_member flow_of effect_of left_by
   dup_passes k s = record { flow = refl; target = refl; member = refl; leaves = refl }
 
@@ -167,7 +183,19 @@ module _ (allow : AllowList) (functions : List FunCode) (f : FunCode) where
   unfolding is_bad_target is_bad_member flow_of effect_of
   plain_passes p k g s w e = record { flow = w; target = refl; member = refl; leaves = ap (λ e. left_by e (k ∷ s)) e ∙ single k g s }
 
+  -- two references for one value
+  pair_passes : (p : Plain) (g : Slot) (s : List Slot) → plain_flow p ≡ flow.GoesOn → plain_effect f.result p ≡ Exchanges (R ∷ R ∷ []) (one g) → Passes allow functions f (i.Plain p) (R ∷ R ∷ s) (g ∷ s)
+  unfolding is_bad_target is_bad_member flow_of effect_of
+  pair_passes p g s w e = record { flow = w; target = refl; member = refl; leaves = ap (λ e. left_by e (R ∷ R ∷ s)) e ∙ both R g s }
+
   -- ---- constants
+
+  text_passes : (text : List ℕ) (s : List Slot) → Passes allow functions f (text_code text) s (R ∷ s)
+  unfolding is_bad_target is_bad_member flow_of effect_of left_by
+  text_passes text s = record { flow = refl; target = refl; member = refl; leaves = refl }
+
+  pub quoted_passes : (text : List ℕ) (of : Ty) (s : List Slot) → of ≡ string → Passes allow functions f (text_code text) s (push of s)
+  quoted_passes text of s x = subst (λ t. Passes allow functions f (text_code text) s t) (sym (push_text of s x)) (text_passes text s)
 
   pub constant_passes : (c : Constant) (of : Ty) (s : List Slot) → IsOf c of → Passes allow functions f (constant_code c) s (push of s)
   constant_passes constant.Null of s x = subst (λ t. Passes allow functions f (i.Plain plain.Null) s t) (sym (push_reference of s x)) (null_passes s)
@@ -269,10 +297,26 @@ module _ (allow : AllowList) (functions : List FunCode) (f : FunCode) where
   flags o (x ∷ y ∷ []) of s h = flags_two o x y of s h
   flags o (x ∷ y ∷ z ∷ ofs) of s h = absurd h
 
+  -- a truth value, the other way round
+  turned_straight : (s : List Slot) → Straight allow functions f turned_round (I ∷ s) (I ∷ s)
+  turned_straight s = (I ∷ I ∷ s, int_passes (pos 0) (I ∷ s), only (arithmetic_passes a.Eq width.Int (I ∷ I ∷ s) (I ∷ s) (both I I s)) refl refl)
+
+  references : (code : List Instruction) (ofs : List Ty) (of : Ty) (t s : List Slot) → push of s ≡ t → TakesReferences ofs → Straight allow functions f code (R ∷ R ∷ s) t → Straight allow functions f code (push_types ofs s) (push of s)
+  references code [] of t s e h x = absurd h
+  references code (a ∷ []) of t s e h x = absurd h
+  references code (a ∷ b ∷ []) of t s e h x =
+      subst (λ j. Straight allow functions f code j (push of s)) (sym (two_references a b s h.0 h.1)) (subst (λ t. Straight allow functions f code (R ∷ R ∷ s) t) (sym e) x)
+  references code (a ∷ b ∷ c ∷ ofs) of t s e h x = absurd h
+
   pub operator_straight : (o : Operator) (ofs : List Ty) (of : Ty) (s : List Slot) → Takes o ofs of → Straight allow functions f (operator_code o) (push_types ofs s) (push of s)
   operator_straight (operator.Int o) ofs of s h = numbers prim.Int width.Int refl o ofs of s h
   operator_straight (operator.Long o) ofs of s h = numbers prim.Long width.Long refl o ofs of s h
   operator_straight (operator.Boolean o) ofs of s h = flags o ofs of s h
+  operator_straight operator.Equal ofs of s h = references (i.Plain plain.Equal ∷ []) ofs of (I ∷ s) s (push_is of prim.Boolean s h.1) h.0 (only (pair_passes plain.Equal I s refl refl) refl refl)
+  operator_straight operator.NotEqual ofs of s h = references (i.Plain plain.Equal ∷ turned_round) ofs of (I ∷ s) s (push_is of prim.Boolean s h.1) h.0 (I ∷ s, pair_passes plain.Equal I s refl refl, turned_straight s)
+  operator_straight operator.Same ofs of s h = references (i.Plain plain.Same ∷ []) ofs of (I ∷ s) s (push_is of prim.Boolean s h.1) h.0 (only (pair_passes plain.Same I s refl refl) refl refl)
+  operator_straight operator.NotSame ofs of s h = references (i.Plain plain.Same ∷ turned_round) ofs of (I ∷ s) s (push_is of prim.Boolean s h.1) h.0 (I ∷ s, pair_passes plain.Same I s refl refl, turned_straight s)
+  operator_straight operator.Concat ofs of s h = references (i.Plain plain.Concat ∷ []) ofs of (R ∷ s) s (push_text of s h.1) h.0 (only (pair_passes plain.Concat R s refl refl) refl refl)
   operator_straight other ofs of s h = absurd h
 
   -- ---- casts
@@ -312,13 +356,59 @@ module _ (allow : AllowList) (functions : List FunCode) (f : FunCode) where
   along : (code : List Instruction) (from to : Ty) (j k : List Slot) (s : List Slot) → push from s ≡ j → push to s ≡ k → Straight allow functions f code j k → Straight allow functions f code (push from s) (push to s)
   along code from to j k s e g x = subst (λ j. Straight allow functions f code j (push to s)) (sym e) (subst (λ k. Straight allow functions f code j k) (sym g) x)
 
-  pub cast_straight : (c : Cast) (from to : Ty) (s : List Slot) → Casts c from to → Straight allow functions f (cast_code c) (push from s) (push to s)
-  cast_straight cast.Keep from to s h = ap (λ of. push of s) h
+  unboxing_passes : (p : Primitive) (way : Way) (s : List Slot) → Passes allow functions f (i.Unboxing p way) (R ∷ s) (kind_of_primitive p ∷ s)
+  unfolding is_bad_target is_bad_member flow_of effect_of
+  unboxing_passes p way s = record { flow = refl; target = refl; member = refl; leaves = ap (λ k. left_by (Exchanges (one R) (one k)) (R ∷ s)) (boxed p) ∙ single R (kind_of_primitive p) s }
+
+  to_type_passes : (to : Ty) (way : Way) (s : List Slot) → IsNamed to → Passes allow functions f (i.Cast (full_text to) way) (R ∷ s) (R ∷ s)
+  unfolding is_bad_target is_bad_member flow_of effect_of
+  to_type_passes to way s named = record { flow = refl; target = refl; member = ap not (named_is_known to named); leaves = single R R s }
+
+  pub is_a_passes : (to : Ty) (s : List Slot) → IsNamed to → Passes allow functions f (i.Typed typed.IsA (full_text to)) (R ∷ s) (I ∷ s)
+  unfolding is_bad_target is_bad_member flow_of effect_of
+  is_a_passes to s named = record { flow = refl; target = refl; member = ap not (named_is_known to named); leaves = single R I s }
+
+  run_time_layer : (l : Ty-F Ty) (to : Ty) (way : Way) (s : List Slot) → IsNamed to → IsListedLayer l → Straight allow functions f (run_time_code_layer l to way) (R ∷ s) (push_layer l s)
+  run_time_layer Ty-F.Void to way s named h = absurd h
+  run_time_layer Ty-F.Null to way s named h = only (to_type_passes to way s named) refl refl
+  run_time_layer Ty-F.Def to way s named h = only (to_type_passes to way s named) refl refl
+  run_time_layer (Ty-F.Prim p) to way s named h = only (unboxing_passes p way s) refl refl
+  run_time_layer (Ty-F.Class class) to way s named h = only (to_type_passes to way s named) refl refl
+  run_time_layer (Ty-F.Array of) to way s named h = only (to_type_passes to way s named) refl refl
+
+  run_time_straight : (from to : Ty) (way : Way) (s : List Slot) → IsReference from → IsNamed to → Straight allow functions f (run_time_code to way) (push from s) (push to s)
+  run_time_straight from to way s r named =
+      subst (λ j. Straight allow functions f (run_time_code to way) j (push to s)) (sym (push_reference from s r)) (run_time_layer (out-Ty to) to way s named (listed_has_values to named))
+
+  keeps_straight : (from to : Ty) (s : List Slot) → Keeps from to → push from s ≡ push to s
+  keeps_straight from to s (Same x) = ap (λ of. push of s) x
+  keeps_straight from to s (References x y) = push_reference from s x ∙ sym (push_reference to s y)
+
+  pub cast_straight : (c : Cast) (from to : Ty) (s : List Slot) → Casts c from to → Straight allow functions f (cast_code c to) (push from s) (push to s)
+  cast_straight cast.Keep from to s h = keeps_straight from to s h
   cast_straight (cast.Number p q) from to s h = along (number_code p q) from to _ _ s (push_is from p s h.0) (push_is to q s h.1) (number_straight p q s h.2)
   cast_straight (cast.Wrap p q) from to s h =
       along (number_code p q ++ i.Boxing q ∷ []) from to _ _ s (push_is from p s h.0) (push_reference to s h.1)
       (straight_append (number_code p q) (i.Boxing q ∷ []) _ (kind_of_primitive q ∷ s) _ (number_straight p q s h.2) (only (boxing_passes q s) refl refl))
-  cast_straight other from to s h = absurd h
+  cast_straight (cast.Unwrap p q) from to s h = absurd h
+  cast_straight cast.Implicit from to s h = run_time_straight from to way.Implicit s h.0 h.1
+  cast_straight cast.Explicit from to s h = run_time_straight from to way.Explicit s h.0 h.1
+  cast_straight cast.CharToText from to s h =
+      along (cast_code cast.CharToText to) from to _ _ s (push_is from prim.Char s h.0) (push_text to s h.1)
+      (R ∷ s, boxing_passes prim.Char s, only (to_type_passes string way.Explicit s string_named) refl refl)
+  cast_straight cast.TextToChar from to s h =
+      along (cast_code cast.TextToChar to) from to _ _ s (push_reference from s h.0) (push_is to prim.Char s h.1) (only (unboxing_passes prim.Char way.Explicit s) refl refl)
+
+  -- the first cast of a compound assignment, whose code does not depend on the type that it goes to
+  pub begins_straight : (c : Cast) (of from to : Ty) (s : List Slot) → IsKnownBefore c → Casts c from to → Straight allow functions f (cast_code c of) (push from s) (push to s)
+  begins_straight cast.Keep of from to s k h = cast_straight cast.Keep from to s h
+  begins_straight (cast.Number p q) of from to s k h = cast_straight (cast.Number p q) from to s h
+  begins_straight (cast.Wrap p q) of from to s k h = cast_straight (cast.Wrap p q) from to s h
+  begins_straight (cast.Unwrap p q) of from to s k h = absurd h
+  begins_straight cast.Implicit of from to s k h = absurd k
+  begins_straight cast.Explicit of from to s k h = absurd k
+  begins_straight cast.CharToText of from to s k h = cast_straight cast.CharToText from to s h
+  begins_straight cast.TextToChar of from to s k h = cast_straight cast.TextToChar from to s h
 
   -- ---- values that are dropped or kept
 

@@ -19,9 +19,9 @@ use Rattle.program_code.specs.Stands.{Scope, end_expr, goes_on, end_skip, end_dr
 use Rattle.program_types.specs.Agreeing.{ExprAgrees, TestAgrees, UpdateAgrees, BeginAgrees, StmtAgrees, StmtsAgree, WellFormed}
 use Rattle.program_types.specs.Reached.{MayFollow, StmtReached, StmtsReached}
 use Rattle.program_shapes.proofs.Lines.{grows, Has, Have, first, rest, cut}
-use Rattle.program_shapes.proofs.Runs.{Fine, fine_none, fine_one, join, Runs, then_, step, straight, goto, branch, if_zero, loop, turned, ret}
+use Rattle.program_shapes.proofs.Runs.{Fine, fine_none, fine_one, join, Runs, then_, step, straight, goto, branch, if_zero, loop, turned, ret, throws}
 use Rattle.program_shapes.proofs.Parts.{push, skip_kinds, dropped_kinds, update_kinds, test_kinds, last_kinds, value_kinds, stmt_kinds, stmts_kinds, expr_ends, skip_ends, update_ends, test_ends, last_ends, value_ends, stmt_ends, stmts_ends}
-use Rattle.program_shapes.proofs.Steps.{push_is, int_passes, default_straight, pops_straight, store_passes}
+use Rattle.program_shapes.proofs.Steps.{push_is, push_reference, int_passes, default_straight, pops_straight, store_passes}
 use Rattle.program_shapes.proofs.Scopes.{names, HaveLocals}
 use Rattle.program_shapes.proofs.Exprs.{left_as, expr_fits}
 
@@ -138,6 +138,17 @@ module _ (allow : AllowList) (funs : Program) (functions : List FunCode) (formed
         runs = λ led.
             let y = x.runs led in
             record { fine = join allow functions f shapes y.fine (fine_one allow functions f shapes (ret allow functions f shapes many stands.1 same (first c.1) y.led)); falls = λ e. no e; continues = λ e. no e };
+      }
+
+  throw_fits : (value : Expr) → StmtFits (Throw value)
+  throw_fits value looped g n j p locals agrees reached stands have aims next =
+      let c = cut (expr_ends allow functions f p [] value) have in
+      let x = left_as allow funs functions formed made f shapes many (push_reference (type_of value) [] agrees.1) (expr_fits allow funs functions formed made f shapes many g value h p [] locals agrees.0 stands.0 c.0) (first c.1) in
+      record {
+        has = x.has;
+        runs = λ led.
+            let y = x.runs led in
+            record { fine = join allow functions f shapes y.fine (fine_one allow functions f shapes (throws allow functions f shapes many stands.2 (first c.1) y.led)); falls = λ e. no e; continues = λ e. no e };
       }
 
   block_fits : (body : Stmts) → StmtsFit body → StmtFits (Block body)
@@ -356,7 +367,7 @@ module _ (allow : AllowList) (funs : Program) (functions : List FunCode) (formed
     stmt_fits Break looped g n j p locals agrees reached stands have aims next = break_fits looped g n j p locals agrees reached stands have aims next
     stmt_fits Continue looped g n j p locals agrees reached stands have aims next = continue_fits looped g n j p locals agrees reached stands have aims next
     stmt_fits (Return value) looped g n j p locals agrees reached stands have aims next = return_fits value looped g n j p locals agrees reached stands have aims next
-    stmt_fits (Throw value) looped g n j p locals agrees reached stands have aims next = absurd agrees
+    stmt_fits (Throw value) looped g n j p locals agrees reached stands have aims next = throw_fits value looped g n j p locals agrees reached stands have aims next
 
     pub stmts_fit : (t : Stmts) → StmtsFit t
     stmts_fit Finish looped g n j p locals agrees reached stands have aims next = finish_fits looped g n j p locals agrees reached stands have aims next

@@ -1,4 +1,6 @@
 pub mod Values
+pub mod Effects
+pub mod Operations
 pub mod Scopes
 pub mod Never
 pub mod Enough

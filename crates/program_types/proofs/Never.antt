@@ -16,6 +16,8 @@ use Rattle.typed_tree.specs.declared.operation.Target.TheVariants as target
 use Rattle.typed_tree.specs.declared.operation.Change.{Change}
 use Rattle.typed_tree.specs.declared.operation.Gives.{Gives}
 use Rattle.typed_tree.specs.declared.operation.Gives.TheVariants as gives
+use Rattle.number_ops.specs.Operators.{is_null}
+use Rattle.number_ops.specs.Relations.{thrown}
 use Rattle.run_world.specs.World.{World, Limits, Loop, Depth, Ticks, acts_in, Counted, Counts, Passes, pay_tick, take_turn, goes_deeper, enter}
 use Rattle.program_meaning.specs.Tree.{Name, Expr, Literal, Quoted, Local, Apply, Guarded, Logic, Conditional, Elvis, Assign, Modify, Lambda, Reference, NewReference, Exprs, None', One, Maybe, Missing, Given as Present, Stmt, Do, If, While, DoWhile, ForEach, Try, Block, Break, Continue, Return, Throw, Stmts, Finish, Then, Declare, Variable, Fun, Program, type_of}
 use Rattle.program_meaning.specs.Operating.{Operated, Meaningless, Gives as Gives_it, Acts}
@@ -23,7 +25,9 @@ use Rattle.program_meaning.specs.Meaning.{State, Env, Place, Out, Done, Thrown, 
 use Rattle.program_types.specs.Types.{Has, HaveAll}
 use Rattle.program_types.specs.Agreeing.{Scope, IsVariable, boolean, types_of, Calls, Applies, Changes, ExprAgrees, ExprsAgree, TestAgrees, UpdateAgrees, BeginAgrees, ReturnAgrees, StmtAgrees, StmtsAgree, scope_of, FunAgrees, WellFormed}
 use Rattle.program_types.specs.Enough.{expr_size, exprs_size, maybe_size, stmt_size, stmts_size}
-use Rattle.program_types.proofs.Values.{EffectHas, OperatedHas, has_flag, nothing_has, is_flag, constant_has, default_has, takes_fit, casts_fit}
+use Rattle.program_types.proofs.Values.{has_flag, nothing_has, is_flag, text_has, constant_has, default_has}
+use Rattle.program_types.proofs.Effects.{EffectHas, OperatedHas}
+use Rattle.program_types.proofs.Operations.{takes_fit, casts_fit, begins_fit}
 use Rattle.program_types.proofs.Scopes.{Bound, reads, writes, leaves, enters}
 
 -- it is not More, what it gives is as it should be, names keep their types, and no ticks came from nowhere
@@ -87,12 +91,23 @@ chosen {good = good} {g = g} {k = k} {o = o} {p = p} value h x y =
     either true = x
     either false = y
 
+unless : {A : Type 0} {good : A → Type 0} {g : Scope} {k : ℕ} {o p : Out A} (c : Bool) → Ends good g k o → Ends good g k p → Ends good g k (if c then p else o)
+unless true x y = y
+unless false x y = x
+
 -- what comes of an operator
 acts_end : (of : Ty) (g : Scope) (s : State) (e : Env) (x : Effect) → EffectHas of x → Bound g e → Ends (Has of) g s.world.ticks (effect (acts_in s.world x) s e)
 unfolding acts_in
 acts_end of g s e (Gives_value value store) x b = done x b (omega arith)
 acts_end of g s e (Throws id store) x b = record { by = (b, omega arith) }
 acts_end of g s e NoRoom x b = record { by = tt }
+
+-- .. of `throw`
+throws_end : (g : Scope) (s : State) (e : Env) (x : Effect) → Bound g e → Ends Any g s.world.ticks (effect (acts_in s.world x) s e)
+unfolding acts_in
+throws_end g s e (Gives_value value store) b = done tt b (omega arith)
+throws_end g s e (Throws id store) b = record { by = (b, omega arith) }
+throws_end g s e NoRoom b = record { by = tt }
 
 operated_ends : (of : Ty) (g : Scope) (s : State) (e : Env) (x : Operated) → OperatedHas of x → Bound g e → Ends (Has of) g s.world.ticks (operated x s e)
 operated_ends of g s e Meaningless x b = absurd x
@@ -200,15 +215,19 @@ module _ (funs : Program) (limits : Limits) (formed : WellFormed funs) (most : �
         (entered_ends (enter limits d.depth s.world) d s e g x.fun _ args.env (call_costs limits d.depth s.world) args.is args.bound (formed.each number x.fun x.is) (holds number x.fun x.is) b c))
 
     applied_ends : (o : Operation) (ofs : List Ty) (of : Ty) (values : List Value) (d : Place) (s : State) (e : Env) (g : Scope) → Applies funs o ofs of → HaveAll ofs values → Bound g e
-        → cost s.world.ticks ≤ n → Ends (Has of) g s.world.ticks (applied funs limits m o d s e values)
+        → cost s.world.ticks ≤ n → Ends (Has of) g s.world.ticks (applied funs limits m o d s e of values)
     applied_ends (operation.Operator o) ofs of values d s e g x h b c = operated_ends of g s e _ (takes_fit o ofs of values s.world.store x h) b
     applied_ends (operation.Cast k) [] of values d s e g x h b c = absurd x
     applied_ends (operation.Cast k) (from ∷ []) of [] d s e g x h b c = absurd h
-    applied_ends (operation.Cast k) (from ∷ []) of (value ∷ []) d s e g x h b c = let made = casts_fit k from of value x h.0 in found_ends (Has of) g s e _ made.value made.is made.has b
+    applied_ends (operation.Cast k) (from ∷ []) of (value ∷ []) d s e g x h b c = operated_ends of g s e _ (casts_fit k from of value s.world.store x h.0) b
     applied_ends (operation.Cast k) (from ∷ []) of (value ∷ other ∷ values) d s e g x h b c = absurd h.1
     applied_ends (operation.Cast k) (from ∷ other ∷ ofs) of values d s e g x h b c = absurd x
     applied_ends (operation.Function number) ofs of values d s e g x h b c = called_ends number ofs of values d s e g x h b c
-    applied_ends (operation.InstanceOf to) ofs of values d s e g x h b c = absurd x
+    applied_ends (operation.InstanceOf to) [] of values d s e g x h b c = absurd x
+    applied_ends (operation.InstanceOf to) (from ∷ []) of [] d s e g x h b c = absurd h
+    applied_ends (operation.InstanceOf to) (from ∷ []) of (value ∷ []) d s e g x h b c = done (has_flag of _ x.2) b (omega arith)
+    applied_ends (operation.InstanceOf to) (from ∷ []) of (value ∷ other ∷ values) d s e g x h b c = absurd h.1
+    applied_ends (operation.InstanceOf to) (from ∷ other ∷ ofs) of values d s e g x h b c = absurd x
     applied_ends (operation.Instance member) ofs of values d s e g x h b c = absurd x
     applied_ends (operation.Static member) ofs of values d s e g x h b c = absurd x
     applied_ends (operation.Constructor member) ofs of values d s e g x h b c = absurd x
@@ -246,14 +265,12 @@ module _ (funs : Program) (limits : Limits) (formed : WellFormed funs) (most : �
 
     modified_ends : (x : Name) (of : Ty) (change : Change) (right : Expr) (given : Gives) (old : Value) (d : Place) (s : State) (e : Env) (g : Scope)
         → IsVariable g x of → Changes change of (type_of right) → ExprAgrees funs g right → Has of old → Bound g e → cost s.world.ticks + expr_size right ≤ n
-        → Ends (Has of) g s.world.ticks (modified funs limits m x change d s e right given old)
+        → Ends (Has of) g s.world.ticks (modified funs limits m x of change d s e right given old)
     modified_ends x of change right given old d s e g y z a h b c =
-        let left = casts_fit change.before of z.left old z.before h in
-        then' (found_ends (Has z.left) g s e _ left.value left.is left.has b) (λ l s' e h' b k.
+        then' (operated_ends z.left g s e _ (begins_fit change.before of z.left old s.world.store z.known z.before h) b) (λ l s' e h' b k.
         then' (ih.expr right d s' e g a b (lesser _ _ _ n k c)) (λ r s e hr b k.
         then' (operated_ends z.result g s e _ (takes_fit change.operator (z.left ∷ type_of right ∷ []) z.result (l ∷ r ∷ []) s.world.store z.does (h', (hr, tt))) b) (λ result s e hx b k.
-        let after = casts_fit change.after z.result of result z.after hx in
-        then' (found_ends (Has of) g s e _ after.value after.is after.has b) (λ new s e hn b k.
+        then' (operated_ends of g s e _ (casts_fit change.after z.result of result s.world.store z.after hx) b) (λ new s e hn b k.
         done (given_has given of old new h hn) (writes g e x y.variable new y.is (subst (λ of. Has of new) y.has hn) b) (omega arith)))))
 
     changes_end : (at : ℕ) (of : Ty) (to : Target) (parts : Exprs) (change : Change) (right : Expr) (given : Gives) (d : Place) (s : State) (e : Env) (g : Scope)
@@ -271,7 +288,7 @@ module _ (funs : Program) (limits : Limits) (formed : WellFormed funs) (most : �
     expr_ends : (x : Expr) (d : Place) (s : State) (e : Env) (g : Scope) → ExprAgrees funs g x → Bound g e → cost s.world.ticks + expr_size x ≤ suc n
         → Ends (Has (type_of x)) g s.world.ticks (expr_of funs limits m d s e x)
     expr_ends (Literal at of k) d s e g a b c = done (constant_has k of a) b (omega arith)
-    expr_ends (Quoted at of text) d s e g a b c = absurd a
+    expr_ends (Quoted at of text) d s e g a b c = done (text_has of _ a) b (omega arith)
     expr_ends (Local at of x) d s e g a b c =
         let value = reads g e x a.variable a.is b in
         found_ends (Has of) g s e _ value.value value.is (subst (λ of. Has of value.value) (sym a.has) value.has) b
@@ -288,7 +305,9 @@ module _ (funs : Program) (limits : Limits) (formed : WellFormed funs) (most : �
         chosen value h
         (of_type y of d s' e g a.1 a.4 b (lesser _ s.world.ticks _ n k (omega (arith, c))))
         (of_type z of d s' e g a.2 a.5 b (lesser _ s.world.ticks _ n k (omega (arith, c)))))
-    expr_ends (Elvis at of left right) d s e g a b c = absurd a
+    expr_ends (Elvis at of left right) d s e g a b c =
+        then' (of_type left of d s e g a.0 a.2 b (omega (arith, c))) (λ value s' e h b k.
+        unless (is_null value) (done h b (omega arith)) (of_type right of d s' e g a.1 a.3 b (lesser _ s.world.ticks _ n k (omega (arith, c)))))
     expr_ends (Assign at of to parts value) d s e g a b c = assigns_end at of to parts value d s e g a b (omega (arith, c))
     expr_ends (Modify at of to parts change right given) d s e g a b c = changes_end at of to parts change right given d s e g a b (omega (arith, c))
     expr_ends (Lambda at of interface function) d s e g a b c = absurd a
@@ -372,7 +391,9 @@ module _ (funs : Program) (limits : Limits) (formed : WellFormed funs) (most : �
     stmt_ends Break d s e g of looped a b c = done a b (omega arith)
     stmt_ends Continue d s e g of looped a b c = done a b (omega arith)
     stmt_ends (Return value) d s e g of looped a b c = returns_end value of looped d s e g a b (omega (arith, c))
-    stmt_ends (Throw value) d s e g of looped a b c = absurd a
+    stmt_ends (Throw x) d s e g of looped a b c =
+        then' (ih.expr x d s e g a.0 b (omega (arith, c))) (λ value s' e h b k.
+        then' (throws_end g s' e (thrown s'.world.store value) b) (λ value s e h b k. done tt b (omega arith)))
 
     begins_end : (value : Maybe) (of : Ty) (d : Place) (s : State) (e : Env) (g : Scope) → BeginAgrees funs g value of → Bound g e → cost s.world.ticks + maybe_size value ≤ n
         → Ends (Has of) g s.world.ticks (value_or funs limits m value of d s e)
