@@ -161,7 +161,8 @@ module _ (allow : AllowList) (funs : Program) (functions : List FunCode) (formed
         runs = λ led.
             let x = a.runs led in
             let y = copy.runs x.led in
-            let test = branch allow functions f shapes many stands.2 (if_null allow functions f shapes many (suc (suc (suc q))) (R ∷ s)) (first (rest c.1)) (first d) (first (rest d)) (omega arith) y.led in
+            let test = branch allow functions f shapes many stands.2 (if_null allow functions f shapes many (suc (suc (suc q))) (R ∷ s))
+            (first (rest c.1)) (first d) (first (rest d)) (omega arith) y.led in
             let over = goto allow functions f shapes many stands.3 (first d) out (omega (arith, longer)) test.1 in
             let z = drop.runs test.2 in
             let r = b.runs z.led in

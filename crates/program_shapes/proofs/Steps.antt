@@ -184,7 +184,8 @@ module _ (allow : AllowList) (functions : List FunCode) (f : FunCode) where
   plain_passes p k g s w e = record { flow = w; target = refl; member = refl; leaves = ap (λ e. left_by e (k ∷ s)) e ∙ single k g s }
 
   -- two references for one value
-  pair_passes : (p : Plain) (g : Slot) (s : List Slot) → plain_flow p ≡ flow.GoesOn → plain_effect f.result p ≡ Exchanges (R ∷ R ∷ []) (one g) → Passes allow functions f (i.Plain p) (R ∷ R ∷ s) (g ∷ s)
+  pair_passes : (p : Plain) (g : Slot) (s : List Slot) → plain_flow p ≡ flow.GoesOn → plain_effect f.result p ≡ Exchanges (R ∷ R ∷ []) (one g)
+      → Passes allow functions f (i.Plain p) (R ∷ R ∷ s) (g ∷ s)
   unfolding is_bad_target is_bad_member flow_of effect_of
   pair_passes p g s w e = record { flow = w; target = refl; member = refl; leaves = ap (λ e. left_by e (R ∷ R ∷ s)) e ∙ both R g s }
 
@@ -301,7 +302,8 @@ module _ (allow : AllowList) (functions : List FunCode) (f : FunCode) where
   turned_straight : (s : List Slot) → Straight allow functions f turned_round (I ∷ s) (I ∷ s)
   turned_straight s = (I ∷ I ∷ s, int_passes (pos 0) (I ∷ s), only (arithmetic_passes a.Eq width.Int (I ∷ I ∷ s) (I ∷ s) (both I I s)) refl refl)
 
-  references : (code : List Instruction) (ofs : List Ty) (of : Ty) (t s : List Slot) → push of s ≡ t → TakesReferences ofs → Straight allow functions f code (R ∷ R ∷ s) t → Straight allow functions f code (push_types ofs s) (push of s)
+  references : (code : List Instruction) (ofs : List Ty) (of : Ty) (t s : List Slot) → push of s ≡ t → TakesReferences ofs
+      → Straight allow functions f code (R ∷ R ∷ s) t → Straight allow functions f code (push_types ofs s) (push of s)
   references code [] of t s e h x = absurd h
   references code (a ∷ []) of t s e h x = absurd h
   references code (a ∷ b ∷ []) of t s e h x =
@@ -312,11 +314,18 @@ module _ (allow : AllowList) (functions : List FunCode) (f : FunCode) where
   operator_straight (operator.Int o) ofs of s h = numbers prim.Int width.Int refl o ofs of s h
   operator_straight (operator.Long o) ofs of s h = numbers prim.Long width.Long refl o ofs of s h
   operator_straight (operator.Boolean o) ofs of s h = flags o ofs of s h
-  operator_straight operator.Equal ofs of s h = references (i.Plain plain.Equal ∷ []) ofs of (I ∷ s) s (push_is of prim.Boolean s h.1) h.0 (only (pair_passes plain.Equal I s refl refl) refl refl)
-  operator_straight operator.NotEqual ofs of s h = references (i.Plain plain.Equal ∷ turned_round) ofs of (I ∷ s) s (push_is of prim.Boolean s h.1) h.0 (I ∷ s, pair_passes plain.Equal I s refl refl, turned_straight s)
-  operator_straight operator.Same ofs of s h = references (i.Plain plain.Same ∷ []) ofs of (I ∷ s) s (push_is of prim.Boolean s h.1) h.0 (only (pair_passes plain.Same I s refl refl) refl refl)
-  operator_straight operator.NotSame ofs of s h = references (i.Plain plain.Same ∷ turned_round) ofs of (I ∷ s) s (push_is of prim.Boolean s h.1) h.0 (I ∷ s, pair_passes plain.Same I s refl refl, turned_straight s)
-  operator_straight operator.Concat ofs of s h = references (i.Plain plain.Concat ∷ []) ofs of (R ∷ s) s (push_text of s h.1) h.0 (only (pair_passes plain.Concat R s refl refl) refl refl)
+  operator_straight operator.Equal ofs of s h =
+      references (i.Plain plain.Equal ∷ []) ofs of (I ∷ s) s (push_is of prim.Boolean s h.1) h.0 (only (pair_passes plain.Equal I s refl refl) refl refl)
+  operator_straight operator.NotEqual ofs of s h =
+      references (i.Plain plain.Equal ∷ turned_round) ofs of (I ∷ s) s (push_is of prim.Boolean s h.1) h.0
+      (I ∷ s, pair_passes plain.Equal I s refl refl, turned_straight s)
+  operator_straight operator.Same ofs of s h =
+      references (i.Plain plain.Same ∷ []) ofs of (I ∷ s) s (push_is of prim.Boolean s h.1) h.0 (only (pair_passes plain.Same I s refl refl) refl refl)
+  operator_straight operator.NotSame ofs of s h =
+      references (i.Plain plain.Same ∷ turned_round) ofs of (I ∷ s) s (push_is of prim.Boolean s h.1) h.0
+      (I ∷ s, pair_passes plain.Same I s refl refl, turned_straight s)
+  operator_straight operator.Concat ofs of s h =
+      references (i.Plain plain.Concat ∷ []) ofs of (R ∷ s) s (push_text of s h.1) h.0 (only (pair_passes plain.Concat R s refl refl) refl refl)
   operator_straight other ofs of s h = absurd h
 
   -- ---- casts
@@ -368,7 +377,8 @@ module _ (allow : AllowList) (functions : List FunCode) (f : FunCode) where
   unfolding is_bad_target is_bad_member flow_of effect_of
   is_a_passes to s named = record { flow = refl; target = refl; member = ap not (named_is_known to named); leaves = single R I s }
 
-  run_time_layer : (l : Ty-F Ty) (to : Ty) (way : Way) (s : List Slot) → IsNamed to → IsListedLayer l → Straight allow functions f (run_time_code_layer l to way) (R ∷ s) (push_layer l s)
+  run_time_layer : (l : Ty-F Ty) (to : Ty) (way : Way) (s : List Slot) → IsNamed to → IsListedLayer l
+      → Straight allow functions f (run_time_code_layer l to way) (R ∷ s) (push_layer l s)
   run_time_layer Ty-F.Void to way s named h = absurd h
   run_time_layer Ty-F.Null to way s named h = only (to_type_passes to way s named) refl refl
   run_time_layer Ty-F.Def to way s named h = only (to_type_passes to way s named) refl refl
@@ -378,7 +388,8 @@ module _ (allow : AllowList) (functions : List FunCode) (f : FunCode) where
 
   run_time_straight : (from to : Ty) (way : Way) (s : List Slot) → IsReference from → IsNamed to → Straight allow functions f (run_time_code to way) (push from s) (push to s)
   run_time_straight from to way s r named =
-      subst (λ j. Straight allow functions f (run_time_code to way) j (push to s)) (sym (push_reference from s r)) (run_time_layer (out-Ty to) to way s named (listed_has_values to named))
+      subst (λ j. Straight allow functions f (run_time_code to way) j (push to s)) (sym (push_reference from s r))
+      (run_time_layer (out-Ty to) to way s named (listed_has_values to named))
 
   keeps_straight : (from to : Ty) (s : List Slot) → Keeps from to → push from s ≡ push to s
   keeps_straight from to s (Same x) = ap (λ of. push of s) x

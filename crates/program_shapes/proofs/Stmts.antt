@@ -143,12 +143,17 @@ module _ (allow : AllowList) (funs : Program) (functions : List FunCode) (formed
   throw_fits : (value : Expr) → StmtFits (Throw value)
   throw_fits value looped g n j p locals agrees reached stands have aims next =
       let c = cut (expr_ends allow functions f p [] value) have in
-      let x = left_as allow funs functions formed made f shapes many (push_reference (type_of value) [] agrees.1) (expr_fits allow funs functions formed made f shapes many g value h p [] locals agrees.0 stands.0 c.0) (first c.1) in
+      let x = left_as allow funs functions formed made f shapes many (push_reference (type_of value) [] agrees.1)
+      (expr_fits allow funs functions formed made f shapes many g value h p [] locals agrees.0 stands.0 c.0) (first c.1) in
       record {
         has = x.has;
         runs = λ led.
             let y = x.runs led in
-            record { fine = join allow functions f shapes y.fine (fine_one allow functions f shapes (throws allow functions f shapes many stands.2 (first c.1) y.led)); falls = λ e. no e; continues = λ e. no e };
+            record {
+              fine = join allow functions f shapes y.fine (fine_one allow functions f shapes (throws allow functions f shapes many stands.2 (first c.1) y.led));
+              falls = λ e. no e;
+              continues = λ e. no e;
+            };
       }
 
   block_fits : (body : Stmts) → StmtsFit body → StmtFits (Block body)
