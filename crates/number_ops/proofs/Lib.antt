@@ -1,3 +1,4 @@
 pub mod Keeping
 pub mod KindsOf
+pub mod Related
 pub mod TextOrder

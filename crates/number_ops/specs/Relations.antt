@@ -8,7 +8,7 @@ use Rattle.object_values.specs.declared.object.Object.{Object}
 use Rattle.object_values.specs.declared.object.Object.TheVariants as o
 use Rattle.object_values.specs.declared.value.Value.{Value}
 use Rattle.object_values.specs.declared.value.Value.TheVariants as v
-use Rattle.object_heap.specs.Effects.{Effect, Gives, Throws, NoRoom}
+use Rattle.object_heap.specs.Effects.{Effect, Gives, Throws}
 use Rattle.object_heap.specs.Fits.{kinds, has_type, is_primitive}
 use Rattle.object_heap.specs.Store.{Store}
 use Rattle.arithmetic.specs.declared.operator.Num.{Num}
