@@ -77,7 +77,8 @@ present_layer Absent h = λ e. cc
 are_present : (params : List Ty) → all_present params ≡ true → ArePresent (map lying_of params)
 are_present [] h = tt
 are_present (of ∷ ofs) h =
-    (present_layer (lying_of of) (first_true (is_present (lying_of of)) (all_present ofs) h), are_present ofs (second_true (is_present (lying_of of)) (all_present ofs) h))
+    (present_layer (lying_of of) (first_true (is_present (lying_of of)) (all_present ofs) h), are_present ofs
+    (second_true (is_present (lying_of of)) (all_present ofs) h))
 
 -- no member takes nothing of a type
 all_params_present : list_all (λ (m : MemberType). all_present m.params) catalogue ≡ true
@@ -116,7 +117,8 @@ layer_taken (Ty-F.Class class) value given e = e
 layer_taken (Ty-F.Array elem) value given e = e
 
 -- words of arguments are taken as the arguments are passed
-all_taken : (params : List Ty) (values given : List Value) → passed_all params values ≡ Some given → taken_all params (words_at (map lying_of params) values) ≡ Some given
+all_taken : (params : List Ty) (values given : List Value) → passed_all params values ≡ Some given
+    → taken_all params (words_at (map lying_of params) values) ≡ Some given
 all_taken [] [] given e = e
 all_taken [] (value ∷ values) given e = cc
 all_taken (of ∷ ofs) [] given e = cc
@@ -140,10 +142,12 @@ Alike source.OnNull x = x ≡ target.OnNull
 Alike (source.Sends arguments) x = x ≡ target.Receives arguments
 Alike source.Reads x = x ≡ target.Reads
 
-called_alike : (params : List Ty) (values : List Value) → Alike (sends (passed_all params values)) (receives (taken_all params (words_at (map lying_of params) values)))
+called_alike : (params : List Ty) (values : List Value)
+    → Alike (sends (passed_all params values)) (receives (taken_all params (words_at (map lying_of params) values)))
 called_alike params values = made (passed_all params values) refl
   where
-    made : (o : Option (List Value)) → passed_all params values ≡ o → Alike (sends o) (receives (taken_all params (words_at (map lying_of params) values)))
+    made : (o : Option (List Value)) → passed_all params values ≡ o
+        → Alike (sends o) (receives (taken_all params (words_at (map lying_of params) values)))
     made None e = tt
     made (Some given) e = ap receives (all_taken params values given e)
 
@@ -162,9 +166,12 @@ instance_alike : (params : List Ty) (receiver : Value) (values : List Value)
     → Alike (sends_to receiver (passed_all params values)) (receives_on (Some receiver) (taken_all params (words_at (map lying_of params) values)))
 instance_alike params receiver values = made (passed_all params values) refl
   where
-    made : (o : Option (List Value)) → passed_all params values ≡ o → Alike (sends_to receiver o) (receives_on (Some receiver) (taken_all params (words_at (map lying_of params) values)))
+    made : (o : Option (List Value)) → passed_all params values ≡ o
+        → Alike (sends_to receiver o) (receives_on (Some receiver) (taken_all params (words_at (map lying_of params) values)))
     made None e = tt
-    made (Some given) e = subst (λ o. Alike (sends_to receiver (Some given)) (receives_on (Some receiver) o)) (sym (all_taken params values given e)) (on_alike receiver given)
+    made (Some given) e =
+        subst (λ o. Alike (sends_to receiver (Some given)) (receives_on (Some receiver) o)) (sym (all_taken params values given e))
+        (on_alike receiver given)
 
 whole_some : Whole ≢ Absent
 whole_some e = cc
@@ -176,48 +183,71 @@ module _ (funs : Program) (code : List FunCode) (limits : Limits) (c : Ctx code)
   abbrev pub Gives : Lying → ℕ → List Word → Next → Out Value → Type 0
   Gives k q st n o = Sim code limits c h g (land_value funs code limits c k (end_all (suc q) (without_null k)) st) Any n o
 
-  dropped_runs : (q : ℕ) (i' : Instruction) (s : State) (e : Env) (l st st' : List Word) → At c.body h q i' → AllAt c.body h (suc q) (without_null Absent) → Fits c.body g e l → (x : Outcome Value)
+  dropped_runs : (q : ℕ) (i' : Instruction) (s : State) (e : Env) (l st st' : List Word) → At c.body h q i'
+      → AllAt c.body h (suc q) (without_null Absent) → Fits c.body g e l → (x : Outcome Value)
       → Gives Absent q st (on_outcome code limits x (given_layer Ty-F.Void) (frame code limits c q l st' s) c.below s.world st) (meaning.effect x s e)
-  dropped_runs q i' s e l st st' a drops f (Given value w) = step_to code limits l (R value ∷ st) (record { world = w; turns = s.turns }) drops.0 (done code limits f tt)
-  dropped_runs q i' s e l st st' a drops f (Raised id w) = record { by = λ r d. throws code limits c h q i' l st' id (record { world = w; turns = s.turns }) r a (d l f) }
+  dropped_runs q i' s e l st st' a drops f (Given value w) =
+      step_to code limits l (R value ∷ st) (record { world = w; turns = s.turns }) drops.0 (done code limits f tt)
+  dropped_runs q i' s e l st st' a drops f (Raised id w) =
+      record { by = λ r d. throws code limits c h q i' l st' id (record { world = w; turns = s.turns }) r a (d l f) }
   dropped_runs q i' s e l st st' a drops f Full = record { by = ended code limits _ }
 
-  result_runs : (y : Ty-F Ty) (q : ℕ) (i' : Instruction) (s : State) (e : Env) (l st st' : List Word) → At c.body h q i' → AllAt c.body h (suc q) (without_null (lying_of_layer y)) → Fits c.body g e l → (x : Outcome Value)
-      → Gives (lying_of_layer y) q st (on_outcome code limits x (given_layer y) (frame code limits c q l st' s) c.below s.world st) (meaning.effect x s e)
+  result_runs : (y : Ty-F Ty) (q : ℕ) (i' : Instruction) (s : State) (e : Env) (l st st' : List Word) → At c.body h q i'
+      → AllAt c.body h (suc q) (without_null (lying_of_layer y)) → Fits c.body g e l → (x : Outcome Value)
+      → Gives (lying_of_layer y) q st (on_outcome code limits x (given_layer y) (frame code limits c q l st' s) c.below s.world st)
+      (meaning.effect x s e)
   result_runs Ty-F.Void q i' s e l st st' a drops f x = dropped_runs q i' s e l st st' a drops f x
-  result_runs Ty-F.Null q i' s e l st st' a drops f x = outcome_runs funs code limits c h g q i' s e l st st' Whole (given_layer Ty-F.Null) (λ value. refl) a f x
-  result_runs Ty-F.Def q i' s e l st st' a drops f x = outcome_runs funs code limits c h g q i' s e l st st' Whole (given_layer Ty-F.Def) (λ value. refl) a f x
-  result_runs (Ty-F.Prim p) q i' s e l st st' a drops f x = outcome_runs funs code limits c h g q i' s e l st st' Bare (given_layer (Ty-F.Prim p)) (λ value. refl) a f x
-  result_runs (Ty-F.Class class) q i' s e l st st' a drops f x = outcome_runs funs code limits c h g q i' s e l st st' Whole (given_layer (Ty-F.Class class)) (λ value. refl) a f x
-  result_runs (Ty-F.Array elem) q i' s e l st st' a drops f x = outcome_runs funs code limits c h g q i' s e l st st' Whole (given_layer (Ty-F.Array elem)) (λ value. refl) a f x
+  result_runs Ty-F.Null q i' s e l st st' a drops f x =
+      outcome_runs funs code limits c h g q i' s e l st st' Whole (given_layer Ty-F.Null) (λ value. refl) a f x
+  result_runs Ty-F.Def q i' s e l st st' a drops f x =
+      outcome_runs funs code limits c h g q i' s e l st st' Whole (given_layer Ty-F.Def) (λ value. refl) a f x
+  result_runs (Ty-F.Prim p) q i' s e l st st' a drops f x =
+      outcome_runs funs code limits c h g q i' s e l st st' Bare (given_layer (Ty-F.Prim p)) (λ value. refl) a f x
+  result_runs (Ty-F.Class class) q i' s e l st st' a drops f x =
+      outcome_runs funs code limits c h g q i' s e l st st' Whole (given_layer (Ty-F.Class class)) (λ value. refl) a f x
+  result_runs (Ty-F.Array elem) q i' s e l st st' a drops f x =
+      outcome_runs funs code limits c h g q i' s e l st st' Whole (given_layer (Ty-F.Array elem)) (λ value. refl) a f x
 
 -- ---- calls
 
 module _ (texts : TextsName) (funs : Program) (code : List FunCode) (limits : Limits) (m : Meaning) (c : Ctx code) (h : Handlers) (g : Scope) where
-  act_runs : (t : MemberType) (q : ℕ) (i' : Instruction) (s : State) (e : Env) (l st st' : List Word) → At c.body h q i' → AllAt c.body h (suc q) (without_null (lying_of t.result)) → Fits c.body g e l → (o : Option Effect)
-      → Gives funs code limits c h g (lying_of t.result) q st (on_act code limits o t (frame code limits c q l st' s) c.below s.world st) (acted funs limits m o s e)
+  act_runs : (t : MemberType) (q : ℕ) (i' : Instruction) (s : State) (e : Env) (l st st' : List Word) → At c.body h q i'
+      → AllAt c.body h (suc q) (without_null (lying_of t.result)) → Fits c.body g e l → (o : Option Effect)
+      → Gives funs code limits c h g (lying_of t.result) q st (on_act code limits o t (frame code limits c q l st' s) c.below s.world st)
+      (acted funs limits m o s e)
   act_runs t q i' s e l st st' a drops f None = record { by = tt }
-  act_runs t q i' s e l st st' a drops f (Some given) = result_runs funs code limits c h g (out-Ty t.result) q i' s e l st st' a drops f (acts_in s.world given)
+  act_runs t q i' s e l st st' a drops f (Some given) =
+      result_runs funs code limits c h g (out-Ty t.result) q i' s e l st st' a drops f (acts_in s.world given)
 
   paid_runs : (t : MemberType) (number : ℕ) (arguments : List Value) (q : ℕ) (i' : Instruction) (s : State) (e : Env) (l st st' : List Word)
       → At c.body h q i' → AllAt c.body h (suc q) (without_null (lying_of t.result)) → Fits c.body g e l → (x : Counted)
-      → Gives funs code limits c h g (lying_of t.result) q st (on_paid code limits x number arguments t (frame code limits c q l st' s) c.below st) (paid funs limits m x number arguments s e)
+      → Gives funs code limits c h g (lying_of t.result) q st (on_paid code limits x number arguments t (frame code limits c q l st' s) c.below st)
+      (paid funs limits m x number arguments s e)
   paid_runs t number arguments q i' s e l st st' a drops f (Passes limit w) = record { by = ended code limits _ }
-  paid_runs t number arguments q i' s e l st st' a drops f (Counts w) = act_runs t q i' (record { world = w; turns = s.turns }) e l st st' a drops f (does number arguments w.store)
+  paid_runs t number arguments q i' s e l st st' a drops f (Counts w) =
+      act_runs t q i' (record { world = w; turns = s.turns }) e l st st' a drops f (does number arguments w.store)
 
   -- what is received is what is sent
   received_runs : (t : MemberType) (number : ℕ) (q : ℕ) (i' : Instruction) (s : State) (e : Env) (l st st' : List Word)
       → At c.body h q i' → AllAt c.body h (suc q) (without_null (lying_of t.result)) → Fits c.body g e l → (y : Sending) (x : Receiving) → Alike y x
-      → Gives funs code limits c h g (lying_of t.result) q st (on_received code limits x number t (frame code limits c q l st' s) c.below s.world st) (member_called funs limits m y number s e)
+      → Gives funs code limits c h g (lying_of t.result) q st (on_received code limits x number t (frame code limits c q l st' s) c.below s.world st)
+      (member_called funs limits m y number s e)
   received_runs t number q i' s e l st st' a drops f source.Unsent x is = record { by = tt }
   received_runs t number q i' s e l st st' a drops f source.OnNull x is =
-      subst (λ x. Gives funs code limits c h g (lying_of t.result) q st (on_received code limits x number t (frame code limits c q l st' s) c.below s.world st) (member_called funs limits m source.OnNull number s e)) (sym is)
-      (result_runs funs code limits c h g (out-Ty t.result) q i' s e l st st' a drops f (acts_in s.world (outcomes.effect s.world.store outcomes.null_error)))
+      subst (λ x. Gives funs code limits c h g (lying_of t.result) q st
+      (on_received code limits x number t (frame code limits c q l st' s) c.below s.world st) (member_called funs limits m source.OnNull number s e))
+      (sym is)
+      (result_runs funs code limits c h g (out-Ty t.result) q i' s e l st st' a drops f
+      (acts_in s.world (outcomes.effect s.world.store outcomes.null_error)))
   received_runs t number q i' s e l st st' a drops f (source.Sends arguments) x is =
-      subst (λ x. Gives funs code limits c h g (lying_of t.result) q st (on_received code limits x number t (frame code limits c q l st' s) c.below s.world st) (member_called funs limits m (source.Sends arguments) number s e)) (sym is)
+      subst (λ x. Gives funs code limits c h g (lying_of t.result) q st
+      (on_received code limits x number t (frame code limits c q l st' s) c.below s.world st)
+      (member_called funs limits m (source.Sends arguments) number s e)) (sym is)
       (paid_runs t number arguments q i' s e l st st' a drops f (pay_member number s.world))
   received_runs t number q i' s e l st st' a drops f source.Reads x is =
-      subst (λ x. Gives funs code limits c h g (lying_of t.result) q st (on_received code limits x number t (frame code limits c q l st' s) c.below s.world st) (member_called funs limits m source.Reads number s e)) (sym is)
+      subst (λ x. Gives funs code limits c h g (lying_of t.result) q st
+      (on_received code limits x number t (frame code limits c q l st' s) c.below s.world st) (member_called funs limits m source.Reads number s e))
+      (sym is)
       (act_runs t q i' s e l st st' a drops f (does number [] s.world.store))
 
   -- the words come off the stack
@@ -228,47 +258,64 @@ module _ (texts : TextsName) (funs : Program) (code : List FunCode) (limits : Li
       on_received code limits (received_by sort params words) number t (frame code limits c q l (push ks values st) s) c.below s.world stack))
       (member_called funs limits m (sent_by sort params values) number s e)
 
-  off_runs : (t : MemberType) (sort : MemberKind) (params : List Ty) (number : ℕ) (ks : List Lying) (values : List Value) (q : ℕ) (i' : Instruction) (s : State) (e : Env) (l st : List Word)
+  off_runs : (t : MemberType) (sort : MemberKind) (params : List Ty) (number : ℕ) (ks : List Lying) (values : List Value) (q : ℕ) (i' : Instruction)
+      (s : State) (e : Env) (l st : List Word)
       → At c.body h q i' → AllAt c.body h (suc q) (without_null (lying_of t.result)) → Fits c.body g e l
-      → count_by sort params ≡ length ks → ArePresent ks → length ks ≡ length values → Alike (sent_by sort params values) (received_by sort params (words_at ks values))
+      → count_by sort params ≡ length ks → ArePresent ks → length ks ≡ length values
+      → Alike (sent_by sort params values) (received_by sort params (words_at ks values))
       → Taken t sort params number ks values q s e l st
   off_runs t sort params number ks values q i' s e l st a drops f many present count is =
       subst (λ o. Gives funs code limits c h g (lying_of t.result) q st
-      (on_words o (λ words stack. on_received code limits (received_by sort params words) number t (frame code limits c q l (push ks values st) s) c.below s.world stack))
+      (on_words o (λ words stack. on_received code limits (received_by sort params words) number t
+      (frame code limits c q l (push ks values st) s) c.below s.world stack))
       (member_called funs limits m (sent_by sort params values) number s e)) (sym (off (count_by sort params) ks values st many present count))
-      (received_runs t number q i' s e l st (push ks values st) a drops f (sent_by sort params values) (received_by sort params (words_at ks values)) is)
+      (received_runs t number q i' s e l st (push ks values st) a drops f (sent_by sort params values)
+      (received_by sort params (words_at ks values)) is)
 
-  kind_runs : (t : MemberType) (sort : MemberKind) (params : List Ty) (number : ℕ) (ks : List Lying) (values : List Value) (q : ℕ) (i' : Instruction) (s : State) (e : Env) (l st : List Word)
+  kind_runs : (t : MemberType) (sort : MemberKind) (params : List Ty) (number : ℕ) (ks : List Lying) (values : List Value) (q : ℕ) (i' : Instruction)
+      (s : State) (e : Env) (l st : List Word)
       → At c.body h q i' → AllAt c.body h (suc q) (without_null (lying_of t.result)) → Fits c.body g e l
       → with_receiver sort (map lying_of params) ≡ ks → ArePresent (map lying_of params) → length ks ≡ length values
       → Taken t sort params number ks values q s e l st
   kind_runs t kind.Static params number ks values q i' s e l st a drops f lie present count =
-      off_runs t kind.Static params number ks values q i' s e l st a drops f (sym (length-map params lying_of) ∙ ap length lie) (subst ArePresent lie present) count
+      off_runs t kind.Static params number ks values q i' s e l st a drops f (sym (length-map params lying_of) ∙ ap length lie)
+      (subst ArePresent lie present) count
       (subst (λ ks. Alike (sent_by kind.Static params values) (received_by kind.Static params (words_at ks values))) lie (called_alike params values))
   kind_runs t kind.Constructor params number ks values q i' s e l st a drops f lie present count =
-      off_runs t kind.Constructor params number ks values q i' s e l st a drops f (sym (length-map params lying_of) ∙ ap length lie) (subst ArePresent lie present) count
-      (subst (λ ks. Alike (sent_by kind.Constructor params values) (received_by kind.Constructor params (words_at ks values))) lie (called_alike params values))
+      off_runs t kind.Constructor params number ks values q i' s e l st a drops f (sym (length-map params lying_of) ∙ ap length lie)
+      (subst ArePresent lie present) count
+      (subst (λ ks. Alike (sent_by kind.Constructor params values) (received_by kind.Constructor params (words_at ks values))) lie
+      (called_alike params values))
   kind_runs t kind.Instance params number ks [] q i' s e l st a drops f lie present count = record { by = tt }
   kind_runs t kind.Instance params number ks (value ∷ values) q i' s e l st a drops f lie present count =
-      off_runs t kind.Instance params number ks (value ∷ values) q i' s e l st a drops f (ap suc (sym (length-map params lying_of)) ∙ ap length lie) (subst ArePresent lie (whole_some, present)) count
-      (subst (λ ks. Alike (sent_by kind.Instance params (value ∷ values)) (received_by kind.Instance params (words_at ks (value ∷ values)))) lie (instance_alike params value values))
-  kind_runs t kind.Field params number [] [] q i' s e l st a drops f lie present count = received_runs t number q i' s e l st st a drops f source.Reads target.Reads refl
+      off_runs t kind.Instance params number ks (value ∷ values) q i' s e l st a drops f (ap suc (sym (length-map params lying_of)) ∙ ap length lie)
+      (subst ArePresent lie (whole_some, present)) count
+      (subst (λ ks. Alike (sent_by kind.Instance params (value ∷ values)) (received_by kind.Instance params (words_at ks (value ∷ values)))) lie
+      (instance_alike params value values))
+  kind_runs t kind.Field params number [] [] q i' s e l st a drops f lie present count =
+      received_runs t number q i' s e l st st a drops f source.Reads target.Reads refl
   kind_runs t kind.Field params number (k ∷ ks) [] q i' s e l st a drops f lie present count = absurd (omega arith)
   kind_runs t kind.Field params number ks (value ∷ values) q i' s e l st a drops f lie present count = record { by = tt }
 
   -- the member that the text names
-  text_names : (sort : MemberKind) (member : Member) (t : MemberType) → slice_get catalogue member.number ≡ Some t → t.kind ≡ sort → member.text ≡ text_of t → flag limits.allowed.members member.number ≡ true
+  text_names : (sort : MemberKind) (member : Member) (t : MemberType) → slice_get catalogue member.number ≡ Some t → t.kind ≡ sort
+      → member.text ≡ text_of t → flag limits.allowed.members member.number ≡ true
       → named_by sort limits.allowed member.text ≡ Some member.number
   text_names sort member t is same text allowed =
-      ap (λ sort. named_by sort limits.allowed member.text) (sym same) ∙ ap (named_by t.kind limits.allowed) text ∙ texts limits.allowed member.number t is allowed
+      ap (λ sort. named_by sort limits.allowed member.text) (sym same) ∙ ap
+      (named_by t.kind limits.allowed) text ∙ texts limits.allowed member.number t is allowed
 
   abbrev Runs : List Lying → List Value → ℕ → State → List Word → List Word → Lying → Option ℕ → Out Value → Type 0
-  Runs ks values q s l st k o out = Gives funs code limits c h g k q st (member_act code limits o (frame code limits c q l (push ks values st) s) c.below s.world) out
+  Runs ks values q s l st k o out =
+      Gives funs code limits c h g k q st (member_act code limits o (frame code limits c q l (push ks values st) s) c.below s.world) out
 
   -- a member's call, whose parts lie as it takes them
-  pub member_runs : (sort : MemberKind) (member : Member) (ks : List Lying) (of : Ty) → MemberFits sort member ks of → (values : List Value) (q : ℕ) (i' : Instruction) (s : State) (e : Env) (l st : List Word)
+  pub member_runs : (sort : MemberKind) (member : Member) (ks : List Lying) (of : Ty) → MemberFits sort member ks of
+      → (values : List Value) (q : ℕ) (i' : Instruction) (s : State) (e : Env) (l st : List Word)
       → At c.body h q i' → AllAt c.body h (suc q) (without_null (lying_of of)) → length ks ≡ length values → Fits c.body g e l
-      → Gives funs code limits c h g (lying_of of) q st (member_act code limits (named_by sort limits.allowed member.text) (frame code limits c q l (push ks values st) s) c.below s.world) (of_member funs limits m member values s e)
+      → Gives funs code limits c h g (lying_of of) q st
+      (member_act code limits (named_by sort limits.allowed member.text) (frame code limits c q l (push ks values st) s) c.below s.world)
+      (of_member funs limits m member values s e)
   member_runs sort member ks of fits values q i' s e l st a drops count f = allowed (flag limits.allowed.members member.number) refl
     where
       t : MemberType
@@ -276,18 +323,23 @@ module _ (texts : TextsName) (funs : Program) (code : List FunCode) (limits : Li
 
       taken_off : Taken t t.kind t.params member.number ks values q s e l st
       taken_off =
-          kind_runs t t.kind t.params member.number ks values q i' s e l st a (subst (λ k. AllAt c.body h (suc q) (without_null k)) fits.gives drops) f
+          kind_runs t t.kind t.params member.number ks values q i' s e l st a
+          (subst (λ k. AllAt c.body h (suc q) (without_null k)) fits.gives drops) f
           (ap (λ sort. with_receiver sort (map lying_of t.params)) fits.sort ∙ sym fits.parts) (params_present member.number t fits.is) count
 
-      numbered : Runs ks values q s l st (lying_of t.result) (Some member.number) (member_called funs limits m (sent (member_at member.number) values) member.number s e)
+      numbered : Runs ks values q s l st (lying_of t.result) (Some member.number)
+          (member_called funs limits m (sent (member_at member.number) values) member.number s e)
       numbered =
           subst (λ (t' : MemberType). Gives funs code limits c h g (lying_of t.result) q st
           (on_words (take_words (count_of t') (push ks values st) []) (λ words stack.
           on_received code limits (received t' words) member.number t' (frame code limits c q l (push ks values st) s) c.below s.world stack))
           (member_called funs limits m (sent t' values) member.number s e)) (sym (stands_at member.number t fits.is)) taken_off
 
-      allowed : (x : Bool) → flag limits.allowed.members member.number ≡ x → Runs ks values q s l st (lying_of of) (named_by sort limits.allowed member.text) (member_applied funs limits m x member.number values s e)
+      allowed : (x : Bool) → flag limits.allowed.members member.number ≡ x
+          → Runs ks values q s l st (lying_of of) (named_by sort limits.allowed member.text) (member_applied funs limits m x member.number values s e)
       allowed false is = record { by = tt }
       allowed true is =
-          subst (λ k. Runs ks values q s l st k (named_by sort limits.allowed member.text) (member_applied funs limits m true member.number values s e)) (sym fits.gives)
-          (subst (λ o. Runs ks values q s l st (lying_of t.result) o (member_applied funs limits m true member.number values s e)) (sym (text_names sort member t fits.is fits.sort fits.text is)) numbered)
+          subst (λ k. Runs ks values q s l st k (named_by sort limits.allowed member.text)
+          (member_applied funs limits m true member.number values s e)) (sym fits.gives)
+          (subst (λ o. Runs ks values q s l st (lying_of t.result) o (member_applied funs limits m true member.number values s e))
+          (sym (text_names sort member t fits.is fits.sort fits.text is)) numbered)

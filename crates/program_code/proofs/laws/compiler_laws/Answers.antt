@@ -8,4 +8,5 @@ returns-clause-trees c = ends_alike c.text_laws.ensures.read_back c.names_of_mem
 
 pub returns-clause-programs : goal.returns-clause-programs
 returns-clause-programs c = λ p code made limits args words are w bound end comes.
-    ends_alike c.text_laws.ensures.read_back c.names_of_members.ensures.names (program_of p) code made limits (fun_of p.main) refl args words are w bound end comes
+    ends_alike c.text_laws.ensures.read_back c.names_of_members.ensures.names (program_of p) code made limits (fun_of p.main) refl args words are w bound
+    end comes
