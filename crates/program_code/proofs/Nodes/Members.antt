@@ -76,9 +76,11 @@ present_layer Absent h = λ e. cc
 
 are_present : (params : List Ty) → all_present params ≡ true → ArePresent (map lying_of params)
 are_present [] h = tt
-are_present (of ∷ ofs) h =
-    (present_layer (lying_of of) (first_true (is_present (lying_of of)) (all_present ofs) h), are_present ofs
-    (second_true (is_present (lying_of of)) (all_present ofs) h))
+are_present (of ∷ ofs) h = (
+  present_layer (lying_of of) (first_true (is_present (lying_of of)) (all_present ofs) h),
+  are_present ofs
+      (second_true (is_present (lying_of of)) (all_present ofs) h),
+)
 
 -- no member takes nothing of a type
 all_params_present : list_all (λ (m : MemberType). all_present m.params) catalogue ≡ true
