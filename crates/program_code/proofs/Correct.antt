@@ -1,6 +1,7 @@
 -- The code ends as the program does.
 use Rattle.std.proofs.Common.{◌≡◌, ℕ, zero, suc, ◌+◌, Bool, List, [], ◌∷◌, ◌++◌, map, length, Option, Some, None, refl, sym, ap, ◌∙◌, subst, arith}
 use Rattle.std.specs.Prelude.{slice_get}
+use Rattle.member_names.specs.Names.{TextsName}
 use Rattle.object_values.specs.declared.value.Value.{Value}
 use Rattle.pl_code.specs.declared.code.FunCode.{FunCode}
 use Rattle.run_world.specs.World.{World, Limits, End}
@@ -71,10 +72,10 @@ module _ (funs : Program) (code : List FunCode) (limits : Limits) where
       let same : Limited limit w ≡ r = cc in subst (λ r. Leads code limits from r) same d
   finishes c g falling continuing q none ends from More r d is = cc
 
-pub ends_alike : ReadsBack → (funs : Program) (code : List FunCode) → Compiled funs code → (limits : Limits) (main : Fun) → slice_get funs 0 ≡ Some main
+pub ends_alike : ReadsBack → TextsName → (funs : Program) (code : List FunCode) → Compiled funs code → (limits : Limits) (main : Fun) → slice_get funs 0 ≡ Some main
     → (args : List Value) (words : List Word) → Words main.params args words → (w : World) (bound : ℕ) (end : End (Option Word))
     → source funs limits bound args w ≡ Some end → EndsAs code limits (start code words w) end
-ends_alike reads funs code made limits main is args words are w bound end comes =
+ends_alike reads texts funs code made limits main is args words are w bound end comes =
     subst (λ o. EndsAs code limits (start_at o words w) end) (sym fa.is) (body (entry main.params args []) refl (ap (λ o. source_of funs limits bound o args w) (sym is) ∙ comes))
   where
     fa : FunAt funs code 0 main
@@ -91,6 +92,6 @@ ends_alike reads funs code made limits main is args words are w bound end comes 
         let s : State = record { world = w; turns = 0 } in
         let fits = starts_fitting fa.body main args env q fa.present (as_many funs code 0 main fa) in
         let under : Under (length main.params) scope = under_more (0 + length main.params) (length main.params) scope (omega arith) (scope_order main.params 0 [] tt tt).1 in
-        let runs = (refines funs code limits made reads bound).stmts main.body c [] scope (length main.params) no_jumps 0 s env locals fa.stands under fits in
+        let runs = (refines funs code limits made reads texts bound).stmts main.body c [] scope (length main.params) no_jumps 0 s env locals fa.stands under fits in
         let leads = finishes funs code limits c scope (all_fall main.body) (any_continues main.body) (end_stmts 0 main.body) refl fa.ends (at code limits c 0 locals [] s) ((meaning funs limits bound).stmts (record { text = Script; depth = 0 }) s env main.body) end runs.by e in
         subst (λ words. EndsAs code limits (start_at (Some fa.body) words w) end) (sym same) (exact code limits leads.steps _ end leads.reaches)

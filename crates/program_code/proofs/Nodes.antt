@@ -4,5 +4,7 @@ pub mod Casts
 pub mod Exprs
 pub mod Assigns
 pub mod Calls
+pub mod Members
+pub mod Applies
 pub mod Statements
 pub mod Loops

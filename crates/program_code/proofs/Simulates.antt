@@ -4,24 +4,25 @@ use Rattle.pl_code.specs.declared.code.FunCode.{FunCode}
 use Rattle.run_world.specs.World.{Limits}
 use Rattle.program_meaning.specs.Tree.{Expr, Literal, Quoted, Local, Apply, Guarded, Logic, Conditional, Elvis, Assign, Modify, Lambda, Reference, NewReference, Exprs, None', One, Stmt, Do, If, While, DoWhile, ForEach, Try, Block, Break, Continue, Return, Throw, Stmts, Finish, Then, Declare, Program}
 use Rattle.program_meaning.specs.Meaning.{Meaning, expr_of, exprs_of, stmt_of, stmts_of}
+use Rattle.member_names.specs.Names.{TextsName}
 use Rattle.program_code.specs.Stands.{Compiled}
 use Rattle.program_code.proofs.Refines.{ExprRuns, ExprsRun, StmtRuns, StmtsRun, Refines}
 use Rattle.program_meaning.specs.Meaning.{layer, meaning}
 use Rattle.program_code.proofs.Nodes.Casts.{ReadsBack}
 use Rattle.program_code.proofs.Nodes.Exprs.{literal_runs, quoted_runs, local_runs, none_runs, one_runs, conditional_runs, elvis_runs, logic_runs}
 use Rattle.program_code.proofs.Nodes.Assigns.{assign_runs, modify_runs}
-use Rattle.program_code.proofs.Nodes.Calls.{apply_runs}
+use Rattle.program_code.proofs.Nodes.Applies.{apply_runs, guarded_runs}
 use Rattle.program_code.proofs.Nodes.Statements.{do_runs, if_runs, block_runs, break_runs, continue_runs, return_runs, throw_runs, finish_runs, then_runs, declare_runs}
 use Rattle.program_code.proofs.Nodes.Loops.{while_runs, do_while_runs}
 
-module _ (funs : Program) (code : List FunCode) (limits : Limits) (made : Compiled funs code) (reads : ReadsBack) where
+module _ (funs : Program) (code : List FunCode) (limits : Limits) (made : Compiled funs code) (reads : ReadsBack) (texts : TextsName) where
   module _ (m : Meaning) (ih : Refines funs code limits m) where
     expr_runs : (t : Expr) → ExprRuns funs code limits (λ d s e. expr_of funs limits m d s e t) t
     expr_runs (Literal at' of x) = literal_runs funs code limits m ih at' of x
     expr_runs (Quoted at' of text) = quoted_runs funs code limits m ih at' of text
     expr_runs (Local at' of x) = local_runs funs code limits m ih at' of x
-    expr_runs (Apply at' of o parts) = apply_runs funs code limits m ih reads made at' of o parts
-    expr_runs (Guarded at' of o parts) = λ c h g p s e l st stands f. record { by = tt }
+    expr_runs (Apply at' of o parts) = apply_runs funs code limits m ih reads texts made at' of o parts
+    expr_runs (Guarded at' of o parts) = guarded_runs funs code limits m ih texts at' of o parts
     expr_runs (Logic at' of o left right) = logic_runs funs code limits m ih at' of o left right
     expr_runs (Conditional at' of t a b) = conditional_runs funs code limits m ih at' of t a b
     expr_runs (Elvis at' of left right) = elvis_runs funs code limits m ih at' of left right

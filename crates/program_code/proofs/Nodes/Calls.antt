@@ -7,18 +7,14 @@ use Rattle.pl_types.specs.declared.primitive.Primitive.TheVariants as prim
 use Rattle.pl_types.specs.declared.ty.Ty.{Ty, out-Ty}
 use Rattle.pl_types.specs.declared.ty.Ty.TheOpen.{Ty-F}
 use Rattle.object_values.specs.declared.value.Value.{Value}
-use Rattle.object_values.specs.declared.value.Value.TheVariants as v
-use Rattle.number_ops.specs.Relations.{is_instance}
 use Rattle.pl_code.specs.declared.kinds.Plain.TheVariants as plain
 use Rattle.pl_code.specs.declared.kinds.Numbered.TheVariants as numbered
 use Rattle.pl_code.specs.declared.kinds.Slot.{Slot}
 use Rattle.pl_code.specs.declared.code.FunCode.{FunCode}
 use Rattle.pl_code.specs.declared.code.Instruction.{Instruction}
 use Rattle.pl_code.specs.declared.code.Instruction.TheVariants as i
-use Rattle.typed_tree.specs.declared.operation.Operation.{Operation}
-use Rattle.typed_tree.specs.declared.operation.Operation.TheVariants as operation
 use Rattle.run_world.specs.World.{Limits, End, Counted, Counts, Passes, enter}
-use Rattle.program_meaning.specs.Tree.{Apply, Exprs, Variable, Fun, Program}
+use Rattle.program_meaning.specs.Tree.{Variable, Fun, Program}
 use Rattle.program_meaning.specs.Meaning.{State, Env, Place, Binding, Out, Done, Thrown, Over, More, Flow, Normal, Broke, Continued, Returned, Meaning, bind, leave, found, lookup, assigned, entry, operated, choose, given_by, default_of, default_of_layer, returned, back, goes_next, goes_again, entered, called, applied, logic, modified, expr_of, exprs_of, value_if, value_or, turned, done_turn, stmt_of, stmts_of}
 use Rattle.code_meaning.specs.declared.word.Word.{Word}
 use Rattle.code_meaning.specs.declared.word.Word.TheVariants.{R}
@@ -26,12 +22,10 @@ use Rattle.code_meaning.specs.Words.{unboxed, start_of}
 use Rattle.code_meaning.specs.Machine.{Handlers, Frame, Next, Goes, Ends, Stuck, on_local, on_top, on_int, on_words, on_call, on_enter, on_turn, returns, returns_of, unwind, gives_back, take_words, depth_of, pushed, act, to_line}
 use Rattle.program_code.specs.Lying.{Lying, Bare, Whole, Absent, lying_of, lying_of_layer, low, kind_of, result_of_layer}
 use Rattle.program_code.specs.Parts.{constant_code, default_code, default_code_layer, operator_code, operation_code, cast_code, cast_takes, cast_gives, pops, kept_before, kept_behind}
-use Rattle.program_code.specs.Stands.{Scope, At, AllAt, end_all, lyings, Fitting, falls, all_fall, any_continues, end_stmts, scope_of, no_jumps, ArePresent, lyings_of, EndAt, FunAt, Compiled}
+use Rattle.program_code.specs.Stands.{Scope, At, AllAt, end_all, falls, all_fall, any_continues, end_stmts, scope_of, no_jumps, ArePresent, lyings_of, EndAt, FunAt, Compiled}
 use Rattle.program_code.proofs.Locals.{Agrees, Under, Falling, Fits, under_more}
-use Rattle.program_code.proofs.Follows.{Ctx, Leads, ended, frame, at, place, does_next, throws, Follows, Sim, and_then, done, step_to}
-use Rattle.program_code.proofs.Refines.{push, Any, Good, land_value, land_flow, ExprRuns, Refines}
-use Rattle.program_code.proofs.Nodes.References.{bare_whole, absent_whole, operator_runs}
-use Rattle.program_code.proofs.Nodes.Casts.{ReadsBack, type_read, cast_runs}
+use Rattle.program_code.proofs.Follows.{Ctx, Leads, ended, frame, at, place, does_next, throws, Follows, Sim}
+use Rattle.program_code.proofs.Refines.{push, Any, Good, land_value, land_flow, Refines}
 
 -- ---- words of arguments
 
@@ -245,45 +239,3 @@ module _ (funs : Program) (code : List FunCode) (limits : Limits) (m : Meaning) 
           subst (λ n. Sim code limits c h g (land_value funs code limits c k (suc q) st) Any n (entered funs limits m t (place code limits c) s e f.result f.body (Some args))) (sym fetched)
           (subst (λ k. Sim code limits c h g (land_value funs code limits c k (suc q) st) Any (on_enter code limits t number fa.body [] caller c.below s.world (words_at (lyings_of f.params) values) st) (entered funs limits m t (place code limits c) s e f.result f.body (Some args)))
           (sym same.1) (entered_runs c h g q number _ s e l st (push ks values st) values a x f fa args qe t))
-
-module _ (funs : Program) (code : List FunCode) (limits : Limits) (m : Meaning) (ih : Refines funs code limits m) (reads : ReadsBack) where
-  -- whether a value is of a type
-  instance_runs : (is of : Ty) (c : Ctx code) (h : Handlers) (g : Scope) (ks : List Lying) (values : List Value) (q : ℕ) (s : State) (e : Env) (l st : List Word)
-      → AllAt c.body h q (operation_code (operation.InstanceOf is) of) → Fitting funs (operation.InstanceOf is) ks of → length ks ≡ length values → Fits c.body g e l
-      → Sim code limits c h g (land_value funs code limits c (lying_of of) (suc q) st) Any (at code limits c q l (push ks values st) s) (applied funs limits m (operation.InstanceOf is) (place code limits c) s e of values)
-  instance_runs is of c h g ks [] q s e l st a fitting count f = record { by = tt }
-  instance_runs is of c h g [] (value ∷ []) q s e l st a fitting count f = absurd (omega arith)
-  instance_runs is of c h g (Whole ∷ []) (value ∷ []) q s e l st a fitting count f =
-      subst (λ k. Sim code limits c h g (land_value funs code limits c k (suc q) st) Any (at code limits c q l (R value ∷ st) s) (Done (v.Bool (is_instance s.world.store.objects value is)) s e)) (sym fitting.1)
-      (step_to code limits l (R value ∷ st) s a.0 (type_read funs code limits reads c h g is _ fitting.2 (done code limits f tt)))
-  instance_runs is of c h g (Bare ∷ []) (value ∷ []) q s e l st a fitting count f = absurd (bare_whole fitting.0.0)
-  instance_runs is of c h g (Absent ∷ []) (value ∷ []) q s e l st a fitting count f = absurd (absent_whole fitting.0.0)
-  instance_runs is of c h g (k ∷ k' ∷ ks) (value ∷ []) q s e l st a fitting count f = absurd (omega arith)
-  instance_runs is of c h g ks (value ∷ other ∷ values) q s e l st a fitting count f = record { by = tt }
-
-  -- strict operations
-  applied_runs : Compiled funs code → (o : Operation) (of : Ty) (c : Ctx code) (h : Handlers) (g : Scope) (ks : List Lying) (values : List Value) (q : ℕ) (s : State) (e : Env) (l st : List Word)
-      → AllAt c.body h q (operation_code o of) → Fitting funs o ks of → length ks ≡ length values → Fits c.body g e l
-      → Sim code limits c h g (land_value funs code limits c (lying_of of) (end_all q (operation_code o of)) st) Any (at code limits c q l (push ks values st) s) (applied funs limits m o (place code limits c) s e of values)
-  applied_runs made (operation.Operator o) of c h g ks values q s e l st a fitting count f = operator_runs funs code limits c h g o ks values (lying_of of) q s e l st a fitting.0 count fitting.1 f
-  applied_runs made (operation.Cast x) of c h g ks [] q s e l st a fitting count f = record { by = tt }
-  applied_runs made (operation.Cast x) of c h g [] (value ∷ []) q s e l st a fitting count f = absurd (omega arith)
-  applied_runs made (operation.Cast x) of c h g (given ∷ []) (value ∷ []) q s e l st a fitting count f = cast_runs funs code limits reads c h g x of given (lying_of of) fitting value q s e l st a f
-  applied_runs made (operation.Cast x) of c h g (given ∷ other ∷ ks) (value ∷ []) q s e l st a fitting count f = absurd (omega arith)
-  applied_runs made (operation.Cast x) of c h g ks (value ∷ other ∷ values) q s e l st a fitting count f = record { by = tt }
-  applied_runs made (operation.Function number) of c h g ks values q s e l st a fitting count f =
-      step_to code limits l (push ks values st) s a.0 (called_runs funs code limits m ih made c h g q number (lying_of of) ks s e l st values a.0 f count (slice_get funs number) refl fitting)
-  applied_runs made (operation.InstanceOf is) of c h g ks values q s e l st a fitting count f = instance_runs is of c h g ks values q s e l st a fitting count f
-  applied_runs made (operation.Instance member) of c h g ks values q s e l st a fitting count f = record { by = tt }
-  applied_runs made (operation.Static member) of c h g ks values q s e l st a fitting count f = record { by = tt }
-  applied_runs made (operation.Constructor member) of c h g ks values q s e l st a fitting count f = record { by = tt }
-  applied_runs made (operation.Field member) of c h g ks values q s e l st a fitting count f = record { by = tt }
-  applied_runs made (operation.Host member) of c h g ks values q s e l st a fitting count f = record { by = tt }
-  applied_runs made (operation.DefCall name) of c h g ks values q s e l st a fitting count f = record { by = tt }
-  applied_runs made (operation.DefName name) of c h g ks values q s e l st a fitting count f = record { by = tt }
-  applied_runs made operation.DefIndex of c h g ks values q s e l st a fitting count f = record { by = tt }
-
-  pub apply_runs : Compiled funs code → (at' : ℕ) (of : Ty) (o : Operation) (parts : Exprs) → ExprRuns funs code limits (λ d s e. expr_of funs limits m d s e (Apply at' of o parts)) (Apply at' of o parts)
-  apply_runs made at' of o parts c h g p s e l st stands f =
-      and_then code limits (ih.exprs parts c h g p s e l st stands.0 f) (λ values s e l f y.
-      applied_runs made o of c h g (lyings parts) values _ s e l st stands.1 stands.2 y.is f)
