@@ -21,25 +21,28 @@ use Rattle.typed_tree.specs.declared.operation.Target.TheVariants as target
 use Rattle.typed_tree.specs.declared.operation.Change.{Change}
 use Rattle.typed_tree.specs.declared.operation.Gives.{Gives}
 use Rattle.program_meaning.specs.Tree.{Name, Expr, Literal, Quoted, Local, Apply, Guarded, Logic, Conditional, Elvis, Assign, Modify, Lambda, Reference, NewReference, Exprs, None', One, Program, type_of}
-use Rattle.program_code.specs.Parts.{operator_code, operation_code, cast_code, kept_before, kept_behind}
+use Rattle.program_code.specs.Lying.{lying_of}
+use Rattle.program_code.specs.Parts.{operator_code, operation_code, member_code, without_null, cast_code, kept_before, kept_behind}
 use Rattle.program_code.specs.Stands.{Scope, end_all, end_expr, end_exprs, change_first, elvis_right, settled, settles, ExprAt, ExprsAt, Compiled}
+use Rattle.member_names.specs.Names.{TextsName}
 use Rattle.program_types.specs.Types.{IsReference}
-use Rattle.program_types.specs.Agreeing.{types_of, Applies, ExprAgrees, ExprsAgree, WellFormed}
+use Rattle.program_types.specs.Agreeing.{types_of, known, Applies, ExprAgrees, ExprsAgree, WellFormed}
 use Rattle.program_shapes.proofs.Lines.{grows, Has, Have, first, rest, cut}
 use Rattle.program_shapes.proofs.Runs.{fine_none, fine_one, join, Runs, then_, step, Passes, Straight, run_is, spans_end, straight, goto, Branches, branch, if_zero, if_not_zero, if_null}
 use Rattle.program_shapes.proofs.Parts.{push, push_types, kept, left_kinds, changed_kinds, expr_kinds, exprs_kinds, expr_ends, exprs_ends}
 use Rattle.program_shapes.proofs.Steps.{push_is, push_reference, int_passes, pop_passes, dup_passes, constant_passes, quoted_passes, operator_straight, is_a_passes, cast_straight, begins_straight, copy_passes, before_straight, behind_straight, load_passes, store_passes, call_passes}
+use Rattle.program_shapes.proofs.Members.{instance_straight, static_straight, constructor_straight, field_straight, guard_takes, guarded_straight, guard_null}
 use Rattle.program_shapes.proofs.Scopes.{names, HaveLocals, local_of}
 
-module _ (allow : AllowList) (funs : Program) (functions : List FunCode) (formed : WellFormed funs) (made : Compiled funs functions) (f : FunCode) (shapes : List (List Slot)) (many : length shapes ≡ length f.lines) where
+module _ (texts : TextsName) (allow : AllowList) (funs : Program) (functions : List FunCode) (formed : WellFormed (known allow funs)) (made : Compiled funs functions) (f : FunCode) (shapes : List (List Slot)) (many : length shapes ≡ length f.lines) where
   abbrev pub ExprFits : Scope → Expr → Type 0
   ExprFits g e =
-      (h : Handlers) (p : ℕ) (s : List Slot) → HaveLocals f g → ExprAgrees funs (names g) e → ExprAt funs f h g p e → Have shapes p (expr_kinds allow functions f s e)
+      (h : Handlers) (p : ℕ) (s : List Slot) → HaveLocals f g → ExprAgrees (known allow funs) (names g) e → ExprAt funs f h g p e → Have shapes p (expr_kinds allow functions f s e)
       → Has shapes (end_expr p e) (push (type_of e) s) → Runs allow functions f shapes p s (end_expr p e) (push (type_of e) s)
 
   abbrev pub ExprsFit : Scope → Exprs → Type 0
   ExprsFit g es =
-      (h : Handlers) (p : ℕ) (s : List Slot) → HaveLocals f g → ExprsAgree funs (names g) es → ExprsAt funs f h g p es → Have shapes p (exprs_kinds allow functions f s es)
+      (h : Handlers) (p : ℕ) (s : List Slot) → HaveLocals f g → ExprsAgree (known allow funs) (names g) es → ExprsAt funs f h g p es → Have shapes p (exprs_kinds allow functions f s es)
       → Has shapes (end_exprs p es) (push_types (types_of es) s) → Runs allow functions f shapes p s (end_exprs p es) (push_types (types_of es) s)
 
   -- a part that is left with other kinds, which are the same
@@ -58,7 +61,7 @@ module _ (allow : AllowList) (funs : Program) (functions : List FunCode) (formed
       let local = local_of f g x y of locals stands.1 agrees in
       step allow functions f shapes stands.3 (load_passes allow functions f y.local of s local.has local.values) (first have) next
 
-  operation_straight : (o : Operation) (ofs : List Ty) (of : Ty) (s : List Slot) → Applies funs o ofs of → Straight allow functions f (operation_code o of) (push_types ofs s) (push of s)
+  operation_straight : (o : Operation) (ofs : List Ty) (of : Ty) (s : List Slot) → Applies (known allow funs) o ofs of → Straight allow functions f (operation_code o of) (push_types ofs s) (push of s)
   operation_straight (operation.Operator o) ofs of s h = operator_straight allow functions f o ofs of s h
   operation_straight (operation.Cast c) [] of s h = absurd h
   operation_straight (operation.Cast c) (from ∷ []) of s h = cast_straight allow functions f c from of s h
@@ -76,6 +79,10 @@ module _ (allow : AllowList) (funs : Program) (functions : List FunCode) (formed
     sym (push_is of prim.Boolean s h.2),
   )
   operation_straight (operation.InstanceOf is) (from ∷ other ∷ ofs) of s h = absurd h
+  operation_straight (operation.Instance m) ofs of s h = instance_straight allow functions f texts funs m ofs of s h
+  operation_straight (operation.Static m) ofs of s h = static_straight allow functions f texts funs m ofs of s h
+  operation_straight (operation.Constructor m) ofs of s h = constructor_straight allow functions f texts funs m ofs of s h
+  operation_straight (operation.Field m) ofs of s h = field_straight allow functions f texts funs m ofs of s h
   operation_straight other ofs of s h = absurd h
 
   apply_fits : (g : Scope) (at : ℕ) (of : Ty) (o : Operation) (parts : Exprs) → ExprsFit g parts → ExprFits g (Apply at of o parts)
@@ -173,6 +180,42 @@ module _ (allow : AllowList) (funs : Program) (functions : List FunCode) (formed
             };
       }
 
+  guarded_fits : (g : Scope) (at : ℕ) (of : Ty) (o : Operation) (a : Expr) (others : Exprs) → ExprFits g a → ExprsFit g others → ExprFits g (Guarded at of o (One a others))
+  guarded_fits g at of o a others ih ihs h p s locals agrees stands have next =
+      let q = end_expr p a in
+      let call = end_exprs (suc (suc q)) others in
+      let last = end_all call (member_code o) in
+      let takes = push_types (types_of others) (R ∷ s) in
+      let guards = agrees.2 in
+      let reference : IsReference (type_of a) = guard_takes allow functions f texts funs o (type_of a) of (types_of others) guards in
+      let c = cut (expr_ends allow functions f p s a) have in
+      let d = cut (exprs_ends allow functions f (suc (suc q)) (R ∷ s) others) (rest (rest c.1)) in
+      let e = cut (spans_end allow functions f (member_code o) call takes) d.1 in
+      let drops = straight allow functions f shapes h (without_null (lying_of of)) last (R ∷ s) (push of s) stands.5
+      (guard_null allow functions f texts funs o (type_of a ∷ types_of others) of s guards) e.1 next in
+      let calls = straight allow functions f shapes h (member_code o) call takes (R ∷ s) stands.4
+      (guarded_straight allow functions f texts funs o (type_of a) of (types_of others) s guards) e.0 drops.has in
+      let arguments = ihs h (suc (suc q)) (R ∷ s) locals agrees.1 stands.3 d.0 calls.has in
+      let copy = step allow functions f shapes stands.1 (dup_passes allow functions f R s) (first c.1) (first (rest c.1)) in
+      let receiver = left_as (push_reference (type_of a) s reference) (ih h p s locals agrees.0 stands.0 c.0) (first c.1) in
+      let longer = grows (exprs_ends allow functions f (suc (suc q)) (R ∷ s) others) in
+      let further = grows (spans_end allow functions f (member_code o) call takes) in
+      record {
+        has = receiver.has;
+        runs = λ led.
+            let x = receiver.runs led in
+            let y = copy.runs x.led in
+            let test = branch allow functions f shapes many stands.2 (if_null allow functions f shapes many last (R ∷ s)) (first (rest c.1)) arguments.has drops.has (omega (arith, longer, further)) y.led in
+            let z = arguments.runs test.1 in
+            let w = calls.runs z.led in
+            let v = drops.runs w.led in
+            record {
+              fine = join allow functions f shapes x.fine (join allow functions f shapes y.fine (join allow functions f shapes (fine_one allow functions f shapes test.0)
+                  (join allow functions f shapes z.fine (join allow functions f shapes w.fine v.fine))));
+              led = v.led;
+            };
+      }
+
   assign_fits : (g : Scope) (at : ℕ) (of : Ty) (x : Name) (parts : Exprs) (value : Expr) → ExprFits g value → ExprFits g (Assign at of (target.Local x) parts value)
   assign_fits g at of x parts value ih h p s locals agrees stands have next =
       let y = stands.2.0 in
@@ -240,7 +283,8 @@ module _ (allow : AllowList) (funs : Program) (functions : List FunCode) (formed
     expr_fits g (Quoted at of text) h p s locals agrees stands have next = text_fits g at of text h p s locals agrees stands have next
     expr_fits g (Local at of x) h p s locals agrees stands have next = name_fits g at of x h p s locals agrees stands have next
     expr_fits g (Apply at of o parts) h p s locals agrees stands have next = apply_fits g at of o parts (exprs_fit g parts) h p s locals agrees stands have next
-    expr_fits g (Guarded at of o parts) h p s locals agrees stands have next = absurd agrees
+    expr_fits g (Guarded at of o None') h p s locals agrees stands have next = absurd agrees
+    expr_fits g (Guarded at of o (One a others)) h p s locals agrees stands have next = guarded_fits g at of o a others (expr_fits g a) (exprs_fit g others) h p s locals agrees stands have next
     expr_fits g (Logic at of o left right) h p s locals agrees stands have next = logic_fits g at of o left right (expr_fits g left) (expr_fits g right) h p s locals agrees stands have next
     expr_fits g (Conditional at of c a b) h p s locals agrees stands have next = conditional_fits g at of c a b (expr_fits g c) (expr_fits g a) (expr_fits g b) h p s locals agrees stands have next
     expr_fits g (Elvis at of left right) h p s locals agrees stands have next = elvis_fits g at of left right (expr_fits g left) (expr_fits g right) h p s locals agrees stands have next

@@ -20,7 +20,8 @@ use Rattle.program_meaning.specs.Tree.{Variable, Fun, Program}
 use Rattle.program_code.specs.Lying.{lying_of, kind_of, result_of}
 use Rattle.program_code.specs.Parts.{default_code}
 use Rattle.program_code.specs.Stands.{Scope, end_stmts, scope_of, no_jumps, kinds_of, EndAt, end_end, FunAt, Compiled}
-use Rattle.program_types.specs.Agreeing.{StmtsAgree, HaveValues, FunAgrees, WellFormed}
+use Rattle.member_names.specs.Names.{TextsName}
+use Rattle.program_types.specs.Agreeing.{known, StmtsAgree, HaveValues, FunAgrees, WellFormed}
 use Rattle.program_types.specs.Agreeing.{scope_of as names_of}
 use Rattle.program_types.specs.Reached.{StmtsReached}
 use Rattle.program_shapes.specs.Laws.{CodeIsWellShaped}
@@ -145,8 +146,8 @@ module _ (allow : AllowList) (functions : List FunCode) (f : FunCode) (shapes : 
 
 -- ---- functions
 
-module _ (allow : AllowList) (funs : Program) (functions : List FunCode) (formed : WellFormed funs) (made : Compiled funs functions) where
-  fun_is_well_shaped : (number : ℕ) (fun : Fun) (fa : FunAt funs functions number fun) → FunAgrees funs fun → StmtsReached fun.body → IsWellShaped allow functions fa.body
+module _ (texts : TextsName) (allow : AllowList) (funs : Program) (functions : List FunCode) (formed : WellFormed (known allow funs)) (made : Compiled funs functions) where
+  fun_is_well_shaped : (number : ℕ) (fun : Fun) (fa : FunAt funs functions number fun) → FunAgrees (known allow funs) fun → StmtsReached fun.body → IsWellShaped allow functions fa.body
   fun_is_well_shaped number fun fa agrees reached =
       let f = fa.body in
       let of = fun.result in
@@ -160,8 +161,8 @@ module _ (allow : AllowList) (funs : Program) (functions : List FunCode) (formed
       let last = ending allow functions f shapes many of fa.result b q fa.ends c.1 in
       let locals = params_kept f fun.params 0 [] [] fa.params refl agrees.present tt in
       let body =
-      stmts_fit allow funs functions formed made f shapes many [] (lying_of of) of fa.result fun.body false g (length fun.params) no_jumps 0 locals
-      (subst (λ names. StmtsAgree funs of false names fun.body) (sym (names_params fun.params 0 [])) agrees.body) reached fa.stands c.0 (λ e. absurd (false≢true e)) last.has in
+      stmts_fit texts allow funs functions formed made f shapes many [] (lying_of of) of fa.result fun.body false g (length fun.params) no_jumps 0 locals
+      (subst (λ names. StmtsAgree (known allow funs) of false names fun.body) (sym (names_params fun.params 0 [])) agrees.body) reached fa.stands c.0 (λ e. absurd (false≢true e)) last.has in
       let ran = body.runs begins in
       let fine : Fine allow functions f shapes 0 (length f.lines) = subst (Fine allow functions f shapes 0) (sym fa.lines) (join allow functions f shapes ran.fine (last.runs ran.falls)) in
       well_shaped allow functions f shapes many fa.traps fine body.has
@@ -171,16 +172,16 @@ there [] k h = absurd (omega arith)
 there (x ∷ xs) zero h = (x, refl)
 there (x ∷ xs) (suc k) h = there xs k (omega arith)
 
-pub code_is_well_shaped : CodeIsWellShaped
-code_is_well_shaped allow funs code some formed reached made = record {
+pub code_is_well_shaped : TextsName → CodeIsWellShaped
+code_is_well_shaped texts funs code some formed reached made = record {
   some = let many = made.many in omega (arith, some, many);
   each = λ k f is.
       let less = slice_get_within code k f is in
       let many = made.many in
-      let x = there funs k (omega (arith, less, many)) in
+      let x = there funs.functions k (omega (arith, less, many)) in
       let fa = made.each k x.0 x.1 in
       let same : fa.body ≡ f = same_function code k f fa.body is fa.is in
-      subst (λ f. IsWellShaped allow code f) same (fun_is_well_shaped allow funs code formed made k x.0 fa (formed.each k x.0 x.1) (reached.each k x.0 x.1));
+      subst (λ f. IsWellShaped funs.allowed code f) same (fun_is_well_shaped texts funs.allowed funs.functions code formed made k x.0 fa (formed.each k x.0 x.1) (reached.each k x.0 x.1));
 }
   where
     same_function : (code : List FunCode) (k : ℕ) (f g : FunCode) → slice_get code k ≡ Some f → slice_get code k ≡ Some g → g ≡ f

@@ -3,6 +3,7 @@ mod Runs
 mod Parts
 mod Named
 mod Steps
+mod Members
 mod Scopes
 mod Exprs
 mod Stmts

@@ -12,7 +12,7 @@ use Rattle.typed_tree.specs.declared.operation.Gives.TheVariants as gives
 use Rattle.program_meaning.specs.Falls.{all_fall}
 use Rattle.program_meaning.specs.Tree.{Expr, Literal, Quoted, Local, Apply, Guarded, Logic, Conditional, Elvis, Assign, Modify, Lambda, Reference, NewReference, Exprs, None', One, Maybe, Missing, Given, Stmt, Do, If, While, DoWhile, ForEach, Try, Block, Break, Continue, Return, Throw, Stmts, Finish, Then, Declare, type_of}
 use Rattle.program_code.specs.Lying.{lying_of, result_of}
-use Rattle.program_code.specs.Parts.{default_code, operator_code, cast_code, operation_code, pops, kept_before, kept_behind}
+use Rattle.program_code.specs.Parts.{default_code, operator_code, cast_code, operation_code, member_code, without_null, pops, kept_before, kept_behind}
 use Rattle.program_code.specs.Stands.{change_first, end_expr, end_exprs, goes_on, end_skip, end_dropped, end_update, end_test, end_last, end_value, end_returned, end_stmt, end_stmts}
 use Rattle.program_types.specs.Agreeing.{types_of}
 use Rattle.program_shapes.proofs.Lines.{Ends, joined, behind, ended}
@@ -48,7 +48,12 @@ module _ (allow : AllowList) (functions : List FunCode) (f : FunCode) where
     expr_kinds s (Quoted at of text) = s ∷ []
     expr_kinds s (Local at of x) = s ∷ []
     expr_kinds s (Apply at of o parts) = exprs_kinds s parts ++ spans allow functions f (operation_code o of) (push_types (types_of parts) s)
-    expr_kinds s (Guarded at of o parts) = []
+    expr_kinds s (Guarded at of o None') = []
+    expr_kinds s (Guarded at of o (One a others)) =
+        expr_kinds s a
+        ++ ((R ∷ s)
+        ∷ (R ∷ R ∷ s)
+        ∷ (exprs_kinds (R ∷ s) others ++ (spans allow functions f (member_code o) (push_types (types_of others) (R ∷ s)) ++ spans allow functions f (without_null (lying_of of)) (R ∷ s))))
     expr_kinds s (Logic at of o left right) = expr_kinds s left ++ ((I ∷ s) ∷ (expr_kinds s right ++ ((I ∷ s) ∷ s ∷ [])))
     expr_kinds s (Conditional at of c a b) = expr_kinds s c ++ ((I ∷ s) ∷ (expr_kinds s a ++ (push of s ∷ expr_kinds s b)))
     expr_kinds s (Elvis at of left right) = expr_kinds s left ++ ((R ∷ s) ∷ (R ∷ R ∷ s) ∷ (R ∷ s) ∷ (R ∷ s) ∷ expr_kinds s right)
@@ -135,7 +140,13 @@ module _ (allow : AllowList) (functions : List FunCode) (f : FunCode) where
     expr_ends p s (Quoted at of text) = one s
     expr_ends p s (Local at of x) = one s
     expr_ends p s (Apply at of o parts) = joined (exprs_ends p s parts) (spans_end allow functions f (operation_code o of) _ _)
-    expr_ends p s (Guarded at of o parts) = ended
+    expr_ends p s (Guarded at of o None') = ended
+    expr_ends p s (Guarded at of o (One a others)) =
+        joined (expr_ends p s a)
+        (behind (R ∷ s)
+        (behind (R ∷ R ∷ s)
+        (joined (exprs_ends _ (R ∷ s) others)
+        (joined (spans_end allow functions f (member_code o) _ (push_types (types_of others) (R ∷ s))) (spans_end allow functions f (without_null (lying_of of)) _ (R ∷ s))))))
     expr_ends p s (Logic at of o left right) = joined (expr_ends p s left) (behind (I ∷ s) (joined (expr_ends _ s right) (behind (I ∷ s) (one s))))
     expr_ends p s (Conditional at of c a b) = joined (expr_ends p s c) (behind (I ∷ s) (joined (expr_ends _ s a) (behind (push of s) (expr_ends _ s b))))
     expr_ends p s (Elvis at of left right) = joined (expr_ends p s left) (behind (R ∷ s) (behind (R ∷ R ∷ s) (behind (R ∷ s) (behind (R ∷ s) (expr_ends _ s right)))))

@@ -53,7 +53,7 @@ use Rattle.program_shapes.proofs.Parts.{push, push_types, kept}
 
 -- ---- values of types on the stack
 
-abbrev push_layer : Ty-F Ty → List Slot → List Slot
+abbrev pub push_layer : Ty-F Ty → List Slot → List Slot
 push_layer l s = result_kinds (result_of_layer l) ++ s
 
 push_prim : (p : Primitive) (s : List Slot) → push (t.Prim p) s ≡ kind_of_primitive p ∷ s
@@ -122,7 +122,7 @@ shift I s = refl
 shift J s = refl
 shift R s = refl
 
-taken_own : (ks s : List Slot) → taken ks (ks ++ s) ≡ Some s
+pub taken_own : (ks s : List Slot) → taken ks (ks ++ s) ≡ Some s
 taken_own [] s = refl
 taken_own (I ∷ ks) s = taken_own ks s
 taken_own (J ∷ ks) s = taken_own ks s
@@ -134,7 +134,7 @@ stored I s = refl
 stored J s = refl
 stored R s = refl
 
-boxed : (p : Primitive) → boxed_kind p ≡ kind_of_primitive p
+pub boxed : (p : Primitive) → boxed_kind p ≡ kind_of_primitive p
 boxed prim.Boolean = refl
 boxed prim.Byte = refl
 boxed prim.Short = refl
@@ -142,7 +142,7 @@ boxed prim.Char = refl
 boxed prim.Int = refl
 boxed prim.Long = refl
 
-reverse_cons : (k : Slot) (ks s : List Slot) → reverse ks ++ (k ∷ s) ≡ reverse (k ∷ ks) ++ s
+pub reverse_cons : (k : Slot) (ks s : List Slot) → reverse ks ++ (k ∷ s) ≡ reverse (k ∷ ks) ++ s
 reverse_cons k ks s = sym (append_assoc (reverse ks) (k ∷ []) s) ∙ ap (λ l. l ++ s) (sym (reverse-append (k ∷ []) ks))
 
 pushed_kinds : (xs : List Variable) (s : List Slot) → HaveValues xs → push_types (types_in xs) s ≡ reverse (kinds_of xs) ++ s
@@ -152,7 +152,7 @@ pushed_kinds (x ∷ xs) s h = pushed_kinds xs (push x.of s) h.1 ∙ ap (λ t. re
 module _ (allow : AllowList) (functions : List FunCode) (f : FunCode) where
   -- ---- one instruction
 
-  only : {s s' t t' : List Slot} {instruction : Instruction} → Passes allow functions f instruction s' t' → s ≡ s' → t ≡ t' → Straight allow functions f (instruction ∷ []) s t
+  pub only : {s s' t t' : List Slot} {instruction : Instruction} → Passes allow functions f instruction s' t' → s ≡ s' → t ≡ t' → Straight allow functions f (instruction ∷ []) s t
   only {s} {s'} {t} {t'} {instruction} x e g = (t', subst (λ s. Passes allow functions f instruction s t') (sym e) x, sym g)
 
   pub int_passes : (n : ℤ) (s : List Slot) → Passes allow functions f (i.Int n) s (I ∷ s)

@@ -16,7 +16,8 @@ use Rattle.program_meaning.specs.Tree.{Name, Expr, Maybe, Missing, Given, Stmt, 
 use Rattle.program_code.specs.Lying.{Lying, lying_of, result_of}
 use Rattle.program_code.specs.Parts.{default_code, pops}
 use Rattle.program_code.specs.Stands.{Scope, end_expr, goes_on, end_skip, end_dropped, end_update, end_test, end_last, end_value, end_stmt, end_stmts, next_stmt, next_stmts, Jumps, SkipAt, DroppedAt, UpdateAt, TestAt, LastAt, ValueAt, StmtAt, StmtsAt, Compiled}
-use Rattle.program_types.specs.Agreeing.{ExprAgrees, TestAgrees, UpdateAgrees, BeginAgrees, StmtAgrees, StmtsAgree, WellFormed}
+use Rattle.member_names.specs.Names.{TextsName}
+use Rattle.program_types.specs.Agreeing.{known, ExprAgrees, TestAgrees, UpdateAgrees, BeginAgrees, StmtAgrees, StmtsAgree, WellFormed}
 use Rattle.program_types.specs.Reached.{MayFollow, StmtReached, StmtsReached}
 use Rattle.program_shapes.proofs.Lines.{grows, Has, Have, first, rest, cut}
 use Rattle.program_shapes.proofs.Runs.{Fine, fine_none, fine_one, join, Runs, then_, step, straight, goto, branch, if_zero, loop, turned, ret, throws}
@@ -69,35 +70,35 @@ module _ (allow : AllowList) (functions : List FunCode) (f : FunCode) (shapes : 
   falling : {p q on : ℕ} → Runs allow functions f shapes p [] q [] → Does p q true false on
   falling r = record { has = r.has; runs = λ led. let x = r.runs led in record { fine = x.fine; falls = λ e. x.led; continues = λ e. no e } }
 
-module _ (allow : AllowList) (funs : Program) (functions : List FunCode) (formed : WellFormed funs) (made : Compiled funs functions) (f : FunCode) (shapes : List (List Slot)) (many : length shapes ≡ length f.lines)
+module _ (texts : TextsName) (allow : AllowList) (funs : Program) (functions : List FunCode) (formed : WellFormed (known allow funs)) (made : Compiled funs functions) (f : FunCode) (shapes : List (List Slot)) (many : length shapes ≡ length f.lines)
     (h : Handlers) (k : Lying) (of : Ty) (result : f.result ≡ result_of of) where
   abbrev pub StmtFits : Stmt → Type 0
   StmtFits t =
-      (looped : Bool) (g : Scope) (n : ℕ) (j : Jumps) (p : ℕ) → HaveLocals f g → StmtAgrees funs of looped (names g) t → StmtReached t → StmtAt funs f h k g n j p t → Have shapes p (stmt_kinds allow functions f t)
+      (looped : Bool) (g : Scope) (n : ℕ) (j : Jumps) (p : ℕ) → HaveLocals f g → StmtAgrees (known allow funs) of looped (names g) t → StmtReached t → StmtAt funs f h k g n j p t → Have shapes p (stmt_kinds allow functions f t)
       → (looped ≡ true → Aims shapes j (end_stmt p t)) → (falls t ≡ true → Has shapes (end_stmt p t) []) → Does allow functions f shapes p (end_stmt p t) (falls t) (continues t) j.on
 
   abbrev pub StmtsFit : Stmts → Type 0
   StmtsFit t =
-      (looped : Bool) (g : Scope) (n : ℕ) (j : Jumps) (p : ℕ) → HaveLocals f g → StmtsAgree funs of looped (names g) t → StmtsReached t → StmtsAt funs f h k g n j p t → Have shapes p (stmts_kinds allow functions f t)
+      (looped : Bool) (g : Scope) (n : ℕ) (j : Jumps) (p : ℕ) → HaveLocals f g → StmtsAgree (known allow funs) of looped (names g) t → StmtsReached t → StmtsAt funs f h k g n j p t → Have shapes p (stmts_kinds allow functions f t)
       → (looped ≡ true → Aims shapes j (end_stmts p t)) → (all_fall t ≡ true → Has shapes (end_stmts p t) []) → Does allow functions f shapes p (end_stmts p t) (all_fall t) (any_continues t) j.on
 
   -- ---- expressions in statements
 
-  dropped_fits : (g : Scope) (a : Expr) (p : ℕ) → HaveLocals f g → ExprAgrees funs (names g) a → DroppedAt funs f h g p a → Have shapes p (dropped_kinds allow functions f a) → Has shapes (end_dropped p a) [] → Runs allow functions f shapes p [] (end_dropped p a) []
+  dropped_fits : (g : Scope) (a : Expr) (p : ℕ) → HaveLocals f g → ExprAgrees (known allow funs) (names g) a → DroppedAt funs f h g p a → Have shapes p (dropped_kinds allow functions f a) → Has shapes (end_dropped p a) [] → Runs allow functions f shapes p [] (end_dropped p a) []
   dropped_fits g a p locals agrees stands have next =
       let c = cut (expr_ends allow functions f p [] a) have in
       then_ allow functions f shapes (straight allow functions f shapes h (pops (lying_of (type_of a))) (end_expr p a) (push (type_of a) []) [] stands.1 (pops_straight allow functions f (type_of a) []) c.1 next) (λ n.
-      expr_fits allow funs functions formed made f shapes many g a h p [] locals agrees stands.0 c.0 n)
+      expr_fits texts allow funs functions formed made f shapes many g a h p [] locals agrees stands.0 c.0 n)
 
-  test_fits : (g : Scope) (test : Maybe) (p : ℕ) → HaveLocals f g → TestAgrees funs (names g) test → TestAt funs f h g p test → Have shapes p (test_kinds allow functions f test) → Has shapes (end_test p test) (I ∷ []) → Runs allow functions f shapes p [] (end_test p test) (I ∷ [])
+  test_fits : (g : Scope) (test : Maybe) (p : ℕ) → HaveLocals f g → TestAgrees (known allow funs) (names g) test → TestAt funs f h g p test → Have shapes p (test_kinds allow functions f test) → Has shapes (end_test p test) (I ∷ []) → Runs allow functions f shapes p [] (end_test p test) (I ∷ [])
   test_fits g Missing p locals agrees stands have next = step allow functions f shapes stands (int_passes allow functions f (pos 1) []) (first have) next
   test_fits g (Given a) p locals agrees stands have next =
-      left_as allow funs functions formed made f shapes many (push_is (type_of a) prim.Boolean [] agrees.1) (expr_fits allow funs functions formed made f shapes many g a h p [] locals agrees.0 stands.0 have) next
+      left_as texts allow funs functions formed made f shapes many (push_is (type_of a) prim.Boolean [] agrees.1) (expr_fits texts allow funs functions formed made f shapes many g a h p [] locals agrees.0 stands.0 have) next
 
-  value_fits : (g : Scope) (value : Maybe) (at : Ty) (p : ℕ) → HaveLocals f g → BeginAgrees funs (names g) value at → ValueAt funs f h g p value at → Have shapes p (value_kinds allow functions f value at) → Has shapes (end_value p value at) (push at []) → Runs allow functions f shapes p [] (end_value p value at) (push at [])
+  value_fits : (g : Scope) (value : Maybe) (at : Ty) (p : ℕ) → HaveLocals f g → BeginAgrees (known allow funs) (names g) value at → ValueAt funs f h g p value at → Have shapes p (value_kinds allow functions f value at) → Has shapes (end_value p value at) (push at []) → Runs allow functions f shapes p [] (end_value p value at) (push at [])
   value_fits g Missing at p locals agrees stands have next = straight allow functions f shapes h (default_code at) p [] (push at []) stands (default_straight allow functions f at []) have next
   value_fits g (Given a) at p locals agrees stands have next =
-      left_as allow funs functions formed made f shapes many (ap (λ of. push of []) agrees.1) (expr_fits allow funs functions formed made f shapes many g a h p [] locals agrees.0 stands.0 have) next
+      left_as texts allow funs functions formed made f shapes many (ap (λ of. push of []) agrees.1) (expr_fits texts allow funs functions formed made f shapes many g a h p [] locals agrees.0 stands.0 have) next
 
   -- ---- statements
 
@@ -131,7 +132,7 @@ module _ (allow : AllowList) (funs : Program) (functions : List FunCode) (formed
       }
   return_fits (Given a) looped g n j p locals agrees reached stands have aims next =
       let c = cut (expr_ends allow functions f p [] a) have in
-      let x = expr_fits allow funs functions formed made f shapes many g a h p [] locals agrees.0 stands.0.0 c.0 (first c.1) in
+      let x = expr_fits texts allow funs functions formed made f shapes many g a h p [] locals agrees.0 stands.0.0 c.0 (first c.1) in
       let same : push (type_of a) [] ≡ result_kinds f.result ++ [] = ap (λ of. push of []) agrees.1 ∙ sym (ap (λ o. result_kinds o ++ []) result) in
       record {
         has = x.has;
@@ -143,8 +144,8 @@ module _ (allow : AllowList) (funs : Program) (functions : List FunCode) (formed
   throw_fits : (value : Expr) → StmtFits (Throw value)
   throw_fits value looped g n j p locals agrees reached stands have aims next =
       let c = cut (expr_ends allow functions f p [] value) have in
-      let x = left_as allow funs functions formed made f shapes many (push_reference (type_of value) [] agrees.1)
-      (expr_fits allow funs functions formed made f shapes many g value h p [] locals agrees.0 stands.0 c.0) (first c.1) in
+      let x = left_as texts allow funs functions formed made f shapes many (push_reference (type_of value) [] agrees.1)
+      (expr_fits texts allow funs functions formed made f shapes many g value h p [] locals agrees.0 stands.0 c.0) (first c.1) in
       record {
         has = x.has;
         runs = λ led.
@@ -183,7 +184,7 @@ module _ (allow : AllowList) (funs : Program) (functions : List FunCode) (formed
       let second_branch = grows (stmts_ends allow functions f q b) in
       let no_fits = b_fits looped g (next_stmts n a) j q locals agrees.3 reached.1 stands.5 s.1 aims (λ e. next (or_right (all_fall a) (all_fall b) e)) in
       let yes_fits = a_fits looped g n j (suc p1) locals agrees.2 reached.0 stands.3 d.0 (λ e. nearer (le_trans over second_branch) (aims e)) (skip_has (all_fall a) p2 s.0) in
-      let t = left_as allow funs functions formed made f shapes many (push_is (type_of test) prim.Boolean [] agrees.1) (expr_fits allow funs functions formed made f shapes many g test h p [] locals agrees.0 stands.0 c.0) (first c.1) in
+      let t = left_as texts allow funs functions formed made f shapes many (push_is (type_of test) prim.Boolean [] agrees.1) (expr_fits texts allow funs functions formed made f shapes many g test h p [] locals agrees.0 stands.0 c.0) (first c.1) in
       record {
         has = t.has;
         runs = λ led.
@@ -206,7 +207,7 @@ module _ (allow : AllowList) (funs : Program) (functions : List FunCode) (formed
     has : Has shapes p []
     runs : (b ≡ true → Leads allow functions f shapes p []) → Fine allow functions f shapes p q
 
-  update_fits : (b : Bool) (g : Scope) (update : Maybe) (p : ℕ) → HaveLocals f g → UpdateAgrees funs (names g) update → UpdateAt funs f h g b p update → Have shapes p (update_kinds allow functions f b update) → Has shapes (end_update b p update) [] → Updates b p (end_update b p update)
+  update_fits : (b : Bool) (g : Scope) (update : Maybe) (p : ℕ) → HaveLocals f g → UpdateAgrees (known allow funs) (names g) update → UpdateAt funs f h g b p update → Have shapes p (update_kinds allow functions f b update) → Has shapes (end_update b p update) [] → Updates b p (end_update b p update)
   update_fits false g update p locals agrees stands have next = record { has = next; runs = λ led. fine_none allow functions f shapes }
   update_fits true g Missing p locals agrees stands have next = record { has = next; runs = λ led. fine_none allow functions f shapes }
   update_fits true g (Given a) p locals agrees stands have next = let x = dropped_fits g a p locals agrees stands have next in record { has = x.has; runs = λ led. (x.runs (led refl)).fine }
@@ -244,13 +245,13 @@ module _ (allow : AllowList) (funs : Program) (functions : List FunCode) (formed
             };
       }
 
-  last_fits : (b : Bool) (g : Scope) (test : Maybe) (p out : ℕ) → HaveLocals f g → TestAgrees funs (names g) test → LastAt funs f h g b p test out → Have shapes p (last_kinds allow functions f b test) → Has shapes (end_last b p test) [] → Has shapes out [] → end_last b p test ≤ out
+  last_fits : (b : Bool) (g : Scope) (test : Maybe) (p out : ℕ) → HaveLocals f g → TestAgrees (known allow funs) (names g) test → LastAt funs f h g b p test out → Have shapes p (last_kinds allow functions f b test) → Has shapes (end_last b p test) [] → Has shapes out [] → end_last b p test ≤ out
       → Updates b p (end_last b p test)
   last_fits false g test p out locals agrees stands have next aim less = record { has = next; runs = λ led. fine_none allow functions f shapes }
   last_fits true g Missing p out locals agrees stands have next aim less = record { has = next; runs = λ led. fine_none allow functions f shapes }
   last_fits true g (Given a) p out locals agrees stands have next aim less =
       let c = cut (expr_ends allow functions f p [] a) have in
-      let t = left_as allow funs functions formed made f shapes many (push_is (type_of a) prim.Boolean [] agrees.1) (expr_fits allow funs functions formed made f shapes many g a h p [] locals agrees.0 stands.0 c.0) (first c.1) in
+      let t = left_as texts allow funs functions formed made f shapes many (push_is (type_of a) prim.Boolean [] agrees.1) (expr_fits texts allow funs functions formed made f shapes many g a h p [] locals agrees.0 stands.0 c.0) (first c.1) in
       record {
         has = t.has;
         runs = λ led.

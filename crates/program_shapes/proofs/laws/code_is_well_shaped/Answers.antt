@@ -1,11 +1,12 @@
 use Rattle.std.proofs.Common.{arith}
 use Rattle.program_meaning.specs.Programs.{program_of}
+use Rattle.program_types.specs.Agreeing.{known}
 use Rattle.verifier.proofs.Whole.{sound_is_well_shaped}
 use Rattle.program_shapes.proofs.Functions as functions
 use Rattle.program_shapes.proofs.laws.code_is_well_shaped.Goals as goal
 
 pub returns : goal.returns
 returns c = record {
-  shaped = functions.code_is_well_shaped;
-  sound = λ allow p code formed reached made. (sound_is_well_shaped allow code).1 (functions.code_is_well_shaped allow (program_of p) code.functions (omega arith) formed reached made);
+  shaped = functions.code_is_well_shaped c.names_of_members.ensures.names;
+  sound = λ allow p code formed reached made. (sound_is_well_shaped allow code).1 (functions.code_is_well_shaped c.names_of_members.ensures.names (known allow (program_of p)) code.functions (omega arith) formed reached made);
 }
