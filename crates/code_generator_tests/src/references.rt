@@ -143,102 +143,112 @@ fn script(
     })
 }
 
-// Whether `return value` has this listing, in a script of one parameter `x`.
-fn gives(
-    alloc: Global,
-    of: Ty,
-    given: Ty,
-    value: Subtree<Typed>,
-    text: &str,
-) -> Result<bool, AllocError> {
-    let program = script(alloc, of, given, returned(alloc, value)?)?;
-    has_listing(alloc, &program, text)
+// `return value`, in a script of one parameter `x`.
+fn giving(alloc: Global, of: Ty, given: Ty, value: Subtree<Typed>) -> Result<Program, AllocError> {
+    let only = returned(alloc, value)?;
+    script(alloc, of, given, only)
 }
 
-#[test]
-fn joined(rt: HostRuntime) -> Result<(), Fail> {
-    let alloc = rt.alloc();
+fn joined(alloc: Global) -> Result<Program, AllocError> {
     let wrap = Cast::Wrap(Primitive::Int, Primitive::Int);
+    let left = text(alloc, "a")?;
     let right = cast_to(alloc, Ty::Def, wrap, number(alloc, 1)?)?;
-    let value = two_parts(alloc, string(), Operator::Concat, text(alloc, "a")?, right)?;
-    let same = gives(alloc, Ty::Def, string(), value, JOINED)?;
-    assert!(rt; same);
-    Ok(())
+    let value = two_parts(alloc, string(), Operator::Concat, left, right)?;
+    giving(alloc, Ty::Def, string(), value)
 }
 
-#[test]
-fn other_than_null(rt: HostRuntime) -> Result<(), Fail> {
-    let alloc = rt.alloc();
+fn other_than_null(alloc: Global) -> Result<Program, AllocError> {
     let left = local(alloc, string(), "x")?;
     let right = text(alloc, "b")?;
     let value = expression(alloc, string(), Node::Elvis { left, right })?;
-    let same = gives(alloc, string(), string(), value, OTHER)?;
-    assert!(rt; same);
-    Ok(())
+    giving(alloc, string(), string(), value)
 }
 
-#[test]
-fn casts(rt: HostRuntime) -> Result<(), Fail> {
-    let alloc = rt.alloc();
-    let part = local(alloc, Ty::Def, "x")?;
-    let value = cast_to(alloc, string(), Cast::Explicit, part)?;
-    let same = gives(alloc, Ty::Def, string(), value, CAST)?;
-    assert!(rt; same);
-    Ok(())
+// A cast of `x`.
+fn casting(alloc: Global, from: Ty, to: Ty, cast: Cast) -> Result<Subtree<Typed>, AllocError> {
+    let part = local(alloc, from, "x")?;
+    cast_to(alloc, to, cast, part)
 }
 
-#[test]
-fn casts_of_chars(rt: HostRuntime) -> Result<(), Fail> {
-    let alloc = rt.alloc();
+fn cast_of_def(alloc: Global) -> Result<Program, AllocError> {
+    let value = casting(alloc, Ty::Def, string(), Cast::Explicit)?;
+    giving(alloc, Ty::Def, string(), value)
+}
+
+fn cast_of_char(alloc: Global) -> Result<Program, AllocError> {
     let char = Primitive::Char;
-    let part = local(alloc, Ty::Prim(char), "x")?;
-    let value = cast_to(alloc, string(), Cast::CharToText, part)?;
-    let same = gives(alloc, Ty::Prim(char), string(), value, CAST_OF_CHAR)?;
-    assert!(rt; same);
-    Ok(())
+    let value = casting(alloc, Ty::Prim(char), string(), Cast::CharToText)?;
+    giving(alloc, Ty::Prim(char), string(), value)
 }
 
-#[test]
-fn casts_to_numbers(rt: HostRuntime) -> Result<(), Fail> {
-    let alloc = rt.alloc();
+fn cast_to_number(alloc: Global) -> Result<Program, AllocError> {
     let long = Primitive::Long;
-    let part = local(alloc, Ty::Def, "x")?;
-    let value = cast_to(alloc, Ty::Prim(long), Cast::Implicit, part)?;
-    let same = gives(alloc, Ty::Def, Ty::Prim(long), value, UNBOXED)?;
-    assert!(rt; same);
-    Ok(())
+    let value = casting(alloc, Ty::Def, Ty::Prim(long), Cast::Implicit)?;
+    giving(alloc, Ty::Def, Ty::Prim(long), value)
 }
 
-#[test]
-fn instances(rt: HostRuntime) -> Result<(), Fail> {
-    let alloc = rt.alloc();
+fn instance(alloc: Global) -> Result<Program, AllocError> {
     let part = local(alloc, Ty::Def, "x")?;
     let value = one_part(alloc, boolean(), Operation::InstanceOf(string()), part)?;
-    let same = gives(alloc, Ty::Def, boolean(), value, INSTANCE)?;
-    assert!(rt; same);
-    Ok(())
+    giving(alloc, Ty::Def, boolean(), value)
 }
 
-#[test]
-fn compared(rt: HostRuntime) -> Result<(), Fail> {
-    let alloc = rt.alloc();
+fn compared(alloc: Global) -> Result<Program, AllocError> {
     let left = local(alloc, Ty::Def, "x")?;
     let right = constant(alloc, Ty::Null, Constant::Null)?;
     let value = two_parts(alloc, boolean(), Operator::NotEqual, left, right)?;
-    let same = gives(alloc, Ty::Def, boolean(), value, NOT_EQUAL)?;
-    assert!(rt; same);
-    Ok(())
+    giving(alloc, Ty::Def, boolean(), value)
 }
 
-#[test]
-fn thrown(rt: HostRuntime) -> Result<(), Fail> {
-    let alloc = rt.alloc();
-    let part = local(alloc, Ty::Def, "x")?;
-    let exception = Ty::Class(EXCEPTION);
-    let value = cast_to(alloc, exception, Cast::Implicit, part)?;
+fn thrown(alloc: Global) -> Result<Program, AllocError> {
+    let value = casting(alloc, Ty::Def, Ty::Class(EXCEPTION), Cast::Implicit)?;
     let only = statement(alloc, StatementNode::Throw(value))?;
-    let program = script(alloc, Ty::Def, Ty::Void, only)?;
-    let same = has_listing(alloc, &program, THROW)?;
-    assert!(rt; same);
+    script(alloc, Ty::Def, Ty::Void, only)
+}
+
+#[derive(Clone, Copy)]
+enum Sample {
+    Joined,
+    Other,
+    CastOfDef,
+    CastOfChar,
+    CastToNumber,
+    Instance,
+    Compared,
+    Thrown,
+}
+
+fn program(alloc: Global, sample: Sample) -> Result<Program, AllocError> {
+    match sample {
+        Sample::Joined => joined(alloc),
+        Sample::Other => other_than_null(alloc),
+        Sample::CastOfDef => cast_of_def(alloc),
+        Sample::CastOfChar => cast_of_char(alloc),
+        Sample::CastToNumber => cast_to_number(alloc),
+        Sample::Instance => instance(alloc),
+        Sample::Compared => compared(alloc),
+        Sample::Thrown => thrown(alloc),
+    }
+}
+
+const ROWS: [(Sample, &str); 8] = [
+    (Sample::Joined, JOINED),
+    (Sample::Other, OTHER),
+    (Sample::CastOfDef, CAST),
+    (Sample::CastOfChar, CAST_OF_CHAR),
+    (Sample::CastToNumber, UNBOXED),
+    (Sample::Instance, INSTANCE),
+    (Sample::Compared, NOT_EQUAL),
+    (Sample::Thrown, THROW),
+];
+
+#[test]
+fn references(rt: HostRuntime) -> Result<(), Fail> {
+    let alloc = rt.alloc();
+    for (sample, text) in &ROWS {
+        let program = program(alloc, *sample)?;
+        let same = has_listing(alloc, &program, text)?;
+        assert!(rt; same);
+    }
     Ok(())
 }
