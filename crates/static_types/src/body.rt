@@ -9,7 +9,7 @@ use pl_types::Fail;
 use plain_data::{Items, Subtree};
 use std::alloc::{AllocError, Global};
 use typing_acts::{Config, Pile};
-use typing_jobs::{Task, Tasks, run};
+use typing_jobs::{StatementTask, Task, Tasks, run};
 use typing_rules::{Header, State, Step};
 
 /// Nothing is typed so far.
@@ -35,7 +35,8 @@ fn tasks_of<'a>(
     ensures { IfOk result (λ tasks. tasks ≡ spec.jobs_of in_main all.now) }
 {
     let mut tasks = Tasks::new(alloc);
-    tasks.push(Task::Statements(all, 0, in_main, false))?;
+    let task = Task::Statement(StatementTask::Statements(all, 0, in_main, false));
+    tasks.push(task)?;
     Ok(tasks)
 }
 

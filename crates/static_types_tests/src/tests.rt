@@ -26,6 +26,7 @@ fn expressions_are_refused(rt: HostRuntime) -> Result<(), TestFail> {
     let alloc = rt.alloc();
     are_refused(&rt, alloc, Wanted::Number, &rows::CASTS);
     are_refused(&rt, alloc, Wanted::Number, &rows::OPERANDS);
+    are_refused(&rt, alloc, Wanted::Number, &rows::NEVER_NULL);
     are_refused(&rt, alloc, Wanted::Number, &rows::NOT_WRITTEN_TO);
     are_refused(&rt, alloc, Wanted::Number, &rows::RANGES);
     Ok(())

@@ -63,7 +63,7 @@ pub const FUNCTIONS: [(&str, u8, u32); 7] = [
 ];
 
 /// Types that are not cast.
-pub const CASTS: [(&str, u8, u32); 56] = [
+pub const CASTS: [(&str, u8, u32); 73] = [
     ("byte b = 200; b", 9, 9),
     ("byte b = -129; b", 9, 9),
     ("byte b = (127); b", 9, 9),
@@ -120,10 +120,27 @@ pub const CASTS: [(&str, u8, u32); 56] = [
     ("void f() { } (int)f()", 9, 18),
     ("void f() { } if (f()) { }", 9, 17),
     ("void f() { } int g() { return f() } g()", 9, 30),
+    ("'a'", 9, 0),
+    ("null", 9, 0),
+    ("String s = 1; 1", 9, 11),
+    ("Object o = 'a'; String s = o; 1", 9, 27),
+    ("char c = 'a'; c", 9, 9),
+    ("String s = (String)1; 1", 9, 19),
+    ("(int)'a'", 9, 5),
+    ("int x = null; x", 9, 8),
+    ("String s = 'a'; s = 1; 1", 9, 20),
+    ("int f(String s) { return 1 } f(1)", 9, 31),
+    ("CharSequence c = 1; 1", 9, 17),
+    ("if ('a') { }", 9, 4),
+    ("null ? 1 : 2", 9, 0),
+    ("throw 1", 9, 6),
+    ("throw 'a'", 9, 6),
+    ("void f() { } 'a' ?: f()", 9, 20),
+    ("void f() { } def d = f(); 1", 9, 21),
 ];
 
 /// Operands that an operator does not take.
-pub const OPERANDS: [(&str, u8, u32); 46] = [
+pub const OPERANDS: [(&str, u8, u32); 66] = [
     ("1 + true", 10, 2),
     ("true + 1", 10, 5),
     ("true + true", 10, 5),
@@ -170,10 +187,30 @@ pub const OPERANDS: [(&str, u8, u32); 46] = [
     ("int x = 1; x <<= true; x", 10, 13),
     ("int x = 1; x &= true; x", 10, 13),
     ("boolean b = true; b |= 1; 1", 10, 20),
+    ("'a' === 'b'", 10, 4),
+    ("'a' !== 'b'", 10, 4),
+    ("1 === null", 10, 2),
+    ("def d = 1; d === 'a'", 10, 13),
+    ("def d = 1; d !== d", 10, 13),
+    ("1 == null", 10, 2),
+    ("null != 1", 10, 5),
+    ("void f() { } f() == null", 10, 17),
+    ("'a' - 1", 10, 4),
+    ("'a' < 'b'", 10, 4),
+    ("-'a'", 10, 0),
+    ("null + 1", 10, 5),
+    ("void f() { } 'a' + f()", 10, 17),
+    ("void f() { } def d = 1; d + f()", 10, 26),
+    ("String s = 'a'; s++; 1", 10, 16),
+    ("String s = 'a'; s -= 1; 1", 10, 18),
+    ("1 instanceof String", 10, 2),
+    ("'a' instanceof int", 10, 4),
+    ("'a' instanceof def", 10, 4),
+    ("void f() { } f() instanceof String", 10, 17),
 ];
 
 /// Expressions that are no statements.
-pub const NO_STATEMENTS: [(&str, u8, u32); 17] = [
+pub const NO_STATEMENTS: [(&str, u8, u32); 21] = [
     ("1; 2", 11, 0),
     ("int x = 1; x; 2", 11, 11),
     ("int x = 1; x + 1; 2", 11, 11),
@@ -191,10 +228,14 @@ pub const NO_STATEMENTS: [(&str, u8, u32); 17] = [
     ("for (int i = 0; ; i + 1) { break }", 11, 18),
     ("while (true) { continue; 1 }", 11, 25),
     ("return 1; 1; 2", 11, 10),
+    ("'a'; 1", 11, 0),
+    ("null; 1", 11, 0),
+    ("String s = null; s ?: 'a'; 1", 11, 17),
+    ("null instanceof String; 1", 11, 0),
 ];
 
 /// Statements that are not reached.
-pub const UNREACHABLE: [(&str, u8, u32); 19] = [
+pub const UNREACHABLE: [(&str, u8, u32); 21] = [
     ("return 1; 2", 12, 10),
     ("return 1; return 2", 12, 10),
     ("int f() { return 1; return 2 } f()", 12, 20),
@@ -222,6 +263,8 @@ pub const UNREACHABLE: [(&str, u8, u32); 19] = [
         12,
         53,
     ),
+    ("throw null; 1", 12, 12),
+    ("if (true) { throw null } else { return 1 } 1", 12, 43),
 ];
 
 /// Functions that may end without a value.
@@ -282,24 +325,17 @@ pub const RANGES: [(&str, u8, u32); 12] = [
 ];
 
 /// What is not built.
-pub const NOT_BUILT: [(&str, u8, u32); 28] = [
-    ("'a'", 19, 0),
-    ("null", 19, 0),
+pub const NOT_BUILT: [(&str, u8, u32); 29] = [
     ("[1]", 19, 0),
     ("[1:2]", 19, 0),
-    ("def x = 1; 1", 19, 0),
     ("int[] x; 1", 19, 0),
     ("List l; 1", 19, 0),
-    ("def f() { return 1 } 1", 19, 0),
     ("int[] f() { return 1 } 1", 19, 0),
-    ("int f(def a) { return 1 } 1", 19, 6),
-    ("(def)1", 19, 1),
-    ("1 ?: 2", 19, 2),
     ("(1)[0]", 19, 3),
     ("(1).x", 19, 4),
     ("(1).x()", 19, 4),
     ("1 instanceof List", 19, 13),
-    ("int f(int a) { return a } f(x -> x)", 19, 33),
+    ("int f(int a) { return a } f(x -> x)", 19, 28),
     ("int f(int a) { return a } f(() -> 1)", 19, 28),
     ("int x = y -> 1; x", 19, 8),
     (
@@ -307,14 +343,33 @@ pub const NOT_BUILT: [(&str, u8, u32); 28] = [
         19,
         28,
     ),
-    ("throw 1", 19, 0),
     ("for (int x : 1) { }", 19, 0),
     ("for (x in 1) { }", 19, 0),
-    ("try { } catch (Exception e) { }", 19, 15),
     ("new List()", 19, 4),
     ("new int[1]", 19, 0),
     ("new int[] {1}", 19, 0),
     ("1 instanceof int[]", 19, 13),
+    ("try { } catch (Exception e) { }", 19, 0),
+    ("try { } catch (List e) { }", 19, 15),
+    ("def d = 1; d + 1", 19, 13),
+    ("def d = 1; d < 1", 19, 13),
+    ("def d = 1; 'a' - d", 19, 15),
+    ("def d = 1; -d", 19, 11),
+    ("def d = 1; d++; 1", 19, 11),
+    ("def d = 1; d -= 1; 1", 19, 13),
+    ("def d = 1; d << 1", 19, 13),
+    ("Integer i = 1; 1", 19, 0),
+];
+
+/// A left side of `?:` that is never null.
+pub const NEVER_NULL: [(&str, u8, u32); 7] = [
+    ("1 ?: 2", 17, 2),
+    ("'a' ?: 'b'", 17, 4),
+    ("null ?: 2", 17, 5),
+    ("true ?: false", 17, 5),
+    ("int x = 1; x ?: 2", 17, 13),
+    ("n ?: 2", 17, 2),
+    ("1 ?: 'a'", 17, 2),
 ];
 
 /// Names that are no types.
@@ -395,7 +450,7 @@ pub const TYPED_WITHOUT_RESULT: [&str; 7] = [
 ];
 
 /// Scripts that break no rule.
-pub const TYPED: [&str; 86] = [
+pub const TYPED: [&str; 116] = [
     "1",
     "1 + 2 * 3",
     "byte b = 127; b",
@@ -482,6 +537,36 @@ pub const TYPED: [&str; 86] = [
     "(boolean)true ? 1 : 2",
     "true ? 1 : 2",
     "true ? (byte)1 : 2",
+    "String s = 'a'; 1",
+    "String s = null; 1",
+    "def d = 1; d",
+    "def d; d = null; d",
+    "Object o = 1; o = 'a'; String s = (String)o; 1",
+    "CharSequence c = 'a'; 1",
+    "def f(def a) { return a } f(1)",
+    "String f(String s) { return s } f('a') == 'a' ? 1 : 2",
+    "String s = 'a' + 1 + null; s += 2L; s = 1 + s; 1",
+    "def d = 1; d += 'a'; 1",
+    "char c = (char)'a'; String s = (String)c; c",
+    "null == null ? 1 : 2",
+    "def d = 1; d == 1 ? 1 : 2",
+    "'a' != null ? 1 : 2",
+    "def d = 1; d === null ? 1 : 2",
+    "null !== 'a' ? 1 : 2",
+    "String s = null; s = s ?: 'b'; 1",
+    "def d = null; d ?: 2",
+    "'a' instanceof String ? 1 : 2",
+    "def d = 1; d instanceof Object ? 1 : 2",
+    "null instanceof String ? 1 : 2",
+    "Object o = true ? 'a' : null; 1",
+    "true ? 1 : 'a'",
+    "def d = true; !d && d ? 1 : 2",
+    "Exception e = null; throw e",
+    "def d = null; throw d",
+    "throw null",
+    "int f() { throw null } f()",
+    "StringBuilder b = null; CharSequence c = b; 1",
+    "(def)1",
 ];
 
 /// The worked examples: those that are typed.
