@@ -181,7 +181,8 @@ code_is_well_shaped texts funs code some formed reached made = record {
       let x = there funs.functions k (omega (arith, less, many)) in
       let fa = made.each k x.0 x.1 in
       let same : fa.body ≡ f = same_function code k f fa.body is fa.is in
-      subst (λ f. IsWellShaped funs.allowed code f) same (fun_is_well_shaped texts funs.allowed funs.functions code formed made k x.0 fa (formed.each k x.0 x.1) (reached.each k x.0 x.1));
+      subst (λ f. IsWellShaped funs.allowed code f) same
+      (fun_is_well_shaped texts funs.allowed funs.functions code formed made k x.0 fa (formed.each k x.0 x.1) (reached.each k x.0 x.1));
 }
   where
     same_function : (code : List FunCode) (k : ℕ) (f g : FunCode) → slice_get code k ≡ Some f → slice_get code k ≡ Some g → g ≡ f

@@ -1,16 +1,14 @@
 -- Members: what the instructions of calls take and leave, by the types of the catalogue.
-use Rattle.std.proofs.Common.{◌≡◌, ℕ, zero, suc, Bool, true, false, not, ◌&&◌, List, [], ◌∷◌, ◌++◌, reverse, map, Option, Some, None, is_some, refl, sym, ap, ◌∙◌, subst, option_map, append_assoc, if◌then◌else◌}
+use Rattle.std.proofs.Common.{◌≡◌, ℕ, zero, suc, Bool, true, false, not, ◌&&◌, List, [], ◌∷◌, ◌++◌, reverse, map, Some, is_some, refl, sym, ap, ◌∙◌, subst, option_map, append_assoc, if◌then◌else◌}
 use Rattle.std.specs.Prelude.{slice_get}
 use Rattle.std.specs.List.{list_all}
 use Rattle.std.proofs.lemmas.Bool.{and_parts, false≢true}
 use Rattle.std.proofs.lemmas.Option.{get_or_from_slice_get}
 use Rattle.pl_types.specs.declared.ty.Ty.{Ty, out-Ty}
 use Rattle.pl_types.specs.declared.ty.Ty.TheOpen.{Ty-F}
-use Rattle.pl_code.specs.declared.kinds.Plain.TheVariants as plain
 use Rattle.pl_code.specs.declared.kinds.Slot.{Slot}
 use Rattle.pl_code.specs.declared.kinds.Slot.TheVariants.{I, J, R}
 use Rattle.pl_code.specs.declared.code.FunCode.{FunCode}
-use Rattle.pl_code.specs.declared.code.Instruction.{Instruction}
 use Rattle.pl_code.specs.declared.code.Instruction.TheVariants as i
 use Rattle.allowlist.specs.declared.member.MemberKind.{MemberKind}
 use Rattle.allowlist.specs.declared.member.MemberKind.TheVariants as kind
@@ -31,8 +29,8 @@ use Rattle.typed_tree.specs.declared.operation.Operation.TheVariants as operatio
 use Rattle.program_meaning.specs.Tree.{Program}
 use Rattle.program_code.specs.Lying.{lying_of_layer, lying_of, kind_of_layer, kind_of}
 use Rattle.program_code.specs.Parts.{operation_code, member_code, without_null}
-use Rattle.program_types.specs.Types.{IsReference, has_values_layer, HasValues}
-use Rattle.program_types.specs.Agreeing.{known, TakesTypes, MemberAgrees, Guards, is_primitive_layer, is_primitive}
+use Rattle.program_types.specs.Types.{IsReference, has_values_layer}
+use Rattle.program_types.specs.Agreeing.{known, TakesTypes, MemberAgrees, Guards, is_primitive_layer}
 use Rattle.program_shapes.proofs.Runs.{Passes, Straight}
 use Rattle.program_shapes.proofs.Parts.{push, push_types}
 use Rattle.program_shapes.proofs.Steps.{push_layer, push_reference, push_value, boxed, taken_own, reverse_cons, only, pop_passes}
@@ -62,12 +60,14 @@ all_shaped : list_all is_shaped catalogue ≡ true
 unfolding catalogue out-Ty denote.Hole.Carrier.out
 all_shaped = refl
 
-each_is : (test : MemberType → Bool) (ms : List MemberType) (n : ℕ) (m : MemberType) → list_all test ms ≡ true → slice_get ms n ≡ Some m → test m ≡ true
+each_is : (test : MemberType → Bool) (ms : List MemberType) (n : ℕ) (m : MemberType) → list_all test ms ≡ true → slice_get ms n ≡ Some m
+    → test m ≡ true
 each_is test [] n m h is = cc
 each_is test (x ∷ xs) zero m h is = let same : x ≡ m = cc in subst (λ m. test m ≡ true) same (and_parts (test x) (list_all test xs) h).0
 each_is test (x ∷ xs) (suc n) m h is = each_is test xs n m (and_parts (test x) (list_all test xs) h).1 is
 
-shaped_at : (number : ℕ) (m : MemberType) → slice_get catalogue number ≡ Some m → (are_there m.params ≡ true) × (is_shaped_so m.kind m.params m.result ≡ true)
+shaped_at : (number : ℕ) (m : MemberType) → slice_get catalogue number ≡ Some m
+    → (are_there m.params ≡ true) × (is_shaped_so m.kind m.params m.result ≡ true)
 shaped_at number m is = and_parts (are_there m.params) (is_shaped_so m.kind m.params m.result) (each_is is_shaped catalogue number m all_shaped is)
 
 stands_at : (number : ℕ) (m : MemberType) → slice_get catalogue number ≡ Some m → member_at number ≡ m
@@ -125,8 +125,8 @@ is_method kind.Instance = true
 is_method other = false
 
 -- what a method takes
-method_takes : (sort : MemberKind) (m : MemberType) (ofs : List Ty) (s : List Slot) → m.kind ≡ sort → are_there m.params ≡ true → TakesTypes sort m.params ofs
-    → is_method sort ≡ true → push_types ofs s ≡ member_takes m ++ s
+method_takes : (sort : MemberKind) (m : MemberType) (ofs : List Ty) (s : List Slot) → m.kind ≡ sort → are_there m.params ≡ true
+    → TakesTypes sort m.params ofs → is_method sort ≡ true → push_types ofs s ≡ member_takes m ++ s
 unfolding member_takes
 method_takes kind.Constructor m ofs s sorted h x method = absurd (false≢true method)
 method_takes kind.Field m ofs s sorted h x method = absurd (false≢true method)
@@ -159,8 +159,8 @@ no_parameters (of ∷ ofs) result h = absurd (false≢true h)
 module _ (allow : AllowList) (functions : List FunCode) (f : FunCode) where
   -- ---- instructions
 
-  invoke_passes : (m : Member) (member : MemberType) (ofs : List Ty) (s : List Slot) → method_of allow m.text ≡ Some m.number → member_at m.number ≡ member
-      → push_types ofs s ≡ member_takes member ++ s → Passes allow functions f (i.Invoke m.text) (push_types ofs s) (kind_of member.result ∷ s)
+  invoke_passes : (m : Member) (member : MemberType) (ofs : List Ty) (s : List Slot) → method_of allow m.text ≡ Some m.number
+      → member_at m.number ≡ member → push_types ofs s ≡ member_takes member ++ s → Passes allow functions f (i.Invoke m.text) (push_types ofs s) (kind_of member.result ∷ s)
   unfolding is_bad_target is_bad_member flow_of effect_of invokes left_by
   invoke_passes m member ofs s names at takes = record {
     flow = refl;
@@ -215,12 +215,15 @@ module _ (allow : AllowList) (functions : List FunCode) (f : FunCode) where
 
   module _ (texts : TextsName) (funs : Program) where
     -- the text of a call names its member in code
-    named : (sort : MemberKind) (m : Member) (ofs : List Ty) (of : Ty) → MemberAgrees (known allow funs) sort m ofs of → named_by sort allow m.text ≡ Some m.number
+    named : (sort : MemberKind) (m : Member) (ofs : List Ty) (of : Ty) → MemberAgrees (known allow funs) sort m ofs of
+        → named_by sort allow m.text ≡ Some m.number
     named sort m ofs of h =
-        ap (named_by sort allow) h.text ∙ ap (λ sort. named_by sort allow (text_of h.member)) (sym h.sort) ∙ texts allow m.number h.member h.is h.allowed
+        ap (named_by sort allow) h.text
+        ∙ ap (λ sort. named_by sort allow (text_of h.member)) (sym h.sort)
+        ∙ texts allow m.number h.member h.is h.allowed
 
-    method_passes : (sort : MemberKind) (m : Member) (ofs : List Ty) (of : Ty) (s : List Slot) → MemberAgrees (known allow funs) sort m ofs of → is_method sort ≡ true
-        → method_of allow m.text ≡ Some m.number → Passes allow functions f (i.Invoke m.text) (push_types ofs s) (kind_of of ∷ s)
+    method_passes : (sort : MemberKind) (m : Member) (ofs : List Ty) (of : Ty) (s : List Slot) → MemberAgrees (known allow funs) sort m ofs of
+        → is_method sort ≡ true → method_of allow m.text ≡ Some m.number → Passes allow functions f (i.Invoke m.text) (push_types ofs s) (kind_of of ∷ s)
     method_passes sort m ofs of s h method names =
         subst (λ of. Passes allow functions f (i.Invoke m.text) (push_types ofs s) (kind_of of ∷ s)) (sym h.gives)
         (invoke_passes m h.member ofs s names (stands_at m.number h.member h.is)
@@ -228,11 +231,15 @@ module _ (allow : AllowList) (functions : List FunCode) (f : FunCode) where
 
     pub instance_straight : (m : Member) (ofs : List Ty) (of : Ty) (s : List Slot) → MemberAgrees (known allow funs) kind.Instance m ofs of
         → Straight allow functions f (operation_code (operation.Instance m) of) (push_types ofs s) (push of s)
-    instance_straight m ofs of s h = (kind_of of ∷ s, method_passes kind.Instance m ofs of s h refl (named kind.Instance m ofs of h), null_straight of s)
+    instance_straight m ofs of s h =
+        let passes = method_passes kind.Instance m ofs of s h refl (named kind.Instance m ofs of h) in
+        (kind_of of ∷ s, passes, null_straight of s)
 
     pub static_straight : (m : Member) (ofs : List Ty) (of : Ty) (s : List Slot) → MemberAgrees (known allow funs) kind.Static m ofs of
         → Straight allow functions f (operation_code (operation.Static m) of) (push_types ofs s) (push of s)
-    static_straight m ofs of s h = (kind_of of ∷ s, method_passes kind.Static m ofs of s h refl (named kind.Static m ofs of h), null_straight of s)
+    static_straight m ofs of s h =
+        let passes = method_passes kind.Static m ofs of s h refl (named kind.Static m ofs of h) in
+        (kind_of of ∷ s, passes, null_straight of s)
 
     pub constructor_straight : (m : Member) (ofs : List Ty) (of : Ty) (s : List Slot) → MemberAgrees (known allow funs) kind.Constructor m ofs of
         → Straight allow functions f (operation_code (operation.Constructor m) of) (push_types ofs s) (push of s)
@@ -248,11 +255,15 @@ module _ (allow : AllowList) (functions : List FunCode) (f : FunCode) where
         → Straight allow functions f (operation_code (operation.Field m) of) (push_types ofs s) (push of s)
     field_straight m ofs of s h =
         let shaped = (shaped_at m.number h.member h.is).1 in
-        let bare : is_shaped_so kind.Field h.member.params h.member.result ≡ true = sym (ap (λ sort. is_shaped_so sort h.member.params h.member.result) h.sort) ∙ shaped in
+        let bare : is_shaped_so kind.Field h.member.params h.member.result ≡ true =
+        sym (ap (λ sort. is_shaped_so sort h.member.params h.member.result) h.sort) ∙ shaped in
         let none : ofs ≡ [] = h.takes ∙ no_parameters h.member.params h.member.result bare in
         let passes = field_passes m h.member s (named kind.Field m ofs of h) (stands_at m.number h.member h.is) in
-        let gives : Passes allow functions f (i.Field m.text) s (kind_of of ∷ s) = subst (λ of. Passes allow functions f (i.Field m.text) s (kind_of of ∷ s)) (sym h.gives) passes in
-        (kind_of of ∷ s, subst (λ ofs. Passes allow functions f (i.Field m.text) (push_types ofs s) (kind_of of ∷ s)) (sym none) gives, null_straight of s)
+        let gives : Passes allow functions f (i.Field m.text) s (kind_of of ∷ s) =
+        subst (λ of. Passes allow functions f (i.Field m.text) s (kind_of of ∷ s)) (sym h.gives) passes in
+        let reads : Passes allow functions f (i.Field m.text) (push_types ofs s) (kind_of of ∷ s) =
+        subst (λ ofs. Passes allow functions f (i.Field m.text) (push_types ofs s) (kind_of of ∷ s)) (sym none) gives in
+        (kind_of of ∷ s, reads, null_straight of s)
 
     -- ---- calls that a null receiver leaves out
 
@@ -276,4 +287,5 @@ module _ (allow : AllowList) (functions : List FunCode) (f : FunCode) where
 
     pub guard_null : (o : Operation) (ofs : List Ty) (of : Ty) (s : List Slot) → Guards (known allow funs) o ofs of
         → Straight allow functions f (without_null (lying_of of)) (R ∷ s) (push of s)
-    guard_null o ofs of s h = subst (λ k. Straight allow functions f (without_null (lying_of of)) (k ∷ s) (push of s)) (guard_kind o ofs of h) (null_straight of s)
+    guard_null o ofs of s h =
+        subst (λ k. Straight allow functions f (without_null (lying_of of)) (k ∷ s) (push of s)) (guard_kind o ofs of h) (null_straight of s)

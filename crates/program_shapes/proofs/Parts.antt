@@ -53,7 +53,9 @@ module _ (allow : AllowList) (functions : List FunCode) (f : FunCode) where
         expr_kinds s a
         ++ ((R ∷ s)
         ∷ (R ∷ R ∷ s)
-        ∷ (exprs_kinds (R ∷ s) others ++ (spans allow functions f (member_code o) (push_types (types_of others) (R ∷ s)) ++ spans allow functions f (without_null (lying_of of)) (R ∷ s))))
+        ∷ (exprs_kinds (R ∷ s) others
+        ++ (spans allow functions f (member_code o) (push_types (types_of others) (R ∷ s))
+        ++ spans allow functions f (without_null (lying_of of)) (R ∷ s))))
     expr_kinds s (Logic at of o left right) = expr_kinds s left ++ ((I ∷ s) ∷ (expr_kinds s right ++ ((I ∷ s) ∷ s ∷ [])))
     expr_kinds s (Conditional at of c a b) = expr_kinds s c ++ ((I ∷ s) ∷ (expr_kinds s a ++ (push of s ∷ expr_kinds s b)))
     expr_kinds s (Elvis at of left right) = expr_kinds s left ++ ((R ∷ s) ∷ (R ∷ R ∷ s) ∷ (R ∷ s) ∷ (R ∷ s) ∷ expr_kinds s right)
@@ -146,7 +148,8 @@ module _ (allow : AllowList) (functions : List FunCode) (f : FunCode) where
         (behind (R ∷ s)
         (behind (R ∷ R ∷ s)
         (joined (exprs_ends _ (R ∷ s) others)
-        (joined (spans_end allow functions f (member_code o) _ (push_types (types_of others) (R ∷ s))) (spans_end allow functions f (without_null (lying_of of)) _ (R ∷ s))))))
+        (joined (spans_end allow functions f (member_code o) _ (push_types (types_of others) (R ∷ s)))
+        (spans_end allow functions f (without_null (lying_of of)) _ (R ∷ s))))))
     expr_ends p s (Logic at of o left right) = joined (expr_ends p s left) (behind (I ∷ s) (joined (expr_ends _ s right) (behind (I ∷ s) (one s))))
     expr_ends p s (Conditional at of c a b) = joined (expr_ends p s c) (behind (I ∷ s) (joined (expr_ends _ s a) (behind (push of s) (expr_ends _ s b))))
     expr_ends p s (Elvis at of left right) = joined (expr_ends p s left) (behind (R ∷ s) (behind (R ∷ R ∷ s) (behind (R ∷ s) (behind (R ∷ s) (expr_ends _ s right)))))
