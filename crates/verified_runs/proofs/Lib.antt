@@ -9,7 +9,9 @@ mod Moves
 mod Throwing
 mod Calling
 mod Plains
+mod Testing
+mod Members
+mod Calls
 mod Steps
 pub mod Runs
 mod Rowless
-mod Testing

@@ -14,8 +14,9 @@ use Rattle.pl_code.specs.declared.kinds.Typed.{Typed}
 use Rattle.pl_code.specs.declared.kinds.Typed.TheVariants as typed
 use Rattle.pl_code.specs.declared.code.FunCode.{FunCode}
 use Rattle.pl_code.specs.declared.code.Instruction.TheVariants as i
+use Rattle.code_shapes.specs.Members.{method_of, constructor_of, field_of}
 use Rattle.run_world.specs.World.{World, Limits}
-use Rattle.code_meaning.specs.Machine.{Frame, Next, Stuck, on_type, is_written, plain_act, numbered_act, quoted_act, typed_act, cast_act}
+use Rattle.code_meaning.specs.Machine.{Frame, Next, Stuck, on_type, is_written, plain_act, numbered_act, quoted_act, typed_act, cast_act, member_act}
 use Rattle.verified_runs.specs.Rows.{plain_has_row, numbered_has_row, quoting_has_row, typed_has_row}
 use Rattle.verified_runs.specs.Laws.{NoOtherRows}
 
@@ -75,23 +76,27 @@ typed_stuck code limits typed.IsA of f below w none = type_stuck (type_of_full o
 typed_stuck code limits typed.LoadElement of f below w none = each_stuck (type_of_full of) (λ of. typed_act code limits typed.LoadElement of f below w) (λ of. refl)
 typed_stuck code limits typed.StoreElement of f below w none = each_stuck (type_of_full of) (λ of. typed_act code limits typed.StoreElement of f below w) (λ of. refl)
 
+member_stuck : (code : List FunCode) (limits : Limits) (o : Option ℕ) (f : Frame) (below : List Frame) (w : World) → is_some o ≡ false → member_act code limits o f below w ≡ Stuck
+member_stuck code limits None f below w unnamed = refl
+member_stuck code limits (Some number) f below w unnamed = absurd (false≢true (sym unnamed))
+
 pub no_other_rows : NoOtherRows
-no_other_rows code limits (i.Plain p) f below w none = plain_stuck code limits p f below w none
-no_other_rows code limits (i.Arithmetic o width) f below w none = absurd (false≢true (sym none))
-no_other_rows code limits (i.Int a) f below w none = absurd (false≢true (sym none))
-no_other_rows code limits (i.Long a) f below w none = absurd (false≢true (sym none))
-no_other_rows code limits (i.Numbered n k) f below w none = numbered_stuck code limits n k f below w none
-no_other_rows code limits (i.Boxing p) f below w none = absurd (false≢true (sym none))
-no_other_rows code limits (i.Unboxing p way) f below w none = absurd (false≢true (sym none))
-no_other_rows code limits (i.Dynamic o) f below w none = refl
-no_other_rows code limits (i.Quoted q text) f below w none = quoted_stuck code limits q text f below w none
-no_other_rows code limits (i.Cast to way) f below w none = type_stuck (type_of_full to) (λ to. cast_act code limits to (is_written way) f below w) none
-no_other_rows code limits (i.Typed t of) f below w none = typed_stuck code limits t of f below w none
-no_other_rows code limits (i.Sized t of n) f below w none = refl
-no_other_rows code limits (i.DefCall word n) f below w none = refl
-no_other_rows code limits (i.Invoke m) f below w none = refl
-no_other_rows code limits (i.New m) f below w none = refl
-no_other_rows code limits (i.Field m) f below w none = refl
-no_other_rows code limits (i.Lambda interface k n) f below w none = refl
-no_other_rows code limits (i.Ref interface of word) f below w none = refl
-no_other_rows code limits (i.NewRef interface of) f below w none = refl
+no_other_rows code limits (i.Plain p) f below w none unnamed = plain_stuck code limits p f below w none
+no_other_rows code limits (i.Arithmetic o width) f below w none unnamed = absurd (false≢true (sym none))
+no_other_rows code limits (i.Int a) f below w none unnamed = absurd (false≢true (sym none))
+no_other_rows code limits (i.Long a) f below w none unnamed = absurd (false≢true (sym none))
+no_other_rows code limits (i.Numbered n k) f below w none unnamed = numbered_stuck code limits n k f below w none
+no_other_rows code limits (i.Boxing p) f below w none unnamed = absurd (false≢true (sym none))
+no_other_rows code limits (i.Unboxing p way) f below w none unnamed = absurd (false≢true (sym none))
+no_other_rows code limits (i.Dynamic o) f below w none unnamed = refl
+no_other_rows code limits (i.Quoted q text) f below w none unnamed = quoted_stuck code limits q text f below w none
+no_other_rows code limits (i.Cast to way) f below w none unnamed = type_stuck (type_of_full to) (λ to. cast_act code limits to (is_written way) f below w) none
+no_other_rows code limits (i.Typed t of) f below w none unnamed = typed_stuck code limits t of f below w none
+no_other_rows code limits (i.Sized t of n) f below w none unnamed = refl
+no_other_rows code limits (i.DefCall word n) f below w none unnamed = refl
+no_other_rows code limits (i.Invoke m) f below w none unnamed = member_stuck code limits (method_of limits.allowed m) f below w unnamed
+no_other_rows code limits (i.New m) f below w none unnamed = member_stuck code limits (constructor_of limits.allowed m) f below w unnamed
+no_other_rows code limits (i.Field m) f below w none unnamed = member_stuck code limits (field_of limits.allowed m) f below w unnamed
+no_other_rows code limits (i.Lambda interface k n) f below w none unnamed = refl
+no_other_rows code limits (i.Ref interface of word) f below w none unnamed = refl
+no_other_rows code limits (i.NewRef interface of) f below w none unnamed = refl

@@ -51,7 +51,7 @@ all_starts_fit c limits f words w s is params reached = starts_fit c.allow c.cod
 
 -- ---- never stuck
 
-module _ (allow : AllowList) (code : List FunCode) (limits : Limits) (well : IsWellShapedCode allow code) (rows : HaveRows code) where
+module _ (allow : AllowList) (code : List FunCode) (limits : Limits) (well : IsWellShapedCode allow code) (under : limits.allowed ≡ allow) (rows : HaveRows allow code) where
   moved_fits : (from : ℕ) (n : Next) → Moves allow code limits from n → FitsNext allow code limits n
   moved_fits from (Goes c) m = m.fits
   moved_fits from (Ends r) m = m
@@ -59,7 +59,7 @@ module _ (allow : AllowList) (code : List FunCode) (limits : Limits) (well : IsW
 
   pub stays_fitting : (steps : ℕ) (from : Next) → FitsNext allow code limits from → FitsNext allow code limits (after code limits steps from)
   stays_fitting zero from fits = fits
-  stays_fitting (suc k) (Goes c) fits = stays_fitting k (step code limits c) (moved_fits (left_of code limits c) (step code limits c) (step_moves allow code limits well rows c fits))
+  stays_fitting (suc k) (Goes c) fits = stays_fitting k (step code limits c) (moved_fits (left_of code limits c) (step code limits c) (step_moves allow code limits well under rows c fits))
   stays_fitting (suc k) (Ends r) fits = fits
   stays_fitting (suc k) Stuck fits = fits
 
@@ -88,7 +88,7 @@ module _ (allow : AllowList) (code : List FunCode) (limits : Limits) (well : IsW
   ends_in zero from (Goes c) m h = absurd (nothing_left (left_of code limits c) from m.less h (some_left c m.fits))
   ends_in (suc k) from (Goes c) m h =
       let less = m.less in
-      let e = ends_in k (left_of code limits c) (step code limits c) (step_moves allow code limits well rows c m.fits) (omega (arith, less, h)) in
+      let e = ends_in k (left_of code limits c) (step code limits c) (step_moves allow code limits well under rows c m.fits) (omega (arith, less, h)) in
       record { end = e.end; ends = e.ends; fits = e.fits }
 
   fitting_ends : (c : Config) (steps : ℕ) → FitsConfig allow code limits c → left_of code limits c ≤ steps → EndsWithin allow code limits steps (Goes c)
@@ -99,27 +99,27 @@ module _ (allow : AllowList) (code : List FunCode) (limits : Limits) (well : IsW
   ends_within c fits = fitting_ends c (most_steps code limits c.world.ticks) fits (left_most code limits c fits.within)
 
 pub never_stuck : NeverStuck
-never_stuck c limits from steps s rows fits = stays_fitting c.allow c.code.functions limits (well_shaped c s) rows steps from fits
+never_stuck c limits from steps s under rows fits = stays_fitting c.allow c.code.functions limits (well_shaped c s) under rows steps from fits
 
 pub runs_end : RunsEnd
-runs_end c limits from s rows fits =
-    ends_within c.allow c.code.functions limits (well_shaped c s) rows from fits
+runs_end c limits from s under rows fits =
+    ends_within c.allow c.code.functions limits (well_shaped c s) under rows from fits
 
 abbrev started : FunCode → List Word → World → Config
 started g words w = record { top = record { text = Script; fun = 0; line = 0; locals = words ++ map start_of g.locals; stack = []; turns = 0; due = [] }; below = []; world = w }
 
-start_ends : (allow : AllowList) (code : List FunCode) (limits : Limits) → IsWellShapedCode allow code → HaveRows code → (f : FunCode) (words : List Word) (w : World) (o : Option FunCode) → o ≡ Some f
+start_ends : (allow : AllowList) (code : List FunCode) (limits : Limits) → IsWellShapedCode allow code → limits.allowed ≡ allow → HaveRows allow code → (f : FunCode) (words : List Word) (w : World) (o : Option FunCode) → o ≡ Some f
     → FitsNext allow code limits (start_at o words w) → EndsWithin allow code limits (most_steps code limits w.ticks) (start_at o words w)
-start_ends allow code limits well rows f words w None is fits = cc
-start_ends allow code limits well rows f words w (Some g) is fits = ends_within allow code limits well rows (started g words w) fits
+start_ends allow code limits well under rows f words w None is fits = cc
+start_ends allow code limits well under rows f words w (Some g) is fits = ends_within allow code limits well under rows (started g words w) fits
 
-pub run_ends : (allow : AllowList) (code : List FunCode) (limits : Limits) → IsWellShapedCode allow code → HaveRows code → (f : FunCode) (words : List Word) (w : World) → slice_get code 0 ≡ Some f → kinds_of words ≡ f.params
+pub run_ends : (allow : AllowList) (code : List FunCode) (limits : Limits) → IsWellShapedCode allow code → limits.allowed ≡ allow → HaveRows allow code → (f : FunCode) (words : List Word) (w : World) → slice_get code 0 ≡ Some f → kinds_of words ≡ f.params
     → ReachesAllowed allow w → EndsWithin allow code limits (most_steps code limits w.ticks) (start code words w)
-run_ends allow code limits well rows f words w is params reached =
-    start_ends allow code limits well rows f words w (slice_get code 0) is (starts_fit allow code limits f words w well is params reached)
+run_ends allow code limits well under rows f words w is params reached =
+    start_ends allow code limits well under rows f words w (slice_get code 0) is (starts_fit allow code limits f words w well is params reached)
 
 pub starts_end : StartsEnd
-starts_end c limits f words w s rows is params reached = run_ends c.allow c.code.functions limits (well_shaped c s) rows f words w is params reached
+starts_end c limits f words w s under rows is params reached = run_ends c.allow c.code.functions limits (well_shaped c s) under rows f words w is params reached
 
 -- ---- frames below
 

@@ -28,12 +28,13 @@ use Rattle.pl_code.specs.declared.code.Instruction.TheVariants as i
 use Rattle.allowlist.specs.Allow.{AllowList}
 use Rattle.code_shapes.specs.declared.copying.Copying.TheVariants as copying
 use Rattle.code_shapes.specs.Effects.{effect_of, flow_of, left_by, local_kind}
+use Rattle.code_shapes.specs.Members.{method_of, constructor_of, field_of}
 use Rattle.code_shapes.specs.Types.{kind_of_primitive}
 use Rattle.verifier.specs.Shaped.{IsWellShapedCode}
 use Rattle.run_world.specs.World.{World, Limits, acts_in}
 use Rattle.code_meaning.specs.declared.word.Word.TheVariants.{I, J, R}
 use Rattle.code_meaning.specs.Words.{calculation, unboxed, bit}
-use Rattle.code_meaning.specs.Machine.{Frame, Config, Next, to_line, on_outcome, on_thrown, on_type, is_written, plain_act, numbered_act, quoted_act, typed_act, cast_act, act, acts, lines_of, step}
+use Rattle.code_meaning.specs.Machine.{Frame, Config, Next, to_line, on_outcome, on_thrown, on_type, is_written, plain_act, numbered_act, quoted_act, typed_act, cast_act, member_act, act, acts, lines_of, step}
 use Rattle.verified_runs.specs.Rows.{plain_has_row, numbered_has_row, quoting_has_row, typed_has_row, has_row, HaveRows}
 use Rattle.verified_runs.specs.Fits.{kinds_of, frame_kinds, FitsConfig}
 use Rattle.verified_runs.proofs.Words.{on_one_int, on_one_long, on_one_reference, on_two_references}
@@ -45,9 +46,10 @@ use Rattle.verified_runs.proofs.Lowering.{left_at, left_of}
 use Rattle.verified_runs.proofs.Moves.{Moves, Here}
 use Rattle.verified_runs.proofs.Throwing.{effect_moves, throw_moves}
 use Rattle.verified_runs.proofs.Calling.{call_moves, return_moves}
+use Rattle.verified_runs.proofs.Calls.{invoked_moves, made_moves, read_moves}
 use Rattle.verified_runs.proofs.Plains.{puts, next_with, copies, pops, dups, dups_two, dups_under_one, dups_under_two, loads_local, stores_local, calculated, boxes, jumps, branches_at_zero, branches_at_others, branches_at_null, loops}
 
-module _ (allow : AllowList) (code : List FunCode) (limits : Limits) (well : IsWellShapedCode allow code) (function : FunCode) (f : Frame) (below : List Frame) (w : World) (here : Here allow code limits function f below w) where
+module _ (allow : AllowList) (code : List FunCode) (limits : Limits) (well : IsWellShapedCode allow code) (function : FunCode) (f : Frame) (below : List Frame) (w : World) (here : Here allow code limits function f below w) (under : limits.allowed ≡ allow) where
   abbrev Moved : Next → Type 0
   Moved next = Moves allow code limits (left_at code limits f below w) next
 
@@ -140,7 +142,7 @@ module _ (allow : AllowList) (code : List FunCode) (limits : Limits) (well : IsW
       (λ value stack kinds. effect_moves allow code limits well function f below w (i.Cast to way) s here R slot.R stack
       (effect w.store (cast_at_run_time w.store.objects value is (is_written way))) refl kinds (whole_is (effect w.store (cast_at_run_time w.store.objects value is (is_written way))))))
 
-  act_moves : (instruction : Instruction) → has_row instruction ≡ true → At instruction → Moved (act code limits instruction f below w)
+  act_moves : (instruction : Instruction) → has_row allow instruction ≡ true → At instruction → Moved (act code limits instruction f below w)
   unfolding effect_of flow_of left_by
   act_moves (i.Plain p) row s = plain_moves p row s
   act_moves (i.Arithmetic o width) row s =
@@ -160,20 +162,26 @@ module _ (allow : AllowList) (code : List FunCode) (limits : Limits) (well : IsW
   act_moves (i.Typed t of) row s = typed_moves t of row s
   act_moves (i.Sized t of n) row s = absurd (false≢true row)
   act_moves (i.DefCall word n) row s = absurd (false≢true row)
-  act_moves (i.Invoke m) row s = absurd (false≢true row)
-  act_moves (i.New m) row s = absurd (false≢true row)
-  act_moves (i.Field m) row s = absurd (false≢true row)
+  act_moves (i.Invoke m) row s =
+      subst (λ (list : AllowList). Moved (member_act code limits (method_of list m) f below w)) (sym under)
+      (invoked_moves allow code limits well function f below (i.Invoke m) s refl w here m (method_of allow m) refl row s.leaves)
+  act_moves (i.New m) row s =
+      subst (λ (list : AllowList). Moved (member_act code limits (constructor_of list m) f below w)) (sym under)
+      (made_moves allow code limits well function f below (i.New m) s refl w here m (constructor_of allow m) refl row s.leaves)
+  act_moves (i.Field m) row s =
+      subst (λ (list : AllowList). Moved (member_act code limits (field_of list m) f below w)) (sym under)
+      (read_moves allow code limits well function f below (i.Field m) s refl w here m (field_of allow m) refl row s.leaves)
   act_moves (i.Lambda interface k n) row s = absurd (false≢true row)
   act_moves (i.Ref interface of word) row s = absurd (false≢true row)
   act_moves (i.NewRef interface of) row s = absurd (false≢true row)
 
 -- A configuration that fits takes a step to one that fits, of which less is left, or ends.
-pub step_moves : (allow : AllowList) (code : List FunCode) (limits : Limits) → IsWellShapedCode allow code → HaveRows code → (c : Config) → FitsConfig allow code limits c
+pub step_moves : (allow : AllowList) (code : List FunCode) (limits : Limits) → IsWellShapedCode allow code → limits.allowed ≡ allow → HaveRows allow code → (c : Config) → FitsConfig allow code limits c
     → Moves allow code limits (left_of code limits c) (step code limits c)
-step_moves allow code limits well rows c fits =
+step_moves allow code limits well under rows c fits =
     let here : Here allow code limits fits.function c.top c.below c.world = record { fits = fits.top; due = fits.due; belows = fits.below; within = fits.within; reached = fits.reached } in
     let st = standing allow code fits.function (frame_kinds c.top) well fits.top in
     let row = rows.each c.top.fun c.top.line fits.function st.instruction fits.top.is st.is in
     let there : slice_get (lines_of code limits (slice_get code c.top.fun)) c.top.line ≡ Some st.instruction = ap (λ o. slice_get (lines_of code limits o) c.top.line) fits.top.is ∙ st.is in
     subst (λ o. Moves allow code limits (left_of code limits c) (acts code limits o c.top c.below c.world)) (sym there)
-    (act_moves allow code limits well fits.function c.top c.below c.world here st.instruction row st.stands)
+    (act_moves allow code limits well fits.function c.top c.below c.world here under st.instruction row st.stands)

@@ -8,39 +8,45 @@ use Rattle.verifier.specs.Verified.{CodeUnder, IsSound}
 use Rattle.run_world.specs.World.{World, Limits}
 use Rattle.code_meaning.specs.declared.word.Word.{Word}
 use Rattle.code_meaning.specs.Machine.{Frame, Config, Next, Goes, Stuck, start, act, after}
-use Rattle.verified_runs.specs.Rows.{has_row, HaveRows}
+use Rattle.verified_runs.specs.Rows.{has_row, names_member, HaveRows}
 use Rattle.verified_runs.specs.Fits.{kinds_of, frame_kinds, ReachesAllowed, FitsConfig, FitsNext}
 use Rattle.verified_runs.specs.Bounds.{most_steps, EndsWithin}
 
 -- Where a run begins on words of the kinds of function 0's parameters it fits, where no members but of the list were reached before.
 abbrev pub StartsFit : Type 0
 StartsFit =
-    (c : CodeUnder) (limits : Limits) (f : FunCode) (words : List Word) (w : World) → IsSound c → slice_get c.code.functions 0 ≡ Some f → kinds_of words ≡ f.params → ReachesAllowed c.allow w
-    → FitsNext c.allow c.code.functions limits (start c.code.functions words w)
+    (c : CodeUnder) (limits : Limits) (f : FunCode) (words : List Word) (w : World) → IsSound c → slice_get c.code.functions 0 ≡ Some f
+    → kinds_of words ≡ f.params → ReachesAllowed c.allow w → FitsNext c.allow c.code.functions limits (start c.code.functions words w)
 
 -- A run that fits goes on fitting, however many steps it takes, until it ends: it is never stuck, and reaches members of the list alone.
 abbrev pub NeverStuck : Type 0
 NeverStuck =
-    (c : CodeUnder) (limits : Limits) (from : Next) (steps : ℕ) → IsSound c → limits.allowed ≡ c.allow → HaveRows c.allow c.code.functions → FitsNext c.allow c.code.functions limits from
-    → FitsNext c.allow c.code.functions limits (after c.code.functions limits steps from)
+    (c : CodeUnder) (limits : Limits) (from : Next) (steps : ℕ) → IsSound c → limits.allowed ≡ c.allow → HaveRows c.allow c.code.functions
+    → FitsNext c.allow c.code.functions limits from → FitsNext c.allow c.code.functions limits (after c.code.functions limits steps from)
 
 -- A run that fits ends: within a bound that the ticks that are left, the limit of depth and the longest function give.
 abbrev pub RunsEnd : Type 0
 RunsEnd =
-    (c : CodeUnder) (limits : Limits) (from : Config) → IsSound c → limits.allowed ≡ c.allow → HaveRows c.allow c.code.functions → FitsConfig c.allow c.code.functions limits from
+    (c : CodeUnder) (limits : Limits) (from : Config) → IsSound c → limits.allowed ≡ c.allow → HaveRows c.allow c.code.functions
+    → FitsConfig c.allow c.code.functions limits from
     → EndsWithin c.allow c.code.functions limits (most_steps c.code.functions limits from.world.ticks) (Goes from)
 
 -- So a run of function 0 on words of its parameters' kinds ends, within that bound.
 abbrev pub StartsEnd : Type 0
 StartsEnd =
-    (c : CodeUnder) (limits : Limits) (f : FunCode) (words : List Word) (w : World) → IsSound c → limits.allowed ≡ c.allow → HaveRows c.allow c.code.functions → slice_get c.code.functions 0 ≡ Some f → kinds_of words ≡ f.params → ReachesAllowed c.allow w
+    (c : CodeUnder) (limits : Limits) (f : FunCode) (words : List Word) (w : World) → IsSound c → limits.allowed ≡ c.allow
+    → HaveRows c.allow c.code.functions → slice_get c.code.functions 0 ≡ Some f → kinds_of words ≡ f.params → ReachesAllowed c.allow w
     → EndsWithin c.allow c.code.functions limits (most_steps c.code.functions limits w.ticks) (start c.code.functions words w)
 
 -- The frames below the top of a configuration that fits are such that verified code goes on with them.
 abbrev pub FramesFit : Type 0
-FramesFit = (allow : AllowList) (code : List FunCode) (limits : Limits) (c : Config) (fits : FitsConfig allow code limits c) → FitBelow allow code (map frame_kinds c.below) fits.function.result
+FramesFit =
+    (allow : AllowList) (code : List FunCode) (limits : Limits) (c : Config) (fits : FitsConfig allow code limits c)
+    → FitBelow allow code (map frame_kinds c.below) fits.function.result
 
--- What has no row is stuck wherever it stands: the rows that are listed are all.
+-- What has no row is stuck wherever it stands: the rows that are listed are all. Of a member of the list this is not said: the call of one
+-- that has no row may throw, since its receiver is null, or end for want of ticks, before what the member does is asked.
 abbrev pub NoOtherRows : Type 0
 NoOtherRows =
-    (code : List FunCode) (limits : Limits) (instruction : Instruction) (f : Frame) (below : List Frame) (w : World) → has_row limits.allowed instruction ≡ false → act code limits instruction f below w ≡ Stuck
+    (code : List FunCode) (limits : Limits) (instruction : Instruction) (f : Frame) (below : List Frame) (w : World)
+    → has_row limits.allowed instruction ≡ false → names_member limits.allowed instruction ≡ false → act code limits instruction f below w ≡ Stuck

@@ -80,9 +80,18 @@ has_row allow (i.New constructor) = member_has_row (constructor_of allow constru
 has_row allow (i.Field field) = member_has_row (field_of allow field)
 has_row allow other = false
 
+-- whether an instruction names a member of the list, with a row or without
+abbrev pub names_member : AllowList → Instruction → Bool
+names_member allow (i.Invoke method) = is_some (method_of allow method)
+names_member allow (i.New constructor) = is_some (constructor_of allow constructor)
+names_member allow (i.Field field) = is_some (field_of allow field)
+names_member allow other = false
+
 abbrev pub function_has_rows : AllowList → FunCode → Bool
 function_has_rows allow f = list_all (has_row allow) f.lines
 
 -- each instruction of code has a row
 pub record HaveRows (allow : AllowList) (code : List FunCode) : Type 0 where
-  pub each : (function line : ℕ) (f : FunCode) (instruction : Instruction) → slice_get code function ≡ Some f → slice_get f.lines line ≡ Some instruction → has_row allow instruction ≡ true
+  pub each :
+      (function line : ℕ) (f : FunCode) (instruction : Instruction) → slice_get code function ≡ Some f → slice_get f.lines line ≡ Some instruction
+      → has_row allow instruction ≡ true

@@ -3,6 +3,7 @@
 
 mod arguments;
 mod laws;
+mod plain_members;
 mod rows;
 mod types;
 

@@ -1,39 +1,47 @@
 //! Which code has rows for all of its instructions.
-ghost use Rattle.std.specs.Prelude.{◌≡◌, ◌↔◌, IsTrue};
+ghost use Rattle.std.specs.Prelude.{◌≡◌, ◌<◌, ◌↔◌, IfSome, IsTrue};
 ghost use Rattle.std.specs.List.{list_all};
+ghost use Rattle.allowlist.specs.Index.{member_at};
+ghost use Rattle.member_acts.specs.Types.{is_plain_member};
 ghost use Rattle.verified_runs.specs.Rows as rows;
 ghost use Rattle.verified_runs.specs.Rows.{HaveRows};
 
+use crate::plain_members::is_plain_member;
 use crate::types::is_full_type;
+use allowlist::Allow;
+use code_shapes::{constructor_of, field_of, method_of};
+use member_acts::is_built;
 use pl_code::{Code, FunCode, Instruction, Numbered, Plain, Quoting, Typed};
 
-/// Whether each instruction of code has a row.
-pub fn have_rows(code: &Code) -> bool
-    ensures { IsTrue result ↔ HaveRows code.now.functions }
+/// Whether each instruction of code has a row under a list of the members that are allowed.
+pub fn have_rows(allow: &Allow, code: &Code) -> bool
+    ensures { IsTrue result ↔ HaveRows allow.now code.now.functions }
 {
-    all_have_rows(code.functions.as_slice())
+    all_have_rows(allow, code.functions.as_slice())
 }
 
-fn all_have_rows(functions: &[FunCode]) -> bool
-    ensures { result ≡ list_all rows.function_has_rows functions.now }
+fn all_have_rows(allow: &Allow, functions: &[FunCode]) -> bool
+    ensures { result ≡ list_all (rows.function_has_rows allow.now) functions.now }
 {
-    functions.iter().all(|function| function_has_rows(function))
+    functions
+        .iter()
+        .all(|function| function_has_rows(allow, function))
 }
 
-fn function_has_rows(function: &FunCode) -> bool
-    ensures { result ≡ rows.function_has_rows function.now }
+fn function_has_rows(allow: &Allow, function: &FunCode) -> bool
+    ensures { result ≡ rows.function_has_rows allow.now function.now }
 {
-    lines_have_rows(function.lines.as_slice())
+    lines_have_rows(allow, function.lines.as_slice())
 }
 
-fn lines_have_rows(lines: &[Instruction]) -> bool
-    ensures { result ≡ list_all rows.has_row lines.now }
+fn lines_have_rows(allow: &Allow, lines: &[Instruction]) -> bool
+    ensures { result ≡ list_all (rows.has_row allow.now) lines.now }
 {
-    lines.iter().all(|instruction| has_row(instruction))
+    lines.iter().all(|instruction| has_row(allow, instruction))
 }
 
-fn has_row(instruction: &Instruction) -> bool
-    ensures { result ≡ rows.has_row instruction.now }
+fn has_row(allow: &Allow, instruction: &Instruction) -> bool
+    ensures { result ≡ rows.has_row allow.now instruction.now }
 {
     match instruction {
         Instruction::Plain(kind) => plain_has_row(*kind),
@@ -41,6 +49,11 @@ fn has_row(instruction: &Instruction) -> bool
         Instruction::Quoted(kind, _) => quoting_has_row(*kind),
         Instruction::Typed(kind, ty) => typed_has_row(*kind, ty.as_str().as_bytes()),
         Instruction::Cast(ty, _) => is_full_type(ty.as_str().as_bytes()),
+        Instruction::Invoke(method) => member_has_row(allow, method_of(allow, method)),
+        Instruction::New(constructor) => {
+            member_has_row(allow, constructor_of(allow, constructor))
+        }
+        Instruction::Field(field) => member_has_row(allow, field_of(allow, field)),
         Instruction::Arithmetic(_, _)
         | Instruction::Int(_)
         | Instruction::Long(_)
@@ -106,4 +119,22 @@ fn typed_has_row(kind: Typed, ty: &[u8]) -> bool
         Typed::IsA => is_full_type(ty),
         _ => false,
     }
+}
+
+/// Whether a member is built, and asks nothing of the references that it takes.
+fn member_has_row(allow: &Allow, member: Option<u32>) -> bool
+    requires within { IfSome member (λ number. number < 228) }
+    ensures { result ≡ rows.member_has_row member }
+{
+    match member {
+        Some(number) => is_built(number) && has_plain_member(allow, number),
+        None => false,
+    }
+}
+
+fn has_plain_member(allow: &Allow, number: u32) -> bool
+    requires within { number < 228 }
+    ensures { result ≡ is_plain_member (member_at number) }
+{
+    is_plain_member(allow.member_type(number))
 }

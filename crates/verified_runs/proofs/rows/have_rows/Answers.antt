@@ -7,5 +7,5 @@ use Rattle.verified_runs.proofs.rows.have_rows.Goals as goal
 
 pub returns : goal.returns
 returns c =
-    subst (λ (b : Bool). IsTrue b ↔ HaveRows c.args.code.now.functions) (sym (c.all_have_rows.ensures ∙ ap (list_all function_has_rows) c.as_slice.ensures))
-    (rows_tested c.args.code.now.functions)
+    subst (λ (b : Bool). IsTrue b ↔ HaveRows c.args.allow.now c.args.code.now.functions) (sym (c.all_have_rows.ensures ∙ ap (list_all (function_has_rows c.args.allow.now)) c.as_slice.ensures))
+    (rows_tested c.args.allow.now c.args.code.now.functions)
