@@ -5,4 +5,5 @@ pub mod Turning
 pub mod Numbers
 pub mod Rows
 pub mod Reaching
+pub mod Given
 pub mod Landing

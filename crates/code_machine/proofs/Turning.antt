@@ -54,16 +54,16 @@ of_sum steps first second sum e = ap (λ n. counted (steps + n)) e ∙ counted_t
 
 module _ (a : Activation) (first second : ℕ) where
   abbrev made : ℕ → Option Next → Activation
-  made steps now = record { code = a.code; limits = a.limits; now = now; steps = steps }
+  made steps now = record { code = a.code; limits = a.limits; allow = a.allow; now = now; steps = steps }
 
   by_now : (now : Option Next) → a.now ≡ now → later (first + second) a ≡ later second (later first a)
   by_now None e = subst (λ now. later (first + second) (made a.steps now) ≡ later second (later first (made a.steps now))) (sym e) refl
   by_now (Some n) e =
       subst (λ now. later (first + second) (made a.steps now) ≡ later second (later first (made a.steps now))) (sym e)
-      (ap (λ next. made (counted (a.steps + steps_taken a.code (limits_of a.limits) (first + second) n)) (Some next)) (adds a.code (limits_of a.limits) first second n)
-      ∙ ap (λ steps. made steps (Some (after a.code (limits_of a.limits) second (after a.code (limits_of a.limits) first n))))
-      (of_sum a.steps (steps_taken a.code (limits_of a.limits) first n) (steps_taken a.code (limits_of a.limits) second (after a.code (limits_of a.limits) first n))
-      (steps_taken a.code (limits_of a.limits) (first + second) n) (taken_adds a.code (limits_of a.limits) first second n)))
+      (ap (λ next. made (counted (a.steps + steps_taken a.code (limits_of a.limits a.allow) (first + second) n)) (Some next)) (adds a.code (limits_of a.limits a.allow) first second n)
+      ∙ ap (λ steps. made steps (Some (after a.code (limits_of a.limits a.allow) second (after a.code (limits_of a.limits a.allow) first n))))
+      (of_sum a.steps (steps_taken a.code (limits_of a.limits a.allow) first n) (steps_taken a.code (limits_of a.limits a.allow) second (after a.code (limits_of a.limits a.allow) first n))
+      (steps_taken a.code (limits_of a.limits a.allow) (first + second) n) (taken_adds a.code (limits_of a.limits a.allow) first second n)))
 
 pub turns_add : TurnsAdd
 turns_add a first second = by_now a first second a.now refl
@@ -74,7 +74,7 @@ the_rest steps q h = omega arith
 pub comes_to_its_end : ComesToItsEnd
 comes_to_its_end a from steps q end stands ends h =
     let code = a.code in
-    let limits = limits_of a.limits in
+    let limits = limits_of a.limits a.allow in
     let there : after code limits q from ≡ Ends end =
     ap (λ n. after code limits n from) (the_rest steps q h) ∙ adds code limits steps (q - steps) from ∙ ap (after code limits (q - steps)) ends ∙ end_stays code limits (q - steps) end in
-    ap (λ now. (later q (record { code = a.code; limits = a.limits; now = now; steps = a.steps })).now) stands ∙ ap (λ next. Some next) there
+    ap (λ now. (later q (record { code = a.code; limits = a.limits; allow = a.allow; now = now; steps = a.steps })).now) stands ∙ ap (λ next. Some next) there

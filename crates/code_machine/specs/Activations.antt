@@ -1,5 +1,6 @@
 -- Activations: runs that stop between any two instructions and go on.
 use Rattle.std.specs.Prelude.{◌≡◌, ℕ, ◌+◌, ◌-◌, ◌^◌, min, Bool, true, false, List, Option, Some, None, option_map, IsTrue, IsNone}
+use Rattle.allowlist.specs.Allow.{AllowList}
 use Rattle.pl_code.specs.declared.code.FunCode.{FunCode}
 use Rattle.code_meaning.specs.Machine.{Next, Goes, Ends, Stuck, after}
 use Rattle.task_core.specs.declared.task.Turn.{Turn}
@@ -15,6 +16,8 @@ use Rattle.code_machine.specs.Runs.{steps_taken}
 pub record Activation : Type 0 where
   pub code : List FunCode
   pub limits : Limits
+  -- the members that may be called
+  pub allow : AllowList
   -- where it stands; nothing after want of memory
   pub now : Option Next
   -- how many instructions were taken, as far as 64 bits count them
@@ -30,11 +33,11 @@ counted n = min n (2 ^ 64 - 1)
 
 abbrev pub steps_from : Activation → ℕ → Option Next → ℕ
 steps_from a q None = a.steps
-steps_from a q (Some n) = counted (a.steps + steps_taken a.code (limits_of a.limits) q n)
+steps_from a q (Some n) = counted (a.steps + steps_taken a.code (limits_of a.limits a.allow) q n)
 
 -- an activation after so many instructions more
 abbrev pub later : ℕ → Activation → Activation
-later q a = record { code = a.code; limits = a.limits; now = option_map (after a.code (limits_of a.limits) q) a.now; steps = steps_from a q a.now }
+later q a = record { code = a.code; limits = a.limits; allow = a.allow; now = option_map (after a.code (limits_of a.limits a.allow) q) a.now; steps = steps_from a q a.now }
 
 abbrev pub goes : Option Next → Bool
 goes None = false

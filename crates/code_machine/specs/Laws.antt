@@ -14,4 +14,4 @@ TurnsAdd = (a : Activation) (first second : ℕ) → later (first + second) a �
 abbrev pub ComesToItsEnd : Type 0
 ComesToItsEnd =
     (a : Activation) (from : Next) (steps q : ℕ) (end : End (Option Word))
-    → a.now ≡ Some from → after a.code (limits_of a.limits) steps from ≡ Ends end → steps ≤ q → (later q a).now ≡ Some (Ends end)
+    → a.now ≡ Some from → after a.code (limits_of a.limits a.allow) steps from ≡ Ends end → steps ≤ q → (later q a).now ≡ Some (Ends end)

@@ -1,5 +1,6 @@
 -- The machine's parts as the configurations of which the meaning of code speaks.
 use Rattle.std.specs.Prelude.{◌≡◌, ℤ, Bool, true, false, List, [], ◌∷◌, Option, Some, None}
+use Rattle.allowlist.specs.Allow.{AllowList}
 use Rattle.object_heap.specs.declared.outcome.Which.{Which}
 use Rattle.object_heap.specs.declared.outcome.Which.TheVariants as which
 use Rattle.run_world.specs.World.{World, Limit, Loop, Depth, Ticks, Room, Limits, Result, Uncaught, Limited}
@@ -32,8 +33,8 @@ world_of w = record { store = w.heap; ticks = w.ticks; reached = w.reached }
 abbrev pub configuration_of : Configuration → Config
 configuration_of c = record { top = frame_of c.top; below = frames_of c.below; world = world_of c.world }
 
-abbrev pub limits_of : held_limits.Limits → Limits
-limits_of l = record { loop = l.loops; depth = l.depth }
+abbrev pub limits_of : held_limits.Limits → AllowList → Limits
+limits_of l allow = record { loop = l.loops; depth = l.depth; allowed = allow }
 
 abbrev pub limit_of : Which → Limit
 limit_of which.Loop = Loop

@@ -5,8 +5,10 @@ ghost use Rattle.code_machine.specs.Activations.{Turned, Leaves, turn_of};
 
 use crate::calls::push_starts;
 use crate::configuration::{Configuration, End, Frame, Limits, Step, World};
+use crate::rules::Rules;
 use crate::running::{Ran, run_on};
 use crate::stack::Stack;
+use allowlist::Allow;
 use code_meaning::Word;
 use object_heap::Heap;
 use object_values::{Elements, Owner};
@@ -22,6 +24,7 @@ const FRAMES: u32 = 256;
 #[derive(Drop)]
 pub struct Activation<'c> {
     code: &'c Code,
+    allow: &'c Allow,
     limits: Limits,
     run: Configuration,
     last: Step,
@@ -51,20 +54,22 @@ impl<'c> Model for Activation<'c> {
 
     ghost coded = { Prim.hlevel (codes, ty.the_row.coded) };
 
-    ghost view = { λ a. record { code = a.code.now.functions; limits = a.limits; now = now_of a.last a.run; steps = a.steps } };
+    ghost view = { λ a. record { code = a.code.now.functions; limits = a.limits; allow = a.allow.now; now = now_of a.last a.run; steps = a.steps } };
 
     ghost invariant = { λ a. a.steps < 2 ^ 64 };
 }
 
 impl<'c> Activation<'c> {
-    /// A run of function 0 of this code on these arguments. Where there is no such function the run is stuck.
+    /// A run of function 0 of this code on these arguments, which calls the members of this list and no others. Where there is no
+    /// such function the run is stuck.
     pub fn start(
         code: &'c Code,
+        allow: &'c Allow,
         heap: Heap,
         args: Elements<Word>,
         limits: Limits,
     ) -> Result<Activation<'c>, AllocError>
-        ensures { IfOk result (λ a. a ≡ record { code = code.now.functions; limits = limits; now = Some (start code.now.functions args (record { store = heap; ticks = limits.ticks; reached = [] })); steps = 0 }) }
+        ensures { IfOk result (λ a. a ≡ record { code = code.now.functions; limits = limits; allow = allow.now; now = Some (start code.now.functions args (record { store = heap; ticks = limits.ticks; reached = [] })); steps = 0 }) }
     {
         let mut locals = args;
         let last = match code.functions.get(0) {
@@ -91,6 +96,7 @@ impl<'c> Activation<'c> {
         };
         Ok(Activation {
             code,
+            allow,
             limits,
             run: Configuration { top, below, world },
             last,
@@ -106,7 +112,8 @@ impl<'c> Activation<'c> {
         ensures { Turned q self.old self.new result }
     {
         if self.last.goes() {
-            let Ran { last, steps } = run_on(&mut self.run, self.code, &self.limits, q);
+            let rules = Rules::new(self.limits, self.allow);
+            let Ran { last, steps } = run_on(&mut self.run, self.code, &rules, q);
             self.last = last;
             self.steps = self.steps.saturating_add(steps);
             turn_of(&self.last)
@@ -121,6 +128,7 @@ impl<'c> Activation<'c> {
     {
         let Activation {
             code: _,
+            allow: _,
             limits,
             run,
             last,

@@ -9,9 +9,10 @@ ghost use Rattle.code_meaning.specs.Words as words;
 ghost use Rattle.code_meaning.specs.declared.word.Word.{Word};
 ghost use Rattle.code_meaning.specs.declared.word.Word.TheVariants.{R};
 ghost use Rattle.code_meaning.specs.Machine.{on_top, on_value, on_reference, on_outcome, to_line, is_written};
-ghost use Rattle.code_machine.specs.Seen.{Comes, frame_of, with_stack, frames_of, limits_of, world_of};
+ghost use Rattle.code_machine.specs.Seen.{Comes, frame_of, with_stack, frames_of, world_of};
 
-use crate::configuration::{Configuration, End, Limits, Step};
+use crate::configuration::{Configuration, End, Step};
+use crate::rules::Rules;
 use crate::throwing::answered;
 use arithmetic::casts::{low_byte, low_char, low_short};
 use code_meaning::Word;
@@ -34,7 +35,8 @@ pub fn box_number(run: &mut Configuration, primitive: Primitive) -> Step
     }
 }
 
-fn boxed(primitive: Primitive, word: &Word) -> Option<Value>
+/// The value of a number in the box of a primitive.
+pub fn boxed(primitive: Primitive, word: &Word) -> Option<Value>
     ensures { result ≡ words.boxed primitive word.now }
 {
     match word {
@@ -70,11 +72,11 @@ fn boxed_long(primitive: Primitive, a: i64) -> Option<Value>
 pub fn unbox(
     run: &mut Configuration,
     code: &Code,
-    limits: &Limits,
+    limits: &Rules<'_>,
     primitive: Primitive,
     way: Way,
 ) -> Step
-    ensures { Comes (on_top run.old.top.stack (λ word stack. on_reference word (λ value. on_outcome code.now.functions (limits_of limits.now) (acts_in (world_of run.old.world) (effect run.old.world.heap (cast_at_run_time run.old.world.heap.objects value (ty.Prim primitive) (is_written way)))) words.unboxed (frame_of run.old.top) (frames_of run.old.below) (world_of run.old.world) stack))) result run.new }
+    ensures { Comes (on_top run.old.top.stack (λ word stack. on_reference word (λ value. on_outcome code.now.functions limits.now (acts_in (world_of run.old.world) (effect run.old.world.heap (cast_at_run_time run.old.world.heap.objects value (ty.Prim primitive) (is_written way)))) words.unboxed (frame_of run.old.top) (frames_of run.old.below) (world_of run.old.world) stack))) result run.new }
 {
     match run.top.stack.pop() {
         Some(word) => unbox_word(run, code, limits, &word, primitive, way),
@@ -86,12 +88,12 @@ pub fn unbox(
 fn unbox_word(
     run: &mut Configuration,
     code: &Code,
-    limits: &Limits,
+    limits: &Rules<'_>,
     word: &Word,
     primitive: Primitive,
     way: Way,
 ) -> Step
-    ensures { (stack : List Word) → Comes (on_reference word.now (λ value. on_outcome code.now.functions (limits_of limits.now) (acts_in (world_of run.old.world) (effect run.old.world.heap (cast_at_run_time run.old.world.heap.objects value (ty.Prim primitive) (is_written way)))) words.unboxed (with_stack (frame_of run.old.top) stack) (frames_of run.old.below) (world_of run.old.world) run.old.top.stack)) result run.new }
+    ensures { (stack : List Word) → Comes (on_reference word.now (λ value. on_outcome code.now.functions limits.now (acts_in (world_of run.old.world) (effect run.old.world.heap (cast_at_run_time run.old.world.heap.objects value (ty.Prim primitive) (is_written way)))) words.unboxed (with_stack (frame_of run.old.top) stack) (frames_of run.old.below) (world_of run.old.world) run.old.top.stack)) result run.new }
 {
     match word {
         Word::R(value) => {

@@ -6,10 +6,11 @@ ghost use Rattle.code_meaning.specs.Words as words;
 ghost use Rattle.code_meaning.specs.declared.word.Word.{Word};
 ghost use Rattle.code_meaning.specs.Machine as spec;
 ghost use Rattle.code_meaning.specs.Machine.{Goes, depth_of};
-ghost use Rattle.code_machine.specs.Seen.{Comes, frame_of, frames_of, limits_of, world_of};
+ghost use Rattle.code_machine.specs.Seen.{Comes, frame_of, frames_of, world_of};
 ghost use Rattle.code_machine.specs.Rows.{CountsTo, beside, with_locals};
 
-use crate::configuration::{Configuration, End, Frame, Limits, Step, World};
+use crate::configuration::{Configuration, End, Frame, Step, World};
+use crate::rules::Rules;
 use crate::stack::Stack;
 use code_meaning::Word;
 use object_heap::Which;
@@ -18,8 +19,8 @@ use pl_code::{Code, FunCode, Slot};
 use std::alloc::{AllocError, Global};
 
 /// Calls the function of this number.
-pub fn call(run: &mut Configuration, code: &Code, limits: &Limits, number: u32) -> Step
-    ensures { Comes (spec.on_call code.now.functions (limits_of limits.now) (slice_get code.now.functions number) number (frame_of run.old.top) (frames_of run.old.below) (world_of run.old.world)) result run.new }
+pub fn call(run: &mut Configuration, code: &Code, limits: &Rules<'_>, number: u32) -> Step
+    ensures { Comes (spec.on_call code.now.functions limits.now (slice_get code.now.functions number) number (frame_of run.old.top) (frames_of run.old.below) (world_of run.old.world)) result run.new }
 {
     match code.functions.get(number as usize) {
         Some(function) => call_function(run, code, limits, function, number),
@@ -30,11 +31,11 @@ pub fn call(run: &mut Configuration, code: &Code, limits: &Limits, number: u32) 
 fn call_function(
     run: &mut Configuration,
     code: &Code,
-    limits: &Limits,
+    limits: &Rules<'_>,
     function: &FunCode,
     number: u32,
 ) -> Step
-    ensures { Comes (spec.on_call code.now.functions (limits_of limits.now) (Some function.now) number (frame_of run.old.top) (frames_of run.old.below) (world_of run.old.world)) result run.new }
+    ensures { Comes (spec.on_call code.now.functions limits.now (Some function.now) number (frame_of run.old.top) (frames_of run.old.below) (world_of run.old.world)) result run.new }
 {
     match locals_of(run.world.heap.alloc(), &mut run.top.stack, function) {
         Ok(Some(locals)) => enter(run, code, limits, number, locals),
@@ -54,7 +55,8 @@ fn locals_of(
     let count = function.params.len();
     let taken = Stack::with_capacity(alloc, count.saturating_add(function.locals.len()))?;
     match take_words(stack, count, taken)? {
-        Some(mut locals) => {
+        Some(taken) => {
+            let mut locals = taken.into_elements();
             push_starts(&mut locals, function.locals.as_slice())?;
             Ok(Some(locals))
         }
@@ -62,12 +64,12 @@ fn locals_of(
     }
 }
 
-// So many words off the stack, the deepest first.
-fn take_words(
+/// So many words off the stack, the deepest on the top.
+pub fn take_words(
     stack: &mut Stack<Word>,
     count: usize,
     mut taken: Stack<Word>,
-) -> Result<Option<Elements<Word>>, AllocError>
+) -> Result<Option<Stack<Word>>, AllocError>
     ensures { IfOk result (λ words. beside stack.new words ≡ spec.take_words count stack.old taken) }
 {
     'words: for place in 0..count {
@@ -76,7 +78,7 @@ fn take_words(
             None => return Ok(None),
         }
     }
-    Ok(Some(taken.into_elements()))
+    Ok(Some(taken))
 }
 
 /// What locals begin with, behind those that are there.
@@ -103,11 +105,11 @@ fn start_of(slot: Slot) -> Word
 fn enter(
     run: &mut Configuration,
     code: &Code,
-    limits: &Limits,
+    limits: &Rules<'_>,
     number: u32,
     locals: Elements<Word>,
 ) -> Step
-    ensures { (args : List Word) (function : FunCode) → locals ≡ args ++ map words.start_of function.locals → Comes (spec.on_enter code.now.functions (limits_of limits.now) (enter (limits_of limits.now) (depth_of (frames_of run.old.below)) (world_of run.old.world)) number function [] (frame_of run.old.top) (frames_of run.old.below) (world_of run.old.world) args run.old.top.stack) result run.new }
+    ensures { (args : List Word) (function : FunCode) → locals ≡ args ++ map words.start_of function.locals → Comes (spec.on_enter code.now.functions limits.now (enter limits.now (depth_of (frames_of run.old.below)) (world_of run.old.world)) number function [] (frame_of run.old.top) (frames_of run.old.below) (world_of run.old.world) args run.old.top.stack) result run.new }
 {
     match count_call(&mut run.world, limits, run.below.len()) {
         Some(which) => Step::Ends(End::Limit(which)),
@@ -117,14 +119,14 @@ fn enter(
 
 // Pays a call from a frame with so many below it: the tick is paid before the depth is tried.
 #[tactic(auto, unfolding(run_world::specs::World::enter, run_world::specs::World::pay_tick, run_world::specs::World::goes_deeper))]
-fn count_call(world: &mut World, limits: &Limits, depth: usize) -> Option<Which>
-    ensures { CountsTo (enter (limits_of limits.now) depth (world_of world.old)) (world_of world.new) result }
+fn count_call(world: &mut World, limits: &Rules<'_>, depth: usize) -> Option<Which>
+    ensures { CountsTo (enter limits.now depth (world_of world.old)) (world_of world.new) result }
 {
     if world.ticks == 0 {
         return Some(Which::Ticks);
     }
     world.ticks -= 1;
-    if depth >= limits.depth as usize {
+    if depth >= limits.depth() as usize {
         return Some(Which::Depth);
     }
     None
@@ -149,8 +151,8 @@ fn push_frame(run: &mut Configuration, number: u32, locals: Elements<Word>) -> S
 }
 
 /// Returns.
-pub fn ret(run: &mut Configuration, code: &Code, limits: &Limits) -> Step
-    ensures { Comes (spec.returns code.now.functions (limits_of limits.now) (slice_get code.now.functions run.old.top.fun) run.old.top.stack (λ result. spec.gives_back code.now.functions (limits_of limits.now) (frames_of run.old.below) [] result (world_of run.old.world))) result run.new }
+pub fn ret(run: &mut Configuration, code: &Code, limits: &Rules<'_>) -> Step
+    ensures { Comes (spec.returns code.now.functions limits.now (slice_get code.now.functions run.old.top.fun) run.old.top.stack (λ result. spec.gives_back code.now.functions limits.now (frames_of run.old.below) [] result (world_of run.old.world))) result run.new }
 {
     match code.functions.get(run.top.fun as usize) {
         Some(function) => match function.result {
@@ -164,8 +166,8 @@ pub fn ret(run: &mut Configuration, code: &Code, limits: &Limits) -> Step
     }
 }
 
-fn give_back(run: &mut Configuration, code: &Code, limits: &Limits, word: Option<Word>) -> Step
-    ensures { Comes (spec.gives_back code.now.functions (limits_of limits.now) (frames_of run.old.below) [] word (world_of run.old.world)) result run.new }
+fn give_back(run: &mut Configuration, code: &Code, limits: &Rules<'_>, word: Option<Word>) -> Step
+    ensures { Comes (spec.gives_back code.now.functions limits.now (frames_of run.old.below) [] word (world_of run.old.world)) result run.new }
 {
     match run.below.pop() {
         Some(caller) => {

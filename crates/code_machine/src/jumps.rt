@@ -2,11 +2,12 @@
 ghost use Rattle.std.specs.Prelude.{◌≡◌, [], ◌∷◌, suc, slice_get, slice_set};
 ghost use Rattle.code_meaning.specs.Machine.{numbered_act, on_local, on_top, on_turn, to_line, Goes};
 ghost use Rattle.run_world.specs.World.{take_turn};
-ghost use Rattle.code_machine.specs.Seen.{Comes, frame_of, frames_of, limits_of, world_of};
+ghost use Rattle.code_machine.specs.Seen.{Comes, frame_of, frames_of, world_of};
 
 use crate::calls::call;
-use crate::configuration::{Configuration, End, Limits, Step};
+use crate::configuration::{Configuration, End, Step};
 use crate::references::jump_if_null;
+use crate::rules::Rules;
 use crate::stacks::pop_int;
 use object_heap::Which;
 use pl_code::{Code, Numbered};
@@ -16,11 +17,11 @@ use pl_code::{Code, Numbered};
 pub fn numbered(
     run: &mut Configuration,
     code: &Code,
-    limits: &Limits,
+    limits: &Rules<'_>,
     kind: Numbered,
     number: u32,
 ) -> Step
-    ensures { Comes (numbered_act code.now.functions (limits_of limits.now) kind number (frame_of run.old.top) (frames_of run.old.below) (world_of run.old.world)) result run.new }
+    ensures { Comes (numbered_act code.now.functions limits.now kind number (frame_of run.old.top) (frames_of run.old.below) (world_of run.old.world)) result run.new }
 {
     match kind {
         Numbered::Load => load(run, number),
@@ -74,10 +75,10 @@ fn store(run: &mut Configuration, number: u32) -> Step
 
 // A turn of a loop, which goes back to a line: the limit of turns is tried before the ticks.
 #[tactic(auto, unfolding(run_world::specs::World::take_turn, run_world::specs::World::pay_tick))]
-fn turn(run: &mut Configuration, code: &Code, limits: &Limits, line: u32) -> Step
-    ensures { Comes (on_turn code.now.functions (limits_of limits.now) (take_turn (limits_of limits.now) run.old.top.turns (world_of run.old.world)) line (frame_of run.old.top) (frames_of run.old.below) (world_of run.old.world) run.old.top.stack) result run.new }
+fn turn(run: &mut Configuration, code: &Code, limits: &Rules<'_>, line: u32) -> Step
+    ensures { Comes (on_turn code.now.functions limits.now (take_turn limits.now run.old.top.turns (world_of run.old.world)) line (frame_of run.old.top) (frames_of run.old.below) (world_of run.old.world) run.old.top.stack) result run.new }
 {
-    if run.top.turns >= limits.loops {
+    if run.top.turns >= limits.loops() {
         return Step::Ends(End::Limit(Which::Loop));
     }
     if run.world.ticks == 0 {

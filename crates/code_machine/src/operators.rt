@@ -5,10 +5,11 @@ ghost use Rattle.arithmetic.specs.Operators.{of_type, as_long};
 ghost use Rattle.arithmetic.specs.declared.operator.Num.TheVariants as n;
 ghost use Rattle.code_meaning.specs.Machine.{on_calculation};
 ghost use Rattle.code_meaning.specs.Words as words;
-ghost use Rattle.code_machine.specs.Seen.{Comes, frame_of, frames_of, limits_of, world_of};
+ghost use Rattle.code_machine.specs.Seen.{Comes, frame_of, frames_of, world_of};
 ghost use Rattle.code_machine.specs.Rows.{CalculatesTo, calculated_of};
 
-use crate::configuration::{Configuration, End, Limits, Step};
+use crate::configuration::{Configuration, End, Step};
+use crate::rules::Rules;
 use crate::stack::Stack;
 use crate::stacks::{pop_int, pop_long};
 use crate::throwing::throw_zero_divisor;
@@ -29,11 +30,11 @@ pub enum Operated {
 pub fn arithmetic(
     run: &mut Configuration,
     code: &Code,
-    limits: &Limits,
+    limits: &Rules<'_>,
     op: ArithmeticOp,
     width: Width,
 ) -> Step
-    ensures { Comes (on_calculation code.now.functions (limits_of limits.now) (words.calculation op width run.old.top.stack) (frame_of run.old.top) (frames_of run.old.below) (world_of run.old.world)) result run.new }
+    ensures { Comes (on_calculation code.now.functions limits.now (words.calculation op width run.old.top.stack) (frame_of run.old.top) (frames_of run.old.below) (world_of run.old.world)) result run.new }
 {
     match calculated(&mut run.top.stack, op, width) {
         Operated::NoRow => Step::Ends(End::Stuck),

@@ -2,10 +2,11 @@
 ghost use Rattle.std.specs.Prelude.{◌≡◌, List, ◌∷◌, suc};
 ghost use Rattle.code_meaning.specs.declared.word.Word.{Word};
 ghost use Rattle.code_meaning.specs.Machine.{quoted_act, on_reference, on_top, if_null, to_line};
-ghost use Rattle.code_machine.specs.Seen.{Comes, frame_of, with_stack, frames_of, limits_of, world_of};
+ghost use Rattle.code_machine.specs.Seen.{Comes, frame_of, with_stack, frames_of, world_of};
 ghost use Rattle.code_machine.specs.Rows.{null_in, on_pair, on_references, paired, text_act};
 
-use crate::configuration::{Configuration, End, Limits, Step};
+use crate::configuration::{Configuration, End, Step};
+use crate::rules::Rules;
 use crate::throwing::{answered, answered_whole};
 use code_meaning::Word;
 use number_ops::{concatenate, equal, is_same};
@@ -18,11 +19,11 @@ use plain_data::Text;
 pub fn quoted(
     run: &mut Configuration,
     code: &Code,
-    limits: &Limits,
+    limits: &Rules<'_>,
     kind: Quoting,
     text: &Text,
 ) -> Step
-    ensures { Comes (quoted_act code.now.functions (limits_of limits.now) kind text.now (frame_of run.old.top) (frames_of run.old.below) (world_of run.old.world)) result run.new }
+    ensures { Comes (quoted_act code.now.functions limits.now kind text.now (frame_of run.old.top) (frames_of run.old.below) (world_of run.old.world)) result run.new }
 {
     match kind {
         Quoting::Constant => constant(run, text),
@@ -51,8 +52,8 @@ pub enum Pairing {
 }
 
 /// An instruction on two references, which are taken off the stack.
-pub fn pair(run: &mut Configuration, code: &Code, limits: &Limits, kind: Pairing) -> Step
-    ensures { Comes (on_pair run.old.top.stack (λ a b stack. paired code.now.functions (limits_of limits.now) kind a b (frame_of run.old.top) (frames_of run.old.below) (world_of run.old.world) stack)) result run.new }
+pub fn pair(run: &mut Configuration, code: &Code, limits: &Rules<'_>, kind: Pairing) -> Step
+    ensures { Comes (on_pair run.old.top.stack (λ a b stack. paired code.now.functions limits.now kind a b (frame_of run.old.top) (frames_of run.old.below) (world_of run.old.world) stack)) result run.new }
 {
     match run.top.stack.pop() {
         Some(upper) => match run.top.stack.pop() {
@@ -67,12 +68,12 @@ pub fn pair(run: &mut Configuration, code: &Code, limits: &Limits, kind: Pairing
 fn pair_words(
     run: &mut Configuration,
     code: &Code,
-    limits: &Limits,
+    limits: &Rules<'_>,
     kind: Pairing,
     lower: &Word,
     upper: &Word,
 ) -> Step
-    ensures { (stack : List Word) → Comes (on_references lower.now upper.now (λ a b. paired code.now.functions (limits_of limits.now) kind a b (with_stack (frame_of run.old.top) stack) (frames_of run.old.below) (world_of run.old.world) run.old.top.stack)) result run.new }
+    ensures { (stack : List Word) → Comes (on_references lower.now upper.now (λ a b. paired code.now.functions limits.now kind a b (with_stack (frame_of run.old.top) stack) (frames_of run.old.below) (world_of run.old.world) run.old.top.stack)) result run.new }
 {
     match upper {
         Word::R(b) => match lower {
@@ -86,12 +87,12 @@ fn pair_words(
 fn pair_values(
     run: &mut Configuration,
     code: &Code,
-    limits: &Limits,
+    limits: &Rules<'_>,
     kind: Pairing,
     a: &Value,
     b: &Value,
 ) -> Step
-    ensures { (stack : List Word) → Comes (paired code.now.functions (limits_of limits.now) kind a.now b.now (with_stack (frame_of run.old.top) stack) (frames_of run.old.below) (world_of run.old.world) run.old.top.stack) result run.new }
+    ensures { (stack : List Word) → Comes (paired code.now.functions limits.now kind a.now b.now (with_stack (frame_of run.old.top) stack) (frames_of run.old.below) (world_of run.old.world) run.old.top.stack) result run.new }
 {
     match kind {
         Pairing::Concat => {

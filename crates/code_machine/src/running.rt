@@ -1,8 +1,8 @@
 //! Instructions one after the other.
-ghost use Rattle.code_machine.specs.Seen.{limits_of};
 ghost use Rattle.code_machine.specs.Runs.{RanOn};
 
-use crate::configuration::{Configuration, Limits, Step};
+use crate::configuration::{Configuration, Step};
+use crate::rules::Rules;
 use crate::step::step;
 use pl_code::Code;
 
@@ -16,8 +16,8 @@ pub struct Ran {
 }
 
 /// Takes so many instructions, or fewer where the run ends.
-pub fn run_on(run: &mut Configuration, code: &Code, limits: &Limits, count: u64) -> Ran
-    ensures { RanOn code.now.functions (limits_of limits.now) count run.old result run.new }
+pub fn run_on(run: &mut Configuration, code: &Code, limits: &Rules<'_>, count: u64) -> Ran
+    ensures { RanOn code.now.functions limits.now count run.old result run.new }
 {
     'instructions: for taken in 0..count {
         let last = step(run, code, limits);

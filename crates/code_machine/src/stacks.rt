@@ -4,12 +4,13 @@ ghost use Rattle.pl_code.specs.declared.kinds.Plain.TheVariants as plains;
 ghost use Rattle.code_meaning.specs.declared.word.Word.TheVariants.{I, J};
 ghost use Rattle.code_meaning.specs.Machine as spec;
 ghost use Rattle.code_meaning.specs.Machine.{plain_act, on_stack, to_line};
-ghost use Rattle.code_machine.specs.Seen.{Comes, int_of, long_of, frame_of, frames_of, limits_of, world_of};
+ghost use Rattle.code_machine.specs.Seen.{Comes, int_of, long_of, frame_of, frames_of, world_of};
 ghost use Rattle.code_machine.specs.Rows.{Copies};
 
 use crate::calls::ret;
-use crate::configuration::{Configuration, End, Limits, Step};
+use crate::configuration::{Configuration, End, Step};
 use crate::references::{Pairing, pair};
+use crate::rules::Rules;
 use crate::stack::Stack;
 use crate::throwing::throw_top;
 use arithmetic::casts::{low_byte, low_char, low_int, low_short};
@@ -19,8 +20,8 @@ use pl_code::{Code, Plain};
 
 /// An instruction without operands.
 #[tactic(auto, using(crate::proofs::Rows::no_int, crate::proofs::Rows::no_long))]
-pub fn plain(run: &mut Configuration, code: &Code, limits: &Limits, kind: Plain) -> Step
-    ensures { Comes (plain_act code.now.functions (limits_of limits.now) kind (frame_of run.old.top) (frames_of run.old.below) (world_of run.old.world)) result run.new }
+pub fn plain(run: &mut Configuration, code: &Code, limits: &Rules<'_>, kind: Plain) -> Step
+    ensures { Comes (plain_act code.now.functions limits.now kind (frame_of run.old.top) (frames_of run.old.below) (world_of run.old.world)) result run.new }
 {
     match kind {
         Plain::Null => run.push(Word::R(Value::Null)),

@@ -1,20 +1,22 @@
 //! One instruction.
 ghost use Rattle.code_meaning.specs.Machine.{act, step};
-ghost use Rattle.code_machine.specs.Seen.{Comes, configuration_of, frame_of, frames_of, limits_of, world_of};
+ghost use Rattle.code_machine.specs.Seen.{Comes, configuration_of, frame_of, frames_of, world_of};
 
 use crate::boxes::{box_number, unbox};
-use crate::configuration::{Configuration, End, Limits, Step};
+use crate::configuration::{Configuration, End, Step};
 use crate::jumps::numbered;
+use crate::members::{invoke, make, read};
 use crate::operators::arithmetic;
 use crate::references::quoted;
+use crate::rules::Rules;
 use crate::stacks::plain;
 use crate::typed::{cast, typed};
 use code_meaning::Word;
 use pl_code::{Code, Instruction};
 
 /// Does the instruction at the line of the newest frame.
-pub fn step(run: &mut Configuration, code: &Code, limits: &Limits) -> Step
-    ensures { Comes (step code.now.functions (limits_of limits.now) (configuration_of run.old)) result run.new }
+pub fn step(run: &mut Configuration, code: &Code, limits: &Rules<'_>) -> Step
+    ensures { Comes (step code.now.functions limits.now (configuration_of run.old)) result run.new }
 {
     match code.functions.get(run.top.fun as usize) {
         Some(function) => match function.lines.get(run.top.line) {
@@ -25,8 +27,13 @@ pub fn step(run: &mut Configuration, code: &Code, limits: &Limits) -> Step
     }
 }
 
-fn execute(run: &mut Configuration, code: &Code, limits: &Limits, instruction: &Instruction) -> Step
-    ensures { Comes (act code.now.functions (limits_of limits.now) instruction.now (frame_of run.old.top) (frames_of run.old.below) (world_of run.old.world)) result run.new }
+fn execute(
+    run: &mut Configuration,
+    code: &Code,
+    limits: &Rules<'_>,
+    instruction: &Instruction,
+) -> Step
+    ensures { Comes (act code.now.functions limits.now instruction.now (frame_of run.old.top) (frames_of run.old.below) (world_of run.old.world)) result run.new }
 {
     match instruction {
         Instruction::Plain(kind) => plain(run, code, limits, *kind),
@@ -39,6 +46,9 @@ fn execute(run: &mut Configuration, code: &Code, limits: &Limits, instruction: &
         Instruction::Quoted(kind, text) => quoted(run, code, limits, *kind, text),
         Instruction::Typed(kind, of) => typed(run, code, limits, *kind, of),
         Instruction::Cast(to, way) => cast(run, code, limits, to, *way),
+        Instruction::Invoke(method) => invoke(run, code, limits, method),
+        Instruction::New(constructor) => make(run, code, limits, constructor),
+        Instruction::Field(field) => read(run, code, limits, field),
         _ => Step::Ends(End::Stuck),
     }
 }

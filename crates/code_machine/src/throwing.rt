@@ -6,27 +6,29 @@ ghost use Rattle.object_heap.specs.Store.{Store};
 ghost use Rattle.number_ops.specs.Outcomes.{effect, zero_divisor};
 ghost use Rattle.number_ops.specs.Relations.{thrown};
 ghost use Rattle.run_world.specs.World.{acts_in, with_store};
+ghost use Rattle.code_meaning.specs.Members.{given_as};
 ghost use Rattle.code_meaning.specs.Words as words;
 ghost use Rattle.code_meaning.specs.declared.word.Word.{Word};
 ghost use Rattle.code_meaning.specs.declared.word.Word.TheVariants.{R};
 ghost use Rattle.code_meaning.specs.Machine as spec;
 ghost use Rattle.code_meaning.specs.Machine.{Next, on_outcome, on_reference, on_thrown, on_top};
-ghost use Rattle.code_machine.specs.Seen.{Comes, frame_of, with_stack, frames_of, limits_of, world_of};
+ghost use Rattle.code_machine.specs.Seen.{Comes, frame_of, with_stack, frames_of, world_of};
 ghost use Rattle.code_machine.specs.Rows.{bare, catches, landing, landed, line_of};
 
-use crate::configuration::{Configuration, End, Frame, Limits, Step, World};
+use crate::configuration::{Configuration, End, Frame, Step, World};
+use crate::rules::Rules;
 use code_meaning::Word;
 use number_ops::throw_value;
 use object_heap::{Answer, Which, throw};
 use object_values::{Object, Value};
 use pl_code::{Code, Trap};
 use pl_types::classes::ARITHMETIC_EXCEPTION;
-use pl_types::{class_below, class_of_full_name};
+use pl_types::{Ty, class_below, class_of_full_name};
 use pl_units::UText;
 
 /// What an operation on the heap gives goes on the stack. The operands have been taken off it.
-pub fn answered(run: &mut Configuration, code: &Code, limits: &Limits, answer: Answer) -> Step
-    ensures { (effect : Effect) (old : Store) (stack : List Word) → Answers effect old run.old.world.heap answer → Comes (on_outcome code.now.functions (limits_of limits.now) (acts_in (with_store (world_of run.old.world) old) effect) words.unboxed (with_stack (frame_of run.old.top) stack) (frames_of run.old.below) (with_store (world_of run.old.world) old) run.old.top.stack) result run.new }
+pub fn answered(run: &mut Configuration, code: &Code, limits: &Rules<'_>, answer: Answer) -> Step
+    ensures { (effect : Effect) (old : Store) (stack : List Word) → Answers effect old run.old.world.heap answer → Comes (on_outcome code.now.functions limits.now (acts_in (with_store (world_of run.old.world) old) effect) words.unboxed (with_stack (frame_of run.old.top) stack) (frames_of run.old.below) (with_store (world_of run.old.world) old) run.old.top.stack) result run.new }
 {
     match answer {
         Answer::Value(value) => run.push(unboxed(value)),
@@ -37,14 +39,50 @@ pub fn answered(run: &mut Configuration, code: &Code, limits: &Limits, answer: A
 }
 
 /// The same of an operation whose value stays a reference.
-pub fn answered_whole(run: &mut Configuration, code: &Code, limits: &Limits, answer: Answer) -> Step
-    ensures { (effect : Effect) (old : Store) (stack : List Word) → Answers effect old run.old.world.heap answer → Comes (on_outcome code.now.functions (limits_of limits.now) (acts_in (with_store (world_of run.old.world) old) effect) R (with_stack (frame_of run.old.top) stack) (frames_of run.old.below) (with_store (world_of run.old.world) old) run.old.top.stack) result run.new }
+pub fn answered_whole(
+    run: &mut Configuration,
+    code: &Code,
+    limits: &Rules<'_>,
+    answer: Answer,
+) -> Step
+    ensures { (effect : Effect) (old : Store) (stack : List Word) → Answers effect old run.old.world.heap answer → Comes (on_outcome code.now.functions limits.now (acts_in (with_store (world_of run.old.world) old) effect) R (with_stack (frame_of run.old.top) stack) (frames_of run.old.below) (with_store (world_of run.old.world) old) run.old.top.stack) result run.new }
 {
     match answer {
         Answer::Value(value) => run.push(Word::R(value)),
         Answer::Thrown(id) => unwind(run, code, id),
         Answer::Room => Step::Ends(End::Limit(Which::Room)),
         Answer::NoMemory => Step::NoMemory,
+    }
+}
+
+/// The same of an operation whose value is of a type: a primitive goes as a number, and everything else as it is.
+pub fn answered_as(
+    run: &mut Configuration,
+    code: &Code,
+    limits: &Rules<'_>,
+    of: &Ty,
+    answer: Answer,
+) -> Step
+    ensures { (effect : Effect) (old : Store) (stack : List Word) → Answers effect old run.old.world.heap answer → Comes (on_outcome code.now.functions limits.now (acts_in (with_store (world_of run.old.world) old) effect) (given_as of.now) (with_stack (frame_of run.old.top) stack) (frames_of run.old.below) (with_store (world_of run.old.world) old) run.old.top.stack) result run.new }
+{
+    match answer {
+        Answer::Value(value) => run.push(given_as(of, value)),
+        Answer::Thrown(id) => unwind(run, code, id),
+        Answer::Room => Step::Ends(End::Limit(Which::Room)),
+        Answer::NoMemory => Step::NoMemory,
+    }
+}
+
+fn given_as(of: &Ty, value: Value) -> Word
+    ensures { result ≡ given_as of.now value }
+{
+    match of {
+        Ty::Void => Word::R(value),
+        Ty::Null => Word::R(value),
+        Ty::Def => Word::R(value),
+        Ty::Prim(_) => unboxed(value),
+        Ty::Class(_) => Word::R(value),
+        Ty::Array(_) => Word::R(value),
     }
 }
 
@@ -75,8 +113,8 @@ fn bare(value: &Value) -> Option<Word>
 
 /// Throws the exception of a zero divisor.
 #[tactic(auto, unfolding(number_ops::specs::Outcomes::says))]
-pub fn throw_zero_divisor(run: &mut Configuration, code: &Code, limits: &Limits) -> Step
-    ensures { Comes (on_outcome code.now.functions (limits_of limits.now) (acts_in (world_of run.old.world) (effect run.old.world.heap zero_divisor)) words.unboxed (frame_of run.old.top) (frames_of run.old.below) (world_of run.old.world) run.old.top.stack) result run.new }
+pub fn throw_zero_divisor(run: &mut Configuration, code: &Code, limits: &Rules<'_>) -> Step
+    ensures { Comes (on_outcome code.now.functions limits.now (acts_in (world_of run.old.world) (effect run.old.world.heap zero_divisor)) words.unboxed (frame_of run.old.top) (frames_of run.old.below) (world_of run.old.world) run.old.top.stack) result run.new }
 {
     match UText::from_utf8(run.world.heap.alloc(), "/ by zero") {
         Ok(message) => {
@@ -88,8 +126,8 @@ pub fn throw_zero_divisor(run: &mut Configuration, code: &Code, limits: &Limits)
 }
 
 /// Throws the reference on the stack.
-pub fn throw_top(run: &mut Configuration, code: &Code, limits: &Limits) -> Step
-    ensures { Comes (on_top run.old.top.stack (λ word stack. on_reference word (λ value. on_thrown code.now.functions (limits_of limits.now) (acts_in (world_of run.old.world) (thrown run.old.world.heap value)) (frame_of run.old.top) (frames_of run.old.below) (world_of run.old.world)))) result run.new }
+pub fn throw_top(run: &mut Configuration, code: &Code, limits: &Rules<'_>) -> Step
+    ensures { Comes (on_top run.old.top.stack (λ word stack. on_reference word (λ value. on_thrown code.now.functions limits.now (acts_in (world_of run.old.world) (thrown run.old.world.heap value)) (frame_of run.old.top) (frames_of run.old.below) (world_of run.old.world)))) result run.new }
 {
     match run.top.stack.pop() {
         Some(word) => throw_word(run, code, limits, &word),
@@ -98,8 +136,8 @@ pub fn throw_top(run: &mut Configuration, code: &Code, limits: &Limits) -> Step
 }
 
 // The same of a word that was taken off the stack.
-fn throw_word(run: &mut Configuration, code: &Code, limits: &Limits, word: &Word) -> Step
-    ensures { (stack : List Word) → Comes (on_reference word.now (λ value. on_thrown code.now.functions (limits_of limits.now) (acts_in (world_of run.old.world) (thrown run.old.world.heap value)) (with_stack (frame_of run.old.top) stack) (frames_of run.old.below) (world_of run.old.world))) result run.new }
+fn throw_word(run: &mut Configuration, code: &Code, limits: &Rules<'_>, word: &Word) -> Step
+    ensures { (stack : List Word) → Comes (on_reference word.now (λ value. on_thrown code.now.functions limits.now (acts_in (world_of run.old.world) (thrown run.old.world.heap value)) (with_stack (frame_of run.old.top) stack) (frames_of run.old.below) (world_of run.old.world))) result run.new }
 {
     match word {
         Word::R(value) => {
@@ -111,8 +149,8 @@ fn throw_word(run: &mut Configuration, code: &Code, limits: &Limits, word: &Word
 }
 
 // What is thrown goes on at the trap that catches it. What gives a value throws nothing.
-fn answered_throw(run: &mut Configuration, code: &Code, limits: &Limits, answer: Answer) -> Step
-    ensures { (effect : Effect) (old : Store) (stack : List Word) → Answers effect old run.old.world.heap answer → Comes (on_thrown code.now.functions (limits_of limits.now) (acts_in (with_store (world_of run.old.world) old) effect) (with_stack (frame_of run.old.top) stack) (frames_of run.old.below) (with_store (world_of run.old.world) old)) result run.new }
+fn answered_throw(run: &mut Configuration, code: &Code, limits: &Rules<'_>, answer: Answer) -> Step
+    ensures { (effect : Effect) (old : Store) (stack : List Word) → Answers effect old run.old.world.heap answer → Comes (on_thrown code.now.functions limits.now (acts_in (with_store (world_of run.old.world) old) effect) (with_stack (frame_of run.old.top) stack) (frames_of run.old.below) (with_store (world_of run.old.world) old)) result run.new }
 {
     match answer {
         Answer::Value(_value) => Step::Ends(End::Stuck),

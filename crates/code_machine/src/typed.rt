@@ -9,10 +9,11 @@ ghost use Rattle.code_meaning.specs.Words as words;
 ghost use Rattle.code_meaning.specs.declared.word.Word.{Word};
 ghost use Rattle.code_meaning.specs.declared.word.Word.TheVariants.{I, R};
 ghost use Rattle.code_meaning.specs.Machine.{cast_act, typed_act, on_type, on_top, on_reference, on_outcome, to_line, is_written};
-ghost use Rattle.code_machine.specs.Seen.{Comes, frame_of, with_stack, frames_of, limits_of, world_of};
+ghost use Rattle.code_machine.specs.Seen.{Comes, frame_of, with_stack, frames_of, world_of};
 
 use crate::boxes::is_written;
-use crate::configuration::{Configuration, End, Limits, Step};
+use crate::configuration::{Configuration, End, Step};
+use crate::rules::Rules;
 use crate::throwing::answered_whole;
 use code_meaning::Word;
 use listing_parts::TypeName;
@@ -21,8 +22,14 @@ use pl_code::{Code, Typed, Way};
 use pl_types::Ty;
 
 /// Casts the reference on the stack. The type is read from its text, which takes memory for arrays.
-pub fn cast(run: &mut Configuration, code: &Code, limits: &Limits, to: &TypeName, way: Way) -> Step
-    ensures { Comes (on_type (type_of_full to.now) (λ to. cast_act code.now.functions (limits_of limits.now) to (is_written way) (frame_of run.old.top) (frames_of run.old.below) (world_of run.old.world))) result run.new }
+pub fn cast(
+    run: &mut Configuration,
+    code: &Code,
+    limits: &Rules<'_>,
+    to: &TypeName,
+    way: Way,
+) -> Step
+    ensures { Comes (on_type (type_of_full to.now) (λ to. cast_act code.now.functions limits.now to (is_written way) (frame_of run.old.top) (frames_of run.old.below) (world_of run.old.world))) result run.new }
 {
     match Ty::of_full_text(run.world.heap.alloc(), to.as_str().as_bytes()) {
         Ok(Some(to)) => cast_top(run, code, limits, &to, way),
@@ -31,8 +38,8 @@ pub fn cast(run: &mut Configuration, code: &Code, limits: &Limits, to: &TypeName
     }
 }
 
-fn cast_top(run: &mut Configuration, code: &Code, limits: &Limits, to: &Ty, way: Way) -> Step
-    ensures { Comes (cast_act code.now.functions (limits_of limits.now) to.now (is_written way) (frame_of run.old.top) (frames_of run.old.below) (world_of run.old.world)) result run.new }
+fn cast_top(run: &mut Configuration, code: &Code, limits: &Rules<'_>, to: &Ty, way: Way) -> Step
+    ensures { Comes (cast_act code.now.functions limits.now to.now (is_written way) (frame_of run.old.top) (frames_of run.old.below) (world_of run.old.world)) result run.new }
 {
     match run.top.stack.pop() {
         Some(word) => cast_word(run, code, limits, &word, to, way),
@@ -44,12 +51,12 @@ fn cast_top(run: &mut Configuration, code: &Code, limits: &Limits, to: &Ty, way:
 fn cast_word(
     run: &mut Configuration,
     code: &Code,
-    limits: &Limits,
+    limits: &Rules<'_>,
     word: &Word,
     to: &Ty,
     way: Way,
 ) -> Step
-    ensures { (stack : List Word) → Comes (on_reference word.now (λ value. on_outcome code.now.functions (limits_of limits.now) (acts_in (world_of run.old.world) (effect run.old.world.heap (cast_at_run_time run.old.world.heap.objects value to.now (is_written way)))) R (with_stack (frame_of run.old.top) stack) (frames_of run.old.below) (world_of run.old.world) run.old.top.stack)) result run.new }
+    ensures { (stack : List Word) → Comes (on_reference word.now (λ value. on_outcome code.now.functions limits.now (acts_in (world_of run.old.world) (effect run.old.world.heap (cast_at_run_time run.old.world.heap.objects value to.now (is_written way)))) R (with_stack (frame_of run.old.top) stack) (frames_of run.old.below) (world_of run.old.world) run.old.top.stack)) result run.new }
 {
     match word {
         Word::R(value) => {
@@ -64,11 +71,11 @@ fn cast_word(
 pub fn typed(
     run: &mut Configuration,
     code: &Code,
-    limits: &Limits,
+    limits: &Rules<'_>,
     kind: Typed,
     of: &TypeName,
 ) -> Step
-    ensures { Comes (on_type (type_of_full of.now) (λ of. typed_act code.now.functions (limits_of limits.now) kind of (frame_of run.old.top) (frames_of run.old.below) (world_of run.old.world))) result run.new }
+    ensures { Comes (on_type (type_of_full of.now) (λ of. typed_act code.now.functions limits.now kind of (frame_of run.old.top) (frames_of run.old.below) (world_of run.old.world))) result run.new }
 {
     match Ty::of_full_text(run.world.heap.alloc(), of.as_str().as_bytes()) {
         Ok(Some(of)) => typed_by(run, code, limits, kind, &of),
@@ -77,8 +84,8 @@ pub fn typed(
     }
 }
 
-fn typed_by(run: &mut Configuration, code: &Code, limits: &Limits, kind: Typed, of: &Ty) -> Step
-    ensures { Comes (typed_act code.now.functions (limits_of limits.now) kind of.now (frame_of run.old.top) (frames_of run.old.below) (world_of run.old.world)) result run.new }
+fn typed_by(run: &mut Configuration, code: &Code, limits: &Rules<'_>, kind: Typed, of: &Ty) -> Step
+    ensures { Comes (typed_act code.now.functions limits.now kind of.now (frame_of run.old.top) (frames_of run.old.below) (world_of run.old.world)) result run.new }
 {
     match kind {
         Typed::IsA => instance(run, of),

@@ -1,7 +1,6 @@
-use Rattle.code_machine.specs.Seen.{limits_of}
 use Rattle.code_machine.proofs.Reaching.{Reached}
 use Rattle.code_machine.proofs.running.run_on.Given as goal
 
 -- so many instructions led here
 abbrev pub invariant-instructions : goal.invariant-instructions
-invariant-instructions l = Reached l.fn.code.functions (limits_of l.fn.limits) l.taken l.initial.run l.run
+invariant-instructions l = Reached l.fn.code.functions l.fn.limits l.taken l.initial.run l.run

@@ -1,0 +1,11 @@
+use Rattle.std.proofs.Common.{◌≡◌, length}
+use Rattle.code_meaning.specs.Members.{taken_all}
+use Rattle.code_machine.specs.Members.{behind}
+use Rattle.code_machine.proofs.receiving.take_arguments.Given as goal
+
+-- the arguments that are still to be taken come behind those that were
+abbrev pub invariant-params : goal.invariant-params
+invariant-params l = behind l.initial.values (taken_all l.params l.initial.words) ≡ behind l.values (taken_all l.rest l.words)
+
+abbrev pub decreases-params : goal.decreases-params
+decreases-params l = length l.rest

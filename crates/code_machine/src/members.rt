@@ -1,0 +1,202 @@
+//! Members: calls, what is made by constructors, and fields.
+ghost use Rattle.std.specs.Prelude.{◌≡◌, ◌<◌, List, [], Some, IfOk, IfSome};
+ghost use Rattle.member_acts.specs.Members.{does};
+ghost use Rattle.code_shapes.specs.Members.{method_of, constructor_of, field_of};
+ghost use Rattle.code_meaning.specs.declared.word.Word.{Word};
+ghost use Rattle.number_ops.specs.Outcomes.{effect, null_error};
+ghost use Rattle.run_world.specs.World.{acts_in, pay_member};
+ghost use Rattle.code_meaning.specs.Members.{count_of, given_as, received};
+ghost use Rattle.code_meaning.specs.Machine as spec;
+ghost use Rattle.code_machine.specs.Seen.{Comes, frame_of, with_stack, frames_of, world_of};
+ghost use Rattle.code_machine.specs.Rows.{beside};
+ghost use Rattle.code_machine.specs.Members.{receiving_of};
+
+use crate::calls::take_words;
+use crate::configuration::{Configuration, End, Step};
+use crate::paying::pay_member;
+use crate::receiving::{Receiving, received};
+use crate::rules::Rules;
+use crate::stack::Stack;
+use crate::throwing::answered_as;
+use allowlist::{MemberKind, MemberType};
+use code_meaning::Word;
+use code_shapes::{constructor_of, field_of, method_of};
+use listing_parts::{ConstructorName, FieldName, MethodName};
+use object_heap::throw;
+use object_values::Value;
+use pl_code::Code;
+use pl_types::classes::NULL_POINTER_EXCEPTION;
+use std::alloc::{AllocError, Global};
+
+/// Calls the method that a text names.
+pub fn invoke(run: &mut Configuration, code: &Code, limits: &Rules<'_>, method: &MethodName) -> Step
+    ensures { Comes (spec.member_act code.now.functions limits.now (method_of limits.now.allowed method.now) (frame_of run.old.top) (frames_of run.old.below) (world_of run.old.world)) result run.new }
+{
+    match method_of(limits.allow(), method) {
+        Some(number) => member(run, code, limits, number),
+        None => Step::Ends(End::Stuck),
+    }
+}
+
+/// Makes a value by the constructor that a text names.
+pub fn make(
+    run: &mut Configuration,
+    code: &Code,
+    limits: &Rules<'_>,
+    constructor: &ConstructorName,
+) -> Step
+    ensures { Comes (spec.member_act code.now.functions limits.now (constructor_of limits.now.allowed constructor.now) (frame_of run.old.top) (frames_of run.old.below) (world_of run.old.world)) result run.new }
+{
+    match constructor_of(limits.allow(), constructor) {
+        Some(number) => member(run, code, limits, number),
+        None => Step::Ends(End::Stuck),
+    }
+}
+
+/// Reads the field that a text names.
+pub fn read(run: &mut Configuration, code: &Code, limits: &Rules<'_>, field: &FieldName) -> Step
+    ensures { Comes (spec.member_act code.now.functions limits.now (field_of limits.now.allowed field.now) (frame_of run.old.top) (frames_of run.old.below) (world_of run.old.world)) result run.new }
+{
+    match field_of(limits.allow(), field) {
+        Some(number) => member(run, code, limits, number),
+        None => Step::Ends(End::Stuck),
+    }
+}
+
+// The member of this number.
+fn member(run: &mut Configuration, code: &Code, limits: &Rules<'_>, number: u32) -> Step
+    requires { number < 228 }
+    ensures { Comes (spec.member_act code.now.functions limits.now (Some number) (frame_of run.old.top) (frames_of run.old.below) (world_of run.old.world)) result run.new }
+{
+    let called = limits.allow().member_type(number);
+    call_member(run, code, limits, number, called)
+}
+
+fn call_member(
+    run: &mut Configuration,
+    code: &Code,
+    limits: &Rules<'_>,
+    number: u32,
+    called: &MemberType,
+) -> Step
+    ensures { Comes (spec.on_words (spec.take_words (count_of called.now) run.old.top.stack []) (λ words stack. spec.on_received code.now.functions limits.now (received called.now words) number called.now (frame_of run.old.top) (frames_of run.old.below) (world_of run.old.world) stack)) result run.new }
+{
+    match words_of(run.world.heap.alloc(), &mut run.top.stack, called) {
+        Ok(Some(words)) => call_with(run, code, limits, number, called, words),
+        Ok(None) => Step::Ends(End::Stuck),
+        Err(_) => Step::NoMemory,
+    }
+}
+
+// The words that a call takes off the stack, the deepest on the top.
+fn words_of(
+    alloc: Global,
+    stack: &mut Stack<Word>,
+    called: &MemberType,
+) -> Result<Option<Stack<Word>>, AllocError>
+    ensures { IfOk result (λ words. beside stack.new words ≡ spec.take_words (count_of called.now) stack.old []) }
+{
+    match count_of(called) {
+        Some(count) => {
+            let taken = Stack::with_capacity(alloc, count)?;
+            take_words(stack, count, taken)
+        }
+        None => Err(AllocError),
+    }
+}
+
+// How many words a call takes, as far as there are so many.
+fn count_of(called: &MemberType) -> Option<usize>
+    ensures { IfSome result (λ count. count ≡ count_of called.now) }
+{
+    match called.kind {
+        MemberKind::Instance => called.params.len().checked_add(1),
+        MemberKind::Static => Some(called.params.len()),
+        MemberKind::Constructor => Some(called.params.len()),
+        MemberKind::Field => Some(0),
+    }
+}
+
+// A call with words that were taken off the stack.
+fn call_with(
+    run: &mut Configuration,
+    code: &Code,
+    limits: &Rules<'_>,
+    number: u32,
+    called: &MemberType,
+    words: Stack<Word>,
+) -> Step
+    ensures { (stack : List Word) → Comes (spec.on_received code.now.functions limits.now (received called.now words) number called.now (with_stack (frame_of run.old.top) stack) (frames_of run.old.below) (world_of run.old.world) run.old.top.stack) result run.new }
+{
+    match received(run.world.heap.alloc(), called, words) {
+        Ok(receiving) => call_on(run, code, limits, number, called, receiving),
+        Err(_) => Step::NoMemory,
+    }
+}
+
+// A receiver that is null throws before the call is paid; a field is read without a tick.
+fn call_on(
+    run: &mut Configuration,
+    code: &Code,
+    limits: &Rules<'_>,
+    number: u32,
+    called: &MemberType,
+    receiving: Receiving,
+) -> Step
+    ensures { (stack : List Word) → Comes (spec.on_received code.now.functions limits.now (receiving_of receiving) number called.now (with_stack (frame_of run.old.top) stack) (frames_of run.old.below) (world_of run.old.world) run.old.top.stack) result run.new }
+{
+    match &receiving {
+        Receiving::Unfit => Step::Ends(End::Stuck),
+        Receiving::OnNull => on_null(run, code, limits, called),
+        Receiving::Receives(arguments) => pay_and_act(
+            run,
+            code,
+            limits,
+            number,
+            called,
+            arguments.as_slice(),
+        ),
+        Receiving::Reads => act(run, code, limits, number, called, &[]),
+    }
+}
+
+fn on_null(run: &mut Configuration, code: &Code, limits: &Rules<'_>, called: &MemberType) -> Step
+    ensures { (stack : List Word) → Comes (spec.on_outcome code.now.functions limits.now (acts_in (world_of run.old.world) (effect run.old.world.heap null_error)) (given_as called.now.result) (with_stack (frame_of run.old.top) stack) (frames_of run.old.below) (world_of run.old.world) run.old.top.stack) result run.new }
+{
+    let answer = throw(&mut run.world.heap, NULL_POINTER_EXCEPTION, None);
+    answered_as(run, code, limits, &called.result, answer)
+}
+
+fn pay_and_act(
+    run: &mut Configuration,
+    code: &Code,
+    limits: &Rules<'_>,
+    number: u32,
+    called: &MemberType,
+    arguments: &[Value],
+) -> Step
+    ensures { (stack : List Word) → Comes (spec.on_paid code.now.functions limits.now (pay_member number (world_of run.old.world)) number arguments.now called.now (with_stack (frame_of run.old.top) stack) (frames_of run.old.below) run.old.top.stack) result run.new }
+{
+    match pay_member(&mut run.world, number) {
+        Ok(None) => act(run, code, limits, number, called, arguments),
+        Ok(Some(which)) => Step::Ends(End::Limit(which)),
+        Err(_) => Step::NoMemory,
+    }
+}
+
+// What the member does.
+fn act(
+    run: &mut Configuration,
+    code: &Code,
+    limits: &Rules<'_>,
+    number: u32,
+    called: &MemberType,
+    arguments: &[Value],
+) -> Step
+    ensures { (stack : List Word) → Comes (spec.on_act code.now.functions limits.now (does number arguments.now run.old.world.heap) called.now (with_stack (frame_of run.old.top) stack) (frames_of run.old.below) (world_of run.old.world) run.old.top.stack) result run.new }
+{
+    match member_acts::call(number, &mut run.world.heap, arguments) {
+        Some(answer) => answered_as(run, code, limits, &called.result, answer),
+        None => Step::Ends(End::Stuck),
+    }
+}
