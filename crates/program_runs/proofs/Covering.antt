@@ -13,74 +13,87 @@ use Rattle.code_meaning.specs.Machine.{Handlers}
 use Rattle.typed_tree.specs.declared.operation.Logical.{Logical}
 use Rattle.typed_tree.specs.declared.operation.Logical.TheVariants.{And, Or}
 use Rattle.typed_tree.specs.declared.operation.Target.TheVariants as target
+use Rattle.allowlist.specs.Allow.{AllowList}
+use Rattle.member_names.specs.Names.{TextsName}
 use Rattle.program_meaning.specs.Tree.{Expr, Literal, Quoted, Local, Apply, Guarded, Logic, Conditional, Elvis, Assign, Modify, Lambda, Reference, NewReference, Exprs, None', One, Maybe, Missing, Given, Stmt, Do, If, While, DoWhile, ForEach, Try, Block, Break, Continue, Return, Throw, Stmts, Finish, Then, Declare, Program, type_of}
 use Rattle.program_meaning.specs.Falls.{all_fall}
 use Rattle.program_code.specs.Lying.{Lying, lying_of}
-use Rattle.program_code.specs.Parts.{constant_code, text_code, default_code, operator_code, operation_code, cast_code, kept_before, kept_behind, pops}
+use Rattle.program_code.specs.Parts.{constant_code, text_code, default_code, operator_code, operation_code, cast_code, member_code, without_null, kept_before, kept_behind, pops}
 use Rattle.program_code.specs.Stands.{Scope, At, AllAt, end_all, end_expr, end_exprs, change_first, change_last, elvis_right, settled, settles, ExprAt, ExprsAt, goes_on, end_skip, end_dropped, end_update, end_test, end_last, end_value, end_returned, end_stmt, end_stmts, next_stmt, next_stmts, Jumps, SkipAt, DroppedAt, UpdateAt, TestAt, LastAt, ValueAt, ReturnedAt, StmtAt, StmtsAt}
 use Rattle.program_types.specs.Agreeing as agreeing
-use Rattle.program_types.specs.Agreeing.{ExprAgrees, ExprsAgree, TestAgrees, UpdateAgrees, BeginAgrees, ReturnAgrees, StmtAgrees, StmtsAgree}
+use Rattle.program_types.specs.Agreeing.{known, types_of, ExprAgrees, ExprsAgree, TestAgrees, UpdateAgrees, BeginAgrees, ReturnAgrees, StmtAgrees, StmtsAgree}
 use Rattle.verified_runs.specs.Rows.{has_row}
-use Rattle.program_runs.proofs.Parts.{AllRows, constant_row, operator_rows, operation_rows, cast_rows, default_rows, pops_rows, before_rows, behind_rows}
+use Rattle.program_runs.proofs.Parts.{AllRows, constant_row, operator_rows, operation_rows, guard_rows, null_rows, cast_rows, default_rows, pops_rows, before_rows, behind_rows}
 
 -- a line whose instruction has a row
-pub record RowAt (f : FunCode) (line : ℕ) : Type 0 where
+pub record RowAt (allow : AllowList) (f : FunCode) (line : ℕ) : Type 0 where
   pub instruction : Instruction
   pub is : slice_get f.lines line ≡ Some instruction
-  pub row : has_row instruction ≡ true
+  pub row : has_row allow instruction ≡ true
 
 both : (a b : Bool) → (a && b) ≡ true → (a ≡ true) × (b ≡ true)
 both true b e = (refl, e)
 both false b e = cc
 
-settles_row : (o : Logical) (to : ℕ) → has_row (settles o to) ≡ true
-settles_row And to = refl
-settles_row Or to = refl
+settles_row : (allow : AllowList) (o : Logical) (to : ℕ) → has_row allow (settles o to) ≡ true
+settles_row allow And to = refl
+settles_row allow Or to = refl
 
-settled_row : (o : Logical) → has_row (settled o) ≡ true
-settled_row And = refl
-settled_row Or = refl
+settled_row : (allow : AllowList) (o : Logical) → has_row allow (settled o) ≡ true
+settled_row allow And = refl
+settled_row allow Or = refl
 
-module _ (f : FunCode) where
+module _ (allow : AllowList) (f : FunCode) where
   -- the lines from one on and before another have rows
   pub record Covered (p q : ℕ) : Type 0 where
-    pub each : (line : ℕ) → p ≤ line → line < q → RowAt f line
+    pub each : (line : ℕ) → p ≤ line → line < q → RowAt allow f line
 
   pub nothing : (p : ℕ) → Covered p p
   nothing p = record { each = λ line a b. absurd (omega (arith, a, b)) }
 
-  pub one : (h : Handlers) (p : ℕ) (instruction : Instruction) → At f h p instruction → has_row instruction ≡ true → Covered p (suc p)
-  one h p instruction at row = record { each = λ line a b. let same : p ≡ line = omega (arith, a, b) in subst (RowAt f) same (record { instruction = instruction; is = at.here; row = row }) }
+  pub one : (h : Handlers) (p : ℕ) (instruction : Instruction) → At f h p instruction → has_row allow instruction ≡ true → Covered p (suc p)
+  one h p instruction at row = record { each = λ line a b. let same : p ≡ line = omega (arith, a, b) in subst (RowAt allow f) same (record { instruction = instruction; is = at.here; row = row }) }
 
   pub join : (p q r : ℕ) → Covered p q → Covered q r → Covered p r
   join p q r first second = record { each = λ line a b. by_test line (ltb line q) refl a b }
     where
-      by_test : (line : ℕ) (t : Bool) → ltb line q ≡ t → p ≤ line → line < r → RowAt f line
+      by_test : (line : ℕ) (t : Bool) → ltb line q ≡ t → p ≤ line → line < r → RowAt allow f line
       by_test line true e a b = first.each line a (ltb-true line q e)
       by_test line false e a b = second.each line (ltb-false line q e) b
 
-  pub all : (h : Handlers) (p : ℕ) (lines : List Instruction) → AllAt f h p lines → AllRows lines → Covered p (end_all p lines)
+  pub all : (h : Handlers) (p : ℕ) (lines : List Instruction) → AllAt f h p lines → AllRows allow lines → Covered p (end_all p lines)
   all h p [] at rows = nothing p
   all h p (x ∷ xs) at rows =
-      let r = both (has_row x) (list_all has_row xs) rows in
+      let r = both (has_row allow x) (list_all (has_row allow) xs) rows in
       join p (suc p) (end_all (suc p) xs) (one h p x at.0 r.0) (all h (suc p) xs at.1 r.1)
 
-  module _ (funs : Program) (h : Handlers) where
+  module _ (texts : TextsName) (funs : Program) (h : Handlers) where
     settled_covered : (o : Logical) (q r : ℕ) → At f h q (settles o (suc r)) → Covered (suc q) r → At f h r (i.Numbered numbered.Goto (suc (suc r))) → At f h (suc r) (settled o) → Covered q (suc (suc r))
     settled_covered o q r first right skip last =
-        join q (suc q) (suc (suc r)) (one h q (settles o (suc r)) first (settles_row o (suc r)))
+        join q (suc q) (suc (suc r)) (one h q (settles o (suc r)) first (settles_row allow o (suc r)))
         (join (suc q) r (suc (suc r)) right
-        (join r (suc r) (suc (suc r)) (one h r (i.Numbered numbered.Goto (suc (suc r))) skip refl) (one h (suc r) (settled o) last (settled_row o))))
+        (join r (suc r) (suc (suc r)) (one h r (i.Numbered numbered.Goto (suc (suc r))) skip refl) (one h (suc r) (settled o) last (settled_row allow o))))
 
     mutual
-      expr_covered : (g : Scope) (names : agreeing.Scope) (p : ℕ) (a : Expr) → ExprAgrees funs names a → ExprAt funs f h g p a → Covered p (end_expr p a)
-      expr_covered g names p (Literal at of c) ok s = one h p (constant_code c) s.0 (constant_row c)
+      expr_covered : (g : Scope) (names : agreeing.Scope) (p : ℕ) (a : Expr) → ExprAgrees (known allow funs) names a → ExprAt funs f h g p a → Covered p (end_expr p a)
+      expr_covered g names p (Literal at of c) ok s = one h p (constant_code c) s.0 (constant_row allow c)
       expr_covered g names p (Quoted at of text) ok s = one h p (text_code text) s.0 refl
       expr_covered g names p (Local at of x) ok s = one h p (i.Numbered numbered.Load s.0.local) s.3 refl
       expr_covered g names p (Apply at of o parts) ok s =
           let q = end_exprs p parts in
-          join p q (end_all q (operation_code o of)) (exprs_covered g names p parts ok.0 s.0) (all h q (operation_code o of) s.1 (operation_rows funs o parts of ok.1 s.2))
-      expr_covered g names p (Guarded at of o parts) ok s = nothing p
+          join p q (end_all q (operation_code o of)) (exprs_covered g names p parts ok.0 s.0) (all h q (operation_code o of) s.1 (operation_rows allow texts funs o parts of ok.1 s.2))
+      expr_covered g names p (Guarded at of o None') ok s = nothing p
+      expr_covered g names p (Guarded at of o (One a others)) ok s =
+          let q = end_expr p a in
+          let r = end_exprs (suc (suc q)) others in
+          let c = end_all r (member_code o) in
+          let e = end_all c (without_null (lying_of of)) in
+          join p q e (expr_covered g names p a ok.0 s.0)
+          (join q (suc q) e (one h q (i.Plain plain.Dup) s.1 refl)
+          (join (suc q) (suc (suc q)) e (one h (suc q) (i.Numbered numbered.IfNull c) s.2 refl)
+          (join (suc (suc q)) r e (exprs_covered g names (suc (suc q)) others ok.1 s.3)
+          (join r c e (all h r (member_code o) s.4 (guard_rows allow texts funs o (type_of a ∷ types_of others) of ok.2))
+          (all h c (without_null (lying_of of)) s.5 (null_rows allow (lying_of of)))))))
       expr_covered g names p (Logic at of o left right) ok s =
           let q = end_expr p left in
           let r = end_expr (suc q) right in
@@ -115,60 +128,60 @@ module _ (f : FunCode) where
           let e = change_last gives change of r in
           let fits = s.11 in
           join p (suc p) (suc e) (one h p (i.Numbered numbered.Load s.0.local) s.3 refl)
-          (join (suc p) b (suc e) (all h (suc p) (kept_before gives) s.4 (before_rows gives))
-          (join b q (suc e) (all h b (cast_code change.before of) s.5 (cast_rows change.before of fits.before.asks))
+          (join (suc p) b (suc e) (all h (suc p) (kept_before gives) s.4 (before_rows allow gives))
+          (join b q (suc e) (all h b (cast_code change.before of) s.5 (cast_rows allow change.before of fits.before.asks))
           (join q r (suc e) (expr_covered g names q right ok.0 s.6)
-          (join r o (suc e) (all h r (operator_code change.operator) s.7 (operator_rows change.operator))
-          (join o c (suc e) (all h o (cast_code change.after of) s.8 (cast_rows change.after of fits.after.asks))
-          (join c e (suc e) (all h c (kept_behind gives) s.9 (behind_rows gives))
+          (join r o (suc e) (all h r (operator_code change.operator) s.7 (operator_rows allow change.operator))
+          (join o c (suc e) (all h o (cast_code change.after of) s.8 (cast_rows allow change.after of fits.after.asks))
+          (join c e (suc e) (all h c (kept_behind gives) s.9 (behind_rows allow gives))
           (one h e (i.Numbered numbered.Store s.0.local) s.10 refl)))))))
       expr_covered g names p (Modify at of other parts change right gives) ok s = absurd ok
       expr_covered g names p (Lambda at of interface function) ok s = nothing p
       expr_covered g names p (Reference at of interface class name) ok s = nothing p
       expr_covered g names p (NewReference at of interface made) ok s = nothing p
 
-      exprs_covered : (g : Scope) (names : agreeing.Scope) (p : ℕ) (parts : Exprs) → ExprsAgree funs names parts → ExprsAt funs f h g p parts → Covered p (end_exprs p parts)
+      exprs_covered : (g : Scope) (names : agreeing.Scope) (p : ℕ) (parts : Exprs) → ExprsAgree (known allow funs) names parts → ExprsAt funs f h g p parts → Covered p (end_exprs p parts)
       exprs_covered g names p None' ok s = nothing p
       exprs_covered g names p (One a others) ok s =
           join p (end_expr p a) (end_exprs (end_expr p a) others) (expr_covered g names p a ok.0 s.0) (exprs_covered g names (end_expr p a) others ok.1 s.1)
 
     -- ---- parts of statements
 
-    dropped : (g : Scope) (names : agreeing.Scope) (p : ℕ) (a : Expr) → ExprAgrees funs names a → DroppedAt funs f h g p a → Covered p (end_dropped p a)
+    dropped : (g : Scope) (names : agreeing.Scope) (p : ℕ) (a : Expr) → ExprAgrees (known allow funs) names a → DroppedAt funs f h g p a → Covered p (end_dropped p a)
     dropped g names p a ok s =
-        join p (end_expr p a) (end_dropped p a) (expr_covered g names p a ok s.0) (all h (end_expr p a) (pops (lying_of (type_of a))) s.1 (pops_rows (lying_of (type_of a))))
+        join p (end_expr p a) (end_dropped p a) (expr_covered g names p a ok s.0) (all h (end_expr p a) (pops (lying_of (type_of a))) s.1 (pops_rows allow (lying_of (type_of a))))
 
     skipped : (b : Bool) (p to : ℕ) → SkipAt f h b p to → Covered p (end_skip b p)
     skipped true p to s = one h p (i.Numbered numbered.Goto to) s refl
     skipped false p to s = nothing p
 
-    updated : (g : Scope) (names : agreeing.Scope) (b : Bool) (p : ℕ) (update : Maybe) → UpdateAgrees funs names update → UpdateAt funs f h g b p update → Covered p (end_update b p update)
+    updated : (g : Scope) (names : agreeing.Scope) (b : Bool) (p : ℕ) (update : Maybe) → UpdateAgrees (known allow funs) names update → UpdateAt funs f h g b p update → Covered p (end_update b p update)
     updated g names false p update ok s = nothing p
     updated g names true p Missing ok s = nothing p
     updated g names true p (Given a) ok s = dropped g names p a ok s
 
-    tested : (g : Scope) (names : agreeing.Scope) (p : ℕ) (test : Maybe) → TestAgrees funs names test → TestAt funs f h g p test → Covered p (end_test p test)
+    tested : (g : Scope) (names : agreeing.Scope) (p : ℕ) (test : Maybe) → TestAgrees (known allow funs) names test → TestAt funs f h g p test → Covered p (end_test p test)
     tested g names p Missing ok s = one h p (i.Int (pos 1)) s refl
     tested g names p (Given a) ok s = expr_covered g names p a ok.0 s.0
 
-    tested_last : (g : Scope) (names : agreeing.Scope) (b : Bool) (p : ℕ) (test : Maybe) (to : ℕ) → TestAgrees funs names test → LastAt funs f h g b p test to → Covered p (end_last b p test)
+    tested_last : (g : Scope) (names : agreeing.Scope) (b : Bool) (p : ℕ) (test : Maybe) (to : ℕ) → TestAgrees (known allow funs) names test → LastAt funs f h g b p test to → Covered p (end_last b p test)
     tested_last g names false p test to ok s = nothing p
     tested_last g names true p Missing to ok s = nothing p
     tested_last g names true p (Given a) to ok s =
         join p (end_expr p a) (suc (end_expr p a)) (expr_covered g names p a ok.0 s.0) (one h (end_expr p a) (i.Numbered numbered.IfZero to) s.2 refl)
 
-    valued : (g : Scope) (names : agreeing.Scope) (p : ℕ) (value : Maybe) (of : Ty) → BeginAgrees funs names value of → ValueAt funs f h g p value of → Covered p (end_value p value of)
-    valued g names p Missing of ok s = all h p (default_code of) s (default_rows of)
+    valued : (g : Scope) (names : agreeing.Scope) (p : ℕ) (value : Maybe) (of : Ty) → BeginAgrees (known allow funs) names value of → ValueAt funs f h g p value of → Covered p (end_value p value of)
+    valued g names p Missing of ok s = all h p (default_code of) s (default_rows allow of)
     valued g names p (Given a) of ok s = expr_covered g names p a ok.0 s.0
 
-    returned : (k : Lying) (g : Scope) (names : agreeing.Scope) (p : ℕ) (value : Maybe) (of : Ty) → ReturnAgrees funs names value of → ReturnedAt funs f h g k p value → Covered p (end_returned p value)
+    returned : (k : Lying) (g : Scope) (names : agreeing.Scope) (p : ℕ) (value : Maybe) (of : Ty) → ReturnAgrees (known allow funs) names value of → ReturnedAt funs f h g k p value → Covered p (end_returned p value)
     returned k g names p Missing of ok s = nothing p
     returned k g names p (Given a) of ok s = expr_covered g names p a ok.0 s.0
 
     -- ---- statements
 
     mutual
-      stmt_covered : (k : Lying) (of : Ty) (looped : Bool) (g : Scope) (names : agreeing.Scope) (n : ℕ) (j : Jumps) (p : ℕ) (t : Stmt) → StmtAgrees funs of looped names t → StmtAt funs f h k g n j p t → Covered p (end_stmt p t)
+      stmt_covered : (k : Lying) (of : Ty) (looped : Bool) (g : Scope) (names : agreeing.Scope) (n : ℕ) (j : Jumps) (p : ℕ) (t : Stmt) → StmtAgrees (known allow funs) of looped names t → StmtAt funs f h k g n j p t → Covered p (end_stmt p t)
       stmt_covered k of looped g names n j p (Do a) ok s = dropped g names p a ok s
       stmt_covered k of looped g names n j p (If c a b) ok s =
           let q = end_expr p c in
@@ -204,7 +217,7 @@ module _ (f : FunCode) where
           let q = end_expr p value in
           join p q (suc q) (expr_covered g names p value ok.0 s.0) (one h q (i.Plain plain.Throw) s.2 refl)
 
-      pub stmts_covered : (k : Lying) (of : Ty) (looped : Bool) (g : Scope) (names : agreeing.Scope) (n : ℕ) (j : Jumps) (p : ℕ) (ts : Stmts) → StmtsAgree funs of looped names ts → StmtsAt funs f h k g n j p ts → Covered p (end_stmts p ts)
+      pub stmts_covered : (k : Lying) (of : Ty) (looped : Bool) (g : Scope) (names : agreeing.Scope) (n : ℕ) (j : Jumps) (p : ℕ) (ts : Stmts) → StmtsAgree (known allow funs) of looped names ts → StmtsAt funs f h k g n j p ts → Covered p (end_stmts p ts)
       stmts_covered k of looped g names n j p Finish ok s = nothing p
       stmts_covered k of looped g names n j p (Then t rest) ok s =
           join p (end_stmt p t) (end_stmts (end_stmt p t) rest) (stmt_covered k of looped g names n j p t ok.0 s.0) (stmts_covered k of looped g names (next_stmt n t) j (end_stmt p t) rest ok.1 s.1)

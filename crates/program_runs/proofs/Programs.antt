@@ -7,6 +7,8 @@ use Rattle.pl_code.specs.declared.kinds.Plain.TheVariants as plain
 use Rattle.pl_code.specs.declared.code.FunCode.{FunCode}
 use Rattle.pl_code.specs.declared.code.Instruction.{Instruction}
 use Rattle.pl_code.specs.declared.code.Instruction.TheVariants as i
+use Rattle.allowlist.specs.Allow.{AllowList}
+use Rattle.member_names.specs.Names.{TextsName}
 use Rattle.program_meaning.specs.Tree.{Fun, Program}
 use Rattle.program_meaning.specs.Programs.{program_of}
 use Rattle.program_meaning.specs.Falls.{all_fall}
@@ -14,7 +16,7 @@ use Rattle.program_code.specs.Lying.{lying_of}
 use Rattle.program_code.specs.Parts.{default_code}
 use Rattle.program_code.specs.Stands.{scope_of, no_jumps, end_all, end_stmts, EndAt, end_end, FunAt, Compiled}
 use Rattle.program_types.specs.Agreeing as agreeing
-use Rattle.program_types.specs.Agreeing.{FunAgrees, WellFormed}
+use Rattle.program_types.specs.Agreeing.{Known, known, FunAgrees, WellFormed}
 use Rattle.program_shapes.specs.Laws.{CodeIsWellShaped}
 use Rattle.verified_runs.specs.Rows.{has_row}
 use Rattle.verified_runs.specs.Fits.{main_params}
@@ -26,48 +28,50 @@ use Rattle.program_runs.proofs.Covering.{Covered, nothing, one, join, all, stmts
 one_of : {X : Type 0} (o : Option X) (x y : X) → o ≡ Some x → o ≡ Some y → x ≡ y
 one_of o x y a b = cc
 
-ending : (f : FunCode) (b : Bool) (p : ℕ) (of : Ty) → EndAt f b p of → Covered f p (end_end b p of)
-ending f false p of s = nothing f p
-ending f true p of s = join f p (end_all p (default_code of)) (suc (end_all p (default_code of))) (all f [] p (default_code of) s.0 (default_rows of)) (one f [] (end_all p (default_code of)) (i.Plain plain.Ret) s.1 refl)
+ending : (allow : AllowList) (f : FunCode) (b : Bool) (p : ℕ) (of : Ty) → EndAt f b p of → Covered allow f p (end_end b p of)
+ending allow f false p of s = nothing allow f p
+ending allow f true p of s =
+    join allow f p (end_all p (default_code of)) (suc (end_all p (default_code of))) (all allow f [] p (default_code of) s.0 (default_rows allow of))
+    (one allow f [] (end_all p (default_code of)) (i.Plain plain.Ret) s.1 refl)
 
 there : (xs : List Fun) (k : ℕ) → k < length xs → (x : Fun) × (slice_get xs k ≡ Some x)
 there [] k h = absurd (omega arith)
 there (x ∷ xs) zero h = (x, refl)
 there (x ∷ xs) (suc k) h = there xs k (omega arith)
 
-module _ (funs : Program) (code : List FunCode) where
-  fun_covered : (number : ℕ) (fun : Fun) (fa : FunAt funs code number fun) → FunAgrees funs fun → Covered fa.body 0 (length fa.body.lines)
+module _ (texts : TextsName) (allow : AllowList) (funs : Program) (code : List FunCode) where
+  fun_covered : (number : ℕ) (fun : Fun) (fa : FunAt funs code number fun) → FunAgrees (known allow funs) fun → Covered allow fa.body 0 (length fa.body.lines)
   fun_covered number fun fa agrees =
       let q = end_stmts 0 fun.body in
-      subst (Covered fa.body 0) (sym fa.lines)
-      (join fa.body 0 q (end_end (all_fall fun.body) q fun.result)
-      (stmts_covered fa.body funs [] (lying_of fun.result) fun.result false (scope_of fun.params 0 []) (agreeing.scope_of fun.params []) (length fun.params) no_jumps 0 fun.body agrees.body fa.stands)
-      (ending fa.body (all_fall fun.body) q fun.result fa.ends))
+      subst (Covered allow fa.body 0) (sym fa.lines)
+      (join allow fa.body 0 q (end_end (all_fall fun.body) q fun.result)
+      (stmts_covered allow fa.body texts funs [] (lying_of fun.result) fun.result false (scope_of fun.params 0 []) (agreeing.scope_of fun.params []) (length fun.params) no_jumps 0 fun.body agrees.body fa.stands)
+      (ending allow fa.body (all_fall fun.body) q fun.result fa.ends))
 
 -- an instruction of a function whose lines have rows
-row_of : (f : FunCode) (line : ℕ) (instruction : Instruction) → Covered f 0 (length f.lines) → slice_get f.lines line ≡ Some instruction → has_row instruction ≡ true
-row_of f line instruction covered here =
+row_of : (allow : AllowList) (f : FunCode) (line : ℕ) (instruction : Instruction) → Covered allow f 0 (length f.lines) → slice_get f.lines line ≡ Some instruction → has_row allow instruction ≡ true
+row_of allow f line instruction covered here =
     let row = covered.each line (omega arith) (slice_get_within f.lines line instruction here) in
-    ap has_row (sym (one_of (slice_get f.lines line) row.instruction instruction row.is here)) ∙ row.row
+    ap (has_row allow) (sym (one_of (slice_get f.lines line) row.instruction instruction row.is here)) ∙ row.row
 
-function_rows : (funs : Program) (code : List FunCode) → WellFormed funs → Compiled funs code → (k : ℕ) (f : FunCode) → slice_get code k ≡ Some f → Covered f 0 (length f.lines)
-function_rows funs code formed made k f at =
+function_rows : TextsName → (funs : Known) (code : List FunCode) → WellFormed funs → Compiled funs.functions code → (k : ℕ) (f : FunCode) → slice_get code k ≡ Some f → Covered funs.allowed f 0 (length f.lines)
+function_rows texts funs code formed made k f at =
     let less = slice_get_within code k f at in
     let many = made.many in
-    let x = there funs k (omega (arith, less, many)) in
+    let x = there funs.functions k (omega (arith, less, many)) in
     let fa = made.each k x.0 x.1 in
-    subst (λ f. Covered f 0 (length f.lines)) (one_of (slice_get code k) fa.body f fa.is at) (fun_covered funs code k x.0 fa (formed.each k x.0 x.1))
+    subst (λ f. Covered funs.allowed f 0 (length f.lines)) (one_of (slice_get code k) fa.body f fa.is at) (fun_covered texts funs.allowed funs.functions code k x.0 fa (formed.each k x.0 x.1))
 
-pub code_has_rows : CodeHasRows
-code_has_rows funs code formed made = record { each = λ k line f instruction at here. row_of f line instruction (function_rows funs code formed made k f at) here }
+pub code_has_rows : TextsName → CodeHasRows
+code_has_rows texts funs code formed made = record { each = λ k line f instruction at here. row_of funs.allowed f line instruction (function_rows texts funs code formed made k f at) here }
 
 first_of_code : (code : List FunCode) → 0 < length code → (f : FunCode) × (slice_get code 0 ≡ Some f) × (main_params code ≡ f.params)
 first_of_code [] h = absurd (omega arith)
 first_of_code (f ∷ fs) h = (f, refl, refl)
 
-pub programs_run : CodeIsWellShaped → ProgramsRun
-programs_run code_is_well_shaped allow p code formed reached made limits words w params allowed =
-    let funs = program_of p in
-    let well = code_is_well_shaped allow funs code (omega arith) formed reached made in
+pub programs_run : TextsName → CodeIsWellShaped → ProgramsRun
+programs_run texts code_is_well_shaped allow p code formed reached made limits under words w params allowed =
+    let funs = known allow (program_of p) in
+    let well = code_is_well_shaped funs code (omega arith) formed reached made in
     let first = first_of_code code well.some in
-    run_ends allow code limits well (code_has_rows funs code formed made) first.0 words w first.1 (params ∙ first.2) allowed
+    run_ends allow code limits well under (code_has_rows texts funs code formed made) first.0 words w first.1 (params ∙ first.2) allowed

@@ -3,7 +3,6 @@ use Rattle.std.specs.Prelude.{◌≡◌, List}
 use Rattle.pl_code.specs.declared.code.FunCode.{FunCode}
 use Rattle.allowlist.specs.Allow.{AllowList}
 use Rattle.typed_tree.specs.declared.program.Program as typed
-use Rattle.program_meaning.specs.Tree.{Program}
 use Rattle.program_meaning.specs.Programs.{program_of}
 use Rattle.program_types.specs.Agreeing.{Known, known, WellFormed}
 use Rattle.program_types.specs.Reached.{Reached}

@@ -1,6 +1,7 @@
 //! What holds of the runs of the code of every program that is well formed.
 ghost use Rattle.program_runs.specs.Laws.{CodeHasRows, ProgramsRun};
 
+use member_names::names_of_members;
 use program_shapes::code_is_well_shaped;
 
 /// Each instruction of the code of a well-formed program has a row, so its runs are never stuck and end within the bound.
@@ -8,5 +9,6 @@ pub fn programs_run()
     ensures rows { CodeHasRows }
     ensures ends { ProgramsRun }
 {
+    names_of_members();
     code_is_well_shaped();
 }

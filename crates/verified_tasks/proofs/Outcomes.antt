@@ -50,7 +50,7 @@ abbrev world_left : Outcome → ℕ → World
 world_left o left = record { store = o.heap; ticks = left; reached = o.reached }
 
 module _ (allow : AllowList) where
-  leaves_from : (a : Activation) (o : Outcome) (now : Option Next) (left : ℕ) → KeepsFrom allow a.code (limits_of a.limits) a.steps now → now ≡ Some (ended o.end (world_left o left)) → o.ticks ≡ a.limits.ticks - left → o.steps ≡ a.steps
+  leaves_from : (a : Activation) (o : Outcome) (now : Option Next) (left : ℕ) → KeepsFrom allow a.code (limits_of a.limits a.allow) a.steps now → now ≡ Some (ended o.end (world_left o left)) → o.ticks ≡ a.limits.ticks - left → o.steps ≡ a.steps
       → Some o ≡ ending_from a now
   leaves_from a o None left k is ticks steps = cc
   leaves_from a o (Some (Goes c)) left k is ticks steps = absurd (not_goes o.end (world_left o left) c (some_next (Goes c) (ended o.end (world_left o left)) is))
@@ -73,25 +73,25 @@ module _ (allow : AllowList) where
 
 -- ---- where a run begins
 
-begins : (allow : AllowList) (code : List FunCode) (limits : Limits) (args : List Word) (w : World) → IsWellShapedCode allow code → HaveRows code → kinds_of args ≡ main_params code → ReachesAllowed allow w
+begins : (allow : AllowList) (code : List FunCode) (limits : Limits) (args : List Word) (w : World) → IsWellShapedCode allow code → limits.allowed ≡ allow → HaveRows allow code → kinds_of args ≡ main_params code → ReachesAllowed allow w
     → Keeps allow code limits 0 (start code args w) × (false ≡ is_over (Some (start code args w)))
-begins allow [] limits args w well rows params reached = let some = well.some in absurd (omega (arith, some))
-begins allow (f ∷ fs) limits args w well rows params reached = (
-  record { well = well; rows = rows; fits = starts_fit allow (f ∷ fs) limits f args w well refl params reached; counts = omega arith },
+begins allow [] limits args w well under rows params reached = let some = well.some in absurd (omega (arith, some))
+begins allow (f ∷ fs) limits args w well under rows params reached = (
+  record { well = well; under = under; rows = rows; fits = starts_fit allow (f ∷ fs) limits f args w well refl params reached; counts = omega arith },
   refl,
 )
 
 -- an activation of code that was verified, and is lent
-pub starts : (allow : AllowList) (kept lent : Code) (args : List Word) (w : World) (made a : Activation) → IsWellShapedCode allow kept.functions → HaveRows kept.functions → kinds_of args ≡ main_params kept.functions → ReachesAllowed allow w
-    → lent ≡ kept → a ≡ made → made.code ≡ lent.functions → made.now ≡ Some (start lent.functions args w) → made.steps ≡ 0 → IsVerified allow a × (false ≡ is_over a.now)
-starts allow kept lent args w made a well rows params reached same is code now steps =
-    let x = begins allow kept.functions (limits_of made.limits) args w well rows params reached in
+pub starts : (allow : AllowList) (kept lent : Code) (args : List Word) (w : World) (made a : Activation) → IsWellShapedCode allow kept.functions → HaveRows allow kept.functions → kinds_of args ≡ main_params kept.functions → ReachesAllowed allow w
+    → lent ≡ kept → a ≡ made → made.code ≡ lent.functions → made.allow ≡ allow → made.now ≡ Some (start lent.functions args w) → made.steps ≡ 0 → IsVerified allow a × (false ≡ is_over a.now)
+starts allow kept lent args w made a well rows params reached same is code under now steps =
+    let x = begins allow kept.functions (limits_of made.limits made.allow) args w well under rows params reached in
     let here : made.now ≡ Some (start kept.functions args w) = now ∙ ap (λ (k : Code). Some (start k.functions args w)) same in
     let kept_so : made.code ≡ kept.functions = code ∙ ap (λ (k : Code). k.functions) same in
     let keeps : IsVerified allow made =
-    subst (λ fs. KeepsFrom allow fs (limits_of made.limits) made.steps made.now) (sym kept_so)
-    (subst (λ n. KeepsFrom allow kept.functions (limits_of made.limits) n made.now) (sym steps)
-    (subst (λ now. KeepsFrom allow kept.functions (limits_of made.limits) 0 now) (sym here) x.0)) in
+    subst (λ fs. KeepsFrom allow fs (limits_of made.limits made.allow) made.steps made.now) (sym kept_so)
+    (subst (λ n. KeepsFrom allow kept.functions (limits_of made.limits made.allow) n made.now) (sym steps)
+    (subst (λ now. KeepsFrom allow kept.functions (limits_of made.limits made.allow) 0 now) (sym here) x.0)) in
     subst (λ (a : Activation). IsVerified allow a × (false ≡ is_over a.now)) (sym is) (keeps, x.1 ∙ ap is_over (sym here))
 
 -- no more is left where it begins than the bound
@@ -100,11 +100,12 @@ begins_bounded [] limits args w = omega arith
 begins_bounded (f ∷ fs) limits args w = taken_most (f ∷ fs) limits (most_steps (f ∷ fs) limits w.ticks) (start (f ∷ fs) args w)
 
 -- of an activation of code that was verified, and is lent
-pub starts_bounded : (kept lent : Code) (limits : machine.Limits) (args : List Word) (w : World) (a : Activation) → lent ≡ kept
-    → a ≡ record { code = lent.functions; limits = limits; now = Some (start lent.functions args w); steps = 0 } → rest a ≤ most_steps kept.functions (limits_of limits) w.ticks
-starts_bounded kept lent limits args w a same is =
-    subst (λ (k : Code). rest a ≤ most_steps k.functions (limits_of limits) w.ticks) same
-    (subst (λ (a : Activation). rest a ≤ most_steps lent.functions (limits_of limits) w.ticks) (sym is) (begins_bounded lent.functions (limits_of limits) args w))
+pub starts_bounded : (allow lent_allow : AllowList) (kept lent : Code) (limits : machine.Limits) (args : List Word) (w : World) (a : Activation) → lent_allow ≡ allow → lent ≡ kept
+    → a ≡ record { code = lent.functions; limits = limits; allow = lent_allow; now = Some (start lent.functions args w); steps = 0 } → rest a ≤ most_steps kept.functions (limits_of limits allow) w.ticks
+starts_bounded allow lent_allow kept lent limits args w a under same is =
+    subst (λ (k : Code). rest a ≤ most_steps k.functions (limits_of limits allow) w.ticks) same
+    (subst (λ (list : AllowList). rest a ≤ most_steps lent.functions (limits_of limits list) w.ticks) under
+    (subst (λ (a : Activation). rest a ≤ most_steps lent.functions (limits_of limits lent_allow) w.ticks) (sym is) (begins_bounded lent.functions (limits_of limits lent_allow) args w)))
 
 -- ---- how it ends
 
@@ -123,5 +124,5 @@ ends_fitting allow code limits steps e w now is k =
 pub leaves_fitting : (r : RunUnder) (o : Option Outcome) → IsVerified r.allow r.run → Leaves r.run o → IfSome o (LeavesFitting r)
 leaves_fitting r None k l = tt
 leaves_fitting r (Some o) k l =
-    let x = ends_fitting r.allow r.run.code (limits_of r.run.limits) r.run.steps o.end (world_left o l.0) r.run.now l.1 k in
+    let x = ends_fitting r.allow r.run.code (limits_of r.run.limits r.run.allow) r.run.steps o.end (world_left o l.0) r.run.now l.1 k in
     record { end = x.0; reached = x.1 }

@@ -40,7 +40,7 @@ module _ (code : List FunCode) (limits : Limits) where
 
   ends_at : (allow : AllowList) (steps : ℕ) (n : Next) → Keeps allow code limits steps n → EndsAt n
   ends_at allow steps (Goes c) k =
-      let x = ends_within allow code limits k.well k.rows c k.fits in
+      let x = ends_within allow code limits k.well k.under k.rows c k.fits in
       record { end = x.end; ends = x.ends }
   ends_at allow steps (Ends r) k = record { end = r; ends = refl }
   ends_at allow steps Stuck k = absurd k.fits
@@ -115,7 +115,7 @@ module _ (code : List FunCode) (limits : Limits) where
   by_next q n Stuck e f sum = let wrong : Stuck ≡ Ends f.end = f.ends in cc
 
   keeps_on : (allow : AllowList) (q steps steps' : ℕ) (n : Next) → steps' < 2 ^ 64 → Keeps allow code limits steps n → Keeps allow code limits steps' (after code limits q n)
-  keeps_on allow q steps steps' n h k = record { well = k.well; rows = k.rows; fits = stays_fitting allow code limits k.well k.rows q n k.fits; counts = h }
+  keeps_on allow q steps steps' n h k = record { well = k.well; under = k.under; rows = k.rows; fits = stays_fitting allow code limits k.well k.under k.rows q n k.fits; counts = h }
 
   pub lowered : (allow : AllowList) (q steps : ℕ) (n : Next) → Keeps allow code limits steps n → left (after code limits q n) ≡ left n - q
   lowered allow q steps n k =
@@ -134,12 +134,12 @@ counted_none n h = omega (arith, h)
 -- ---- activations
 
 abbrev made : Activation → Option Next → Activation
-made a now = record { code = a.code; limits = a.limits; now = now; steps = a.steps }
+made a now = record { code = a.code; limits = a.limits; allow = a.allow; now = now; steps = a.steps }
 
 module _ (allow : AllowList) where
-  keeps_from : (a : Activation) (q : ℕ) (now : Option Next) → KeepsFrom allow a.code (limits_of a.limits) a.steps now → IsVerified allow (later q (made a now))
+  keeps_from : (a : Activation) (q : ℕ) (now : Option Next) → KeepsFrom allow a.code (limits_of a.limits a.allow) a.steps now → IsVerified allow (later q (made a now))
   keeps_from a q None k = tt
-  keeps_from a q (Some n) k = keeps_on a.code (limits_of a.limits) allow q a.steps (counted (a.steps + steps_taken a.code (limits_of a.limits) q n)) n (counted_less (a.steps + steps_taken a.code (limits_of a.limits) q n)) k
+  keeps_from a q (Some n) k = keeps_on a.code (limits_of a.limits a.allow) allow q a.steps (counted (a.steps + steps_taken a.code (limits_of a.limits a.allow) q n)) n (counted_less (a.steps + steps_taken a.code (limits_of a.limits a.allow) q n)) k
 
   pub stays_verified : (a : Activation) (q : ℕ) → IsVerified allow a → IsVerified allow (later q a)
   stays_verified a q k = keeps_from a q a.now k
@@ -149,12 +149,12 @@ module _ (allow : AllowList) where
   some_now None = ⊥
   some_now (Some n) = Unit {0}
 
-  turn_from : (a : Activation) (q : ℕ) (now : Option Next) → some_now now → KeepsFrom allow a.code (limits_of a.limits) a.steps now → IsTurn rest ending q (made a now) (later q (made a now))
+  turn_from : (a : Activation) (q : ℕ) (now : Option Next) → some_now now → KeepsFrom allow a.code (limits_of a.limits a.allow) a.steps now → IsTurn rest ending q (made a now) (later q (made a now))
   unfolding left
   turn_from a q None some k = absurd some
   turn_from a q (Some n) some k =
       let code = a.code in
-      let limits = limits_of a.limits in
+      let limits = limits_of a.limits a.allow in
       let here = ends_at code limits allow a.steps n k in
       let next = ends_at code limits allow a.steps (after code limits q n) (keeps_on code limits allow q a.steps a.steps n k.counts k) in
       let steps = counted_twice a.steps (steps_taken code limits q n) (left code limits (after code limits q n)) (left code limits n) (turn_left code limits q n here next) in
@@ -190,21 +190,21 @@ module _ (allow : AllowList) where
 
   -- whether a run is over is whether nothing is left
   pub done_is : (a : Activation) → IsVerified allow a → is_over a.now ≡ (rest a == 0)
-  done_is a k = over_is a.code (limits_of a.limits) a.steps a.now k
+  done_is a k = over_is a.code (limits_of a.limits a.allow) a.steps a.now k
 
   -- a turn behind which it goes on
   pub turn_goes_on : (a : Activation) (q : ℕ) → IsVerified allow a → IsTrue (goes (later q a).now) → IsTurn rest ending q a (later q a) × (0 < rest (later q a))
-  turn_goes_on a q k g = (turn_from a q a.now (some_before a.now g) k, goes_left a.code (limits_of a.limits) (later q a).steps (later q a).now g (stays_verified a q k))
+  turn_goes_on a q k g = (turn_from a q a.now (some_before a.now g) k, goes_left a.code (limits_of a.limits a.allow) (later q a).steps (later q a).now g (stays_verified a q k))
     where
-      some_before : (now : Option Next) → IsTrue (goes (option_map (after a.code (limits_of a.limits) q) now)) → some_now now
+      some_before : (now : Option Next) → IsTrue (goes (option_map (after a.code (limits_of a.limits a.allow) q) now)) → some_now now
       some_before None g = false≢true g
       some_before (Some n) g = tt
 
   -- a turn with which it ends
   pub turn_ends : (a : Activation) (q : ℕ) → IsVerified allow a → IsTrue (is_over (later q a).now) → IsTurn rest ending q a (later q a) × (rest (later q a) ≡ 0)
-  turn_ends a q k g = (turn_from a q a.now (some_before a.now g) k, over_left a.code (limits_of a.limits) (later q a).steps (later q a).now g (stays_verified a q k))
+  turn_ends a q k g = (turn_from a q a.now (some_before a.now g) k, over_left a.code (limits_of a.limits a.allow) (later q a).steps (later q a).now g (stays_verified a q k))
     where
-      some_before : (now : Option Next) → IsTrue (is_over (option_map (after a.code (limits_of a.limits) q) now)) → some_now now
+      some_before : (now : Option Next) → IsTrue (is_over (option_map (after a.code (limits_of a.limits a.allow) q) now)) → some_now now
       some_before None g = false≢true g
       some_before (Some n) g = tt
 
@@ -221,7 +221,7 @@ module _ (allow : AllowList) where
   is_nothing (Some n) e = absurd (false≢true (sym e))
 
   no_memory : (new : Activation) → new.now ≡ None → IsVerified allow new × (false ≡ is_over new.now)
-  no_memory new e = (subst (KeepsFrom allow new.code (limits_of new.limits) new.steps) (sym e) tt, sym (ap is_over e))
+  no_memory new e = (subst (KeepsFrom allow new.code (limits_of new.limits new.allow) new.steps) (sym e) tt, sym (ap is_over e))
 
   -- behind a turn it is a run of verified code, which is over where the turn was its last
   pub turned_keeps : (a new : Activation) (q : ℕ) (t : Turn) → IsVerified allow a → Turned q a new t → IsVerified allow new × (is_end t ≡ is_over new.now)

@@ -23,10 +23,12 @@ use Rattle.verified_runs.specs.Bounds.{most_steps}
 
 -- ---- which activations are runs of verified code
 
--- The code is well shaped under a list, its instructions have rows, where the run stands fits, and 64 bits count its steps.
+-- The code is well shaped under a list, by which members are called, and its instructions have rows under it; where the run stands fits, and 64 bits
+-- count its steps.
 pub record Keeps (allow : AllowList) (code : List FunCode) (limits : Limits) (steps : ℕ) (n : Next) : Type 0 where
   pub well : IsWellShapedCode allow code
-  pub rows : HaveRows code
+  pub under : limits.allowed ≡ allow
+  pub rows : HaveRows allow code
   pub fits : FitsNext allow code limits n
   pub counts : steps < 2 ^ 64
 
@@ -36,7 +38,7 @@ KeepsFrom allow code limits steps None = Unit {0}
 KeepsFrom allow code limits steps (Some n) = Keeps allow code limits steps n
 
 abbrev pub IsVerified : AllowList → Activation → Type 0
-IsVerified allow a = KeepsFrom allow a.code (limits_of a.limits) a.steps a.now
+IsVerified allow a = KeepsFrom allow a.code (limits_of a.limits a.allow) a.steps a.now
 
 -- a run of verified code, and the list under which the code was verified
 pub record RunUnder : Type 0 where
@@ -69,7 +71,7 @@ rest_from code limits None = 1
 rest_from code limits (Some n) = steps_taken code limits (most_left code limits n) n
 
 abbrev pub rest : Activation → ℕ
-rest a = rest_from a.code (limits_of a.limits) a.now
+rest a = rest_from a.code (limits_of a.limits a.allow) a.now
 
 -- ---- what it comes to
 
@@ -93,7 +95,8 @@ outcome_in ticks steps Stuck = None
 abbrev pub ending_from : Activation → Option Next → Option Outcome
 ending_from a None = None
 ending_from a (Some n) =
-    outcome_in a.limits.ticks (counted (a.steps + rest_from a.code (limits_of a.limits) (Some n))) (after a.code (limits_of a.limits) (most_left a.code (limits_of a.limits) n) n)
+    outcome_in a.limits.ticks (counted (a.steps + rest_from a.code (limits_of a.limits a.allow) (Some n)))
+    (after a.code (limits_of a.limits a.allow) (most_left a.code (limits_of a.limits a.allow) n) n)
 
 -- what an activation comes to when it is run alone
 abbrev pub ending : Activation → Option Outcome

@@ -43,7 +43,8 @@ impl<'c> Model for VerifiedActivation<'c> {
 
 impl<'c> VerifiedActivation<'c> {
     /// A run of function 0 of this code on these arguments, which are of the kinds of its parameters (`fit_main` tests it). Each
-    /// instruction of the code has a row (`have_rows` tests it).
+    /// instruction of the code has a row (`have_rows` tests it). It calls the members of the list under which the code was verified,
+    /// and no others.
     ///
     /// # Errors
     ///
@@ -54,12 +55,12 @@ impl<'c> VerifiedActivation<'c> {
         args: Elements<Word>,
         limits: Limits,
     ) -> Result<VerifiedActivation<'c>, AllocError>
-        requires rows { HaveRows code.now.code.functions }
+        requires rows { HaveRows code.now.allow code.now.code.functions }
         requires args { kinds_of args ≡ main_params code.now.code.functions }
-        ensures started { IfOk result (λ a. a ≡ record { run = record { code = code.now.code.functions; limits = limits; now = Some (start code.now.code.functions args (record { store = heap; ticks = limits.ticks; reached = [] })); steps = 0 }; allow = code.now.allow }) }
-        ensures bound { IfOk result (λ a. rest a.run ≤ most_steps code.now.code.functions (limits_of limits) limits.ticks) }
+        ensures started { IfOk result (λ a. a ≡ record { run = record { code = code.now.code.functions; limits = limits; allow = code.now.allow; now = Some (start code.now.code.functions args (record { store = heap; ticks = limits.ticks; reached = [] })); steps = 0 }; allow = code.now.allow }) }
+        ensures bound { IfOk result (λ a. rest a.run ≤ most_steps code.now.code.functions (limits_of limits code.now.allow) limits.ticks) }
     {
-        let run = Activation::start(code.code(), heap, args, limits)?;
+        let run = Activation::start(code.code(), code.allow(), heap, args, limits)?;
         Ok(VerifiedActivation {
             code,
             run,
