@@ -6,6 +6,7 @@ use Rattle.std.proofs.lemmas.Str.{IsUtf8-nil, IsUtf8-from_is_utf8, is_utf8-from_
 use Rattle.std.proofs.lemmas.Slice.Eq.{bytes_eq-Decides}
 use Rattle.std.specs.Str.{IsUtf8, is_utf8, IsValidUpTo, bytes_eq}
 use Rattle.pl_types.specs.declared.refusal.Refusal.{Refusal}
+use Rattle.pl_types.specs.declared.ty.Ty.{out-Ty}
 use Rattle.allowlist.specs.Allow.{full_list}
 use Rattle.typed_tree.specs.declared.program.Program.{Program}
 use Rattle.typing_laws.specs.Laws.{IsContext}
@@ -65,8 +66,9 @@ is_eval (word ∷ name ∷ []) = by (bytes_eq word (codes "eval")) refl
     by false is = inr (λ other e. (let same : word ≡ codes "eval" = same_first other e in search (rules, bytes_eq-Decides)))
 is_eval (word ∷ name ∷ next ∷ rest) = inr (λ other e. cc)
 
-is_context : IsContext eval_types
-is_context = record { distinct = tt; present = tt }
+pub is_context : IsContext eval_types
+unfolding out-Ty denote.Hole.Carrier.out
+is_context = record { distinct = tt; present = tt; result = record { listed = refl } }
 
 module _ (texts : TextsAreAnswered) (ends : ProgramsEnd) where
   goes_on : (text : List ℕ) (reading : Result Program Refusal) → IsProgramOf full_list eval_types text reading → Answered (MeansText text)
