@@ -1,9 +1,9 @@
 -- What the code comes to, and what it is told of.
-use Rattle.allowlist.specs.Allow.{full_list}
 use Rattle.std.specs.Prelude.{◌≡◌, ℕ, Result, Ok, Err}
 use Rattle.pl_types.specs.declared.refusal.Refusal.{Refusal}
 use Rattle.pl_types.specs.declared.refusal.Fail.{Fail}
 use Rattle.pl_types.specs.declared.refusal.Fail.TheVariants.{Refused, NoMemory}
+use Rattle.allowlist.specs.Allow.{full_list}
 use Rattle.object_values.specs.declared.value.Value.{Value}
 use Rattle.object_heap.specs.declared.outcome.Outcome.{Outcome}
 use Rattle.run_world.specs.World.{End}
