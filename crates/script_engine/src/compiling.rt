@@ -110,7 +110,7 @@ pub fn compile<'a>(
 {
     code_is_well_shaped();
     let program = program_of(alloc, allow, context, text)?;
-    match generate(alloc, &program) {
+    match generate(alloc, allow, &program) {
         Ok(code) => Ok(Script { allow, code }),
         Err(_) => Err(Fail::NoMemory),
     }
