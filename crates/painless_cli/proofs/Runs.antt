@@ -33,30 +33,30 @@ use Rattle.painless_cli.specs.Whole.{Told, which_of, reply_to, told_of, TellsScr
 
 -- the one program of the text, whose script has run
 module _ (text : List ℕ) (script : Script) (o : Outcome) (ran : RunsAsEval script o) where
-  pub text_comes : Compiles eval_types (IsProgramOf full_list eval_types text) (Ok script) → Comes (MeansText text) (Ok o)
+  pub text_comes : Compiles full_list eval_types (IsProgramOf full_list eval_types text) (Ok script) → Comes (MeansText text) (Ok o)
   text_comes (p, is, made) =
       let out = ran p made in
       (end_seen o.end (world_left o out.left), (Ok p, is, (end_seen o.end (world_left o out.left), out.ends, refl)), record { left = out.left; is = refl })
 
-  goes_only : (p : Program) (answer : Result (End Value) Refusal) → IsScriptOf eval_types p script → RunsProgram p answer → Comes (λ a. a ≡ answer) (Ok o)
+  goes_only : (p : Program) (answer : Result (End Value) Refusal) → IsScriptOf full_list eval_types p script → RunsProgram p answer → Comes (λ a. a ≡ answer) (Ok o)
   goes_only p answer made (end, runs, is) =
       let out = ran p made in
       let seen = end_seen o.end (world_left o out.left) in
       let same : seen ≡ end = ends_once p eval_limits [] eval_world seen end out.ends runs in
       (seen, ap (λ (x : End Value). Ok x) same ∙ sym is, record { left = out.left; is = refl })
 
-  pub text_comes_only : ((reading : Result Program Refusal) → IsProgramOf full_list eval_types text reading → Compiles eval_types (λ a. a ≡ reading) (Ok script))
+  pub text_comes_only : ((reading : Result Program Refusal) → IsProgramOf full_list eval_types text reading → Compiles full_list eval_types (λ a. a ≡ reading) (Ok script))
       → (answer : Result (End Value) Refusal) → MeansText text answer → Comes (λ a. a ≡ answer) (Ok o)
   text_comes_only only answer (reading, is, goes) =
       let one = only reading is in
       goes_only one.0 answer one.2 (subst (λ r. GoesOn RunsProgram r answer) (sym one.1) goes)
 
 -- a text without a script
-pub text_fails : (text : List ℕ) (fail : Fail) → Compiles eval_types (IsProgramOf full_list eval_types text) (Err fail) → Comes (MeansText text) (Err fail)
+pub text_fails : (text : List ℕ) (fail : Fail) → Compiles full_list eval_types (IsProgramOf full_list eval_types text) (Err fail) → Comes (MeansText text) (Err fail)
 text_fails text (Refused refusal) h = (Err refusal, h, refl)
 text_fails text NoMemory h = tt
 
-pub text_fails_only : (text : List ℕ) (fail : Fail) → ((reading : Result Program Refusal) → IsProgramOf full_list eval_types text reading → Compiles eval_types (λ a. a ≡ reading) (Err fail))
+pub text_fails_only : (text : List ℕ) (fail : Fail) → ((reading : Result Program Refusal) → IsProgramOf full_list eval_types text reading → Compiles full_list eval_types (λ a. a ≡ reading) (Err fail))
     → (answer : Result (End Value) Refusal) → MeansText text answer → Comes (λ a. a ≡ answer) (Err fail)
 text_fails_only text (Refused refusal) only answer (reading, is, goes) = sym (subst (λ r. GoesOn RunsProgram r answer) (sym (only reading is)) goes)
 text_fails_only text NoMemory only answer h = tt
@@ -120,5 +120,5 @@ def_is_reference = tt
 
 -- `eval` has no variables, and its result is a reference
 pub runs_as_eval : (script : Script) (result : Result Outcome AllocError) → IfOk result (RunsAsItsProgram script eval_world.store machine_limits) → IfOk result (RunsAsEval script)
-runs_as_eval script (Ok o) h = λ p is. h eval_types p is refl def_is_reference
+runs_as_eval script (Ok o) h = λ p is. h full_list eval_types p is refl def_is_reference
 runs_as_eval script (Err error) h = tt

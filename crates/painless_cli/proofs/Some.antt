@@ -73,7 +73,7 @@ is_context = record { distinct = tt; present = tt; result = record { listed = re
 module _ (texts : TextsAreAnswered) (ends : ProgramsEnd) where
   goes_on : (text : List ℕ) (reading : Result Program Refusal) → IsProgramOf full_list eval_types text reading → Answered (MeansText text)
   goes_on text (Ok p) is =
-      let end = ends full_list eval_types text p is_context is eval_limits [] tt eval_world in
+      let end = ends full_list eval_types text p is_context is eval_limits refl [] tt eval_world in
       (Ok end.0, (Ok p, is, (end.0, end.1, refl)))
   goes_on text (Err refusal) is = (Err refusal, (Err refusal, is, refl))
 

@@ -17,13 +17,13 @@ abbrev pub Decodes : List ℕ → Result (List ℕ) Refusal → Type 0
 Decodes bytes (Ok text) = (text ≡ bytes) × IsUtf8 bytes
 Decodes bytes (Err refusal) = (refusal.number ≡ 1) × IsValidUpTo bytes refusal.offset
 
--- ---- the context of `eval`: no variables, any result, the default limits
+-- ---- the context of `eval`: no variables, any result, the default limits, and every member of the catalogue
 
 abbrev pub eval_types : ContextTypes
 eval_types = record { variables = []; result = Def }
 
 abbrev pub eval_limits : Limits
-eval_limits = record { loop = 1000000; depth = 256 }
+eval_limits = record { loop = 1000000; depth = 256; allowed = full_list }
 
 -- no objects, the default room and ticks, and no member was reached
 abbrev pub eval_world : World

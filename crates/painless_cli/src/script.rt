@@ -13,7 +13,7 @@ ghost use Rattle.painless_cli.specs.Script.{Decodes, Means, MeansText, eval_type
 ghost use Rattle.painless_cli.specs.Outcomes.{Comes, RunsAsEval};
 ghost use Rattle.painless_cli.specs.Whole.{file_limit};
 
-use allowlist::Catalogue;
+use allowlist::{Allow, Catalogue};
 use code_machine::Limits;
 use object_heap::{Heap, Outcome};
 use pl_types::{Fail, Refusal, Ty, rules};
@@ -47,18 +47,18 @@ fn context(alloc: Global) -> ContextTypes
     }
 }
 
-/// The script of a text.
-fn compiled(alloc: Global, text: &str) -> Result<Script, Fail>
-    ensures exact { Compiles eval_types (IsProgramOf full_list eval_types text.now) result }
-    ensures only { (reading : Result Program Refusal) → IsProgramOf full_list eval_types text.now reading → Compiles eval_types (λ a. a ≡ reading) result }
+/// The script of a text under the full catalogue.
+fn compiled<'a>(alloc: Global, text: &str, allow: &'a Allow) -> Result<Script<'a>, Fail>
+    requires full { allow.now ≡ full_list }
+    ensures exact { Compiles full_list eval_types (IsProgramOf full_list eval_types text.now) result }
+    ensures only { (reading : Result Program Refusal) → IsProgramOf full_list eval_types text.now reading → Compiles full_list eval_types (λ a. a ≡ reading) result }
 {
-    let allow = Catalogue::full(alloc)?;
     let context = context(alloc);
-    compile(alloc, text, &allow, &context)
+    compile(alloc, text, allow, &context)
 }
 
 /// Runs a script with the default limits.
-fn run(alloc: Global, script: &Script) -> Result<Outcome, AllocError>
+fn run(alloc: Global, script: &Script<'_>) -> Result<Outcome, AllocError>
     ensures { IfOk result (RunsAsEval script.now) }
 {
     let heap = Heap::new(alloc, 16_000_000);
@@ -75,7 +75,8 @@ fn run_text(alloc: Global, text: &str) -> Result<Outcome, Fail>
     ensures exact { Comes (MeansText text.now) result }
     ensures only { (reading : Result (End Value) Refusal) → MeansText text.now reading → Comes (λ a. a ≡ reading) result }
 {
-    match compiled(alloc, text) {
+    let allow = Catalogue::full(alloc)?;
+    match compiled(alloc, text, &allow) {
         Ok(script) => Ok(run(alloc, &script)?),
         Err(fail) => Err(fail),
     }

@@ -12,7 +12,7 @@ use Rattle.typing_rules.specs.Rules.Functions.{headers, main_start, main}
 use Rattle.typing_rules.specs.Typing.{doer, statements, ran, functions, main_of, program, typing_of}
 use Rattle.typed_tree.specs.declared.program.Program.{Program}
 use Rattle.program_meaning.specs.Programs.{fun_of, program_of, variable_of}
-use Rattle.program_types.specs.Agreeing.{WellFormed}
+use Rattle.program_types.specs.Agreeing.{known, WellFormed}
 use Rattle.program_types.specs.Reached.{Reached}
 use Rattle.program_code.specs.Correct.{IsCodeOf}
 use Rattle.typing_laws.specs.Laws.{IsContext}
@@ -42,47 +42,47 @@ record HasContext (context : ContextTypes) (p : Program) : Type 0 where
   variables : (fun_of p.main).params ≡ map variable_of context.variables
   result : (fun_of p.main).result ≡ context.result
 
-has_context : (context : ContextTypes) (tree : Tree) (p : Program) → typing_of context tree ≡ Ok p → HasContext context p
-has_context context tree p e =
-    let a = passed (headers tree.functions []) (λ hs. bind (functions hs tree.functions hs) (λ fs. bind (main_of context hs tree.statements) (λ m. accepted (program fs m)))) p e in
-    let b = passed (functions a.given tree.functions a.given) (λ fs. bind (main_of context a.given tree.statements) (λ m. accepted (program fs m))) p a.then' in
-    let c = passed (main_of context a.given tree.statements) (λ m. accepted (program b.given m)) p b.then' in
-    let d = passed (ran (statements true false (map (doer a.given) tree.statements)) (main_start context)) (λ whole. accepted (main context whole.0)) c.given c.first in
+has_context : (allow : AllowList) (context : ContextTypes) (tree : Tree) (p : Program) → typing_of allow context tree ≡ Ok p → HasContext context p
+has_context allow context tree p e =
+    let a = passed (headers tree.functions []) (λ hs. bind (functions allow hs tree.functions hs) (λ fs. bind (main_of allow context hs tree.statements) (λ m. accepted (program fs m)))) p e in
+    let b = passed (functions allow a.given tree.functions a.given) (λ fs. bind (main_of allow context a.given tree.statements) (λ m. accepted (program fs m))) p a.then' in
+    let c = passed (main_of allow context a.given tree.statements) (λ m. accepted (program b.given m)) p b.then' in
+    let d = passed (ran (statements true false (map (doer allow a.given) tree.statements)) (main_start context)) (λ whole. accepted (main context whole.0)) c.given c.first in
     settled (HasContext context) (program b.given c.given) p c.then'
     (settled (λ m. HasContext context (program b.given m)) (main context d.given.0) c.given d.then' (record { variables = refl; result = refl }))
 
 -- ---- stages
 
-tree_of : (context : ContextTypes) (p : Program) (text : List ℕ) (tokens : List Token) → TypesTokens context text tokens (Ok p) → (tree : Tree) × (typing_of context tree ≡ Ok p)
-tree_of context p text tokens (Ok tree, h, k) = (tree, sym k)
-tree_of context p text tokens (Err refusal, h, k) = cc
+tree_of : (allow : AllowList) (context : ContextTypes) (p : Program) (text : List ℕ) (tokens : List Token) → TypesTokens allow context text tokens (Ok p) → (tree : Tree) × (typing_of allow context tree ≡ Ok p)
+tree_of allow context p text tokens (Ok tree, h, k) = (tree, sym k)
+tree_of allow context p text tokens (Err refusal, h, k) = cc
 
-pub typed_from : (allow : AllowList) (context : ContextTypes) (text : List ℕ) (p : Program) → IsProgramOf allow context text (Ok p) → (tree : Tree) × (typing_of context tree ≡ Ok p)
-typed_from allow context text p (Ok tokens, h, k) = tree_of context p text tokens k
+pub typed_from : (allow : AllowList) (context : ContextTypes) (text : List ℕ) (p : Program) → IsProgramOf allow context text (Ok p) → (tree : Tree) × (typing_of allow context tree ≡ Ok p)
+typed_from allow context text p (Ok tokens, h, k) = tree_of allow context p text tokens k
 typed_from allow context text p (Err refusal, h, k) = cc
 
-pub formed_from : (allow : AllowList) (context : ContextTypes) (text : List ℕ) (p : Program) → IsContext context → IsProgramOf allow context text (Ok p) → WellFormed (program_of p)
-formed_from allow context text p good h = let tree = typed_from allow context text p h in typing_is_sound context tree.0 p good tree.1
+pub formed_from : (allow : AllowList) (context : ContextTypes) (text : List ℕ) (p : Program) → IsContext context → IsProgramOf allow context text (Ok p) → WellFormed (known allow (program_of p))
+formed_from allow context text p good h = let tree = typed_from allow context text p h in typing_is_sound allow context tree.0 p good tree.1
 
 -- the parameters of a text's program are the context's variables
 pub variables_from : (allow : AllowList) (context : ContextTypes) (text : List ℕ) (p : Program) → IsProgramOf allow context text (Ok p)
     → (fun_of p.main).params ≡ map variable_of context.variables
-variables_from allow context text p h = let tree = typed_from allow context text p h in (has_context context tree.0 p tree.1).variables
+variables_from allow context text p h = let tree = typed_from allow context text p h in (has_context allow context tree.0 p tree.1).variables
 
 -- each statement of a text's program is reached
 pub reached_from : (allow : AllowList) (context : ContextTypes) (text : List ℕ) (p : Program) → IsContext context → IsProgramOf allow context text (Ok p) → Reached (program_of p)
-reached_from allow context text p good h = let tree = typed_from allow context text p h in typing_reaches context tree.0 p good tree.1
+reached_from allow context text p good h = let tree = typed_from allow context text p h in typing_reaches allow context tree.0 p good tree.1
 
 -- code of a text's program is its script
 pub is_script : (allow : AllowList) (context : ContextTypes) (text : List ℕ) (p : Program) (script : Script) → IsContext context → IsProgramOf allow context text (Ok p)
-    → IsCodeOf p script.code.functions → IsScriptOf context p script
-is_script allow context text p script good h code =
+    → script.allow.now ≡ allow → IsCodeOf p script.code.functions → IsScriptOf allow context p script
+is_script allow context text p script good h allowed code =
     let tree = typed_from allow context text p h in
-    let has = has_context context tree.0 p tree.1 in
-    record { formed = typing_is_sound context tree.0 p good tree.1; code = code; variables = has.variables; result = has.result }
+    let has = has_context allow context tree.0 p tree.1 in
+    record { allowed = allowed; formed = typing_is_sound allow context tree.0 p good tree.1; code = code; variables = has.variables; result = has.result }
 
 -- a text without a program has no script
-pub fails_only : (context : ContextTypes) (fail : Fail) (reading : Result Program Refusal) → Answers {X = Program} (λ p. p) (Err fail) (λ a. a ≡ reading)
-    → Compiles context (λ a. a ≡ reading) (Err fail)
-fails_only context (Refused refusal) reading h = h
-fails_only context NoMemory reading h = tt
+pub fails_only : (allow : AllowList) (context : ContextTypes) (fail : Fail) (reading : Result Program Refusal) → Answers {X = Program} (λ p. p) (Err fail) (λ a. a ≡ reading)
+    → Compiles allow context (λ a. a ≡ reading) (Err fail)
+fails_only allow context (Refused refusal) reading h = h
+fails_only allow context NoMemory reading h = tt

@@ -1,6 +1,7 @@
 -- A program's run ends in one way.
 use Rattle.std.proofs.Common.{◌≡◌, ℕ, ◌≤◌, ◌+◌, List, [], Option, Some, None, refl, ap, ◌∙◌, arith}
 use Rattle.pl_types.specs.declared.ty.Ty.{Ty}
+use Rattle.allowlist.specs.Allow.{AllowList}
 use Rattle.object_values.specs.declared.value.Value.{Value}
 use Rattle.object_values.specs.declared.object.Owner.TheVariants.{Script}
 use Rattle.run_world.specs.World.{World, Limits, End, Result, Uncaught, Limited}
@@ -11,7 +12,7 @@ use Rattle.program_meaning.specs.Meaning.{Env, Out, Done, Thrown, Over, More, Fl
 use Rattle.program_meaning.specs.Laws.{Stays}
 use Rattle.program_meaning.proofs.Greater.{stays_above}
 use Rattle.program_types.specs.Types.{HaveAll}
-use Rattle.program_types.specs.Agreeing.{types_in, WellFormed}
+use Rattle.program_types.specs.Agreeing.{known, types_in, WellFormed}
 use Rattle.program_types.specs.Enough.{enough, IsEnough}
 use Rattle.program_types.proofs.Enough.{comes_to_an_end}
 use Rattle.script_engine.specs.Ends.{end_of, end_in, end_at, RunsTo}
@@ -50,12 +51,12 @@ comes of (Thrown id s e) x = record { end = Uncaught id s.world; is = refl }
 comes of (Over limit w) x = record { end = Limited limit w; is = refl }
 comes of More x = absurd x
 
-pub ends_some : (p : Program) → WellFormed (program_of p) → (limits : Limits) (args : List Value) → HaveAll (types_in (fun_of p.main).params) args → (w : World)
+pub ends_some : (allow : AllowList) (p : Program) → WellFormed (known allow (program_of p)) → (limits : Limits) → limits.allowed ≡ allow → (args : List Value) → HaveAll (types_in (fun_of p.main).params) args → (w : World)
     → (end : End Value) × RunsTo p limits args w end
-ends_some p formed limits args have w =
+ends_some allow p formed limits allowed args have w =
     let funs = program_of p in
     let main = fun_of p.main in
     let bound = enough funs w in
-    let ran = comes_to_an_end funs formed limits main refl args have w bound (omega arith) in
+    let ran = comes_to_an_end (known allow funs) formed limits main allowed refl args have w bound (omega arith) in
     let last = comes main.result ((meaning funs limits bound).stmts (record { text = Script; depth = 0 }) (record { world = w; turns = 0 }) ran.0 main.body) ran.2 in
     (last.end, record { bound = bound; is = ap (λ o. end_in p limits bound main o w) ran.1 ∙ last.is })

@@ -16,7 +16,7 @@ use Rattle.program_meaning.specs.Tree.{Variable, Fun}
 use Rattle.program_meaning.specs.Meaning.{Env, Out, Done, Thrown, Over, More, Flow, entry, returned, meaning}
 use Rattle.object_values.specs.declared.object.Owner.TheVariants.{Script as script_text}
 use Rattle.program_types.specs.Types.{IsReference, is_reference_layer, HaveAll}
-use Rattle.program_types.specs.Agreeing.{types_in}
+use Rattle.program_types.specs.Agreeing.{known, types_in, WellFormed}
 use Rattle.program_types.specs.Enough.{enough}
 use Rattle.program_code.specs.Lying.{Whole, lying_of, lying_of_layer, low}
 use Rattle.program_code.specs.Correct as code
@@ -34,7 +34,7 @@ use Rattle.code_machine.specs.Activations.{Activation, later, is_over, Turned}
 use Rattle.code_machine.proofs.Turning.{comes_to_its_end}
 use Rattle.script_engine.specs.declared.compiling.Script.{Script}
 use Rattle.script_engine.specs.Ends.{end_of, end_in, end_with}
-use Rattle.script_engine.specs.Running.{value_of, end_left, end_seen, world_left, world_at, LeftBy, RunsAsItsProgram}
+use Rattle.script_engine.specs.Running.{value_of, end_left, end_seen, world_left, world_at, LeftBy, IsOutcome, RunsAsItsProgram}
 
 -- ---- where a run of code stands that has ended
 
@@ -47,13 +47,13 @@ first_or_last n m = elim (cases_order n m) [
   | inr lt ↦ elim lt [ inl below ↦ inl (omega arith) | inr above ↦ inr above ]
 ]
 
-ends_there : (a : Activation) (from : Next) (end : End (Option Word)) → a.now ≡ Some from → EndsAs a.code (limits_of a.limits) from end → (q : ℕ)
+ends_there : (a : Activation) (from : Next) (end : End (Option Word)) → a.now ≡ Some from → EndsAs a.code (limits_of a.limits a.allow) from end → (q : ℕ)
     → IsTrue (is_over (later q a).now) → (later q a).now ≡ Some (Ends end)
 ends_there a from end stands ran q over = elim (first_or_last ran.steps q) [
   | inl within ↦ comes_to_its_end a from ran.steps q end stands ran.ends within
   | inr early ↦
       (let c = ran.before q early in
-      let goes : (later q a).now ≡ Some (Goes c.0) = ap (option_map (after a.code (limits_of a.limits) q)) stands ∙ ap (λ n. Some n) c.1 in
+      let goes : (later q a).now ≡ Some (Goes c.0) = ap (option_map (after a.code (limits_of a.limits a.allow) q)) stands ∙ ap (λ n. Some n) c.1 in
       absurd (not_going c.0 (subst (λ now. IsTrue (is_over now)) goes over)))
 ]
 
@@ -148,35 +148,37 @@ have_none [] none = tt
 have_none (x ∷ params) none = cc
 
 pub runs_as_its_program : (script : Script) (store : Store) (limits : Limits) (a : Activation) (q : ℕ) (o : Outcome)
-    → a ≡ record { code = script.code.functions; limits = limits; now = Some (start script.code.functions [] (world_at store limits)); steps = 0 }
+    → a ≡ record { code = script.code.functions; limits = limits; allow = script.allow.now; now = Some (start script.code.functions [] (world_at store limits)); steps = 0 }
     → IsTrue (is_over (later q a).now) → LeftBy (later q a) o → RunsAsItsProgram script store limits o
-runs_as_its_program script store limits a q o begun over by context p is none reference =
+runs_as_its_program script store limits a q o begun over by allow context p is none reference =
     let main = fun_of p.main in
     let functions = script.code.functions in
     let no_params : main.params ≡ [] = is.variables ∙ ap (map variable_of) none in
     let refers : IsReference main.result = subst IsReference (sym is.result) reference in
     let w = world_at store limits in
-    let out = programs_end p functions is.formed is.code (limits_of limits) [] (have_none main.params no_params) w in
+    let kept = limits_of limits script.allow.now in
+    let formed = subst (λ list. WellFormed (known list (program_of p))) (sym is.allowed) is.formed in
+    let out = programs_end p functions kept formed is.code [] (have_none main.params no_params) w in
     let words : out.words ≡ [] = no_words out.words main.params no_params out.are.are in
-    let b : Activation = record { code = functions; limits = limits; now = Some (start functions [] w); steps = 0 } in
+    let b : Activation = record { code = functions; limits = limits; allow = script.allow.now; now = Some (start functions [] w); steps = 0 } in
     let stands : (later q b).now ≡ Some (Ends out.end) =
-    ends_there b (start functions [] w) out.end refl (subst (λ ws. EndsAs functions (limits_of limits) (start functions ws w) out.end) words out.code_ends) q
+    ends_there b (start functions [] w) out.end refl (subst (λ ws. EndsAs functions kept (start functions ws w) out.end) words out.code_ends) q
     (subst (λ x. IsTrue (is_over (later q x).now)) begun over) in
     let there : Some (Ends out.end) ≡ Some (ended by.end (world_left o by.left)) = sym stands ∙ sym (ap (λ x. (later q x).now) begun) ∙ by.stands in
     let same : Ends out.end ≡ ended by.end (world_left o by.left) = cc in
     let bound = enough (program_of p) w in
-    record {
+    subst (λ list. IsOutcome list p store limits o) is.allowed (record {
       left = by.left;
       ends = record {
         bound = bound;
-        is = end_read p (limits_of limits) bound main (whole_layer (out-Ty main.result) refers) (entry main.params [] []) w by.end o.end (world_left o by.left) by.read out.end (out.ends.always bound (omega arith)) same;
+        is = end_read p kept bound main (whole_layer (out-Ty main.result) refers) (entry main.params [] []) w by.end o.end (world_left o by.left) by.read out.end (out.ends.always bound (omega arith)) same;
       };
       ticks = by.ticks ∙ ap (λ x. (later q x).limits.ticks - by.left) begun;
-    }
+    })
 
 -- .. and so does what a turn that came to the end has left
 pub turned_runs : (script : Script) (store : Store) (limits : Limits) (a new : Activation) (q : ℕ) (o : Outcome)
-    → a ≡ record { code = script.code.functions; limits = limits; now = Some (start script.code.functions [] (world_at store limits)); steps = 0 }
+    → a ≡ record { code = script.code.functions; limits = limits; allow = script.allow.now; now = Some (start script.code.functions [] (world_at store limits)); steps = 0 }
     → Turned q a new turn.Done → LeftBy new o → RunsAsItsProgram script store limits o
 turned_runs script store limits a new q o begun turned by =
     runs_as_its_program script store limits a q o begun (subst (λ x. IsTrue (is_over x.now)) turned.0 turned.1) (subst (λ x. LeftBy x o) turned.0 by)

@@ -24,14 +24,14 @@ pub then_once : {A B : Type 0} (First : Result A Refusal → Type 0) (Next : A �
 then_once {A} First Next first next a b h k =
     goes_once Next next k.0 a b (subst (λ (r : Result A Refusal). GoesOn Next r a) (first h.0 k.0 h.1 k.1) h.2) k.2
 
-tree_once : (context : ContextTypes) (tree : Tree) → Once (TypesTree context tree)
-tree_once context tree a b h k = h ∙ sym k
+tree_once : (allow : AllowList) (context : ContextTypes) (tree : Tree) → Once (TypesTree allow context tree)
+tree_once allow context tree a b h k = h ∙ sym k
 
 pub text_once : ((text : List ℕ) (names : List ℕ → Option ℕ) → Once (Lexes text names)) → ((text : List ℕ) (tokens : List Token) → Once (Parses text tokens))
     → (allow : AllowList) (context : ContextTypes) (text : List ℕ) → Once (IsProgramOf allow context text)
 text_once lexes parses allow context text =
-    then_once (Lexes text (class_named_of allow)) (TypesTokens context text) (lexes text (class_named_of allow))
-    (λ tokens. then_once (Parses text tokens) (TypesTree context) (parses text tokens) (tree_once context))
+    then_once (Lexes text (class_named_of allow)) (TypesTokens allow context text) (lexes text (class_named_of allow))
+    (λ tokens. then_once (Parses text tokens) (TypesTree allow context) (parses text tokens) (tree_once allow context))
 
 -- ---- some answer
 
@@ -45,11 +45,11 @@ goes_some Next next (Err refusal) = (Err refusal, refl)
 pub then_some : {A B : Type 0} (First : Result A Refusal → Type 0) (Next : A → Result B Refusal → Type 0) → Answered First → ((x : A) → Answered (Next x)) → Answered (Then First Next)
 then_some First Next first next = let n = goes_some Next next first.0 in (n.0, (first.0, first.1, n.1))
 
-tree_some : (context : ContextTypes) (tree : Tree) → Answered (TypesTree context tree)
-tree_some context tree = (typing_of context tree, refl)
+tree_some : (allow : AllowList) (context : ContextTypes) (tree : Tree) → Answered (TypesTree allow context tree)
+tree_some allow context tree = (typing_of allow context tree, refl)
 
 pub text_some : ((text : List ℕ) (names : List ℕ → Option ℕ) → Answered (Lexes text names)) → ((text : List ℕ) (tokens : List Token) → Answered (Parses text tokens))
     → (allow : AllowList) (context : ContextTypes) (text : List ℕ) → Answered (IsProgramOf allow context text)
 text_some lexes parses allow context text =
-    then_some (Lexes text (class_named_of allow)) (TypesTokens context text) (lexes text (class_named_of allow))
-    (λ tokens. then_some (Parses text tokens) (TypesTree context) (parses text tokens) (tree_some context))
+    then_some (Lexes text (class_named_of allow)) (TypesTokens allow context text) (lexes text (class_named_of allow))
+    (λ tokens. then_some (Parses text tokens) (TypesTree allow context) (parses text tokens) (tree_some allow context))

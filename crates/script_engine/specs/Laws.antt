@@ -26,7 +26,7 @@ TextsAreAnsweredOnce =
 abbrev pub ProgramsEnd : Type 0
 ProgramsEnd =
     (allow : AllowList) (context : ContextTypes) (text : List ℕ) (p : Program) → IsContext context → IsProgramOf allow context text (Ok p)
-    → (limits : Limits) (args : List Value) → HaveAll (types_in (map variable_of context.variables)) args → (w : World) → (end : End Value) × RunsTo p limits args w end
+    → (limits : Limits) → limits.allowed ≡ allow → (args : List Value) → HaveAll (types_in (map variable_of context.variables)) args → (w : World) → (end : End Value) × RunsTo p limits args w end
 
 -- .. and in one way.
 abbrev pub ProgramsEndOnce : Type 0

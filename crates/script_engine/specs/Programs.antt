@@ -11,14 +11,14 @@ use Rattle.typing_rules.specs.Typing.{typing_of}
 use Rattle.typed_tree.specs.declared.program.Program.{Program}
 use Rattle.script_engine.specs.Stages.{Then}
 
--- which program a tree is
-abbrev pub TypesTree : ContextTypes → Tree → Result Program Refusal → Type 0
-TypesTree context tree answer = answer ≡ typing_of context tree
+-- which program a tree is, under a list of what is allowed
+abbrev pub TypesTree : AllowList → ContextTypes → Tree → Result Program Refusal → Type 0
+TypesTree allow context tree answer = answer ≡ typing_of allow context tree
 
 -- which program the tokens of a text are
-abbrev pub TypesTokens : ContextTypes → List ℕ → List Token → Result Program Refusal → Type 0
-TypesTokens context text tokens = Then (Parses text tokens) (TypesTree context)
+abbrev pub TypesTokens : AllowList → ContextTypes → List ℕ → List Token → Result Program Refusal → Type 0
+TypesTokens allow context text tokens = Then (Parses text tokens) (TypesTree allow context)
 
--- which program a text is, where names mean the classes of a list
+-- which program a text is, where names mean the classes and the members of a list
 abbrev pub IsProgramOf : AllowList → ContextTypes → List ℕ → Result Program Refusal → Type 0
-IsProgramOf allow context text = Then (Lexes text (class_named_of allow)) (TypesTokens context text)
+IsProgramOf allow context text = Then (Lexes text (class_named_of allow)) (TypesTokens allow context text)

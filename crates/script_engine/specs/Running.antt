@@ -8,6 +8,7 @@ use Rattle.object_heap.specs.declared.outcome.End.TheVariants as l
 use Rattle.object_heap.specs.declared.outcome.Outcome.{Outcome}
 use Rattle.run_world.specs.World.{World, End, Result, Uncaught, Limited}
 use Rattle.typed_tree.specs.declared.program.Program.{Program}
+use Rattle.allowlist.specs.Allow.{AllowList}
 use Rattle.typing_rules.specs.declared.header.ContextTypes.{ContextTypes}
 use Rattle.program_types.specs.Types.{IsReference}
 use Rattle.code_meaning.specs.declared.word.Word.{Word}
@@ -56,13 +57,14 @@ pub record LeftBy (a : Activation) (o : Outcome) : Type 0 where
 abbrev pub world_at : Store → Limits → World
 world_at store limits = record { store = store; ticks = limits.ticks; reached = [] }
 
--- The outcome is that of the program: how its run ends, in which world, and how many ticks it paid.
-pub record IsOutcome (p : Program) (store : Store) (limits : Limits) (o : Outcome) : Type 0 where
+-- The outcome is that of the program under a list: how its run ends, in which world, and how many ticks it paid.
+pub record IsOutcome (allow : AllowList) (p : Program) (store : Store) (limits : Limits) (o : Outcome) : Type 0 where
   pub left : ℕ
-  pub ends : RunsTo p (limits_of limits) [] (world_at store limits) (end_seen o.end (world_left o left))
+  pub ends : RunsTo p (limits_of limits allow) [] (world_at store limits) (end_seen o.end (world_left o left))
   pub ticks : o.ticks ≡ limits.ticks - left
 
 -- A script of a context without variables, whose result is a reference, runs as its program does.
 abbrev pub RunsAsItsProgram : Script → Store → Limits → Outcome → Type 0
 RunsAsItsProgram script store limits o =
-    (context : ContextTypes) (p : Program) → IsScriptOf context p script → context.variables ≡ [] → IsReference context.result → IsOutcome p store limits o
+    (allow : AllowList) (context : ContextTypes) (p : Program) → IsScriptOf allow context p script → context.variables ≡ [] → IsReference context.result
+    → IsOutcome allow p store limits o

@@ -23,18 +23,22 @@ use static_types::{ContextTypes, elaborate};
 use std::alloc::{AllocError, Global};
 use typed_tree::Program;
 
-/// A script that was compiled.
-pub struct Script {
+/// A script that was compiled, with the list of what it may use.
+pub struct Script<'a> {
+    pub(crate) allow: &'a Allow,
     pub(crate) code: Code,
 }
 
-impl Drop for Script {
+impl<'a> Drop for Script<'a> {
     fn drop(self) {
-        let Script { code: _code } = self;
+        let Script {
+            allow: _,
+            code: _code,
+        } = self;
     }
 }
 
-impl Script {
+impl<'a> Script<'a> {
     /// The listing of the code.
     pub fn listing(&self, alloc: Global) -> Result<String, AllocError>
         ensures { IfOk result (λ text. string_bytes text ≡ written self.now.code) }
@@ -50,8 +54,8 @@ fn program_of_tree(
     context: &ContextTypes,
     tree: &Tree,
 ) -> Result<Program, Fail>
-    ensures exact { Answers (λ p. p) result (TypesTree context.now tree.now) }
-    ensures only { (reading : Result typed.Program Refusal) → TypesTree context.now tree.now reading → Answers (λ p. p) result (λ a. a ≡ reading) }
+    ensures exact { Answers (λ p. p) result (TypesTree allow.now context.now tree.now) }
+    ensures only { (reading : Result typed.Program Refusal) → TypesTree allow.now context.now tree.now reading → Answers (λ p. p) result (λ a. a ≡ reading) }
 {
     elaborate(alloc, allow, context, tree)
 }
@@ -66,8 +70,8 @@ fn program_of_tokens(
 ) -> Result<Program, Fail>
     requires short { length text.now ≤ 1048576 }
     requires placed { AllLieIn text.now tokens.now }
-    ensures exact { Answers (λ p. p) result (TypesTokens context.now text.now tokens.now) }
-    ensures only { (reading : Result typed.Program Refusal) → TypesTokens context.now text.now tokens.now reading → Answers (λ p. p) result (λ a. a ≡ reading) }
+    ensures exact { Answers (λ p. p) result (TypesTokens allow.now context.now text.now tokens.now) }
+    ensures only { (reading : Result typed.Program Refusal) → TypesTokens allow.now context.now text.now tokens.now reading → Answers (λ p. p) result (λ a. a ≡ reading) }
 {
     let tree = parse(alloc, text, tokens)?;
     program_of_tree(alloc, allow, context, &tree)
@@ -92,22 +96,22 @@ fn program_of(
 /// # Errors
 ///
 /// Refused by the first rule that the text breaks: of tokens, then of the grammar, then of types. `NoMemory`.
-pub fn compile(
+pub fn compile<'a>(
     alloc: Global,
     text: &str,
-    allow: &Allow,
+    allow: &'a Allow,
     context: &ContextTypes,
-) -> Result<Script, Fail>
+) -> Result<Script<'a>, Fail>
     requires context { IsContext context.now }
-    ensures exact { Compiles context.now (IsProgramOf allow.now context.now text.now) result }
-    ensures only { (reading : Result typed.Program Refusal) → IsProgramOf allow.now context.now text.now reading → Compiles context.now (λ a. a ≡ reading) result }
+    ensures exact { Compiles allow.now context.now (IsProgramOf allow.now context.now text.now) result }
+    ensures only { (reading : Result typed.Program Refusal) → IsProgramOf allow.now context.now text.now reading → Compiles allow.now context.now (λ a. a ≡ reading) result }
     // The verifier finds no fault in the code.
     ensures sound { IfOk result (λ script. shape_fault allow.now script.code ≡ None) }
 {
     code_is_well_shaped();
     let program = program_of(alloc, allow, context, text)?;
-    match generate(alloc, &program) {
-        Ok(code) => Ok(Script { code }),
+    match generate(alloc, allow, &program) {
+        Ok(code) => Ok(Script { allow, code }),
         Err(_) => Err(Fail::NoMemory),
     }
 }

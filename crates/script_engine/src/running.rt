@@ -61,7 +61,7 @@ fn left(activation: Activation<'_>) -> Result<Outcome, AllocError>
     }
 }
 
-impl Script {
+impl<'a> Script<'a> {
     /// Runs the script over a heap, whose room is what the run may take of it, within limits. The script has no variables.
     ///
     /// The outcome is that of the script's program: how its run ends, what it leaves of the heap, and how many ticks it has paid.
@@ -69,7 +69,7 @@ impl Script {
         ensures { IfOk result (RunsAsItsProgram self.now heap limits) }
     {
         let args = Elements::new(heap.alloc());
-        let mut activation = Activation::start(&self.code, heap, args, limits)?;
+        let mut activation = Activation::start(&self.code, self.allow, heap, args, limits)?;
         match activation.turn(u64::MAX) {
             Turn::Done => left(activation),
             _ => Err(AllocError),

@@ -13,7 +13,7 @@ use Rattle.script_engine.proofs.compiling.program_of.Goals as goal
 pub returns-in_err-tokens-clause-exact : goal.returns-in_err-tokens-clause-exact
 returns-in_err-tokens-clause-exact c =
     let p = err_from_is_err_and c.from_residual.result c.from_residual.ensures.1 in
-    rw (p.1, p.2) (then_failed (λ (tokens : List Token). tokens) (λ e. e) (Lexes c.args.text.now (class_named_of c.args.allow.now)) (TypesTokens c.args.context.now c.args.text.now) c.in_err-tokens.field-0.0
+    rw (p.1, p.2) (then_failed (λ (tokens : List Token). tokens) (λ e. e) (Lexes c.args.text.now (class_named_of c.args.allow.now)) (TypesTokens c.args.allow.now c.args.context.now c.args.text.now) c.in_err-tokens.field-0.0
     (record { exact = c.in_err-tokens.ensures.exact; only = c.in_err-tokens.ensures.only })).exact
 
 pub program_of_tokens-requires-clause-placed : goal.program_of_tokens-requires-clause-placed
@@ -22,6 +22,6 @@ program_of_tokens-requires-clause-placed c =
 
 pub returns-clause-exact : goal.returns-clause-exact
 returns-clause-exact c =
-    (then_given (λ e. e) c.program_of_tokens.result (Lexes c.args.text.now (class_named_of c.args.allow.now)) (TypesTokens c.args.context.now c.args.text.now) c.in_ok-tokens.tokens.items
+    (then_given (λ e. e) c.program_of_tokens.result (Lexes c.args.text.now (class_named_of c.args.allow.now)) (TypesTokens c.args.allow.now c.args.context.now c.args.text.now) c.in_ok-tokens.tokens.items
     c.in_ok-tokens.ensures.exact c.in_ok-tokens.ensures.only
-    (subst (λ (ts : List Token). Stage (λ e. e) c.program_of_tokens.result (TypesTokens c.args.context.now c.args.text.now ts)) c.as_slice.ensures.value (record { exact = c.program_of_tokens.ensures.exact; only = c.program_of_tokens.ensures.only }))).exact
+    (subst (λ (ts : List Token). Stage (λ e. e) c.program_of_tokens.result (TypesTokens c.args.allow.now c.args.context.now c.args.text.now ts)) c.as_slice.ensures.value (record { exact = c.program_of_tokens.ensures.exact; only = c.program_of_tokens.ensures.only }))).exact

@@ -14,8 +14,8 @@ pub returns-clause-answered_once : goal.returns-clause-answered_once
 returns-clause-answered_once c = text_once c.each_text_has_one_reading.ensures.once c.grammar_laws.ensures.unique
 
 pub returns-clause-ends : goal.returns-clause-ends
-returns-clause-ends c allow context text p good is limits args have =
-    ends_some p (formed_from allow context text p good is) limits args (subst (λ xs. HaveAll (types_in xs) args) (sym (variables_from allow context text p is)) have)
+returns-clause-ends c allow context text p good is limits allowed args have =
+    ends_some allow p (formed_from allow context text p good is) limits allowed args (subst (λ xs. HaveAll (types_in xs) args) (sym (variables_from allow context text p is)) have)
 
 pub returns-clause-ends_once : goal.returns-clause-ends_once
 returns-clause-ends_once c = ends_once
