@@ -1,5 +1,5 @@
 -- The texts by which code and replies name members, and which member a text names.
-use Rattle.std.specs.Prelude.{◌≡◌, ℕ, ◌++◌, ◌&&◌, Bool, true, List, Option, Some, codes, decimal, length, slice_get, map}
+use Rattle.std.specs.Prelude.{◌≡◌, ℕ, ◌++◌, Bool, true, List, Option, Some, codes, decimal, length, slice_get}
 use Rattle.pl_types.specs.Classes.{full_name}
 use Rattle.listing_parts.specs.Names.{is_method, is_constructor, is_field}
 use Rattle.allowlist.specs.declared.member.MemberKind.{MemberKind}

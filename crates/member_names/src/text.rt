@@ -27,6 +27,7 @@ fn push_name(text: &mut String, member: &MemberType) -> Result<(), AllocError>
 
 /// The text of a member of the catalogue, by its number: `java.util.List.get/1`, of a constructor `java.util.ArrayList/0`, of a field
 /// `java.lang.Integer.MAX_VALUE`.
+#[tactic(auto, using(crate::proofs::Naming::owner_within, crate::proofs::Naming::at_number))]
 pub fn member_text(alloc: Global, allow: &Allow, number: u32) -> Result<String, AllocError>
     requires { number < MEMBER_COUNT }
     ensures { IfOk result (λ text. string_bytes text ≡ spec.text_of (member_at number)) }
