@@ -1,6 +1,10 @@
 -- What stands later stood earlier: one lemma for each thing that is written.
 use Rattle.std.proofs.Common.{◌≡◌, ◌≢◌, ℕ, zero, suc, ◌+◌, ◌<◌, ◌≤◌, List, [], ◌∷◌, ◌++◌, length, Option, Some, None, refl, sym, ap, ◌∙◌, subst, arith, append_assoc}
 use Rattle.std.specs.Prelude.{map, slice_get, slice_set}
+use Rattle.pl_types.specs.declared.conversion.Cast.{Cast}
+use Rattle.pl_types.specs.declared.ty.Ty.{Ty}
+use Rattle.pl_types.specs.Texts.{full_text}
+use Rattle.pl_code.specs.declared.kinds.Typed.TheVariants as typed
 use Rattle.pl_code.specs.declared.kinds.Numbered.{Numbered}
 use Rattle.pl_code.specs.declared.code.FunCode.{FunCode}
 use Rattle.pl_code.specs.declared.code.Instruction.{Instruction}
@@ -9,10 +13,11 @@ use Rattle.code_meaning.specs.Machine.{traps_at}
 use Rattle.program_meaning.specs.Tree.{Name, Program}
 use Rattle.pl_code.specs.declared.kinds.Numbered.TheVariants as numbered
 use Rattle.program_code.specs.Lying.{Lying}
+use Rattle.program_code.specs.Parts.{cast_code}
 use Rattle.program_code.specs.Stands.{At, AllAt, end_all}
 use Rattle.code_generator.specs.Checks.{lying}
 use Rattle.code_generator.specs.Labels.{or_first, bound, settled_line}
-use Rattle.code_generator.specs.Jobs.{Job, Put, Jump, Bind, Load, Store, Stand, Holds, Back, IsLocal, scope_in, next_in}
+use Rattle.code_generator.specs.Jobs.{Job, Put, Convert, Ask, Jump, Bind, Load, Store, Stand, Holds, Back, IsLocal, scope_in, next_in}
 use Rattle.code_generator.specs.declared.config.Config.{Config}
 use Rattle.code_generator.specs.declared.config.Flow.{Flow}
 use Rattle.code_generator.specs.declared.labels.Line.{Line}
@@ -156,6 +161,12 @@ back_same funs js c = record { by = λ f labels m. m }
 module _ (funs : Program) (js : List Job) (c : Config) where
   pub put_back : (is : List Instruction) (xs : List Line) → xs ≡ c.lines ++ map line.Fixed is → Back funs (Put is ∷ js) c js (record c { lines = xs })
   put_back is xs e = subst (λ xs. Back funs (Put is ∷ js) c js (record c { lines = xs })) (sym e) (put_more funs js c is)
+
+  pub convert_back : (by : Cast) (to : Ty) (xs : List Line) → xs ≡ c.lines ++ map line.Fixed (cast_code by to) → Back funs (Convert by to ∷ js) c js (record c { lines = xs })
+  convert_back by to xs e = record { by = λ f labels m. let before = (put_back (cast_code by to) xs e).by f labels m in record { holds = before.holds; stand = before.stand } }
+
+  pub ask_back : (is : Ty) (xs : List Line) → xs ≡ c.lines ++ line.Fixed (i.Typed typed.IsA (full_text is)) ∷ [] → Back funs (Ask is ∷ js) c js (record c { lines = xs })
+  ask_back is xs e = record { by = λ f labels m. let before = (put_back (i.Typed typed.IsA (full_text is) ∷ []) xs e).by f labels m in record { holds = before.holds; stand = (before.stand.0.0, before.stand.1) } }
 
   pub jump_back : (kind : Numbered) (label : ℕ) (xs : List Line) → xs ≡ c.lines ++ line.Jump kind label ∷ [] → Back funs (Jump kind label ∷ js) c js (record c { lines = xs })
   jump_back kind label xs e = subst (λ xs. Back funs (Jump kind label ∷ js) c js (record c { lines = xs })) (sym e) (jump_more funs js c kind label)

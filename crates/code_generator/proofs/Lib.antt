@@ -1,4 +1,5 @@
 pub mod Memory
+pub mod Listed
 pub mod Steps
 pub mod Lists
 pub mod Back

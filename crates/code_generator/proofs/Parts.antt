@@ -10,18 +10,17 @@ use Rattle.typed_tree.specs.declared.typed.Typed.{Typed}
 use Rattle.pl_types.specs.declared.ty.Ty.{Ty}
 use Rattle.program_meaning.specs.Tree.{Exprs, None', One, Fun, Program, type_of}
 use Rattle.program_types.specs.Agreeing.{types_of, types_in, Calls, Applies}
-use Rattle.program_types.specs.Types.{Casts}
+use Rattle.program_types.specs.Types.{IsNamed, Casts}
 use Rattle.program_meaning.specs.Programs.{expr_of, exprs_of, fun_of, variable_of, program_of}
-use Rattle.program_code.specs.Lying.{Lying, lying_of}
-use Rattle.program_code.specs.Parts.{cast_takes, cast_gives}
-use Rattle.program_code.specs.Stands.{lyings, lyings_of, Fitting}
+use Rattle.program_code.specs.Lying.{Lying, Bare, Whole, lying_of}
+use Rattle.program_code.specs.Stands.{AllLie, CastFits, lyings, lyings_of, Fitting}
 use Rattle.code_generator.specs.Functions.{function_at}
 use Rattle.code_generator.specs.Jobs.{Job, Value, Values, Back, Wanted, As, Wants, Taken, wanted, parts_from, lyings_in}
-use Rattle.code_generator.specs.Sound.{Keeps, Refuses}
+use Rattle.code_generator.specs.Sound.{Keeps, Refuses, Names}
 use Rattle.code_generator.specs.declared.task.Wanted as dw
 use Rattle.code_generator.specs.declared.task.Wanted.TheVariants as w
 use Rattle.code_generator.specs.declared.config.Config.{Config}
-use Rattle.code_generator.proofs.Fitting.{types_lie, cast_takes_so, cast_gives_so}
+use Rattle.code_generator.proofs.Fitting.{is_whole, flag_lies, types_lie, casts_fit, casts_name}
 use Rattle.code_generator.proofs.Plans.{values_end, values_more}
 use Rattle.code_generator.proofs.Steps.{instead, never}
 use Rattle.code_generator.specs.declared.error.CodeError.{CodeError}
@@ -73,9 +72,9 @@ fun_at p (suc number) f g is e = nested p.functions number is e
     nested (x ∷ fs) zero is e = let h : x ≡ f = cc in let k : fun_of x ≡ g = cc in sym k ∙ ap fun_of h
     nested (x ∷ fs) (suc n) is e = nested fs n is e
 
-pub call_fits : (p : typed.Program) (number : ℕ) (f : TypedFunction) (ks : List Lying) (k : Lying) → function_at p number ≡ Some f → k ≡ lying_of f.result → Wants (As (lyings_in f.parameters)) ks
-    → Fitting (program_of p) (operation.Function number) ks k
-call_fits p number f ks k is e h = λ g at.
+pub call_fits : (p : typed.Program) (number : ℕ) (f : TypedFunction) (ks : List Lying) (of : Ty) → function_at p number ≡ Some f → lying_of of ≡ lying_of f.result → Wants (As (lyings_in f.parameters)) ks
+    → Fitting (program_of p) (operation.Function number) ks of
+call_fits p number f ks of is e h = λ g at.
     let same = fun_at p number f g is at in
     (h ∙ params_lie f.parameters ∙ sym (ap (λ (g : Fun). lyings_of g.params) same), e ∙ sym (ap (λ (g : Fun). lying_of g.result) same))
 
@@ -84,11 +83,11 @@ one_part [] x is e = absurd cc
 one_part (y ∷ []) x is e = ap (λ y. y ∷ []) cc
 one_part (y ∷ z ∷ parts) x is e = absurd (omega arith)
 
-pub cast_fits : (funs : Program) (cast : Cast) (parts : List Typed) (x : Typed) (k given : Lying) → slice_get parts 0 ≡ Some x → length parts ≡ 1 → given ≡ lying_of (type_of (expr_of x))
-    → given ≡ cast_takes cast given → k ≡ cast_gives cast given → Fitting funs (operation.Cast cast) (lyings (exprs_of (map expr_of parts))) k
-cast_fits funs cast parts x k given is e g t r =
-    subst (λ (ps : List Typed). Fitting funs (operation.Cast cast) (lyings (exprs_of (map expr_of ps))) k) (sym (one_part parts x is e))
-    (subst (λ (given : Lying). given ≡ cast_takes cast given) g t, subst (λ (given : Lying). k ≡ cast_gives cast given) g r)
+pub cast_fits : (funs : Program) (by : Cast) (parts : List Typed) (x : Typed) (of : Ty) (given gives : Lying) → slice_get parts 0 ≡ Some x → length parts ≡ 1
+    → given ≡ lying_of (type_of (expr_of x)) → gives ≡ lying_of of → CastFits by of given gives → Fitting funs (operation.Cast by) (lyings (exprs_of (map expr_of parts))) of
+cast_fits funs by parts x of given gives is e g r h =
+    subst (λ (ps : List Typed). Fitting funs (operation.Cast by) (lyings (exprs_of (map expr_of ps))) of) (sym (one_part parts x is e))
+    (subst (λ (k : Lying). CastFits by of k (lying_of of)) g (subst (λ (k : Lying). CastFits by of given k) r h))
 
 -- ---- parts of a well-formed program
 
@@ -106,7 +105,7 @@ others_lie (x ∷ params) (suc at) k ks e = others_lie params at k ks e
 
 pub wanted_of_others : (kind : dw.Wanted) (at : ℕ) (k : Lying) (ks : List Lying) → Wants (wanted at kind) (k ∷ ks) → Wants (wanted (at + 1) kind) ks
 wanted_of_others w.Any at k ks h = tt
-wanted_of_others w.Bares at k ks h = h.1
+wanted_of_others (w.All one) at k ks h = h.1
 wanted_of_others (w.As params) at k ks h = others_lie params.now at k ks h ∙ ap (λ n. lyings_in (drop n params.now)) (sym (add-one at))
 
 pub refuses_param : (params : List Named) (at : ℕ) (x : Named) (k : Lying) → slice_get params at ≡ Some x → k ≢ lying_of x.of → Refuses (As (lyings_in (drop at params))) k
@@ -182,9 +181,22 @@ casts funs c [] x of e h = absurd h
 casts funs c (y ∷ []) x of e h = let same : y ≡ x = cc in subst (λ (x : Typed). Casts c (type_of (expr_of x)) of) same h
 casts funs c (y ∷ z ∷ parts) x of e h = absurd h
 
-module _ (funs : Program) (c : Cast) (parts : List Typed) (x : Typed) (of : Ty) (given : Lying) where
-  pub well_cast_takes : slice_get parts 0 ≡ Some x → given ≡ lying_of (type_of (expr_of x)) → Applies funs (operation.Cast c) (types_of (exprs_of (map expr_of parts))) of → given ≡ cast_takes c given
-  well_cast_takes is e h = subst (λ (k : Lying). k ≡ cast_takes c k) (sym e) (cast_takes_so c (type_of (expr_of x)) of (casts funs c parts x of is h))
+module _ (funs : Program) (c : Cast) (parts : List Typed) (x : Typed) (of : Ty) where
+  pub well_cast_fits : (given gives : Lying) → slice_get parts 0 ≡ Some x → given ≡ lying_of (type_of (expr_of x)) → gives ≡ lying_of of → Applies funs (operation.Cast c) (types_of (exprs_of (map expr_of parts))) of → CastFits c of given gives
+  well_cast_fits given gives is e r h =
+      subst (λ (k : Lying). CastFits c of k gives) (sym e) (subst (λ (k : Lying). CastFits c of (lying_of (type_of (expr_of x))) k) (sym r) (casts_fit c (type_of (expr_of x)) of (casts funs c parts x of is h)))
 
-  pub well_cast_gives : slice_get parts 0 ≡ Some x → given ≡ lying_of (type_of (expr_of x)) → Applies funs (operation.Cast c) (types_of (exprs_of (map expr_of parts))) of → lying_of of ≡ cast_gives c given
-  well_cast_gives is e h = subst (λ (k : Lying). lying_of of ≡ cast_gives c k) (sym e) (cast_gives_so c (type_of (expr_of x)) of (casts funs c parts x of is h))
+  pub well_cast_names : slice_get parts 0 ≡ Some x → Applies funs (operation.Cast c) (types_of (exprs_of (map expr_of parts))) of → Names c of
+  well_cast_names is h = casts_name c (type_of (expr_of x)) of (casts funs c parts x of is h)
+
+-- ---- questions of a well-formed program whether a value is of a type
+
+pub record AskLies (is : Ty) (parts : Exprs) (of : Ty) : Type 0 where
+  pub operands : AllLie Whole (lyings parts)
+  pub gives : lying_of of ≡ Bare
+  pub named : IsNamed is
+
+pub ask_lies : (funs : Program) (is : Ty) (parts : Exprs) (of : Ty) → Applies funs (operation.InstanceOf is) (types_of parts) of → AskLies is parts of
+ask_lies funs is None' of x = absurd x
+ask_lies funs is (One a None') of x = record { operands = (is_whole (type_of a) x.0, tt); gives = flag_lies of x.2; named = x.1 }
+ask_lies funs is (One a (One b parts)) of x = absurd x

@@ -6,19 +6,21 @@ use Rattle.pl_code.specs.declared.kinds.Numbered.TheVariants as numbered
 use Rattle.pl_code.specs.declared.code.FunCode.{FunCode}
 use Rattle.pl_code.specs.declared.code.Instruction.TheVariants as i
 use Rattle.pl_code.specs.declared.kinds.Plain.TheVariants as plain
+use Rattle.pl_types.specs.declared.conversion.Cast.{Cast}
 use Rattle.typed_tree.specs.declared.operation.Operation.{Operation}
+use Rattle.typed_tree.specs.declared.operation.Operation.TheVariants as operation
 use Rattle.typed_tree.specs.declared.operation.Logical.{Logical}
 use Rattle.typed_tree.specs.declared.operation.Logical.TheVariants.{And, Or}
 use Rattle.typed_tree.specs.declared.operation.Target.TheVariants as target
 use Rattle.typed_tree.specs.declared.operation.Change.{Change}
 use Rattle.typed_tree.specs.declared.operation.Gives.{Gives}
-use Rattle.program_meaning.specs.Tree.{Name, Expr, Local, Logic, Conditional, Assign, Modify, Apply, Exprs, None', One, Program, type_of}
-use Rattle.program_code.specs.Lying.{lying_of, Lying, Bare}
-use Rattle.program_code.specs.Parts.{operation_code, operator_code, cast_code, cast_gives, kept_before, kept_behind}
+use Rattle.program_meaning.specs.Tree.{Name, Expr, Local, Logic, Conditional, Elvis, Assign, Modify, Apply, Exprs, None', One, Program, type_of}
+use Rattle.program_code.specs.Lying.{lying_of, Lying, Bare, Whole}
+use Rattle.program_code.specs.Parts.{operation_code, operator_code, kept_before, kept_behind}
 use Rattle.code_generator.specs.Checks.{jump_of}
-use Rattle.program_code.specs.Stands.{Entry, Scope, IsEntry, At, end_expr, settled, settles, Fitting, lyings, change_first, change_last}
+use Rattle.program_code.specs.Stands.{Entry, Scope, IsEntry, At, end_expr, settled, settles, Fitting, ChangeFits, lyings, change_first, change_last, elvis_right}
 use Rattle.code_generator.specs.Labels.{line_of}
-use Rattle.code_generator.specs.Jobs.{Job, Value, Values, Put, Jump, Bind, Load, Store, Wanted, Wants, Taken, Back}
+use Rattle.code_generator.specs.Jobs.{Job, Value, Values, Put, Convert, Ask, Jump, Bind, Load, Store, Wanted, Wants, Taken, Back}
 use Rattle.code_generator.specs.declared.config.Config.{Config}
 use Rattle.code_generator.proofs.Back.{planned}
 
@@ -59,6 +61,28 @@ module _ (funs : Program) (js : List Job) (c : Config) where
         s.1.1.1.1.1.1.1,
       ))
 
+  pub elvis_plan : (at : ℕ) (of : Ty) (a b : Expr) (other end : ℕ) → lying_of (type_of a) ≡ Whole → lying_of (type_of b) ≡ Whole → lying_of of ≡ Whole
+      → Back funs (Value (Elvis at of a b) ∷ js) c
+      (Value a ∷ Put (i.Plain plain.Dup ∷ []) ∷ Jump numbered.IfNull other ∷ Jump numbered.Goto end ∷ Bind other ∷ Put (i.Plain plain.Pop ∷ []) ∷ Value b ∷ Bind end ∷ js) c
+  elvis_plan at of a b other end ea eb e =
+      planned funs (Value (Elvis at of a b) ∷ js) c
+      (Value a ∷ Put (i.Plain plain.Dup ∷ []) ∷ Jump numbered.IfNull other ∷ Jump numbered.Goto end ∷ Bind other ∷ Put (i.Plain plain.Pop ∷ []) ∷ Value b ∷ Bind end ∷ js)
+      (λ f labels g n p flows s.
+      let q = end_expr p a in (
+        (
+          s.0,
+          s.1.0.0,
+          goes_to f (suc q) numbered.IfNull (line_of labels other) (suc (suc (suc q))) s.1.1.1.1.0 s.1.1.0,
+          goes_to f (suc (suc q)) numbered.Goto (line_of labels end) (end_expr (elvis_right q) b) s.1.1.1.1.1.1.1.0 s.1.1.1.0,
+          s.1.1.1.1.1.0.0,
+          s.1.1.1.1.1.1.0,
+          ea,
+          eb,
+          e,
+        ),
+        s.1.1.1.1.1.1.1.1,
+      ))
+
   pub logical_plan : (at : ℕ) (of : Ty) (o : Logical) (a b : Expr) (other end : ℕ) → lying_of (type_of a) ≡ Bare → lying_of (type_of b) ≡ Bare → lying_of of ≡ Bare
       → Back funs (Value (Logic at of o a b) ∷ js) c
       (Value a ∷ Jump (jump_of o) other ∷ Value b ∷ Jump numbered.Goto end ∷ Bind other ∷ Put (settled o ∷ []) ∷ Bind end ∷ js) c
@@ -86,21 +110,19 @@ module _ (funs : Program) (js : List Job) (c : Config) where
       planned funs (Value (Assign at of (target.Local x) parts a) ∷ js) c (Value a ∷ Put (i.Plain plain.Dup ∷ []) ∷ Store x lies ∷ js)
       (λ f labels g n p flows s. ((s.0, s.1.0.0, (s.1.1.0.0, s.1.1.0.1, ea ∙ s.1.1.0.2, sym e ∙ s.1.1.0.2, s.1.1.0.3)), s.1.1.1))
 
-  pub modify_plan : (at : ℕ) (of : Ty) (x : Name) (parts : Exprs) (change : Change) (a : Expr) (gives : Gives) → lying_of of ≡ Bare → lying_of (type_of a) ≡ Bare
-      → cast_gives change.before Bare ≡ Bare → cast_gives change.after Bare ≡ Bare
+  pub modify_plan : (at : ℕ) (of : Ty) (x : Name) (parts : Exprs) (change : Change) (a : Expr) (gives : Gives) (lies : Lying) → lies ≡ lying_of of → ChangeFits change of (lying_of (type_of a))
       → Back funs (Value (Modify at of (target.Local x) parts change a gives) ∷ js) c
-      (Load x Bare ∷ Put (kept_before gives) ∷ Put (cast_code change.before) ∷ Value a ∷ Put (operator_code change.operator) ∷ Put (cast_code change.after) ∷ Put (kept_behind gives) ∷ Store x Bare ∷ js) c
-  modify_plan at of x parts change a gives e ea eb ec =
+      (Load x lies ∷ Put (kept_before gives) ∷ Convert change.before of ∷ Value a ∷ Put (operator_code change.operator) ∷ Convert change.after of ∷ Put (kept_behind gives) ∷ Store x lies ∷ js) c
+  modify_plan at of x parts change a gives lies e fits =
       planned funs (Value (Modify at of (target.Local x) parts change a gives) ∷ js) c
-      (Load x Bare ∷ Put (kept_before gives) ∷ Put (cast_code change.before) ∷ Value a ∷ Put (operator_code change.operator) ∷ Put (cast_code change.after) ∷ Put (kept_behind gives) ∷ Store x Bare ∷ js)
+      (Load x lies ∷ Put (kept_before gives) ∷ Convert change.before of ∷ Value a ∷ Put (operator_code change.operator) ∷ Convert change.after of ∷ Put (kept_behind gives) ∷ Store x lies ∷ js)
       (λ f labels g n p flows s.
       let load = s.0 in
       let store = s.1.1.1.1.1.1.1.0 in (
         (
           load.0,
           load.1,
-          sym load.2,
-          e,
+          sym load.2 ∙ e,
           load.3,
           s.1.0,
           s.1.1.0,
@@ -108,18 +130,26 @@ module _ (funs : Program) (js : List Job) (c : Config) where
           s.1.1.1.1.0,
           s.1.1.1.1.1.0,
           s.1.1.1.1.1.1.0,
-          subst (λ (y : Entry). At f [] (change_last gives change (end_expr (change_first gives change p) a)) (i.Numbered numbered.Store y.local)) (same_entry g x load.0 store.0 load.1 store.1) store.3,
-          ea,
-          eb,
-          ec,
+          subst (λ (y : Entry). At f [] (change_last gives change of (end_expr (change_first gives change of p) a)) (i.Numbered numbered.Store y.local)) (same_entry g x load.0 store.0 load.1 store.1) store.3,
+          fits,
         ),
         s.1.1.1.1.1.1.1.1,
       ))
 
-  pub apply_plan : (at : ℕ) (of : Ty) (o : Operation) (parts : Exprs) (wanted : Wanted) → (Wants wanted (lyings parts) → Fitting funs o (lyings parts) (lying_of of))
-      → Back funs (Value (Apply at of o parts) ∷ js) c (Values parts wanted ∷ Put (operation_code o) ∷ js) c
+  pub apply_plan : (at : ℕ) (of : Ty) (o : Operation) (parts : Exprs) (wanted : Wanted) → (Wants wanted (lyings parts) → Fitting funs o (lyings parts) of)
+      → Back funs (Value (Apply at of o parts) ∷ js) c (Values parts wanted ∷ Put (operation_code o of) ∷ js) c
   apply_plan at of o parts wanted e =
-      planned funs (Value (Apply at of o parts) ∷ js) c (Values parts wanted ∷ Put (operation_code o) ∷ js) (λ f labels g n p flows s. ((s.0.0, s.1.0, e s.0.1), s.1.1))
+      planned funs (Value (Apply at of o parts) ∷ js) c (Values parts wanted ∷ Put (operation_code o of) ∷ js) (λ f labels g n p flows s. ((s.0.0, s.1.0, e s.0.1), s.1.1))
+
+  pub cast_plan : (at : ℕ) (of : Ty) (by : Cast) (parts : Exprs) (wanted : Wanted) → (Wants wanted (lyings parts) → Fitting funs (operation.Cast by) (lyings parts) of)
+      → Back funs (Value (Apply at of (operation.Cast by) parts) ∷ js) c (Values parts wanted ∷ Convert by of ∷ js) c
+  cast_plan at of by parts wanted e =
+      planned funs (Value (Apply at of (operation.Cast by) parts) ∷ js) c (Values parts wanted ∷ Convert by of ∷ js) (λ f labels g n p flows s. ((s.0.0, s.1.0, e s.0.1), s.1.1))
+
+  pub ask_plan : (at : ℕ) (of is : Ty) (parts : Exprs) (wanted : Wanted) → (Wants wanted (lyings parts) → Fitting funs (operation.InstanceOf is) (lyings parts) of)
+      → Back funs (Value (Apply at of (operation.InstanceOf is) parts) ∷ js) c (Values parts wanted ∷ Ask is ∷ js) c
+  ask_plan at of is parts wanted e =
+      planned funs (Value (Apply at of (operation.InstanceOf is) parts) ∷ js) c (Values parts wanted ∷ Ask is ∷ js) (λ f labels g n p flows s. ((s.0.0, (s.1.0, tt), e s.0.1), s.1.1))
 
   pub values_end : (wanted : Wanted) → Wants wanted [] → Back funs (Values None' wanted ∷ js) c js c
   values_end wanted e = planned funs (Values None' wanted ∷ js) c js (λ f labels g n p flows s. ((tt, e), s))

@@ -3,16 +3,19 @@ use Rattle.std.specs.Prelude.{◌≡◌, ◌≢◌, ℕ, suc, ◌+◌, ◌&&◌,
 use Rattle.pl_code.specs.declared.kinds.Numbered.{Numbered}
 use Rattle.pl_code.specs.declared.kinds.Numbered.TheVariants as numbered
 use Rattle.pl_code.specs.declared.kinds.Slot.{Slot}
+use Rattle.pl_code.specs.declared.kinds.Typed.TheVariants as typed
 use Rattle.pl_code.specs.declared.code.FunCode.{FunCode}
 use Rattle.pl_code.specs.declared.code.Instruction.{Instruction}
 use Rattle.pl_code.specs.declared.code.Instruction.TheVariants as i
 use Rattle.pl_types.specs.declared.ty.Ty.{Ty}
+use Rattle.pl_types.specs.declared.conversion.Cast.{Cast}
+use Rattle.pl_types.specs.Texts.{full_text}
 use Rattle.std.specs.Borrow.{Bor}
 use Rattle.program_meaning.specs.Tree.{Name, Expr, Exprs, Maybe, Missing, Given, Stmt, Stmts, Finish, Then, Program, type_of}
 use Rattle.program_meaning.specs.Programs.{expr_of, exprs_of, before, declared, stmts_of, maybe_of}
 use Rattle.program_code.specs.Lying.{Lying, Absent, lying_of}
-use Rattle.program_code.specs.Stands.{Entry, Scope, IsEntry, At, AllAt, end_all, end_expr, end_exprs, ExprAt, ExprsAt, AreBare, lyings, falls, all_fall, continues, any_continues, end_skip, end_update, end_test, end_last, end_stmt, end_stmts, next_stmt, next_stmts, Jumps, no_jumps, HasLocal, SkipAt, UpdateAt, TestAt, LastAt, StmtAt, StmtsAt, EndAt, end_end}
-use Rattle.program_code.specs.Parts.{default_code}
+use Rattle.program_code.specs.Stands.{Entry, Scope, IsEntry, At, AllAt, end_all, end_expr, end_exprs, ExprAt, ExprsAt, AllLie, lyings, falls, all_fall, continues, any_continues, end_skip, end_update, end_test, end_last, end_stmt, end_stmts, next_stmt, next_stmts, Jumps, no_jumps, HasLocal, SkipAt, UpdateAt, TestAt, LastAt, StmtAt, StmtsAt, EndAt, end_end}
+use Rattle.program_code.specs.Parts.{default_code, cast_code}
 use Rattle.typed_tree.specs.declared.statement.TypedVariable.{TypedVariable}
 use Rattle.code_generator.specs.Checks.{lying}
 use Rattle.code_generator.specs.Labels.{line_of, settled_line}
@@ -32,14 +35,15 @@ use Rattle.code_generator.specs.declared.labels.Line.{Line}
 use Rattle.code_generator.specs.declared.task.Task.{Task}
 use Rattle.code_generator.specs.declared.task.Task.TheVariants as t
 
--- how parts have to lie: in any way, as numbers, or as parameters do
+-- how parts have to lie: in any way, all in one, or as parameters do
 pub data Wanted : Type 0 where
-  Any Bares : Wanted
+  Any : Wanted
+  All : (one : Lying) → Wanted
   As : (lies : List Lying) → Wanted
 
 abbrev pub Wants : Wanted → List Lying → Type 0
 Wants Any ks = Unit {0}
-Wants Bares ks = AreBare ks
+Wants (All one) ks = AllLie one ks
 Wants (As lies) ks = ks ≡ lies
 
 -- one part more, which lies so: what was wanted before, and what is wanted of the others
@@ -50,6 +54,9 @@ pub data Job : Type 0 where
   Value : (expression : Expr) → Job
   Values : (parts : Exprs) (wanted : Wanted) → Job
   Put : (instructions : List Instruction) → Job
+  -- a cast to a type, and whether a value is of a type
+  Convert : (by : Cast) (to : Ty) → Job
+  Ask : (is : Ty) → Job
   Jump : (kind : Numbered) (label : ℕ) → Job
   Bind : (label : ℕ) → Job
   Load : (name : Name) (lies : Lying) → Job
@@ -83,7 +90,7 @@ lyings_in params = map (λ (x : Named). lying_of x.of) params
 
 abbrev pub wanted : ℕ → dw.Wanted → Wanted
 wanted at w.Any = Any
-wanted at w.Bares = Bares
+wanted at (w.All one) = All (lying one)
 wanted at (w.As params) = As (lyings_in (drop at params.now))
 
 abbrev pub First : Ty → Maybe → Job → Type 0
@@ -104,6 +111,8 @@ abbrev pub job : Task → Job
 job (t.Value e) = Value (expr_of e.now)
 job (t.Values parts at kind) = Values (parts_from at parts.now) (wanted at kind)
 job (t.Put what) = Put (piece what)
+job (t.Convert by to) = Convert by to.now
+job (t.Ask is) = Ask is.now
 job (t.Jump kind label) = Jump kind label
 job (t.Bind label) = Bind label
 job (t.Load name lies) = Load name.now (lying lies)
@@ -202,6 +211,8 @@ module _ (funs : Program) (k : Lying) (f : FunCode) (labels : List (Option ℕ))
   Stand (Value e ∷ js) g n p flows = ExprAt funs f [] g p e × Stand js g n (end_expr p e) flows
   Stand (Values es wanted ∷ js) g n p flows = (ExprsAt funs f [] g p es × Wants wanted (lyings es)) × Stand js g n (end_exprs p es) flows
   Stand (Put is ∷ js) g n p flows = AllAt f [] p is × Stand js g n (end_all p is) flows
+  Stand (Convert by to ∷ js) g n p flows = AllAt f [] p (cast_code by to) × Stand js g n (end_all p (cast_code by to)) flows
+  Stand (Ask is ∷ js) g n p flows = At f [] p (i.Typed typed.IsA (full_text is)) × Stand js g n (suc p) flows
   Stand (Jump kind label ∷ js) g n p flows = At f [] p (i.Numbered kind (line_of labels label)) × Stand js g n (suc p) flows
   Stand (Bind label ∷ js) g n p flows = (line_of labels label ≡ p) × Stand js g n p flows
   Stand (Load x lies ∷ js) g n p flows =

@@ -5,7 +5,7 @@ use Rattle.pl_code.specs.declared.code.Instruction.TheVariants as i
 use Rattle.pl_code.specs.declared.kinds.ArithmeticOp.{ArithmeticOp}
 use Rattle.pl_code.specs.declared.kinds.Numbered.TheVariants as numbered
 use Rattle.pl_code.specs.declared.kinds.Width.{Width}
-use Rattle.program_code.specs.Parts.{constant_code, default_code, operator_code, cast_code, pops, kept_before, kept_behind}
+use Rattle.program_code.specs.Parts.{constant_code, text_code, default_code, operator_code, pops, kept_before, kept_behind}
 use Rattle.program_code.specs.Stands.{settled}
 use Rattle.code_generator.specs.Checks.{lying}
 use Rattle.code_generator.specs.declared.pieces.Piece.{Piece}
@@ -22,10 +22,10 @@ if_any (Some instruction) = instruction ∷ []
 abbrev pub piece : Piece → List Instruction
 piece (p.Call number) = i.Numbered numbered.Call number ∷ []
 piece (p.Operator operator) = operator_code operator
-piece (p.Cast cast) = cast_code cast
 piece (p.Plain plain) = i.Plain plain ∷ []
 piece (p.Int number) = i.Int number ∷ []
 piece (p.Constant constant) = constant_code constant ∷ []
+piece (p.Text text) = text_code text.now ∷ []
 piece (p.Pop lies) = pops (lying lies)
 piece (p.Settled operator) = settled operator ∷ []
 piece (p.Before gives) = kept_before gives

@@ -2,13 +2,16 @@
 -- written, unless memory runs out.
 use Rattle.std.specs.Prelude.{◌≡◌, ℕ, ◌<◌, ◌++◌, Bool, true, false, List, [], ◌∷◌, length, map, Option, Some, None, slice_get, Result, MatchResult}
 use Rattle.pl_types.specs.declared.ty.Ty.{Ty}
+use Rattle.pl_types.specs.declared.conversion.Cast.{Cast}
+use Rattle.pl_types.specs.declared.conversion.Cast.TheVariants as cast
 use Rattle.program_meaning.specs.Tree.{Name, Maybe, Missing, Given, Stmts, Finish, Then, Declare, Variable, Program, type_of}
 use Rattle.program_types.specs.Types.{HasValues}
+use Rattle.program_types.specs.Types as types
 use Rattle.program_types.specs.Agreeing.{IsVariable, ExprAgrees, ExprsAgree, TestAgrees, UpdateAgrees, StmtAgrees, StmtsAgree}
 use Rattle.program_code.specs.Lying.{Lying, lying_of}
 use Rattle.program_code.specs.Stands.{Entry, lyings}
 use Rattle.code_generator.specs.Checks.{lying}
-use Rattle.code_generator.specs.Jobs.{Job, Value, Values, Put, Jump, Bind, Load, Store, One, Run, Declared, Close, Flows, Both, Either, Skip, Update, Test, Last, Turned, End, Wanted, Wants, keep, scope_in, flow_of, flow_in, both, either, on, on_top, on_two}
+use Rattle.code_generator.specs.Jobs.{Job, Value, Values, Put, Convert, Ask, Jump, Bind, Load, Store, One, Run, Declared, Close, Flows, Both, Either, Skip, Update, Test, Last, Turned, End, Wanted, Wants, keep, scope_in, flow_of, flow_in, both, either, on, on_top, on_two}
 use Rattle.code_generator.specs.declared.task.Exits.{Exits}
 use Rattle.code_generator.specs.declared.config.Config.{Config}
 use Rattle.code_generator.specs.declared.config.Flow.{Flow}
@@ -47,6 +50,12 @@ names_behind g (Declare x of value rest) = names_behind (record { name = x; of =
 
 -- ---- what is still to be written
 
+-- a cast that is done when the script runs is to a type that code may name
+abbrev pub Names : Cast → Ty → Type 0
+Names cast.Implicit to = types.IsNamed to
+Names cast.Explicit to = types.IsNamed to
+Names other to = Unit {0}
+
 -- there is a loop to leave
 abbrev pub is_looped : Option Exits → Bool
 is_looped None = false
@@ -59,6 +68,8 @@ module _ (funs : Program) (result : Ty) where
   Agree (Value e ∷ js) g flows = ExprAgrees funs g e × Agree js g flows
   Agree (Values es wanted ∷ js) g flows = (ExprsAgree funs g es × Wants wanted (lyings es)) × Agree js g flows
   Agree (Put is ∷ js) g flows = Agree js g flows
+  Agree (Convert by to ∷ js) g flows = Names by to × Agree js g flows
+  Agree (Ask is ∷ js) g flows = types.IsNamed is × Agree js g flows
   Agree (Jump kind label ∷ js) g flows = Agree js g flows
   Agree (Bind label ∷ js) g flows = Agree js g flows
   Agree (Load x lies ∷ js) g flows = IsNamed g x lies × Agree js g flows

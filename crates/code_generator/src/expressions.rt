@@ -15,9 +15,10 @@ ghost use Rattle.program_meaning.specs.Tree.{type_of};
 ghost use Rattle.program_meaning.specs.Tree as tree;
 ghost use Rattle.typed_tree.specs.declared.operation.Operation.TheVariants as operation;
 
+use crate::checks::{cast_fits, change_fits, known};
 use crate::config::Config;
 use crate::error::CodeError;
-use crate::lying::{Lies, alike, cast_gives, cast_takes, lies_of};
+use crate::lying::{Lies, alike, lies_of, operator_gives, operator_takes};
 use crate::pieces::Piece;
 use crate::pile::Pile;
 use crate::task::{Task, Wanted};
@@ -55,6 +56,7 @@ pub fn value<'a>(
 {
     match &e.node {
         Node::Constant(it) => constant(program, config, tasks, e.at, &e.of, *it),
+        Node::Text(text) => quoted(program, config, tasks, e.at, &e.of, text),
         Node::Local(name) => local(program, config, tasks, e.at, &e.of, name),
         Node::Conditional { condition, yes, no } => conditional(
             program,
@@ -65,6 +67,15 @@ pub fn value<'a>(
             condition.get(),
             yes.get(),
             no.get(),
+        ),
+        Node::Elvis { left, right } => elvis(
+            program,
+            config,
+            tasks,
+            e.at,
+            &e.of,
+            left.get(),
+            right.get(),
         ),
         Node::Apply { operation, parts } => {
             apply(program, config, tasks, e.at, &e.of, operation, parts)
@@ -115,9 +126,7 @@ pub fn value<'a>(
             right.get(),
             *gives,
         ),
-        Node::Text(_) => Err(CodeError::Unbuilt),
         Node::Guarded { .. } => Err(CodeError::Unbuilt),
-        Node::Elvis { .. } => Err(CodeError::Unbuilt),
         Node::Lambda { .. } => Err(CodeError::Unbuilt),
         Node::Reference { .. } => Err(CodeError::Unbuilt),
         Node::NewReference { .. } => Err(CodeError::Unbuilt),
@@ -137,6 +146,22 @@ fn constant<'a>(
 {
     alike(lies_of(of), literal_lies(it))?;
     tasks.push(Task::Put(Piece::Constant(it)))?;
+    Ok(())
+}
+
+fn quoted<'a>(
+    program: &'a Program,
+    config: &Config,
+    tasks: &mut Pile<Task<'a>>,
+    at: u32,
+    of: &Ty,
+    text: &'a Text,
+) -> Result<(), CodeError>
+    ensures back { OnOk result (Back (program_of program.now) (j.Value (tree.Quoted at of.now text.now) ∷ jobs tasks.old) config.now (jobs tasks.new) config.now) }
+    ensures sound { Keeps (program_of program.now) (j.Value (tree.Quoted at of.now text.now) ∷ jobs tasks.old) config.now result (jobs tasks.new) config.now }
+{
+    alike(lies_of(of), Lies::Whole)?;
+    tasks.push(Task::Put(Piece::Text(text)))?;
     Ok(())
 }
 
@@ -188,6 +213,37 @@ fn conditional<'a>(
         Task::Jump(Numbered::IfZero, other),
         Task::Value(yes),
         Task::Jump(Numbered::Goto, end),
+    )?;
+    Ok(())
+}
+
+fn elvis<'a>(
+    program: &'a Program,
+    config: &mut Config,
+    tasks: &mut Pile<Task<'a>>,
+    at: u32,
+    of: &Ty,
+    left: &'a Typed,
+    right: &'a Typed,
+) -> Result<(), CodeError>
+    ensures back { OnOk result (Back (program_of program.now) (j.Value (tree.Elvis at of.now (expr_of left.now) (expr_of right.now)) ∷ jobs tasks.old) config.old (jobs tasks.new) config.new) }
+    ensures sound { Keeps (program_of program.now) (j.Value (tree.Elvis at of.now (expr_of left.now) (expr_of right.now)) ∷ jobs tasks.old) config.old result (jobs tasks.new) config.new }
+{
+    lies_as(left, Lies::Whole)?;
+    lies_as(right, Lies::Whole)?;
+    alike(lies_of(of), Lies::Whole)?;
+    let end = config.labels.fresh()?;
+    let other = config.labels.fresh()?;
+    tasks.push_three(
+        Task::Put(Piece::Plain(Plain::Pop)),
+        Task::Value(right),
+        Task::Bind(end),
+    )?;
+    tasks.push_two(Task::Jump(Numbered::Goto, end), Task::Bind(other))?;
+    tasks.push_three(
+        Task::Value(left),
+        Task::Put(Piece::Plain(Plain::Dup)),
+        Task::Jump(Numbered::IfNull, other),
     )?;
     Ok(())
 }
@@ -265,7 +321,7 @@ fn modify<'a>(
     config: &Config,
     tasks: &mut Pile<Task<'a>>,
     at: u32,
-    of: &Ty,
+    of: &'a Ty,
     target: &'a Target,
     parts: &Items<Subtree<Typed>>,
     change: Change,
@@ -278,20 +334,18 @@ fn modify<'a>(
     let Target::Local(name) = target else {
         return Err(CodeError::Unbuilt);
     };
-    alike(lies_of(of), Lies::Bare)?;
-    lies_as(right, Lies::Bare)?;
-    alike(cast_gives(change.before, Lies::Bare), Lies::Bare)?;
-    alike(cast_gives(change.after, Lies::Bare), Lies::Bare)?;
+    let lies = lies_of(of);
+    change_fits(change, of, lies_in(right))?;
     tasks.push_four(
         Task::Put(Piece::Operator(change.operator)),
-        Task::Put(Piece::Cast(change.after)),
+        Task::Convert(change.after, of),
         Task::Put(Piece::Behind(gives)),
-        Task::Store(name, Lies::Bare),
+        Task::Store(name, lies),
     )?;
     tasks.push_four(
-        Task::Load(name, Lies::Bare),
+        Task::Load(name, lies),
         Task::Put(Piece::Before(gives)),
-        Task::Put(Piece::Cast(change.before)),
+        Task::Convert(change.before, of),
         Task::Value(right),
     )?;
     Ok(())
@@ -302,7 +356,7 @@ fn apply<'a>(
     config: &Config,
     tasks: &mut Pile<Task<'a>>,
     at: u32,
-    of: &Ty,
+    of: &'a Ty,
     operation: &'a Operation,
     parts: &'a Items<Subtree<Typed>>,
 ) -> Result<(), CodeError>
@@ -312,6 +366,9 @@ fn apply<'a>(
     match operation {
         Operation::Operator(it) => apply_operator(program, config, tasks, at, of, *it, parts),
         Operation::Cast(it) => apply_cast(program, config, tasks, at, of, *it, parts),
+        Operation::InstanceOf(is) => {
+            apply_instance_of(program, config, tasks, at, of, is, parts)
+        }
         Operation::Function(it) => apply_call(program, config, tasks, at, of, *it, parts),
         _ => Err(CodeError::Unbuilt),
     }
@@ -329,9 +386,9 @@ fn apply_operator<'a>(
     ensures back { OnOk result (Back (program_of program.now) (j.Value (tree.Apply at of.now (operation.Operator operator) (exprs_of (map expr_of parts.now))) ∷ jobs tasks.old) config.now (jobs tasks.new) config.now) }
     ensures sound { Keeps (program_of program.now) (j.Value (tree.Apply at of.now (operation.Operator operator) (exprs_of (map expr_of parts.now))) ∷ jobs tasks.old) config.now result (jobs tasks.new) config.now }
 {
-    alike(lies_of(of), Lies::Bare)?;
+    alike(lies_of(of), operator_gives(operator))?;
     tasks.push_two(
-        Task::Values(parts, 0, Wanted::Bares),
+        Task::Values(parts, 0, Wanted::All(operator_takes(operator))),
         Task::Put(Piece::Operator(operator)),
     )?;
     Ok(())
@@ -342,7 +399,7 @@ fn apply_cast<'a>(
     config: &Config,
     tasks: &mut Pile<Task<'a>>,
     at: u32,
-    of: &Ty,
+    of: &'a Ty,
     cast: Cast,
     parts: &'a Items<Subtree<Typed>>,
 ) -> Result<(), CodeError>
@@ -355,12 +412,28 @@ fn apply_cast<'a>(
     if parts.len() != 1 {
         return Err(CodeError::Malformed);
     }
-    let given = lies_in(part.get());
-    alike(given, cast_takes(cast, given))?;
-    alike(lies_of(of), cast_gives(cast, given))?;
+    cast_fits(cast, of, lies_in(part.get()), lies_of(of))?;
+    tasks.push_two(Task::Values(parts, 0, Wanted::Any), Task::Convert(cast, of))?;
+    Ok(())
+}
+
+fn apply_instance_of<'a>(
+    program: &'a Program,
+    config: &Config,
+    tasks: &mut Pile<Task<'a>>,
+    at: u32,
+    of: &Ty,
+    is: &'a Ty,
+    parts: &'a Items<Subtree<Typed>>,
+) -> Result<(), CodeError>
+    ensures back { OnOk result (Back (program_of program.now) (j.Value (tree.Apply at of.now (operation.InstanceOf is.now) (exprs_of (map expr_of parts.now))) ∷ jobs tasks.old) config.now (jobs tasks.new) config.now) }
+    ensures sound { Keeps (program_of program.now) (j.Value (tree.Apply at of.now (operation.InstanceOf is.now) (exprs_of (map expr_of parts.now))) ∷ jobs tasks.old) config.now result (jobs tasks.new) config.now }
+{
+    alike(lies_of(of), Lies::Bare)?;
+    known(is)?;
     tasks.push_two(
-        Task::Values(parts, 0, Wanted::Any),
-        Task::Put(Piece::Cast(cast)),
+        Task::Values(parts, 0, Wanted::All(Lies::Whole)),
+        Task::Ask(is),
     )?;
     Ok(())
 }

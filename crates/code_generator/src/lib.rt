@@ -4,13 +4,16 @@
 //! other pieces on the pile. A jump names a label until the end, when each label has its line.
 #![tactic(auto, using(crate::proofs::Memory::only_memory))]
 
+mod checks;
 mod config;
+mod conversions;
 mod error;
 mod expressions;
 mod flows;
 mod functions;
 mod labels;
 mod lying;
+mod naming;
 mod pieces;
 mod pile;
 mod scopes;

@@ -4,18 +4,18 @@ ghost use Rattle.std.specs.Prelude.{◌≡◌, [], ◌∷◌, ◌++◌, map, OnO
 ghost use Rattle.code_generator.specs.Checks.{lying};
 ghost use Rattle.code_generator.specs.declared.labels.Line.TheVariants.{Fixed};
 ghost use Rattle.code_generator.specs.Pieces.{piece, if_any, in_width};
-ghost use Rattle.pl_code.specs.declared.code.Instruction.TheVariants.{Boxing};
+ghost use Rattle.pl_code.specs.declared.code.Instruction.TheVariants as i;
 ghost use Rattle.pl_code.specs.declared.kinds.Width.{Width};
-ghost use Rattle.program_code.specs.Parts.{constant_code, arithmetic_code, boolean_code, operator_code, cast_code, number_code, from_int_code, from_long_code, from_byte_code, from_short_code, from_char_code, default_code, default_of_primitive, pops, kept_before, kept_behind};
+ghost use Rattle.program_code.specs.Parts.{constant_code, text_code, arithmetic_code, boolean_code, turned_round, operator_code, default_code, default_of_primitive, pops, kept_before, kept_behind};
 ghost use Rattle.program_code.specs.Stands.{settled};
 
 use crate::labels::Line;
 use crate::lying::Lies;
 use arithmetic::Op;
-use pl_code::{ArithmeticOp, Instruction, Numbered, Plain, Width};
-use pl_types::{Cast, Primitive, Ty};
-use plain_data::Items;
-use std::alloc::AllocError;
+use pl_code::{ArithmeticOp, Instruction, Numbered, Plain, Quoting, Width};
+use pl_types::{Primitive, Ty};
+use plain_data::{Items, Text};
+use std::alloc::{AllocError, Global};
 use typed_tree::{Constant, Gives, Logical, Operator};
 
 /// Some instructions.
@@ -23,10 +23,10 @@ use typed_tree::{Constant, Gives, Logical, Operator};
 pub enum Piece<'a> {
     Call(u32),
     Operator(Operator),
-    Cast(Cast),
     Plain(Plain),
     Int(i32),
     Constant(Constant),
+    Text(&'a Text),
     /// A value is dropped that lies so.
     Pop(Lies),
     /// The value that settles an operator before its right side.
@@ -39,7 +39,8 @@ pub enum Piece<'a> {
     Default(&'a Ty),
 }
 
-fn one(lines: &mut Items<Line>, instruction: Instruction) -> Result<(), AllocError>
+/// Puts one instruction at the end.
+pub fn one(lines: &mut Items<Line>, instruction: Instruction) -> Result<(), AllocError>
     ensures { OnOk result (lines.new ≡ lines.old ++ Fixed instruction ∷ []) }
 {
     lines.push(Line::Fixed(instruction))?;
@@ -47,16 +48,16 @@ fn one(lines: &mut Items<Line>, instruction: Instruction) -> Result<(), AllocErr
 }
 
 /// Puts some instructions at the end.
-pub fn put<'a>(lines: &mut Items<Line>, what: Piece<'a>) -> Result<(), AllocError>
+pub fn put<'a>(alloc: Global, lines: &mut Items<Line>, what: Piece<'a>) -> Result<(), AllocError>
     ensures { OnOk result (lines.new ≡ lines.old ++ map Fixed (piece what.entry)) }
 {
     match what {
         Piece::Call(number) => one(lines, Instruction::Numbered(Numbered::Call, number)),
         Piece::Operator(operator) => put_operator(lines, operator),
-        Piece::Cast(cast) => put_cast(lines, cast),
         Piece::Plain(plain) => one(lines, Instruction::Plain(plain)),
         Piece::Int(number) => one(lines, Instruction::Int(number)),
         Piece::Constant(constant) => one(lines, constant_of(constant)),
+        Piece::Text(text) => put_text(alloc, lines, text),
         Piece::Pop(lies) => put_pop(lines, lies),
         Piece::Settled(operator) => put_settled(lines, operator),
         Piece::Before(gives) => put_before(lines, gives),
@@ -77,6 +78,13 @@ fn constant_of(constant: Constant) -> Instruction
         Constant::Int(number) => Instruction::Int(number),
         Constant::Long(number) => Instruction::Long(number),
     }
+}
+
+fn put_text(alloc: Global, lines: &mut Items<Line>, text: &Text) -> Result<(), AllocError>
+    ensures { OnOk result (lines.new ≡ lines.old ++ map Fixed (text_code text.now ∷ [])) }
+{
+    let text = Text::new(alloc, text.as_str())?;
+    one(lines, Instruction::Quoted(Quoting::Constant, text))
 }
 
 fn put_pop(lines: &mut Items<Line>, lies: Lies) -> Result<(), AllocError>
@@ -144,8 +152,22 @@ fn put_operator(lines: &mut Items<Line>, operator: Operator) -> Result<(), Alloc
         Operator::Int(op) => put_arithmetic(lines, op, Width::Int),
         Operator::Long(op) => put_arithmetic(lines, op, Width::Long),
         Operator::Boolean(op) => put_boolean(lines, op),
+        Operator::Equal => one(lines, Instruction::Plain(Plain::Equal)),
+        Operator::NotEqual => put_turned_round(lines, Plain::Equal),
+        Operator::Same => one(lines, Instruction::Plain(Plain::Same)),
+        Operator::NotSame => put_turned_round(lines, Plain::Same),
+        Operator::Concat => one(lines, Instruction::Plain(Plain::Concat)),
         _ => Ok(()),
     }
+}
+
+/// What gives a truth value, and then that the other way round.
+fn put_turned_round(lines: &mut Items<Line>, plain: Plain) -> Result<(), AllocError>
+    ensures { OnOk result (lines.new ≡ lines.old ++ map Fixed (i.Plain plain ∷ turned_round)) }
+{
+    one(lines, Instruction::Plain(plain))?;
+    one(lines, Instruction::Int(0))?;
+    one(lines, Instruction::Arithmetic(ArithmeticOp::Eq, Width::Int))
 }
 
 fn arithmetic_op(op: Op) -> Option<ArithmeticOp>
@@ -175,7 +197,11 @@ fn arithmetic_op(op: Op) -> Option<ArithmeticOp>
     }
 }
 
-fn put_if_any(lines: &mut Items<Line>, instruction: Option<Instruction>) -> Result<(), AllocError>
+/// Puts an instruction at the end, where there is one.
+pub fn put_if_any(
+    lines: &mut Items<Line>,
+    instruction: Option<Instruction>,
+) -> Result<(), AllocError>
     ensures { OnOk result (lines.new ≡ lines.old ++ map Fixed (if_any instruction)) }
 {
     match instruction {
@@ -212,92 +238,6 @@ fn put_boolean(lines: &mut Items<Line>, op: Op) -> Result<(), AllocError>
             one(lines, Instruction::Int(0))?;
             one(lines, Instruction::Arithmetic(ArithmeticOp::Eq, Width::Int))
         }
-        _ => Ok(()),
-    }
-}
-
-fn from_int(to: Primitive) -> Option<Instruction>
-    ensures { if_any result ≡ from_int_code to }
-{
-    match to {
-        Primitive::Byte => Some(Instruction::Plain(Plain::IntToByte)),
-        Primitive::Short => Some(Instruction::Plain(Plain::IntToShort)),
-        Primitive::Char => Some(Instruction::Plain(Plain::IntToChar)),
-        Primitive::Long => Some(Instruction::Plain(Plain::IntToLong)),
-        Primitive::Boolean => None,
-        Primitive::Int => None,
-    }
-}
-
-fn from_byte(to: Primitive) -> Option<Instruction>
-    ensures { if_any result ≡ from_byte_code to }
-{
-    match to {
-        Primitive::Byte => None,
-        Primitive::Short => None,
-        _ => from_int(to),
-    }
-}
-
-fn from_short(to: Primitive) -> Option<Instruction>
-    ensures { if_any result ≡ from_short_code to }
-{
-    match to {
-        Primitive::Short => None,
-        _ => from_int(to),
-    }
-}
-
-fn from_char(to: Primitive) -> Option<Instruction>
-    ensures { if_any result ≡ from_char_code to }
-{
-    match to {
-        Primitive::Char => None,
-        _ => from_int(to),
-    }
-}
-
-#[tactic(auto, using(crate::proofs::Lists::one_and_more))]
-fn put_from_long(lines: &mut Items<Line>, to: Primitive) -> Result<(), AllocError>
-    ensures { OnOk result (lines.new ≡ lines.old ++ map Fixed (from_long_code to)) }
-{
-    match to {
-        Primitive::Boolean => Ok(()),
-        Primitive::Long => Ok(()),
-        _ => {
-            one(lines, Instruction::Plain(Plain::LongToInt))?;
-            put_if_any(lines, from_int(to))
-        }
-    }
-}
-
-fn put_number(lines: &mut Items<Line>, from: Primitive, to: Primitive) -> Result<(), AllocError>
-    ensures { OnOk result (lines.new ≡ lines.old ++ map Fixed (number_code from to)) }
-{
-    match from {
-        Primitive::Boolean => Ok(()),
-        Primitive::Byte => put_if_any(lines, from_byte(to)),
-        Primitive::Short => put_if_any(lines, from_short(to)),
-        Primitive::Char => put_if_any(lines, from_char(to)),
-        Primitive::Int => put_if_any(lines, from_int(to)),
-        Primitive::Long => put_from_long(lines, to),
-    }
-}
-
-#[tactic(auto, using(crate::proofs::Lists::more_and_one))]
-fn put_wrapped(lines: &mut Items<Line>, from: Primitive, to: Primitive) -> Result<(), AllocError>
-    ensures { OnOk result (lines.new ≡ lines.old ++ map Fixed (number_code from to ++ Boxing to ∷ [])) }
-{
-    put_number(lines, from, to)?;
-    one(lines, Instruction::Boxing(to))
-}
-
-fn put_cast(lines: &mut Items<Line>, cast: Cast) -> Result<(), AllocError>
-    ensures { OnOk result (lines.new ≡ lines.old ++ map Fixed (cast_code cast)) }
-{
-    match cast {
-        Cast::Number(from, to) => put_number(lines, from, to),
-        Cast::Wrap(from, to) => put_wrapped(lines, from, to),
         _ => Ok(()),
     }
 }

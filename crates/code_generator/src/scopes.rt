@@ -64,7 +64,7 @@ fn by_kind<'a>(
         StatementNode::Break => simple(program, config, tasks, s, tail, exits),
         StatementNode::Continue => simple(program, config, tasks, s, tail, exits),
         StatementNode::Return(_) => simple(program, config, tasks, s, tail, exits),
-        StatementNode::Throw(_) => Err(CodeError::Unbuilt),
+        StatementNode::Throw(_) => simple(program, config, tasks, s, tail, exits),
     }
 }
 

@@ -63,7 +63,7 @@ pub fn one<'a>(
         StatementNode::Declare(_) => Err(CodeError::Unbuilt),
         StatementNode::ForEach { .. } => Err(CodeError::Unbuilt),
         StatementNode::Try { .. } => Err(CodeError::Unbuilt),
-        StatementNode::Throw(_) => Err(CodeError::Unbuilt),
+        StatementNode::Throw(value) => throw(program, config, tasks, value.get(), exits),
     }
 }
 
@@ -334,6 +334,28 @@ fn give_nothing<'a>(
     alike(config.result, Lies::Absent)?;
     tasks.push_two(
         Task::Put(Piece::Plain(Plain::Ret)),
+        Task::Flows(Flow {
+            falls: false,
+            continues: false,
+        }),
+    )?;
+    Ok(())
+}
+
+fn throw<'a>(
+    program: &'a Program,
+    config: &Config,
+    tasks: &mut Pile<Task<'a>>,
+    value: &'a Typed,
+    exits: Option<Exits>,
+) -> Result<(), CodeError>
+    ensures back { OnOk result (Back (program_of program.now) (j.One (tree.Throw (expr_of value.now)) exits ∷ jobs tasks.old) config.now (jobs tasks.new) config.now) }
+    ensures sound { Keeps (program_of program.now) (j.One (tree.Throw (expr_of value.now)) exits ∷ jobs tasks.old) config.now result (jobs tasks.new) config.now }
+{
+    lies_as(value, Lies::Whole)?;
+    tasks.push_three(
+        Task::Value(value),
+        Task::Put(Piece::Plain(Plain::Throw)),
         Task::Flows(Flow {
             falls: false,
             continues: false,

@@ -9,6 +9,7 @@ ghost use Rattle.code_generator.specs.Sound.{IsNamed, Keeps, variable};
 ghost use Rattle.program_meaning.specs.Programs.{program_of, expr_of};
 
 use crate::config::{Config, Entry};
+use crate::conversions::{put_cast, put_instance_of};
 use crate::error::CodeError;
 use crate::expressions::value;
 use crate::flows::{add, both, either, end, last, skip, test, turned, update};
@@ -21,6 +22,7 @@ use crate::statements::one;
 use crate::task::Task;
 use crate::values::values;
 use pl_code::{Instruction, Numbered};
+use pl_types::{Cast, Ty};
 use plain_data::Text;
 use std::alloc::Global;
 use typed_tree::{Program, Typed};
@@ -41,7 +43,13 @@ pub fn step<'a>(
             return expression(program, config, tasks, e);
         }
         Task::Put(what) => {
-            return piece(program, config, tasks, what);
+            return piece(alloc, program, config, tasks, what);
+        }
+        Task::Convert(cast, to) => {
+            return convert(alloc, program, config, tasks, cast, to);
+        }
+        Task::Ask(is) => {
+            return ask(alloc, program, config, tasks, is);
         }
         Task::Jump(kind, label) => {
             return jump(program, config, tasks, kind, label);
@@ -119,6 +127,7 @@ fn expression<'a>(
 }
 
 fn piece<'a>(
+    alloc: Global,
     program: &'a Program,
     config: &mut Config,
     tasks: &Pile<Task<'a>>,
@@ -127,7 +136,36 @@ fn piece<'a>(
     ensures back { OnOk result (Back (program_of program.now) (j.Put (pieces.piece what.entry) ∷ jobs tasks.now) config.old (jobs tasks.now) config.new) }
     ensures sound { Keeps (program_of program.now) (j.Put (pieces.piece what.entry) ∷ jobs tasks.now) config.old result (jobs tasks.now) config.new }
 {
-    put(&mut config.lines, what)?;
+    put(alloc, &mut config.lines, what)?;
+    Ok(())
+}
+
+fn convert<'a>(
+    alloc: Global,
+    program: &'a Program,
+    config: &mut Config,
+    tasks: &Pile<Task<'a>>,
+    cast: Cast,
+    to: &Ty,
+) -> Result<(), CodeError>
+    ensures back { OnOk result (Back (program_of program.now) (j.Convert cast to.now ∷ jobs tasks.now) config.old (jobs tasks.now) config.new) }
+    ensures sound { Keeps (program_of program.now) (j.Convert cast to.now ∷ jobs tasks.now) config.old result (jobs tasks.now) config.new }
+{
+    put_cast(alloc, &mut config.lines, cast, to)?;
+    Ok(())
+}
+
+fn ask<'a>(
+    alloc: Global,
+    program: &'a Program,
+    config: &mut Config,
+    tasks: &Pile<Task<'a>>,
+    is: &Ty,
+) -> Result<(), CodeError>
+    ensures back { OnOk result (Back (program_of program.now) (j.Ask is.now ∷ jobs tasks.now) config.old (jobs tasks.now) config.new) }
+    ensures sound { Keeps (program_of program.now) (j.Ask is.now ∷ jobs tasks.now) config.old result (jobs tasks.now) config.new }
+{
+    put_instance_of(alloc, &mut config.lines, is)?;
     Ok(())
 }
 

@@ -4,7 +4,7 @@ use crate::config::Flow;
 use crate::lying::Lies;
 use crate::pieces::Piece;
 use pl_code::Numbered;
-use pl_types::Ty;
+use pl_types::{Cast, Ty};
 use plain_data::{Items, Subtree, Text};
 use typed_tree::{Named, Typed, TypedStatement, TypedVariable};
 
@@ -12,8 +12,8 @@ use typed_tree::{Named, Typed, TypedStatement, TypedVariable};
 #[derive(Clone, Copy)]
 pub enum Wanted<'a> {
     Any,
-    /// As numbers.
-    Bares,
+    /// All so.
+    All(Lies),
     /// As parameters do.
     As(&'a Items<Named>),
 }
@@ -42,6 +42,10 @@ pub enum Task<'a> {
     /// Some parts, from one on.
     Values(&'a Items<Subtree<Typed>>, usize, Wanted<'a>),
     Put(Piece<'a>),
+    /// A cast to a type.
+    Convert(Cast, &'a Ty),
+    /// Whether a value is of a type.
+    Ask(&'a Ty),
     /// A jump to a label.
     Jump(Numbered, u32),
     /// A label is here.

@@ -11,7 +11,7 @@ ghost use Rattle.program_meaning.specs.Tree.{type_of};
 use crate::config::Config;
 use crate::error::CodeError;
 use crate::expressions::lies_as;
-use crate::lying::{Lies, lies_of};
+use crate::lying::lies_of;
 use crate::pile::Pile;
 use crate::task::{Task, Wanted};
 use plain_data::{Items, Subtree};
@@ -59,7 +59,7 @@ fn fits<'a>(part: &Typed, kind: Wanted<'a>, at: usize) -> Result<(), CodeError>
 {
     match kind {
         Wanted::Any => Ok(()),
-        Wanted::Bares => lies_as(part, Lies::Bare),
+        Wanted::All(lies) => lies_as(part, lies),
         Wanted::As(params) => match params.get(at) {
             Some(param) => lies_as(part, lies_of(&param.of)),
             None => Err(CodeError::Malformed),

@@ -4,4 +4,6 @@
 #[cfg(test)]
 mod build;
 #[cfg(test)]
+mod references;
+#[cfg(test)]
 mod tests;

@@ -105,7 +105,10 @@ fn less(alloc: Global, name: &str, bound: i32) -> Result<Subtree<Typed>, AllocEr
     binary(alloc, boolean(), Op::Lt, left, right)
 }
 
-fn returned(alloc: Global, value: Subtree<Typed>) -> Result<Subtree<TypedStatement>, AllocError> {
+pub fn returned(
+    alloc: Global,
+    value: Subtree<Typed>,
+) -> Result<Subtree<TypedStatement>, AllocError> {
     statement(alloc, StatementNode::Return(Some(value)))
 }
 
@@ -269,7 +272,7 @@ fn deep_statements(rt: HostRuntime) -> Result<(), Fail> {
 }
 
 // Whether a program's code has this listing.
-fn has_listing(alloc: Global, program: &Program, text: &str) -> Result<bool, AllocError> {
+pub fn has_listing(alloc: Global, program: &Program, text: &str) -> Result<bool, AllocError> {
     match generate(alloc, program) {
         Ok(code) => {
             let written = listing(alloc, &code)?;

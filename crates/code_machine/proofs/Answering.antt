@@ -10,7 +10,7 @@ use Rattle.code_meaning.specs.declared.word.Word.{Word}
 use Rattle.code_meaning.specs.declared.word.Word.TheVariants.{R}
 use Rattle.code_meaning.specs.Words.{unboxed}
 use Rattle.code_machine.specs.Rows.{bare}
-use Rattle.code_meaning.specs.Machine.{Frame, Ends, to_line, on_outcome, unwind}
+use Rattle.code_meaning.specs.Machine.{Frame, Ends, Stuck, to_line, on_outcome, on_thrown, unwind}
 
 acts_given : (w : World) (value : Value) (store : Store) → acts_in w (Gives value store) ≡ Given value (with_store w store)
 unfolding acts_in
@@ -60,3 +60,14 @@ module _ (code : List FunCode) (limits : Limits) (word : Value → Word) (f : Fr
 
   pub filled : (old : World) → effect ≡ NoRoom → on_outcome code limits (acts_in w effect) word f below old stack ≡ Ends (Limited Room old)
   filled old e = ap (λ e. on_outcome code limits (acts_in w e) word f below old stack) e ∙ ap (λ o. on_outcome code limits o word f below old stack) (acts_full w)
+
+-- what is thrown
+module _ (code : List FunCode) (limits : Limits) (f : Frame) (below : List Frame) (w : World) (effect : Effect) where
+  pub gave_none : (old : World) (value : Value) (store : Store) → effect ≡ Gives value store → on_thrown code limits (acts_in w effect) f below old ≡ Stuck
+  gave_none old value store e = ap (λ e. on_thrown code limits (acts_in w e) f below old) e ∙ ap (λ o. on_thrown code limits o f below old) (acts_given w value store)
+
+  pub threw_on : (old : World) (id : ℕ) (store : Store) → effect ≡ Throws id store → on_thrown code limits (acts_in w effect) f below old ≡ unwind code (f ∷ below) id (with_store w store)
+  threw_on old id store e = ap (λ e. on_thrown code limits (acts_in w e) f below old) e ∙ ap (λ o. on_thrown code limits o f below old) (acts_raised w id store)
+
+  pub filled_on : (old : World) → effect ≡ NoRoom → on_thrown code limits (acts_in w effect) f below old ≡ Ends (Limited Room old)
+  filled_on old e = ap (λ e. on_thrown code limits (acts_in w e) f below old) e ∙ ap (λ o. on_thrown code limits o f below old) (acts_full w)

@@ -1,5 +1,5 @@
 -- Rows that do not fit what lies on the stack.
-use Rattle.std.proofs.Common.{◌≡◌, ℤ, List, [], ◌∷◌, None, refl, ap}
+use Rattle.std.proofs.Common.{◌≡◌, ℤ, List, [], ◌∷◌, None, refl, ap, ◌∙◌}
 use Rattle.object_values.specs.declared.value.Value.{Value}
 use Rattle.arithmetic.specs.declared.operator.Op.{Op}
 use Rattle.code_meaning.specs.declared.word.Word.{Word}
@@ -7,6 +7,7 @@ use Rattle.code_meaning.specs.declared.word.Word.TheVariants.{I, J, R}
 use Rattle.code_meaning.specs.Words.{NoRow, one_int, two_ints, one_long, two_longs, long_and_int}
 use Rattle.code_meaning.specs.Machine.{Next, Stuck, on_top, on_int, on_long, on_reference}
 use Rattle.code_machine.specs.Seen.{int_of, long_of}
+use Rattle.code_machine.specs.Rows.{on_pair, on_references}
 
 pub no_int : (stack : List Word) (row : ℤ → List Word → Next) → int_of stack ≡ None → on_top stack (λ word rest. on_int word (λ a. row a rest)) ≡ Stuck
 no_int [] row e = refl
@@ -75,3 +76,9 @@ of_top stack rest word e next = ap (λ s. on_top s next) e
 
 pub of_reference : (word : Word) (value : Value) → word ≡ R value → (next : Value → Next) → on_reference word next ≡ next value
 of_reference word value e next = ap (λ w. on_reference w next) e
+
+-- two references
+pub of_pair : (stack rest left : List Word) (upper lower : Word) → stack ≡ upper ∷ rest → rest ≡ lower ∷ left → (next : Value → Value → List Word → Next)
+    → on_pair stack next ≡ on_references lower upper (λ a b. next a b left)
+of_pair stack rest left upper lower e h next =
+    ap (λ s. on_pair s next) e ∙ ap (λ s. on_reference upper (λ b. on_top s (λ lower stack. on_reference lower (λ a. next a b stack)))) h

@@ -1,5 +1,5 @@
 -- What parts of an instruction come to.
-use Rattle.std.specs.Prelude.{◌≡◌, ℕ, ◌&&◌, Bool, List, [], ◌∷◌, ◌++◌, map, Option, Some, None, find, nat_le, nat_lt, pos}
+use Rattle.std.specs.Prelude.{◌≡◌, ℕ, suc, ◌&&◌, Bool, true, false, List, [], ◌∷◌, ◌++◌, map, Option, Some, None, find, nat_le, nat_lt, pos}
 use Rattle.arithmetic.specs.declared.operator.Num.{Num}
 use Rattle.pl_types.specs.Names.{class_of_full}
 use Rattle.object_values.specs.declared.value.Value.{Value}
@@ -8,11 +8,17 @@ use Rattle.object_heap.specs.declared.outcome.Which.{Which}
 use Rattle.pl_code.specs.declared.code.Trap.{Trap}
 use Rattle.pl_code.specs.declared.kinds.Slot.{Slot}
 use Rattle.pl_code.specs.declared.code.FunCode.{FunCode}
-use Rattle.run_world.specs.World.{World, Counted, Counts, Passes}
+use Rattle.number_ops.specs.Operators.{concatenated}
+use Rattle.number_ops.specs.Outcomes.{effect}
+use Rattle.number_ops.specs.Relations.{equal, is_same}
+use Rattle.pl_units.specs.Utf16.{units}
+use Rattle.run_world.specs.World.{World, Limits, Counted, Counts, Passes, acts_in}
 use Rattle.code_meaning.specs.declared.word.Word.{Word}
 use Rattle.code_meaning.specs.declared.word.Word.TheVariants.{I, J, R}
-use Rattle.code_meaning.specs.Words.{bit, start_of, Calculation, NoRow, Calculates}
-use Rattle.code_meaning.specs.Machine.{Frame, Next, Goes, is_instance}
+use Rattle.code_meaning.specs.Words.{bit, start_of, unboxed, Calculation, NoRow, Calculates}
+use Rattle.code_meaning.specs.Machine.{Frame, Next, Goes, on_outcome, on_reference, on_top, to_line, is_instance}
+use Rattle.code_machine.specs.declared.references.Pairing.{Pairing}
+use Rattle.code_machine.specs.declared.references.Pairing.TheVariants as pairing
 use Rattle.code_machine.specs.declared.operators.Operated.{Operated}
 use Rattle.code_machine.specs.declared.operators.Operated.TheVariants as c
 use Rattle.code_machine.specs.declared.stacks.Copying.{Copying}
@@ -59,6 +65,32 @@ beside stack (Some words) = Some (words, stack)
 abbrev pub with_locals : List Slot → Option (List Word × List Word) → Option (List Word × List Word)
 with_locals slots None = None
 with_locals slots (Some p) = Some (p.0 ++ map start_of slots, p.1)
+
+-- ---- references
+
+-- a text goes on the stack
+abbrev pub text_act : List ℕ → Frame → List Frame → World → Next
+text_act text f below w = to_line f below w (suc f.line) (R (v.Str (units text)) ∷ f.stack)
+
+-- whether a word is null; none of a number
+abbrev pub null_in : Word → Option Bool
+null_in (R v.Null) = Some true
+null_in (R value) = Some false
+null_in word = None
+
+-- two words that are references
+abbrev pub on_references : Word → Word → (Value → Value → Next) → Next
+on_references lower upper next = on_reference upper (λ b. on_reference lower (λ a. next a b))
+
+-- two references off a stack, the upper one last
+abbrev pub on_pair : List Word → (Value → Value → List Word → Next) → Next
+on_pair stack next = on_top stack (λ upper rest. on_reference upper (λ b. on_top rest (λ lower stack. on_reference lower (λ a. next a b stack))))
+
+-- what is asked of two references
+abbrev pub paired : List FunCode → Limits → Pairing → Value → Value → Frame → List Frame → World → List Word → Next
+paired code limits pairing.Concat a b f below w stack = on_outcome code limits (acts_in w (effect w.store (concatenated w.store.objects a b))) R f below w stack
+paired code limits pairing.Equal a b f below w stack = on_outcome code limits (acts_in w (effect w.store (equal w.store.objects a b))) unboxed f below w stack
+paired code limits pairing.Same a b f below w stack = to_line f below w (suc f.line) (I (bit (is_same a b)) ∷ stack)
 
 -- ---- where an exception goes on
 

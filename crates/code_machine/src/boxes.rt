@@ -108,7 +108,8 @@ fn cast(heap: &mut Heap, value: &Value, primitive: Primitive, way: Way) -> Answe
     to_type(heap, value, &Ty::Prim(primitive), is_written(way))
 }
 
-fn is_written(way: Way) -> bool
+/// Whether a cast is written in the script.
+pub fn is_written(way: Way) -> bool
     ensures { result ≡ is_written way }
 {
     match way {

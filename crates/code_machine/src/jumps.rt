@@ -6,6 +6,7 @@ ghost use Rattle.code_machine.specs.Seen.{Comes, frame_of, frames_of, limits_of,
 
 use crate::calls::call;
 use crate::configuration::{Configuration, End, Limits, Step};
+use crate::references::jump_if_null;
 use crate::stacks::pop_int;
 use object_heap::Which;
 use pl_code::{Code, Numbered};
@@ -35,6 +36,7 @@ pub fn numbered(
             Some(_) => run.goes_to(number),
             None => Step::Ends(End::Stuck),
         },
+        Numbered::IfNull => jump_if_null(run, number),
         Numbered::Loop => match pop_int(&mut run.top.stack) {
             Some(0) => run.goes_on(),
             Some(_) => turn(run, code, limits, number),

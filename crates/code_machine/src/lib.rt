@@ -8,11 +8,13 @@ mod configuration;
 mod jumps;
 mod laws;
 mod operators;
+mod references;
 mod running;
 mod stack;
 mod stacks;
 mod step;
 mod throwing;
+mod typed;
 
 pub use activation::{Activation, Outcome};
 pub use configuration::{End, Limits};

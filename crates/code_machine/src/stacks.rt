@@ -9,7 +9,9 @@ ghost use Rattle.code_machine.specs.Rows.{Copies};
 
 use crate::calls::ret;
 use crate::configuration::{Configuration, End, Limits, Step};
+use crate::references::{Pairing, pair};
 use crate::stack::Stack;
+use crate::throwing::throw_top;
 use arithmetic::casts::{low_byte, low_char, low_int, low_short};
 use code_meaning::Word;
 use object_values::Value;
@@ -43,6 +45,10 @@ pub fn plain(run: &mut Configuration, code: &Code, limits: &Limits, kind: Plain)
             None => Step::Ends(End::Stuck),
         },
         Plain::Ret => ret(run, code, limits),
+        Plain::Concat => pair(run, code, limits, Pairing::Concat),
+        Plain::Equal => pair(run, code, limits, Pairing::Equal),
+        Plain::Same => pair(run, code, limits, Pairing::Same),
+        Plain::Throw => throw_top(run, code, limits),
         _ => copy(run, kind),
     }
 }

@@ -6,7 +6,9 @@ use crate::boxes::{box_number, unbox};
 use crate::configuration::{Configuration, End, Limits, Step};
 use crate::jumps::numbered;
 use crate::operators::arithmetic;
+use crate::references::quoted;
 use crate::stacks::plain;
+use crate::typed::{cast, typed};
 use code_meaning::Word;
 use pl_code::{Code, Instruction};
 
@@ -34,6 +36,9 @@ fn execute(run: &mut Configuration, code: &Code, limits: &Limits, instruction: &
         Instruction::Numbered(kind, number) => numbered(run, code, limits, *kind, *number),
         Instruction::Boxing(primitive) => box_number(run, *primitive),
         Instruction::Unboxing(primitive, way) => unbox(run, code, limits, *primitive, *way),
+        Instruction::Quoted(kind, text) => quoted(run, code, limits, *kind, text),
+        Instruction::Typed(kind, of) => typed(run, code, limits, *kind, of),
+        Instruction::Cast(to, way) => cast(run, code, limits, to, *way),
         _ => Step::Ends(End::Stuck),
     }
 }

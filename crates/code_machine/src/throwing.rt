@@ -4,16 +4,19 @@ ghost use Rattle.std.specs.Option.{option_copied};
 ghost use Rattle.object_heap.specs.Effects.{Effect, Answers};
 ghost use Rattle.object_heap.specs.Store.{Store};
 ghost use Rattle.number_ops.specs.Outcomes.{effect, zero_divisor};
+ghost use Rattle.number_ops.specs.Relations.{thrown};
 ghost use Rattle.run_world.specs.World.{acts_in, with_store};
 ghost use Rattle.code_meaning.specs.Words as words;
 ghost use Rattle.code_meaning.specs.declared.word.Word.{Word};
+ghost use Rattle.code_meaning.specs.declared.word.Word.TheVariants.{R};
 ghost use Rattle.code_meaning.specs.Machine as spec;
-ghost use Rattle.code_meaning.specs.Machine.{Next, on_outcome};
+ghost use Rattle.code_meaning.specs.Machine.{Next, on_outcome, on_reference, on_thrown, on_top};
 ghost use Rattle.code_machine.specs.Seen.{Comes, frame_of, with_stack, frames_of, limits_of, world_of};
 ghost use Rattle.code_machine.specs.Rows.{bare, catches, landing, landed, line_of};
 
 use crate::configuration::{Configuration, End, Frame, Limits, Step, World};
 use code_meaning::Word;
+use number_ops::throw_value;
 use object_heap::{Answer, Which, throw};
 use object_values::{Object, Value};
 use pl_code::{Code, Trap};
@@ -27,6 +30,18 @@ pub fn answered(run: &mut Configuration, code: &Code, limits: &Limits, answer: A
 {
     match answer {
         Answer::Value(value) => run.push(unboxed(value)),
+        Answer::Thrown(id) => unwind(run, code, id),
+        Answer::Room => Step::Ends(End::Limit(Which::Room)),
+        Answer::NoMemory => Step::NoMemory,
+    }
+}
+
+/// The same of an operation whose value stays a reference.
+pub fn answered_whole(run: &mut Configuration, code: &Code, limits: &Limits, answer: Answer) -> Step
+    ensures { (effect : Effect) (old : Store) (stack : List Word) → Answers effect old run.old.world.heap answer → Comes (on_outcome code.now.functions (limits_of limits.now) (acts_in (with_store (world_of run.old.world) old) effect) R (with_stack (frame_of run.old.top) stack) (frames_of run.old.below) (with_store (world_of run.old.world) old) run.old.top.stack) result run.new }
+{
+    match answer {
+        Answer::Value(value) => run.push(Word::R(value)),
         Answer::Thrown(id) => unwind(run, code, id),
         Answer::Room => Step::Ends(End::Limit(Which::Room)),
         Answer::NoMemory => Step::NoMemory,
@@ -69,6 +84,41 @@ pub fn throw_zero_divisor(run: &mut Configuration, code: &Code, limits: &Limits)
             answered(run, code, limits, answer)
         }
         Err(_) => Step::NoMemory,
+    }
+}
+
+/// Throws the reference on the stack.
+pub fn throw_top(run: &mut Configuration, code: &Code, limits: &Limits) -> Step
+    ensures { Comes (on_top run.old.top.stack (λ word stack. on_reference word (λ value. on_thrown code.now.functions (limits_of limits.now) (acts_in (world_of run.old.world) (thrown run.old.world.heap value)) (frame_of run.old.top) (frames_of run.old.below) (world_of run.old.world)))) result run.new }
+{
+    match run.top.stack.pop() {
+        Some(word) => throw_word(run, code, limits, &word),
+        None => Step::Ends(End::Stuck),
+    }
+}
+
+// The same of a word that was taken off the stack.
+fn throw_word(run: &mut Configuration, code: &Code, limits: &Limits, word: &Word) -> Step
+    ensures { (stack : List Word) → Comes (on_reference word.now (λ value. on_thrown code.now.functions (limits_of limits.now) (acts_in (world_of run.old.world) (thrown run.old.world.heap value)) (with_stack (frame_of run.old.top) stack) (frames_of run.old.below) (world_of run.old.world))) result run.new }
+{
+    match word {
+        Word::R(value) => {
+            let answer = throw_value(&mut run.world.heap, value);
+            answered_throw(run, code, limits, answer)
+        }
+        _ => Step::Ends(End::Stuck),
+    }
+}
+
+// What is thrown goes on at the trap that catches it. What gives a value throws nothing.
+fn answered_throw(run: &mut Configuration, code: &Code, limits: &Limits, answer: Answer) -> Step
+    ensures { (effect : Effect) (old : Store) (stack : List Word) → Answers effect old run.old.world.heap answer → Comes (on_thrown code.now.functions (limits_of limits.now) (acts_in (with_store (world_of run.old.world) old) effect) (with_stack (frame_of run.old.top) stack) (frames_of run.old.below) (with_store (world_of run.old.world) old)) result run.new }
+{
+    match answer {
+        Answer::Value(_value) => Step::Ends(End::Stuck),
+        Answer::Thrown(id) => unwind(run, code, id),
+        Answer::Room => Step::Ends(End::Limit(Which::Room)),
+        Answer::NoMemory => Step::NoMemory,
     }
 }
 

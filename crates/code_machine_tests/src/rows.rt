@@ -11,7 +11,7 @@ pub struct Row {
     pub left: &'static str,
 }
 
-pub const ROWS: [Row; 37] = [
+pub const ROWS: [Row; 50] = [
     // int s = 0; for (int i = 0; i < 5; i++) { s += i } s
     Row {
         listing: "painless 1\nfun 0 loop R - II\ni 0\nstore 0\ni 0\nstore 1\ngoto 13\nload 0\nload 1\nadd.i\nstore 0\nload 1\ni 1\nadd.i\nstore 1\nload 1\ni 5\nlt.i\nloop 5\nload 0\nbox int\nret\nend\n",
@@ -344,5 +344,122 @@ pub const ROWS: [Row; 37] = [
         ticks: 100,
         room: 1000,
         left: "stuck; steps 0; ticks 0",
+    },
+    // two texts joined, which costs the units and one
+    Row {
+        listing: "painless 1\nfun 0 loop R - -\ntext \"ab\"\ntext \"c\"\nconcat\nret\nend\n",
+        loops: 100,
+        depth: 100,
+        ticks: 100,
+        room: 4,
+        left: "text abc; steps 4; ticks 0",
+    },
+    // the same with less room
+    Row {
+        listing: "painless 1\nfun 0 loop R - -\ntext \"ab\"\ntext \"c\"\nconcat\nret\nend\n",
+        loops: 100,
+        depth: 100,
+        ticks: 100,
+        room: 3,
+        left: "room; steps 3; ticks 0",
+    },
+    // an int and a long that are equal
+    Row {
+        listing: "painless 1\nfun 0 loop I - -\ni 1\nbox int\nj 1\nbox long\nequal\nret\nend\n",
+        loops: 100,
+        depth: 100,
+        ticks: 100,
+        room: 0,
+        left: "i 1; steps 6; ticks 0",
+    },
+    // texts that are equal
+    Row {
+        listing: "painless 1\nfun 0 loop I - -\ntext \"a\"\ntext \"a\"\nequal\nret\nend\n",
+        loops: 100,
+        depth: 100,
+        ticks: 100,
+        room: 0,
+        left: "i 1; steps 4; ticks 0",
+    },
+    // .. and not one
+    Row {
+        listing: "painless 1\nfun 0 loop I - -\ntext \"a\"\ntext \"a\"\nsame\nret\nend\n",
+        loops: 100,
+        depth: 100,
+        ticks: 100,
+        room: 0,
+        left: "i 0; steps 4; ticks 0",
+    },
+    // null is one
+    Row {
+        listing: "painless 1\nfun 0 loop I - -\nnull\nnull\nsame\nret\nend\n",
+        loops: 100,
+        depth: 100,
+        ticks: 100,
+        room: 0,
+        left: "i 1; steps 4; ticks 0",
+    },
+    // an instance
+    Row {
+        listing: "painless 1\nfun 0 loop I - -\ntext \"a\"\nisa java.lang.CharSequence\nret\nend\n",
+        loops: 100,
+        depth: 100,
+        ticks: 100,
+        room: 0,
+        left: "i 1; steps 3; ticks 0",
+    },
+    // null is no instance
+    Row {
+        listing: "painless 1\nfun 0 loop I - -\nnull\nisa java.lang.Object\nret\nend\n",
+        loops: 100,
+        depth: 100,
+        ticks: 100,
+        room: 0,
+        left: "i 0; steps 3; ticks 0",
+    },
+    // a cast that the value takes, and one that it does not
+    Row {
+        listing: "painless 1\nfun 0 loop R - -\ntext \"a\"\ncast java.lang.Object imp\ncast java.lang.Integer imp\nret\nend\n",
+        loops: 100,
+        depth: 100,
+        ticks: 100,
+        room: 100,
+        left: "thrown; steps 3; ticks 0",
+    },
+    // a jump at null
+    Row {
+        listing: "painless 1\nfun 0 loop I - -\nnull\nifnull 4\ni 1\nret\ni 2\nret\nend\n",
+        loops: 100,
+        depth: 100,
+        ticks: 100,
+        room: 0,
+        left: "i 2; steps 4; ticks 0",
+    },
+    // .. and at another value
+    Row {
+        listing: "painless 1\nfun 0 loop I - -\ntext \"a\"\nifnull 4\ni 1\nret\ni 2\nret\nend\n",
+        loops: 100,
+        depth: 100,
+        ticks: 100,
+        room: 0,
+        left: "i 1; steps 4; ticks 0",
+    },
+    // null is thrown, and caught
+    Row {
+        listing: "painless 1\nfun 0 loop I - -\ntrap 0 2 2 java.lang.NullPointerException\nnull\nthrow\npop\ni 7\nret\nend\n",
+        loops: 100,
+        depth: 100,
+        ticks: 100,
+        room: 1,
+        left: "i 7; steps 5; ticks 0",
+    },
+    // a text is thrown: it is no exception, and the trap is of another class
+    Row {
+        listing: "painless 1\nfun 0 loop I - -\ntrap 0 2 2 java.lang.NullPointerException\ntext \"a\"\nthrow\npop\ni 7\nret\nend\n",
+        loops: 100,
+        depth: 100,
+        ticks: 100,
+        room: 1,
+        left: "thrown; steps 2; ticks 0",
     },
 ];

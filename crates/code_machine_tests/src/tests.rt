@@ -23,6 +23,10 @@ fn value_text(alloc: Global, value: &Value) -> Result<String, AllocError> {
         Value::Char(unit) => format!(in alloc; "char {unit}"),
         Value::Int(number) => format!(in alloc; "int {number}"),
         Value::Long(number) => format!(in alloc; "long {number}"),
+        Value::Str(text) => {
+            let text = text.to_utf8()?;
+            format!(in alloc; "text {text}")
+        }
         _ => String::from_str(alloc, "another value"),
     }
 }

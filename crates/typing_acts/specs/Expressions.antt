@@ -22,6 +22,9 @@ integer at spelling c = with_part c c.parts (literals.integer at spelling)
 abbrev pub negated_integer : ℕ → ℕ → List ℕ → Config → Out Config
 negated_integer minus at spelling c = with_part c c.parts (literals.negated_integer minus at spelling)
 
+abbrev pub text : ℕ → List ℕ → Config → Out Config
+text at spelling c = with_part c c.parts (literals.text at spelling)
+
 abbrev pub constant : ℕ → tree.Constant → Config → Out Config
 constant at of c = with_part c c.parts (literals.constant at of)
 
@@ -36,6 +39,12 @@ unary operator at c = one c.parts (λ x rest. with_part c rest (operators.unary_
 
 abbrev pub choice : ℕ → Config → Out Config
 choice at c = three c.parts (λ z x y rest. with_part c rest (operators.choice_of at z x y))
+
+abbrev pub elvis : ℕ → Config → Out Config
+elvis at c = two c.parts (λ x y rest. with_part c rest (operators.elvis_of at x y))
+
+abbrev pub instance_of : ℕ → TypeName → Config → Out Config
+instance_of at of c = one c.parts (λ x rest. with_part c rest (bind (type_of of) (λ to. operators.instance_of at x to)))
 
 abbrev pub bracketed : ℕ → Config → Out Config
 bracketed at c = one c.parts (λ x rest. Ok (put_part c rest (nodes.bracketed at x)))

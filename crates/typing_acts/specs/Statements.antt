@@ -51,6 +51,9 @@ expression at last c = one c.parts (λ x rest. with_step (record c { parts = res
 abbrev pub return_value : ℕ → Config → Out Config
 return_value at c = one c.parts (λ x rest. with_step (record c { parts = rest }) (rules.return_of at x c.state))
 
+abbrev pub throw : ℕ → Config → Out Config
+throw at c = one c.parts (λ x rest. with_step (record c { parts = rest }) (rules.throw_of at x))
+
 abbrev pub return_nothing : ℕ → Config → Out Config
 return_nothing at c = with_step c (rules.nothing_returned at c.state)
 

@@ -36,6 +36,15 @@ pub fn negated_integer(
     Ok(())
 }
 
+/// A text.
+pub fn text(alloc: Global, config: &mut Config, at: u32, spelling: &Text) -> Result<(), Fail>
+    ensures { KeepsIn (spec.text at spelling.now config.old) result config.new }
+{
+    let x = literals::text(alloc, at, spelling.as_str())?;
+    config.parts.push(x)?;
+    Ok(())
+}
+
 /// A literal that is a keyword.
 pub fn constant(alloc: Global, config: &mut Config, at: u32, constant: Constant) -> Result<(), Fail>
     ensures { KeepsIn (spec.constant at constant config.old) result config.new }
@@ -106,6 +115,34 @@ pub fn choice(alloc: Global, config: &mut Config, at: u32) -> Result<(), Fail>
     };
     let x = operators::choice_of(alloc, at, condition, yes, no)?;
     config.parts.push(x)?;
+    Ok(())
+}
+
+/// `?:`.
+pub fn elvis(alloc: Global, config: &mut Config, at: u32) -> Result<(), Fail>
+    ensures { KeepsIn (spec.elvis at config.old) result config.new }
+{
+    let Some(y) = config.parts.pop() else {
+        return Err(Fail::NoMemory);
+    };
+    let Some(x) = config.parts.pop() else {
+        return Err(Fail::NoMemory);
+    };
+    let z = operators::elvis_of(alloc, at, x, y)?;
+    config.parts.push(z)?;
+    Ok(())
+}
+
+/// `instanceof`.
+pub fn instance_of(alloc: Global, config: &mut Config, at: u32, of: &TypeName) -> Result<(), Fail>
+    ensures { KeepsIn (spec.instance_of at of.now config.old) result config.new }
+{
+    let Some(x) = config.parts.pop() else {
+        return Err(Fail::NoMemory);
+    };
+    let of = types::type_of(of)?;
+    let y = operators::instance_of(alloc, at, x, &of)?;
+    config.parts.push(y)?;
     Ok(())
 }
 

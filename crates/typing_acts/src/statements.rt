@@ -130,6 +130,18 @@ pub fn return_value(alloc: Global, config: &mut Config, at: u32) -> Result<(), F
     Ok(())
 }
 
+/// A `throw`.
+pub fn throw(alloc: Global, config: &mut Config, at: u32) -> Result<(), Fail>
+    ensures { KeepsIn (spec.throw at config.old) result config.new }
+{
+    let Some(x) = config.parts.pop() else {
+        return Err(Fail::NoMemory);
+    };
+    let step = statements::throw_of(alloc, at, x)?;
+    config.steps.push(step)?;
+    Ok(())
+}
+
 /// A `return` without a value.
 pub fn return_nothing(alloc: Global, config: &mut Config, at: u32) -> Result<(), Fail>
     ensures { KeepsIn (spec.return_nothing at config.old) result config.new }

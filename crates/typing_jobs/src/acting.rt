@@ -66,6 +66,22 @@ pub fn negated_integer<'a>(
     Ok(())
 }
 
+/// A text.
+#[tactic(auto, unfolding(typing_tasks::specs::Machine::run))]
+pub fn text<'a>(
+    alloc: Global,
+    _headers: &[Header],
+    config: &mut Config,
+    _tasks: &Tasks<'a>,
+    at: u32,
+    spelling: &Text,
+) -> Result<(), Fail>
+    ensures { Goes (run _headers.now (j.Text at spelling.now ∷ _tasks.now) config.old) result (run _headers.now _tasks.now config.new) }
+{
+    expressions::text(alloc, config, at, spelling)?;
+    Ok(())
+}
+
 /// A name's value.
 #[tactic(auto, unfolding(typing_tasks::specs::Machine::run))]
 pub fn name<'a>(
@@ -111,6 +127,22 @@ pub fn asked<'a>(
     ensures { Goes (run _headers.now (j.Asked at of.now ∷ _tasks.now) config.old) result (run _headers.now _tasks.now config.new) }
 {
     expressions::asked(alloc, config, at, of)?;
+    Ok(())
+}
+
+/// `instanceof`, whose operand is typed.
+#[tactic(auto, unfolding(typing_tasks::specs::Machine::run))]
+pub fn instance_of<'a>(
+    alloc: Global,
+    _headers: &[Header],
+    config: &mut Config,
+    _tasks: &Tasks<'a>,
+    at: u32,
+    of: &TypeName,
+) -> Result<(), Fail>
+    ensures { Goes (run _headers.now (j.InstanceOf at of.now ∷ _tasks.now) config.old) result (run _headers.now _tasks.now config.new) }
+{
+    expressions::instance_of(alloc, config, at, of)?;
     Ok(())
 }
 

@@ -4,7 +4,13 @@
 
 mod acting;
 mod acts;
+mod declarations;
+mod expressions;
+mod loops;
 mod pass;
+mod statements;
+mod unbuilt;
+mod words;
 
 pub use pass::run;
-pub use typing_tasks::{Act, StatementAct, Task, Tasks};
+pub use typing_tasks::{Act, StatementAct, StatementTask, Task, Tasks};

@@ -16,7 +16,9 @@ use std::alloc::AllocError;
 use typing_acts::{Config, bodies};
 use typing_rules::Header;
 use typing_rules::rules::statements::reached;
-use typing_tasks::{StatementAct, Task, Tasks};
+use typing_tasks::{
+    DeclarationTask, ExpressionTask, LoopTask, StatementAct, StatementTask, Task, Tasks, WordTask,
+};
 
 /// Arguments from one on: this one, and then the rest.
 #[tactic(auto, using(typing_tasks::proofs::Goings::arguments_go, typing_tasks::proofs::Goings::arguments_end))]
@@ -33,7 +35,10 @@ pub fn arguments<'a>(
     let Some(one) = all.get(at) else {
         return Ok(());
     };
-    tasks.push_two(Task::Given(one), Task::Arguments(all, at + 1))?;
+    tasks.push_two(
+        Task::Expression(ExpressionTask::Given(one)),
+        Task::Expression(ExpressionTask::Arguments(all, at + 1)),
+    )?;
     Ok(())
 }
 
@@ -50,7 +55,10 @@ pub fn call<'a>(
     ensures { Goes (run _headers.now (j.Call at name.now all.now ∷ tasks.old) config.now) result (run _headers.now tasks.new config.now) }
 {
     let height = config.parts.len();
-    tasks.push_two(Task::Arguments(all, 0), Task::Called(at, name, height))?;
+    tasks.push_two(
+        Task::Expression(ExpressionTask::Arguments(all, 0)),
+        Task::Word(WordTask::Called(at, name, height)),
+    )?;
     Ok(())
 }
 
@@ -66,7 +74,7 @@ pub fn scoped<'a>(
 {
     let height = config.state.scopes.len();
     tasks.push_two(
-        Task::Statement(e, false),
+        Task::Statement(StatementTask::One(e, false)),
         Task::DoStatement(StatementAct::Close(height)),
     )?;
     Ok(())
@@ -85,7 +93,7 @@ pub fn block<'a>(
     let names = config.state.scopes.len();
     let height = config.steps.len();
     tasks.push_three(
-        Task::Statements(&e.statements, 0, false, false),
+        Task::Statement(StatementTask::Statements(&e.statements, 0, false, false)),
         Task::DoStatement(StatementAct::Close(names)),
         Task::DoStatement(StatementAct::Block(e.at, height)),
     )?;
@@ -105,7 +113,7 @@ pub fn looping<'a>(
     let before = config.state.looped;
     bodies::looped(config, true);
     tasks.push_two(
-        Task::Body(e),
+        Task::Statement(StatementTask::Body(e)),
         Task::DoStatement(StatementAct::Looped(before)),
     )?;
     Ok(())
@@ -124,7 +132,7 @@ pub fn loop_block<'a>(
     let before = config.state.looped;
     bodies::looped(config, true);
     tasks.push_two(
-        Task::Block(e),
+        Task::Statement(StatementTask::Block(e)),
         Task::DoStatement(StatementAct::Looped(before)),
     )?;
     Ok(())
@@ -146,7 +154,7 @@ pub fn for_loop<'a>(
 {
     let height = config.state.scopes.len();
     tasks.push_two(
-        Task::ForParts(at, first, condition, update, body),
+        Task::Loop(LoopTask::ForParts(at, first, condition, update, body)),
         Task::DoStatement(StatementAct::Close(height)),
     )?;
     Ok(())
@@ -164,7 +172,7 @@ pub fn deed<'a>(
 {
     let first = first_of(headers, e)?;
     tasks.push_two(
-        Task::Value(e),
+        Task::Expression(ExpressionTask::Value(e)),
         Task::DoStatement(StatementAct::First(first)),
     )?;
     Ok(())
@@ -182,7 +190,7 @@ pub fn update<'a>(
 {
     let first = first_of(headers, e)?;
     tasks.push_two(
-        Task::Value(e),
+        Task::Expression(ExpressionTask::Value(e)),
         Task::DoStatement(StatementAct::Update(first)),
     )?;
     Ok(())
@@ -234,8 +242,8 @@ fn following<'a>(
     let last = is_last(all, at, in_main);
     let place = place_of(headers, one);
     tasks.push_two(
-        Task::Statement(one, last),
-        Task::Reached(all, at, place, in_main, after),
+        Task::Statement(StatementTask::One(one, last)),
+        Task::Statement(StatementTask::Reached(all, at, place, in_main, after)),
     )
 }
 
@@ -280,7 +288,7 @@ pub fn behind<'a>(
     let x = reached(after, place, x)?;
     let escapes = x.escapes;
     config.steps.push(x)?;
-    tasks.push(Task::Statements(all, at, in_main, escapes))?;
+    tasks.push(Task::Statement(StatementTask::Statements(all, at, in_main, escapes)))?;
     Ok(())
 }
 
@@ -296,7 +304,7 @@ pub fn declaration<'a>(
 {
     let height = config.variables.len();
     tasks.push_two(
-        Task::Variables(&e.of, &e.variables, 0),
+        Task::Declaration(DeclarationTask::Variables(&e.of, &e.variables, 0)),
         Task::DoStatement(StatementAct::Declaration(e.of.at, height)),
     )?;
     Ok(())
@@ -316,10 +324,13 @@ pub fn variables<'a>(
 {
     let _count = all.len();
     let Some(one) = all.get(at) else {
-        tasks.push(Task::TypeOf(of))?;
+        tasks.push(Task::Word(WordTask::TypeOf(of)))?;
         return Ok(());
     };
-    tasks.push_two(Task::Variable(of, one), Task::Variables(of, all, at + 1))?;
+    tasks.push_two(
+        Task::Declaration(DeclarationTask::Variable(of, one)),
+        Task::Declaration(DeclarationTask::Variables(of, all, at + 1)),
+    )?;
     Ok(())
 }
 
@@ -332,8 +343,8 @@ pub fn variable<'a>(
     ensures { OnOk result (tasks.new ≡ spec.variable_plan of.now e.now ++ tasks.old) }
 {
     tasks.push_three(
-        Task::TypeOf(of),
-        Task::Initial(of, &e.value),
-        Task::Declare(&e.name, of),
+        Task::Word(WordTask::TypeOf(of)),
+        Task::Declaration(DeclarationTask::Initial(of, &e.value)),
+        Task::Declaration(DeclarationTask::Declare(&e.name, of)),
     )
 }

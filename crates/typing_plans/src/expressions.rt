@@ -9,7 +9,7 @@ ghost use Rattle.typing_tasks.specs.Plans as spec;
 use pl_tree::{Argument, Expr, LambdaBody, UnaryOperator};
 use std::alloc::AllocError;
 use typed_tree::Gives;
-use typing_tasks::{Act, Task, Tasks};
+use typing_tasks::{Act, ExpressionTask, StatementTask, Task, Tasks, UnbuiltTask, WordTask};
 
 /// Puts on what is to be done for an operator before its operand.
 fn unary<'a>(
@@ -21,8 +21,11 @@ fn unary<'a>(
     ensures { OnOk result (tasks.new ≡ spec.unary_plan operator at operand.now ++ tasks.old) }
 {
     match operator {
-        UnaryOperator::Minus => tasks.push(Task::Negated(operand, at)),
-        _ => tasks.push_two(Task::Value(operand), Task::Do(Act::Unary(at, operator))),
+        UnaryOperator::Minus => tasks.push(Task::Expression(ExpressionTask::Negated(operand, at))),
+        _ => tasks.push_two(
+            Task::Expression(ExpressionTask::Value(operand)),
+            Task::Do(Act::Unary(at, operator)),
+        ),
     }
 }
 
@@ -37,8 +40,8 @@ pub fn value<'a>(tasks: &mut Tasks<'a>, e: &'a Expr) -> Result<(), AllocError>
             target,
             value,
         } => tasks.push_three(
-            Task::Target(target.get()),
-            Task::Value(value.get()),
+            Task::Expression(ExpressionTask::Target(target.get())),
+            Task::Expression(ExpressionTask::Value(value.get())),
             Task::Do(Act::Assign(*at, *operator)),
         ),
         Expr::Conditional {
@@ -47,15 +50,15 @@ pub fn value<'a>(tasks: &mut Tasks<'a>, e: &'a Expr) -> Result<(), AllocError>
             yes,
             no,
         } => tasks.push_four(
-            Task::Value(condition.get()),
-            Task::Value(yes.get()),
-            Task::Value(no.get()),
+            Task::Expression(ExpressionTask::Value(condition.get())),
+            Task::Expression(ExpressionTask::Value(yes.get())),
+            Task::Expression(ExpressionTask::Value(no.get())),
             Task::Do(Act::Choice(*at)),
         ),
         Expr::Elvis { at, left, right } => tasks.push_three(
-            Task::Value(left.get()),
-            Task::Value(right.get()),
-            Task::Do(Act::Unbuilt(*at)),
+            Task::Expression(ExpressionTask::Value(left.get())),
+            Task::Expression(ExpressionTask::Value(right.get())),
+            Task::Do(Act::Elvis(*at)),
         ),
         Expr::Binary {
             operator,
@@ -63,14 +66,13 @@ pub fn value<'a>(tasks: &mut Tasks<'a>, e: &'a Expr) -> Result<(), AllocError>
             left,
             right,
         } => tasks.push_three(
-            Task::Value(left.get()),
-            Task::Value(right.get()),
+            Task::Expression(ExpressionTask::Value(left.get())),
+            Task::Expression(ExpressionTask::Value(right.get())),
             Task::Do(Act::Binary(*at, *operator)),
         ),
-        Expr::Instanceof { at, operand, of } => tasks.push_three(
-            Task::Value(operand.get()),
-            Task::TypeOf(of),
-            Task::Do(Act::Unbuilt(*at)),
+        Expr::Instanceof { at, operand, of } => tasks.push_two(
+            Task::Expression(ExpressionTask::Value(operand.get())),
+            Task::Word(WordTask::InstanceOf(*at, of)),
         ),
         Expr::Unary {
             operator,
@@ -78,49 +80,66 @@ pub fn value<'a>(tasks: &mut Tasks<'a>, e: &'a Expr) -> Result<(), AllocError>
             operand,
         } => unary(tasks, *operator, *at, operand.get()),
         Expr::Prefix { step, at, target } => tasks.push_two(
-            Task::Target(target.get()),
+            Task::Expression(ExpressionTask::Target(target.get())),
             Task::Do(Act::Step(*at, *step, Gives::New)),
         ),
         Expr::Postfix { step, at, target } => tasks.push_two(
-            Task::Target(target.get()),
+            Task::Expression(ExpressionTask::Target(target.get())),
             Task::Do(Act::Step(*at, *step, Gives::Old)),
         ),
         Expr::Cast { at, of, operand } => tasks.push_three(
-            Task::TypeOf(of),
-            Task::Value(operand.get()),
-            Task::Asked(*at, of),
+            Task::Word(WordTask::TypeOf(of)),
+            Task::Expression(ExpressionTask::Value(operand.get())),
+            Task::Word(WordTask::Asked(*at, of)),
         ),
         Expr::Bracketed { at, inner } => {
-            tasks.push_two(Task::Value(inner.get()), Task::Do(Act::Bracketed(*at)))
+            tasks.push_two(
+                Task::Expression(ExpressionTask::Value(inner.get())),
+                Task::Do(Act::Bracketed(*at)),
+            )
         },
-        Expr::Integer { at, spelling } => tasks.push(Task::Integer(*at, spelling)),
-        Expr::Text { at, spelling: _ } => tasks.push(Task::Do(Act::Unbuilt(*at))),
+        Expr::Integer { at, spelling } => tasks.push(Task::Word(WordTask::Integer(*at, spelling))),
+        Expr::Text { at, spelling } => tasks.push(Task::Word(WordTask::Text(*at, spelling))),
         Expr::Constant { constant, at } => tasks.push(Task::Do(Act::Constant(*at, *constant))),
-        Expr::List { at, items } => tasks.push(Task::UnbuiltValues(items, 0, *at)),
-        Expr::Map { at, entries } => tasks.push(Task::UnbuiltEntries(entries, 0, *at)),
-        Expr::Name { at, spelling } => tasks.push(Task::Name(*at, spelling)),
+        Expr::List { at, items } => tasks.push(Task::Unbuilt(UnbuiltTask::Values(items, 0, *at))),
+        Expr::Map { at, entries } => tasks.push(Task::Unbuilt(UnbuiltTask::Entries(
+            entries, 0, *at,
+        ))),
+        Expr::Name { at, spelling } => tasks.push(Task::Word(WordTask::Name(*at, spelling))),
         Expr::Call {
             at,
             spelling,
             arguments,
-        } => tasks.push(Task::Call(*at, spelling, arguments)),
+        } => tasks.push(Task::Expression(ExpressionTask::Call(*at, spelling, arguments))),
         Expr::New { at, of, arguments } => tasks.push_two(
-            Task::TypeOf(of),
-            Task::UnbuiltArguments(arguments, 0, *at),
+            Task::Word(WordTask::TypeOf(of)),
+            Task::Unbuilt(UnbuiltTask::Arguments(arguments, 0, *at)),
         ),
         Expr::NewArray { at, of, sizes } => {
-            tasks.push_two(Task::TypeOf(of), Task::UnbuiltValues(sizes, 0, *at))
+            tasks.push_two(
+                Task::Word(WordTask::TypeOf(of)),
+                Task::Unbuilt(UnbuiltTask::Values(sizes, 0, *at)),
+            )
         },
         Expr::NewItems { at, of, items } => {
-            tasks.push_two(Task::TypeOf(of), Task::UnbuiltValues(items, 0, *at))
+            tasks.push_two(
+                Task::Word(WordTask::TypeOf(of)),
+                Task::Unbuilt(UnbuiltTask::Values(items, 0, *at)),
+            )
         },
-        Expr::Type { of } => tasks.push_two(Task::TypeOf(of), Task::Do(Act::Unbuilt(of.at))),
+        Expr::Type { of } => tasks.push_two(
+            Task::Word(WordTask::TypeOf(of)),
+            Task::Do(Act::Unbuilt(of.at)),
+        ),
         Expr::Member {
             access: _,
             at,
             receiver,
             spelling: _,
-        } => tasks.push_two(Task::Value(receiver.get()), Task::Do(Act::Unbuilt(*at))),
+        } => tasks.push_two(
+            Task::Expression(ExpressionTask::Value(receiver.get())),
+            Task::Do(Act::Unbuilt(*at)),
+        ),
         Expr::Method {
             access: _,
             at,
@@ -128,22 +147,25 @@ pub fn value<'a>(tasks: &mut Tasks<'a>, e: &'a Expr) -> Result<(), AllocError>
             spelling: _,
             arguments,
         } => tasks.push_two(
-            Task::Value(receiver.get()),
-            Task::UnbuiltArguments(arguments, 0, *at),
+            Task::Expression(ExpressionTask::Value(receiver.get())),
+            Task::Unbuilt(UnbuiltTask::Arguments(arguments, 0, *at)),
         ),
         Expr::Element {
             access: _,
             at,
             receiver,
             spelling: _,
-        } => tasks.push_two(Task::Value(receiver.get()), Task::Do(Act::Unbuilt(*at))),
+        } => tasks.push_two(
+            Task::Expression(ExpressionTask::Value(receiver.get())),
+            Task::Do(Act::Unbuilt(*at)),
+        ),
         Expr::Index {
             at,
             receiver,
             index,
         } => tasks.push_three(
-            Task::Value(receiver.get()),
-            Task::Value(index.get()),
+            Task::Expression(ExpressionTask::Value(receiver.get())),
+            Task::Expression(ExpressionTask::Value(index.get())),
             Task::Do(Act::Unbuilt(*at)),
         ),
     }
@@ -154,9 +176,11 @@ pub fn negated<'a>(tasks: &mut Tasks<'a>, e: &'a Expr, minus: u32) -> Result<(),
     ensures { OnOk result (tasks.new ≡ spec.negated_plan minus e.now (out-Expr e.now) ++ tasks.old) }
 {
     match e {
-        Expr::Integer { at, spelling } => tasks.push(Task::NegatedInteger(minus, *at, spelling)),
+        Expr::Integer { at, spelling } => tasks.push(Task::Word(WordTask::NegatedInteger(
+            minus, *at, spelling,
+        ))),
         _ => tasks.push_two(
-            Task::Value(e),
+            Task::Expression(ExpressionTask::Value(e)),
             Task::Do(Act::Unary(minus, UnaryOperator::Minus)),
         ),
     }
@@ -167,8 +191,11 @@ pub fn target<'a>(tasks: &mut Tasks<'a>, e: &'a Expr) -> Result<(), AllocError>
     ensures { OnOk result (tasks.new ≡ spec.target_plan e.now (out-Expr e.now) ++ tasks.old) }
 {
     match e {
-        Expr::Name { at, spelling } => tasks.push(Task::Written(*at, spelling)),
-        _ => tasks.push_two(Task::Value(e), Task::Do(Act::Fixed)),
+        Expr::Name { at, spelling } => tasks.push(Task::Word(WordTask::Written(*at, spelling))),
+        _ => tasks.push_two(
+            Task::Expression(ExpressionTask::Value(e)),
+            Task::Do(Act::Fixed),
+        ),
     }
 }
 
@@ -177,21 +204,27 @@ pub fn argument<'a>(tasks: &mut Tasks<'a>, e: &'a Argument) -> Result<(), AllocE
     ensures { OnOk result (tasks.new ≡ spec.argument_plan (out-Argument e.now) ++ tasks.old) }
 {
     match e {
-        Argument::Value(value) => tasks.push(Task::Value(value.get())),
+        Argument::Value(value) => tasks.push(Task::Expression(ExpressionTask::Value(value.get()))),
         Argument::Lambda {
             at,
             parameters,
             body,
         } => tasks.push_three(
             Task::Do(Act::Enter),
-            Task::Parameters(parameters, 0),
-            Task::UnbuiltInner(body, *at),
+            Task::Unbuilt(UnbuiltTask::Parameters(parameters, 0)),
+            Task::Unbuilt(UnbuiltTask::Inner(body, *at)),
         ),
         Argument::Reference { of, spelling: _ } => {
-            tasks.push_two(Task::TypeOf(of), Task::Do(Act::Unbuilt(of.at)))
+            tasks.push_two(
+                Task::Word(WordTask::TypeOf(of)),
+                Task::Do(Act::Unbuilt(of.at)),
+            )
         },
         Argument::NewReference { of } => {
-            tasks.push_two(Task::TypeOf(of), Task::Do(Act::Unbuilt(of.at)))
+            tasks.push_two(
+                Task::Word(WordTask::TypeOf(of)),
+                Task::Do(Act::Unbuilt(of.at)),
+            )
         },
         Argument::ThisReference { at, spelling: _ } => tasks.push(Task::Do(Act::Unbuilt(*at))),
     }
@@ -203,11 +236,14 @@ pub fn inner<'a>(tasks: &mut Tasks<'a>, e: &'a LambdaBody, at: u32) -> Result<()
 {
     match e {
         LambdaBody::Block(block) => tasks.push_two(
-            Task::Statements(&block.statements, 0, false, false),
+            Task::Statement(StatementTask::Statements(&block.statements, 0, false, false)),
             Task::Do(Act::Unbuilt(at)),
         ),
         LambdaBody::Expression(value) => {
-            tasks.push_two(Task::Value(value.get()), Task::Do(Act::Unbuilt(at)))
+            tasks.push_two(
+                Task::Expression(ExpressionTask::Value(value.get())),
+                Task::Do(Act::Unbuilt(at)),
+            )
         },
     }
 }

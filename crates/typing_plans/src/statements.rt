@@ -10,7 +10,10 @@ ghost use Rattle.typing_tasks.specs.Plans as spec;
 use pl_tree::{Argument, Body, Expr, First, Statement, TypeName};
 use plain_data::Subtree;
 use std::alloc::AllocError;
-use typing_tasks::{Act, StatementAct, Task, Tasks};
+use typing_tasks::{
+    Act, DeclarationTask, ExpressionTask, LoopTask, StatementAct, StatementTask, Task, Tasks,
+    UnbuiltTask, WordTask,
+};
 
 fn has_body(e: &Option<Body>) -> bool
     ensures { result ≡ is_there e.now }
@@ -41,20 +44,20 @@ pub fn statement<'a>(tasks: &mut Tasks<'a>, e: &'a Statement, last: bool) -> Res
             then,
             otherwise,
         } => tasks.push_four(
-            Task::Value(condition.get()),
+            Task::Expression(ExpressionTask::Value(condition.get())),
             Task::DoStatement(StatementAct::Test),
-            Task::Body(then),
-            Task::Otherwise(*at, otherwise),
+            Task::Statement(StatementTask::Body(then)),
+            Task::Statement(StatementTask::Otherwise(*at, otherwise)),
         ),
         Statement::While {
             at,
             condition,
             body,
         } => tasks.push_five(
-            Task::Value(condition.get()),
+            Task::Expression(ExpressionTask::Value(condition.get())),
             Task::DoStatement(StatementAct::LoopTest),
             Task::DoStatement(StatementAct::NoTest),
-            Task::LoopBody(body),
+            Task::Loop(LoopTask::Body(body)),
             Task::DoStatement(StatementAct::Loop(*at, false, has_body(body))),
         ),
         Statement::For {
@@ -63,7 +66,7 @@ pub fn statement<'a>(tasks: &mut Tasks<'a>, e: &'a Statement, last: bool) -> Res
             condition,
             update,
             body,
-        } => tasks.push(Task::For(*at, first, condition, update, body)),
+        } => tasks.push(Task::Loop(LoopTask::For(*at, first, condition, update, body))),
         Statement::ForEach {
             at,
             of,
@@ -71,10 +74,10 @@ pub fn statement<'a>(tasks: &mut Tasks<'a>, e: &'a Statement, last: bool) -> Res
             over,
             body,
         } => tasks.push_five(
-            Task::TypeOf(of),
-            Task::Value(over.get()),
-            Task::Noted(&name.spelling, of),
-            Task::Looping(body),
+            Task::Word(WordTask::TypeOf(of)),
+            Task::Expression(ExpressionTask::Value(over.get())),
+            Task::Unbuilt(UnbuiltTask::Noted(&name.spelling, of)),
+            Task::Loop(LoopTask::Looping(body)),
             Task::Do(Act::Unbuilt(*at)),
         ),
         Statement::ForIn {
@@ -83,33 +86,43 @@ pub fn statement<'a>(tasks: &mut Tasks<'a>, e: &'a Statement, last: bool) -> Res
             over,
             body,
         } => tasks.push_four(
-            Task::Value(over.get()),
-            Task::NotedDef(&name.spelling),
-            Task::Looping(body),
+            Task::Expression(ExpressionTask::Value(over.get())),
+            Task::Unbuilt(UnbuiltTask::NotedDef(&name.spelling)),
+            Task::Loop(LoopTask::Looping(body)),
             Task::Do(Act::Unbuilt(*at)),
         ),
         Statement::Try { at, block, catches } => {
-            tasks.push_two(Task::Block(block), Task::UnbuiltCatches(catches, 0, *at))
+            tasks.push_two(
+                Task::Statement(StatementTask::Block(block)),
+                Task::Unbuilt(UnbuiltTask::Catches(catches, 0, *at)),
+            )
         },
         Statement::Do {
             at,
             block,
             condition,
         } => tasks.push_four(
-            Task::LoopBlock(block),
-            Task::Value(condition.get()),
+            Task::Loop(LoopTask::Block(block)),
+            Task::Expression(ExpressionTask::Value(condition.get())),
             Task::DoStatement(StatementAct::LoopTest),
             Task::DoStatement(StatementAct::DoLoop(*at)),
         ),
-        Statement::Declare(declaration) => tasks.push(Task::Declaration(declaration)),
+        Statement::Declare(declaration) => tasks.push(Task::Declaration(DeclarationTask::Whole(
+            declaration,
+        ))),
         Statement::Continue { at } => tasks.push(Task::DoStatement(StatementAct::Continue(*at))),
         Statement::Break { at } => tasks.push(Task::DoStatement(StatementAct::Break(*at))),
-        Statement::Return { at, value } => tasks.push(Task::Returned(*at, value)),
+        Statement::Return { at, value } => tasks.push(Task::Statement(StatementTask::Returned(
+            *at, value,
+        ))),
         Statement::Throw { at, value } => {
-            tasks.push_two(Task::Value(value.get()), Task::Do(Act::Unbuilt(*at)))
+            tasks.push_two(
+                Task::Expression(ExpressionTask::Value(value.get())),
+                Task::DoStatement(StatementAct::Throw(*at)),
+            )
         },
         Statement::Expression { at, value } => tasks.push_two(
-            Task::Value(value.get()),
+            Task::Expression(ExpressionTask::Value(value.get())),
             Task::DoStatement(StatementAct::Expression(*at, last)),
         ),
     }
@@ -120,8 +133,10 @@ pub fn body<'a>(tasks: &mut Tasks<'a>, e: &'a Body) -> Result<(), AllocError>
     ensures { OnOk result (tasks.new ≡ spec.body_plan (out-Body e.now) ++ tasks.old) }
 {
     match e {
-        Body::Block(block) => tasks.push(Task::Block(block)),
-        Body::Statement(statement) => tasks.push(Task::Scoped(statement.get())),
+        Body::Block(block) => tasks.push(Task::Statement(StatementTask::Block(block))),
+        Body::Statement(statement) => tasks.push(Task::Statement(StatementTask::Scoped(
+            statement.get(),
+        ))),
     }
 }
 
@@ -130,8 +145,10 @@ pub fn first<'a>(tasks: &mut Tasks<'a>, e: &'a First) -> Result<(), AllocError>
     ensures { OnOk result (tasks.new ≡ spec.first_plan (out-First e.now) ++ tasks.old) }
 {
     match e {
-        First::Declare(declaration) => tasks.push(Task::Declaration(declaration)),
-        First::Expression(value) => tasks.push(Task::Deed(value.get())),
+        First::Declare(declaration) => tasks.push(Task::Declaration(DeclarationTask::Whole(
+            declaration,
+        ))),
+        First::Expression(value) => tasks.push(Task::Loop(LoopTask::Deed(value.get()))),
     }
 }
 
@@ -141,7 +158,7 @@ pub fn loop_body<'a>(tasks: &mut Tasks<'a>, e: &'a Option<Body>) -> Result<(), A
 {
     match e {
         None => Ok(()),
-        Some(e) => tasks.push(Task::Looping(e)),
+        Some(e) => tasks.push(Task::Loop(LoopTask::Looping(e))),
     }
 }
 
@@ -151,7 +168,7 @@ pub fn first_if<'a>(tasks: &mut Tasks<'a>, e: &'a Option<First>) -> Result<(), A
 {
     match e {
         None => Ok(()),
-        Some(e) => tasks.push(Task::First(e)),
+        Some(e) => tasks.push(Task::Loop(LoopTask::First(e))),
     }
 }
 
@@ -162,7 +179,7 @@ pub fn condition<'a>(tasks: &mut Tasks<'a>, e: &'a Option<Subtree<Expr>>) -> Res
     match e {
         None => tasks.push(Task::DoStatement(StatementAct::NoTest)),
         Some(e) => tasks.push_two(
-            Task::Value(e.get()),
+            Task::Expression(ExpressionTask::Value(e.get())),
             Task::DoStatement(StatementAct::LoopTest),
         ),
     }
@@ -174,7 +191,7 @@ pub fn update_if<'a>(tasks: &mut Tasks<'a>, e: &'a Option<Subtree<Expr>>) -> Res
 {
     match e {
         None => tasks.push(Task::DoStatement(StatementAct::NoTest)),
-        Some(e) => tasks.push(Task::Update(e.get())),
+        Some(e) => tasks.push(Task::Loop(LoopTask::Update(e.get()))),
     }
 }
 
@@ -184,7 +201,10 @@ pub fn otherwise<'a>(tasks: &mut Tasks<'a>, at: u32, e: &'a Option<Body>) -> Res
 {
     match e {
         None => tasks.push(Task::DoStatement(StatementAct::IfAlone(at))),
-        Some(e) => tasks.push_two(Task::Body(e), Task::DoStatement(StatementAct::IfElse(at))),
+        Some(e) => tasks.push_two(
+            Task::Statement(StatementTask::Body(e)),
+            Task::DoStatement(StatementAct::IfElse(at)),
+        ),
     }
 }
 
@@ -199,7 +219,7 @@ pub fn returned<'a>(
     match e {
         None => tasks.push(Task::DoStatement(StatementAct::ReturnNothing(at))),
         Some(e) => tasks.push_two(
-            Task::Given(e),
+            Task::Expression(ExpressionTask::Given(e)),
             Task::DoStatement(StatementAct::ReturnValue(at)),
         ),
     }
@@ -215,7 +235,10 @@ pub fn initial<'a>(
 {
     match e {
         None => tasks.push(Task::DoStatement(StatementAct::NoTest)),
-        Some(e) => tasks.push_two(Task::Given(e), Task::CastInitial(of)),
+        Some(e) => tasks.push_two(
+            Task::Expression(ExpressionTask::Given(e)),
+            Task::Declaration(DeclarationTask::CastInitial(of)),
+        ),
     }
 }
 
@@ -231,10 +254,10 @@ pub fn for_parts<'a>(
     ensures { OnOk result (tasks.new ≡ spec.for_plan at first.now condition.now update.now body.now ++ tasks.old) }
 {
     tasks.push_five(
-        Task::FirstIf(first),
-        Task::Condition(condition),
-        Task::UpdateIf(update),
-        Task::LoopBody(body),
+        Task::Loop(LoopTask::FirstIf(first)),
+        Task::Loop(LoopTask::Condition(condition)),
+        Task::Loop(LoopTask::UpdateIf(update)),
+        Task::Loop(LoopTask::Body(body)),
         Task::DoStatement(StatementAct::Loop(at, has_first(first), has_body(body))),
     )
 }

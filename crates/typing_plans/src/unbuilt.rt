@@ -12,7 +12,7 @@ use plain_data::{Items, Subtree};
 use std::alloc::AllocError;
 use typing_acts::Config;
 use typing_rules::Header;
-use typing_tasks::{Act, StatementAct, Task, Tasks};
+use typing_tasks::{Act, ExpressionTask, StatementAct, StatementTask, Task, Tasks, UnbuiltTask};
 
 /// Expressions from one on.
 #[tactic(auto, using(typing_tasks::proofs::Goings::values_go, typing_tasks::proofs::Goings::values_end))]
@@ -31,7 +31,10 @@ pub fn values<'a>(
         tasks.push(Task::Do(Act::Unbuilt(at)))?;
         return Ok(());
     };
-    tasks.push_two(Task::Value(one.get()), Task::UnbuiltValues(all, i + 1, at))?;
+    tasks.push_two(
+        Task::Expression(ExpressionTask::Value(one.get())),
+        Task::Unbuilt(UnbuiltTask::Values(all, i + 1, at)),
+    )?;
     Ok(())
 }
 
@@ -52,7 +55,10 @@ pub fn arguments<'a>(
         tasks.push(Task::Do(Act::Unbuilt(at)))?;
         return Ok(());
     };
-    tasks.push_two(Task::Given(one), Task::UnbuiltArguments(all, i + 1, at))?;
+    tasks.push_two(
+        Task::Expression(ExpressionTask::Given(one)),
+        Task::Unbuilt(UnbuiltTask::Arguments(all, i + 1, at)),
+    )?;
     Ok(())
 }
 
@@ -74,9 +80,9 @@ pub fn entries<'a>(
         return Ok(());
     };
     tasks.push_three(
-        Task::Value(one.key.get()),
-        Task::Value(one.value.get()),
-        Task::UnbuiltEntries(all, i + 1, at),
+        Task::Expression(ExpressionTask::Value(one.key.get())),
+        Task::Expression(ExpressionTask::Value(one.value.get())),
+        Task::Unbuilt(UnbuiltTask::Entries(all, i + 1, at)),
     )?;
     Ok(())
 }
@@ -98,7 +104,10 @@ pub fn catches<'a>(
         tasks.push(Task::Do(Act::Unbuilt(at)))?;
         return Ok(());
     };
-    tasks.push_two(Task::Catch(one), Task::UnbuiltCatches(all, i + 1, at))?;
+    tasks.push_two(
+        Task::Unbuilt(UnbuiltTask::Catch(one)),
+        Task::Unbuilt(UnbuiltTask::Catches(all, i + 1, at)),
+    )?;
     Ok(())
 }
 
@@ -114,8 +123,8 @@ pub fn catch<'a>(
 {
     let height = config.state.scopes.len();
     tasks.push_three(
-        Task::Noted(&e.name.spelling, &e.of),
-        Task::Statements(&e.block.statements, 0, false, false),
+        Task::Unbuilt(UnbuiltTask::Noted(&e.name.spelling, &e.of)),
+        Task::Statement(StatementTask::Statements(&e.block.statements, 0, false, false)),
         Task::DoStatement(StatementAct::Close(height)),
     )?;
     Ok(())
@@ -126,8 +135,8 @@ fn parameter<'a>(tasks: &mut Tasks<'a>, e: &'a Parameter) -> Result<(), AllocErr
     ensures { OnOk result (tasks.new ≡ spec.parameter_plan e.now.name.spelling e.now.of ++ tasks.old) }
 {
     match &e.of {
-        None => tasks.push(Task::NotedDef(&e.name.spelling)),
-        Some(of) => tasks.push(Task::Noted(&e.name.spelling, of)),
+        None => tasks.push(Task::Unbuilt(UnbuiltTask::NotedDef(&e.name.spelling))),
+        Some(of) => tasks.push(Task::Unbuilt(UnbuiltTask::Noted(&e.name.spelling, of))),
     }
 }
 
@@ -146,7 +155,7 @@ pub fn parameters<'a>(
     let Some(one) = all.get(at) else {
         return Ok(());
     };
-    tasks.push(Task::Parameters(all, at + 1))?;
+    tasks.push(Task::Unbuilt(UnbuiltTask::Parameters(all, at + 1)))?;
     parameter(tasks, one)?;
     Ok(())
 }

@@ -1,6 +1,5 @@
 -- Parts that were put on a stack are those above its height.
-use Rattle.std.proofs.Common.{◌≡◌, ℕ, zero, suc, ◌+◌, ◌-◌, List, [], ◌∷◌, ◌++◌, length, append_assoc, append-nil, Option, Some, None, refl, sym, ap, ◌∙◌, arith}
-use Rattle.std.proofs.lemmas.Grind.{common_steps}
+use Rattle.std.proofs.Common.{◌≡◌, ℕ, suc, ◌+◌, ◌-◌, List, [], ◌∷◌, ◌++◌, length, append-nil, Some, ap, ◌∙◌, arith}
 use Rattle.typing_rules.specs.Outcomes.{Out}
 use Rattle.typing_acts.specs.Piles.{gathered, some_gathered, above}
 use Rattle.typing_tasks.specs.Machine.{piled}

@@ -1,45 +1,17 @@
 -- The first token of an expression.
-use Rattle.std.proofs.Common.{◌≡◌, ℕ, Bool, true, false, List, [], ◌∷◌, ◌++◌, length, map, Option, Some, None, Ok, Err, refl, sym, ap, subst, ◌∙◌}
+use Rattle.std.proofs.Common.{◌≡◌, ℕ, List, Option, Some, None, sym, ap, ◌∙◌}
 use Rattle.pl_types.specs.declared.ty.Ty.{Ty}
 use Rattle.pl_tree.specs.declared.operator.UnaryOperator.TheVariants as sign
-use Rattle.pl_tree.specs.declared.tree.Argument.{Argument, out-Argument, roll-Argument, roll-out-Argument}
-use Rattle.pl_tree.specs.declared.tree.Body.{Body, out-Body, roll-Body, roll-out-Body}
 use Rattle.pl_tree.specs.declared.tree.Expr.{Expr, out-Expr, roll-Expr, roll-out-Expr}
-use Rattle.pl_tree.specs.declared.tree.First.{First, out-First, roll-First, roll-out-First}
-use Rattle.pl_tree.specs.declared.tree.LambdaBody.{LambdaBody, out-LambdaBody, roll-LambdaBody, roll-out-LambdaBody}
-use Rattle.pl_tree.specs.declared.tree.Statement.{Statement, out-Statement, roll-Statement, roll-out-Statement}
-use Rattle.pl_tree.specs.declared.tree.TypeName.{TypeName}
-use Rattle.pl_tree.specs.declared.tree.Argument.TheOpen.{Argument-F, Body-F, Expr-F, First-F, LambdaBody-F, Statement-F}
-use Rattle.pl_tree.specs.declared.tree.Argument.TheFolds.{fold-roll-Expr, fold-roll-Argument, fold-roll-LambdaBody, fold-roll-Statement, fold-roll-Body, fold-roll-First, fold_out-Block}
-use Rattle.typed_tree.specs.declared.operation.Gives.TheVariants as g
+use Rattle.pl_tree.specs.declared.tree.Argument.TheOpen.{Expr-F}
+use Rattle.pl_tree.specs.declared.tree.Argument.TheFolds.{fold-roll-Expr}
 use Rattle.typed_tree.specs.declared.statement.TypedVariable.{TypedVariable}
-use Rattle.typed_tree.specs.declared.typed.Typed.{Typed}
 use Rattle.typing_rules.specs.declared.header.Header.{Header}
 use Rattle.typing_rules.specs.declared.part.Part.{Part}
-use Rattle.typing_rules.specs.declared.part.Place.{Place}
-use Rattle.typing_rules.specs.declared.part.Place.TheVariants as place
 use Rattle.typing_rules.specs.declared.part.Step.{Step}
-use Rattle.typing_rules.specs.declared.state.State.{State}
-use Rattle.typing_rules.specs.Doing.{Doing, Answer, and_then, ◌>>=◌, ◌>>◌, pure, by_rule}
-use Rattle.typing_rules.specs.Outcomes.{Out, bind}
-use Rattle.typing_rules.specs.State.{noted}
-use Rattle.typing_rules.specs.Rules.Types.{type_of}
-use Rattle.typing_rules.specs.Rules.Literals as literals
-use Rattle.typing_rules.specs.Rules.Casts as casts
-use Rattle.typing_rules.specs.Rules.Operators as operators
-use Rattle.typing_rules.specs.Rules.Places as places
-use Rattle.typing_rules.specs.Rules.Statements as rules
-use Rattle.typing_rules.specs.Typing.{Reading, Doer, Braces, Seen, reading, argument, body, doer, braces, argument_step, body_step, expression_step, first_step, lambda_step, statement_step, block_step, catch_step, declaration_step, entry_step, variable_step, scoped, looping}
-use Rattle.typing_acts.specs.declared.config.Config.{Config}
-use Rattle.typing_acts.specs.Expressions as expressions
-use Rattle.typing_tasks.specs.declared.task.Act.TheVariants as a
-use Rattle.typing_tasks.specs.declared.task.StatementAct.TheVariants as sa
-use Rattle.typing_tasks.specs.Going.{is_there}
-use Rattle.typing_tasks.specs.Job as j
-use Rattle.typing_tasks.specs.Job.{Job}
-use Rattle.typing_tasks.specs.Machine.{run, part_to, place_to, step_to, steps_to, refused_at}
-use Rattle.typing_tasks.specs.Plans.{Open, value_plan, negated_plan, target_plan, argument_plan, inner_plan, statement_plan, body_plan, first_plan, left_of, place_of, loop_body_plan, first_if_plan, condition_plan, update_if_plan, otherwise_plan, returned_plan, initial_plan, for_plan}
-use Rattle.typing_tasks.proofs.Behind.{behind, behind_with, behind_two, again}
+use Rattle.typing_rules.specs.Doing.{Doing}
+use Rattle.typing_rules.specs.Typing.{Reading, Doer, Braces, Seen, reading, argument_step, body_step, expression_step, first_step, lambda_step, statement_step, block_step, catch_step, declaration_step, entry_step, variable_step}
+use Rattle.typing_tasks.specs.Plans.{Open, left_of, place_of}
 
 -- what it is by that of its left end, or by its own place
 abbrev pub first_from : List Header → Option Expr → ℕ → ℕ

@@ -1,7 +1,6 @@
 -- What goes on by what is known comes to the same.
-use Rattle.std.proofs.Common.{◌≡◌, ℕ, zero, suc, ◌+◌, ◌&&◌, add-one, Bool, true, false, List, [], ◌∷◌, ◌++◌, length, drop, map, slice_get, Option, Some, None, Ok, Err, refl, sym, ap, ◌∙◌, arith}
+use Rattle.std.proofs.Common.{◌≡◌, ℕ, zero, suc, ◌+◌, ◌&&◌, add-one, Bool, true, false, List, [], ◌∷◌, ◌++◌, length, drop, map, slice_get, Option, Some, None, Ok, refl, sym, ap, ◌∙◌}
 use Rattle.pl_types.specs.declared.ty.Ty.{Ty}
-use Rattle.pl_types.specs.declared.ty.Ty.TheVariants as ty
 use Rattle.pl_tree.specs.declared.tree.Argument.{Argument}
 use Rattle.pl_tree.specs.declared.tree.Block.{Block, out-Block}
 use Rattle.pl_tree.specs.declared.tree.Body.{Body}
@@ -20,9 +19,8 @@ use Rattle.typed_tree.specs.declared.statement.TypedVariable.{TypedVariable}
 use Rattle.typing_rules.specs.declared.header.Header.{Header}
 use Rattle.typing_rules.specs.declared.part.Part.{Part}
 use Rattle.typing_rules.specs.declared.part.Step.{Step}
-use Rattle.typing_rules.specs.declared.state.State.{State}
-use Rattle.typing_rules.specs.Doing.{Doing, Answer, and_then}
-use Rattle.typing_rules.specs.Outcomes.{Out, bind}
+use Rattle.typing_rules.specs.Doing.{Doing, and_then}
+use Rattle.typing_rules.specs.Outcomes.{bind}
 use Rattle.typing_rules.specs.State.{closed, noted}
 use Rattle.typing_rules.specs.Rules.Types.{type_of}
 use Rattle.typing_rules.specs.Rules.Calls as calls
@@ -31,19 +29,18 @@ use Rattle.typing_rules.specs.Rules.Statements as rules
 use Rattle.typing_rules.specs.Typing as typing
 use Rattle.typing_rules.specs.Typing.{Reading, Doer, Braces, Seen, reading, argument, doer, braces, parts, statements, all_seen, seen, lambda_parameters, parameter_type, is_empty, argument_step, body_step, expression_step, first_step, lambda_step, statement_step, block_step, catch_step, declaration_step, entry_step, variable_step}
 use Rattle.typing_acts.specs.declared.config.Config.{Config}
-use Rattle.typing_acts.specs.Piles.{above, one}
+use Rattle.typing_acts.specs.Piles.{one}
 use Rattle.typing_acts.specs.Bodies as bodies
-use Rattle.typing_acts.specs.Expressions as expressions
 use Rattle.typing_tasks.specs.declared.task.Act.TheVariants as a
 use Rattle.typing_tasks.specs.declared.task.StatementAct.TheVariants as sa
-use Rattle.typing_tasks.specs.Folds.{handler, declaration, entry, variable, argument_if}
+use Rattle.typing_tasks.specs.Folds.{handler, entry, variable}
 use Rattle.typing_tasks.specs.Going.{none_left}
 use Rattle.typing_tasks.specs.Job as j
 use Rattle.typing_tasks.specs.Job.{Job}
-use Rattle.typing_tasks.specs.Machine.{run, piled, part_to, parts_to, step_to, steps_to, block_to, variable_to, variables_to, nothing_to, refused_at}
+use Rattle.typing_tasks.specs.Machine.{run, piled, parts_to, step_to, steps_to, variable_to, variables_to, nothing_to, refused_at}
 use Rattle.typing_tasks.specs.Plans.{parameter_plan, following}
 use Rattle.typing_tasks.proofs.Above.{above_piled}
-use Rattle.typing_tasks.proofs.Behind.{behind, behind_with, behind_two, again, again_with}
+use Rattle.typing_tasks.proofs.Behind.{behind, behind_with, again, again_with}
 
 drop_at : {A : Type 0} (i : ℕ) (all : List A) (one : A) → slice_get all i ≡ Some one → drop i all ≡ one ∷ drop (suc i) all
 drop_at zero [] one is = absurd cc

@@ -1,45 +1,32 @@
 -- The plan of each expression comes to what the expression comes to.
-use Rattle.std.proofs.Common.{◌≡◌, ℕ, Bool, true, false, List, [], ◌∷◌, ◌++◌, length, map, Option, Some, None, Ok, Err, refl, sym, ap, subst, ◌∙◌}
+use Rattle.std.proofs.Common.{◌≡◌, ℕ, List, ◌∷◌, ◌++◌, Ok, refl, sym, ap, subst, ◌∙◌}
 use Rattle.pl_types.specs.declared.ty.Ty.{Ty}
 use Rattle.pl_tree.specs.declared.operator.UnaryOperator.TheVariants as sign
-use Rattle.pl_tree.specs.declared.tree.Argument.{Argument, out-Argument, roll-Argument, roll-out-Argument}
-use Rattle.pl_tree.specs.declared.tree.Body.{Body, out-Body, roll-Body, roll-out-Body}
 use Rattle.pl_tree.specs.declared.tree.Expr.{Expr, out-Expr, roll-Expr, roll-out-Expr}
-use Rattle.pl_tree.specs.declared.tree.First.{First, out-First, roll-First, roll-out-First}
-use Rattle.pl_tree.specs.declared.tree.LambdaBody.{LambdaBody, out-LambdaBody, roll-LambdaBody, roll-out-LambdaBody}
-use Rattle.pl_tree.specs.declared.tree.Statement.{Statement, out-Statement, roll-Statement, roll-out-Statement}
-use Rattle.pl_tree.specs.declared.tree.TypeName.{TypeName}
-use Rattle.pl_tree.specs.declared.tree.Argument.TheOpen.{Argument-F, Body-F, Expr-F, First-F, LambdaBody-F, Statement-F}
-use Rattle.pl_tree.specs.declared.tree.Argument.TheFolds.{fold-roll-Expr, fold-roll-Argument, fold-roll-LambdaBody, fold-roll-Statement, fold-roll-Body, fold-roll-First, fold_out-Block}
+use Rattle.pl_tree.specs.declared.tree.Argument.TheOpen.{Expr-F}
+use Rattle.pl_tree.specs.declared.tree.Argument.TheFolds.{fold-roll-Expr}
 use Rattle.typed_tree.specs.declared.operation.Gives.TheVariants as g
 use Rattle.typed_tree.specs.declared.statement.TypedVariable.{TypedVariable}
-use Rattle.typed_tree.specs.declared.typed.Typed.{Typed}
 use Rattle.typing_rules.specs.declared.header.Header.{Header}
 use Rattle.typing_rules.specs.declared.part.Part.{Part}
 use Rattle.typing_rules.specs.declared.part.Place.{Place}
 use Rattle.typing_rules.specs.declared.part.Place.TheVariants as place
 use Rattle.typing_rules.specs.declared.part.Step.{Step}
-use Rattle.typing_rules.specs.declared.state.State.{State}
-use Rattle.typing_rules.specs.Doing.{Doing, Answer, and_then, ◌>>=◌, ◌>>◌, pure, by_rule}
-use Rattle.typing_rules.specs.Outcomes.{Out, bind}
-use Rattle.typing_rules.specs.State.{noted}
+use Rattle.typing_rules.specs.Doing.{Doing, and_then, ◌>>=◌, pure, by_rule}
+use Rattle.typing_rules.specs.Outcomes.{bind}
 use Rattle.typing_rules.specs.Rules.Types.{type_of}
 use Rattle.typing_rules.specs.Rules.Literals as literals
 use Rattle.typing_rules.specs.Rules.Casts as casts
 use Rattle.typing_rules.specs.Rules.Operators as operators
 use Rattle.typing_rules.specs.Rules.Places as places
-use Rattle.typing_rules.specs.Rules.Statements as rules
-use Rattle.typing_rules.specs.Typing.{Reading, Doer, Braces, Seen, reading, argument, body, doer, braces, argument_step, body_step, expression_step, first_step, lambda_step, statement_step, block_step, catch_step, declaration_step, entry_step, variable_step, scoped, looping}
+use Rattle.typing_rules.specs.Typing.{Reading, Doer, Braces, Seen, reading, argument_step, body_step, expression_step, first_step, lambda_step, statement_step, block_step, catch_step, declaration_step, entry_step, variable_step}
 use Rattle.typing_acts.specs.declared.config.Config.{Config}
-use Rattle.typing_acts.specs.Expressions as expressions
 use Rattle.typing_tasks.specs.declared.task.Act.TheVariants as a
-use Rattle.typing_tasks.specs.declared.task.StatementAct.TheVariants as sa
-use Rattle.typing_tasks.specs.Going.{is_there}
 use Rattle.typing_tasks.specs.Job as j
 use Rattle.typing_tasks.specs.Job.{Job}
-use Rattle.typing_tasks.specs.Machine.{run, part_to, place_to, step_to, steps_to, refused_at}
-use Rattle.typing_tasks.specs.Plans.{Open, value_plan, negated_plan, target_plan, argument_plan, inner_plan, statement_plan, body_plan, first_plan, loop_body_plan, first_if_plan, condition_plan, update_if_plan, otherwise_plan, returned_plan, initial_plan, for_plan}
-use Rattle.typing_tasks.proofs.Behind.{behind, behind_with, behind_two, again}
+use Rattle.typing_tasks.specs.Machine.{run, part_to, place_to}
+use Rattle.typing_tasks.specs.Plans.{Open, value_plan, negated_plan, target_plan}
+use Rattle.typing_tasks.proofs.Behind.{behind, behind_next, again}
 
 -- behind a minus, what is no literal is a value with the operator
 abbrev PlainNegated : Reading → Type 0
@@ -57,9 +44,11 @@ module _ (hs : List Header) (js : List Job) (c : Config) where
   value_rolled (Expr-F.Conditional at condition left right) = ap (λ (x : Reading). x.value c.state (part_to c (run hs js))) (fold-roll-Expr (Doing Part) (Doing Step) Reading (Doing Step) Seen Doer Braces Seen Doer Seen (Ty → Doing TypedVariable) (argument_step hs) (body_step hs) (expression_step hs) (first_step hs) (lambda_step hs) (statement_step hs) (block_step hs) (catch_step hs) (declaration_step hs) (entry_step hs) (variable_step hs) (Expr-F.Conditional at condition left right))
       ∙ (λ i. (reading hs condition).value c.state (λ w s. (reading hs left).value s (λ x t. (reading hs right).value t (λ y u. behind (operators.choice_of at w x y) (λ z. record c { parts = z ∷ c.parts; state = u }) (run hs js) i))))
   value_rolled (Expr-F.Elvis at left right) = ap (λ (x : Reading). x.value c.state (part_to c (run hs js))) (fold-roll-Expr (Doing Part) (Doing Step) Reading (Doing Step) Seen Doer Braces Seen Doer Seen (Ty → Doing TypedVariable) (argument_step hs) (body_step hs) (expression_step hs) (first_step hs) (lambda_step hs) (statement_step hs) (block_step hs) (catch_step hs) (declaration_step hs) (entry_step hs) (variable_step hs) (Expr-F.Elvis at left right))
+      ∙ (λ i. (reading hs left).value c.state (λ x s. (reading hs right).value s (λ y t. behind (operators.elvis_of at x y) (λ z. record c { parts = z ∷ c.parts; state = t }) (run hs js) i)))
   value_rolled (Expr-F.Binary operator at left right) = ap (λ (x : Reading). x.value c.state (part_to c (run hs js))) (fold-roll-Expr (Doing Part) (Doing Step) Reading (Doing Step) Seen Doer Braces Seen Doer Seen (Ty → Doing TypedVariable) (argument_step hs) (body_step hs) (expression_step hs) (first_step hs) (lambda_step hs) (statement_step hs) (block_step hs) (catch_step hs) (declaration_step hs) (entry_step hs) (variable_step hs) (Expr-F.Binary operator at left right))
       ∙ (λ i. (reading hs left).value c.state (λ x s. (reading hs right).value s (λ y t. behind (operators.binary_of operator at x y) (λ z. record c { parts = z ∷ c.parts; state = t }) (run hs js) i)))
   value_rolled (Expr-F.Instanceof at operand of) = ap (λ (x : Reading). x.value c.state (part_to c (run hs js))) (fold-roll-Expr (Doing Part) (Doing Step) Reading (Doing Step) Seen Doer Braces Seen Doer Seen (Ty → Doing TypedVariable) (argument_step hs) (body_step hs) (expression_step hs) (first_step hs) (lambda_step hs) (statement_step hs) (block_step hs) (catch_step hs) (declaration_step hs) (entry_step hs) (variable_step hs) (Expr-F.Instanceof at operand of))
+      ∙ (λ i. (reading hs operand).value c.state (λ x s. behind_next (type_of of) (λ to. operators.instance_of at x to) (λ z. record c { parts = z ∷ c.parts; state = s }) (run hs js) i))
   value_rolled (Expr-F.Unary sign.Plus at operand) = ap (λ (x : Reading). x.value c.state (part_to c (run hs js))) (fold-roll-Expr (Doing Part) (Doing Step) Reading (Doing Step) Seen Doer Braces Seen Doer Seen (Ty → Doing TypedVariable) (argument_step hs) (body_step hs) (expression_step hs) (first_step hs) (lambda_step hs) (statement_step hs) (block_step hs) (catch_step hs) (declaration_step hs) (entry_step hs) (variable_step hs) (Expr-F.Unary sign.Plus at operand))
       ∙ (λ i. (reading hs operand).value c.state (λ x s. behind (operators.unary_of sign.Plus at x) (λ z. record c { parts = z ∷ c.parts; state = s }) (run hs js) i))
   value_rolled (Expr-F.Unary sign.Minus at operand) = ap (λ (x : Reading). x.value c.state (part_to c (run hs js))) (fold-roll-Expr (Doing Part) (Doing Step) Reading (Doing Step) Seen Doer Braces Seen Doer Seen (Ty → Doing TypedVariable) (argument_step hs) (body_step hs) (expression_step hs) (first_step hs) (lambda_step hs) (statement_step hs) (block_step hs) (catch_step hs) (declaration_step hs) (entry_step hs) (variable_step hs) (Expr-F.Unary sign.Minus at operand))
@@ -78,6 +67,7 @@ module _ (hs : List Header) (js : List Job) (c : Config) where
   value_rolled (Expr-F.Integer at spelling) = ap (λ (x : Reading). x.value c.state (part_to c (run hs js))) (fold-roll-Expr (Doing Part) (Doing Step) Reading (Doing Step) Seen Doer Braces Seen Doer Seen (Ty → Doing TypedVariable) (argument_step hs) (body_step hs) (expression_step hs) (first_step hs) (lambda_step hs) (statement_step hs) (block_step hs) (catch_step hs) (declaration_step hs) (entry_step hs) (variable_step hs) (Expr-F.Integer at spelling))
       ∙ (λ i. behind (literals.integer at spelling) (λ z. record c { parts = z ∷ c.parts; state = c.state }) (run hs js) i)
   value_rolled (Expr-F.Text at spelling) = ap (λ (x : Reading). x.value c.state (part_to c (run hs js))) (fold-roll-Expr (Doing Part) (Doing Step) Reading (Doing Step) Seen Doer Braces Seen Doer Seen (Ty → Doing TypedVariable) (argument_step hs) (body_step hs) (expression_step hs) (first_step hs) (lambda_step hs) (statement_step hs) (block_step hs) (catch_step hs) (declaration_step hs) (entry_step hs) (variable_step hs) (Expr-F.Text at spelling))
+      ∙ (λ i. behind (literals.text at spelling) (λ z. record c { parts = z ∷ c.parts; state = c.state }) (run hs js) i)
   value_rolled (Expr-F.Constant constant at) = ap (λ (x : Reading). x.value c.state (part_to c (run hs js))) (fold-roll-Expr (Doing Part) (Doing Step) Reading (Doing Step) Seen Doer Braces Seen Doer Seen (Ty → Doing TypedVariable) (argument_step hs) (body_step hs) (expression_step hs) (first_step hs) (lambda_step hs) (statement_step hs) (block_step hs) (catch_step hs) (declaration_step hs) (entry_step hs) (variable_step hs) (Expr-F.Constant constant at))
       ∙ (λ i. behind (literals.constant at constant) (λ z. record c { parts = z ∷ c.parts; state = c.state }) (run hs js) i)
   value_rolled (Expr-F.List at items) = ap (λ (x : Reading). x.value c.state (part_to c (run hs js))) (fold-roll-Expr (Doing Part) (Doing Step) Reading (Doing Step) Seen Doer Braces Seen Doer Seen (Ty → Doing TypedVariable) (argument_step hs) (body_step hs) (expression_step hs) (first_step hs) (lambda_step hs) (statement_step hs) (block_step hs) (catch_step hs) (declaration_step hs) (entry_step hs) (variable_step hs) (Expr-F.List at items))

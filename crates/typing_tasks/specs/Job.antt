@@ -28,10 +28,12 @@ pub data Job : Type 0 where
   Called : ℕ → List ℕ → ℕ → Job
   Integer : ℕ → List ℕ → Job
   NegatedInteger : ℕ → ℕ → List ℕ → Job
+  Text : ℕ → List ℕ → Job
   Name : ℕ → List ℕ → Job
   Written : ℕ → List ℕ → Job
   TypeOf : TypeName → Job
   Asked : ℕ → TypeName → Job
+  InstanceOf : ℕ → TypeName → Job
   Do : Act → Job
   -- statements
   Statement_ : Statement → Bool → Job

@@ -1,60 +1,92 @@
 -- The tasks of the code, as plain data.
 use Rattle.std.specs.Prelude.{◌≡◌, List, [], ◌∷◌, Option, Some, None}
+use Rattle.typing_tasks.specs.declared.task.ExpressionTask.{ExpressionTask}
+use Rattle.typing_tasks.specs.declared.task.ExpressionTask.TheVariants as e
+use Rattle.typing_tasks.specs.declared.task.WordTask.{WordTask}
+use Rattle.typing_tasks.specs.declared.task.WordTask.TheVariants as w
+use Rattle.typing_tasks.specs.declared.task.StatementTask.{StatementTask}
+use Rattle.typing_tasks.specs.declared.task.StatementTask.TheVariants as s
+use Rattle.typing_tasks.specs.declared.task.LoopTask.{LoopTask}
+use Rattle.typing_tasks.specs.declared.task.LoopTask.TheVariants as l
+use Rattle.typing_tasks.specs.declared.task.DeclarationTask.{DeclarationTask}
+use Rattle.typing_tasks.specs.declared.task.DeclarationTask.TheVariants as d
+use Rattle.typing_tasks.specs.declared.task.UnbuiltTask.{UnbuiltTask}
+use Rattle.typing_tasks.specs.declared.task.UnbuiltTask.TheVariants as u
 use Rattle.typing_tasks.specs.declared.task.Task.{Task}
 use Rattle.typing_tasks.specs.declared.task.Task.TheVariants as t
 use Rattle.typing_tasks.specs.Job as j
 use Rattle.typing_tasks.specs.Job.{Job}
 
+abbrev pub expression_job : ExpressionTask → Job
+expression_job (e.Value x) = j.Value x.now
+expression_job (e.Negated x minus) = j.Negated x.now minus
+expression_job (e.Target x) = j.Target x.now
+expression_job (e.Given x) = j.Given x.now
+expression_job (e.Arguments all i) = j.Arguments all.now i
+expression_job (e.Call at name all) = j.Call at name.now all.now
+
+abbrev pub word_job : WordTask → Job
+word_job (w.Called at name height) = j.Called at name.now height
+word_job (w.Integer at spelling) = j.Integer at spelling.now
+word_job (w.NegatedInteger minus at spelling) = j.NegatedInteger minus at spelling.now
+word_job (w.Text at spelling) = j.Text at spelling.now
+word_job (w.Name at spelling) = j.Name at spelling.now
+word_job (w.Written at spelling) = j.Written at spelling.now
+word_job (w.TypeOf of) = j.TypeOf of.now
+word_job (w.Asked at of) = j.Asked at of.now
+word_job (w.InstanceOf at of) = j.InstanceOf at of.now
+
+abbrev pub statement_job : StatementTask → Job
+statement_job (s.One x last) = j.Statement_ x.now last
+statement_job (s.Body x) = j.Body_ x.now
+statement_job (s.Scoped x) = j.Scoped x.now
+statement_job (s.Block x) = j.Block_ x.now
+statement_job (s.Statements all i in_main after) = j.Statements all.now i in_main after
+statement_job (s.Reached all i at in_main after) = j.Reached all.now i at in_main after
+statement_job (s.Otherwise at x) = j.Otherwise at x.now
+statement_job (s.Returned at x) = j.Returned at x.now
+
+abbrev pub loop_job : LoopTask → Job
+loop_job (l.Looping x) = j.Looping x.now
+loop_job (l.Body x) = j.LoopBody x.now
+loop_job (l.Block x) = j.LoopBlock x.now
+loop_job (l.For at first condition update body) = j.For at first.now condition.now update.now body.now
+loop_job (l.ForParts at first condition update body) = j.ForParts at first.now condition.now update.now body.now
+loop_job (l.FirstIf x) = j.FirstIf x.now
+loop_job (l.First x) = j.First_ x.now
+loop_job (l.Deed x) = j.Deed x.now
+loop_job (l.Condition x) = j.Condition x.now
+loop_job (l.UpdateIf x) = j.UpdateIf x.now
+loop_job (l.Update x) = j.Update x.now
+
+abbrev pub declaration_job : DeclarationTask → Job
+declaration_job (d.Whole x) = j.Declaration_ x.now
+declaration_job (d.Variables of all i) = j.Variables of.now all.now i
+declaration_job (d.Variable of x) = j.Variable_ of.now x.now
+declaration_job (d.Initial of x) = j.Initial of.now x.now
+declaration_job (d.CastInitial of) = j.CastInitial of.now
+declaration_job (d.Declare name of) = j.Declare name.now of.now
+
+abbrev pub unbuilt_job : UnbuiltTask → Job
+unbuilt_job (u.Noted name of) = j.Noted name.now of.now
+unbuilt_job (u.NotedDef name) = j.NotedDef name.now
+unbuilt_job (u.Parameters all i) = j.Parameters all.now i
+unbuilt_job (u.Inner x at) = j.UnbuiltInner x.now at
+unbuilt_job (u.Values all i at) = j.UnbuiltValues all.now i at
+unbuilt_job (u.Arguments all i at) = j.UnbuiltArguments all.now i at
+unbuilt_job (u.Entries all i at) = j.UnbuiltEntries all.now i at
+unbuilt_job (u.Catches all i at) = j.UnbuiltCatches all.now i at
+unbuilt_job (u.Catch x) = j.Catch_ x.now
+
 abbrev pub job : Task → Job
-job (t.Value e) = j.Value e.now
-job (t.Negated e minus) = j.Negated e.now minus
-job (t.Target e) = j.Target e.now
-job (t.Given e) = j.Given e.now
-job (t.Arguments all i) = j.Arguments all.now i
-job (t.Call at name all) = j.Call at name.now all.now
-job (t.Called at name height) = j.Called at name.now height
-job (t.Integer at spelling) = j.Integer at spelling.now
-job (t.NegatedInteger minus at spelling) = j.NegatedInteger minus at spelling.now
-job (t.Name at spelling) = j.Name at spelling.now
-job (t.Written at spelling) = j.Written at spelling.now
-job (t.TypeOf of) = j.TypeOf of.now
-job (t.Asked at of) = j.Asked at of.now
+job (t.Expression x) = expression_job x
+job (t.Word x) = word_job x
 job (t.Do act) = j.Do act
-job (t.Statement e last) = j.Statement_ e.now last
-job (t.Body e) = j.Body_ e.now
-job (t.Scoped e) = j.Scoped e.now
-job (t.Block e) = j.Block_ e.now
-job (t.Looping e) = j.Looping e.now
-job (t.LoopBody e) = j.LoopBody e.now
-job (t.LoopBlock e) = j.LoopBlock e.now
-job (t.Statements all i in_main after) = j.Statements all.now i in_main after
-job (t.Reached all i at in_main after) = j.Reached all.now i at in_main after
-job (t.For at first condition update body) = j.For at first.now condition.now update.now body.now
-job (t.ForParts at first condition update body) = j.ForParts at first.now condition.now update.now body.now
-job (t.FirstIf e) = j.FirstIf e.now
-job (t.First e) = j.First_ e.now
-job (t.Deed e) = j.Deed e.now
-job (t.Condition e) = j.Condition e.now
-job (t.UpdateIf e) = j.UpdateIf e.now
-job (t.Update e) = j.Update e.now
-job (t.Otherwise at e) = j.Otherwise at e.now
-job (t.Returned at e) = j.Returned at e.now
-job (t.Declaration e) = j.Declaration_ e.now
-job (t.Variables of all i) = j.Variables of.now all.now i
-job (t.Variable of e) = j.Variable_ of.now e.now
-job (t.Initial of e) = j.Initial of.now e.now
-job (t.CastInitial of) = j.CastInitial of.now
-job (t.Declare name of) = j.Declare name.now of.now
+job (t.Statement x) = statement_job x
+job (t.Loop x) = loop_job x
+job (t.Declaration x) = declaration_job x
 job (t.DoStatement act) = j.DoStatement act
-job (t.Noted name of) = j.Noted name.now of.now
-job (t.NotedDef name) = j.NotedDef name.now
-job (t.Parameters all i) = j.Parameters all.now i
-job (t.UnbuiltInner e at) = j.UnbuiltInner e.now at
-job (t.UnbuiltValues all i at) = j.UnbuiltValues all.now i at
-job (t.UnbuiltArguments all i at) = j.UnbuiltArguments all.now i at
-job (t.UnbuiltEntries all i at) = j.UnbuiltEntries all.now i at
-job (t.UnbuiltCatches all i at) = j.UnbuiltCatches all.now i at
-job (t.Catch e) = j.Catch_ e.now
+job (t.Unbuilt x) = unbuilt_job x
 
 -- the next task is taken
 abbrev pub Pops : Option Task → List Job → List Job → Type 0

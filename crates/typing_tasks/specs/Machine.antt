@@ -1,8 +1,7 @@
 -- What jobs come to.
-use Rattle.std.specs.Prelude.{ℕ, Bool, true, false, List, [], ◌∷◌, length, reverse, drop, map, Option, Some, None, Ok, Err}
+use Rattle.std.specs.Prelude.{ℕ, false, List, [], ◌∷◌, reverse, drop, map, Option, Some, None, Ok, Err}
 use Rattle.pl_types.specs.declared.rules.TheConstants.{OUT_OF_PROFILE}
 use Rattle.pl_tree.specs.declared.tree.Argument.{Argument}
-use Rattle.pl_tree.specs.declared.tree.Block.{Block}
 use Rattle.pl_tree.specs.declared.tree.Body.{Body}
 use Rattle.pl_tree.specs.declared.tree.Catch.{Catch, out-Catch}
 use Rattle.pl_tree.specs.declared.tree.Expr.{Expr}
@@ -18,7 +17,7 @@ use Rattle.typing_rules.specs.declared.state.State.{State}
 use Rattle.pl_types.specs.declared.ty.Ty.TheVariants as ty
 use Rattle.typing_rules.specs.Outcomes.{Out, refuse, refusal}
 use Rattle.typing_rules.specs.State.{noted}
-use Rattle.typing_rules.specs.Doing.{Answer, Doing, ◌>>=◌, ◌>>◌, pure, and_then, setting, known}
+use Rattle.typing_rules.specs.Doing.{Answer, Doing, ◌>>=◌, ◌>>◌, pure, and_then, setting}
 use Rattle.typing_rules.specs.Rules.Types.{type_of}
 use Rattle.typing_rules.specs.Rules.Statements.{loop_of, block_of, reached}
 use Rattle.typing_rules.specs.Typing as typing
@@ -43,6 +42,7 @@ does (a.Constant at of) c = expressions.constant at of c
 does (a.Binary at operator) c = expressions.binary operator at c
 does (a.Unary at operator) c = expressions.unary operator at c
 does (a.Choice at) c = expressions.choice at c
+does (a.Elvis at) c = expressions.elvis at c
 does (a.Bracketed at) c = expressions.bracketed at c
 does a.Fixed c = places.fixed c
 does (a.Assign at operator) c = places.assign at operator c
@@ -59,6 +59,7 @@ does_statement (s.Declaration at height) c = deeds.declaration at height c
 does_statement (s.Expression at last) c = deeds.expression at last c
 does_statement (s.ReturnValue at) c = deeds.return_value at c
 does_statement (s.ReturnNothing at) c = deeds.return_nothing at c
+does_statement (s.Throw at) c = deeds.throw at c
 does_statement (s.Break at) c = deeds.break_loop at c
 does_statement (s.Continue at) c = deeds.continue_loop at c
 does_statement (s.Block at height) c = deeds.block at height c
@@ -147,10 +148,12 @@ mean hs (j.Call at name all) c k = call hs at name (map (argument hs) all) c.sta
 mean hs (j.Called at name height) c k = and_then (expressions.call hs at name height c) k
 mean hs (j.Integer at spelling) c k = and_then (expressions.integer at spelling c) k
 mean hs (j.NegatedInteger minus at spelling) c k = and_then (expressions.negated_integer minus at spelling c) k
+mean hs (j.Text at spelling) c k = and_then (expressions.text at spelling c) k
 mean hs (j.Name at name) c k = and_then (expressions.local at name c) k
 mean hs (j.Written at name) c k = and_then (places.written at name c) k
 mean hs (j.TypeOf of) c k = and_then (type_of of) (λ t. k c)
 mean hs (j.Asked at of) c k = and_then (expressions.asked at of c) k
+mean hs (j.InstanceOf at of) c k = and_then (expressions.instance_of at of c) k
 mean hs (j.Do act) c k = and_then (does act c) k
 mean hs (j.Statement_ e last) c k = (doer hs e).typed last c.state (step_to c k)
 mean hs (j.Body_ e) c k = body hs e c.state (step_to c k)

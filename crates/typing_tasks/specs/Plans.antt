@@ -1,5 +1,5 @@
 -- What is to be done for each node, as a list of jobs.
-use Rattle.std.specs.Prelude.{ℕ, Bool, true, false, ◌&&◌, List, [], ◌∷◌, slice_get, Option, Some, None}
+use Rattle.std.specs.Prelude.{ℕ, Bool, false, ◌&&◌, List, [], ◌∷◌, slice_get, Option, Some, None}
 use Rattle.pl_tree.specs.declared.operator.UnaryOperator.{UnaryOperator}
 use Rattle.pl_tree.specs.declared.operator.UnaryOperator.TheVariants as sign
 use Rattle.pl_tree.specs.declared.tree.TypeName.{TypeName}
@@ -14,7 +14,7 @@ use Rattle.pl_tree.specs.declared.tree.Catch.{Catch}
 use Rattle.pl_tree.specs.declared.tree.Declaration.{Declaration}
 use Rattle.pl_tree.specs.declared.tree.Entry.{Entry}
 use Rattle.pl_tree.specs.declared.tree.Variable.{Variable, out-Variable}
-use Rattle.pl_tree.specs.declared.tree.Argument.TheOpen.{Argument-F, Body-F, Expr-F, First-F, LambdaBody-F, Statement-F, Block-F, Catch-F, Declaration-F, Entry-F, Variable-F}
+use Rattle.pl_tree.specs.declared.tree.Argument.TheOpen.{Argument-F, Body-F, Expr-F, First-F, LambdaBody-F, Statement-F}
 use Rattle.typed_tree.specs.declared.operation.Gives.TheVariants as g
 use Rattle.typing_tasks.specs.declared.task.Act.TheVariants as a
 use Rattle.typing_tasks.specs.declared.task.StatementAct.TheVariants as s
@@ -35,16 +35,16 @@ unary_plan operator at operand = j.Value operand ∷ j.Do (a.Unary at operator) 
 abbrev pub value_plan : Open Expr-F → List Job
 value_plan (Expr-F.Assign operator at target value) = j.Target target ∷ j.Value value ∷ j.Do (a.Assign at operator) ∷ []
 value_plan (Expr-F.Conditional at condition left right) = j.Value condition ∷ j.Value left ∷ j.Value right ∷ j.Do (a.Choice at) ∷ []
-value_plan (Expr-F.Elvis at left right) = j.Value left ∷ j.Value right ∷ j.Do (a.Unbuilt at) ∷ []
+value_plan (Expr-F.Elvis at left right) = j.Value left ∷ j.Value right ∷ j.Do (a.Elvis at) ∷ []
 value_plan (Expr-F.Binary operator at left right) = j.Value left ∷ j.Value right ∷ j.Do (a.Binary at operator) ∷ []
-value_plan (Expr-F.Instanceof at operand of) = j.Value operand ∷ j.TypeOf of ∷ j.Do (a.Unbuilt at) ∷ []
+value_plan (Expr-F.Instanceof at operand of) = j.Value operand ∷ j.InstanceOf at of ∷ []
 value_plan (Expr-F.Unary operator at operand) = unary_plan operator at operand
 value_plan (Expr-F.Prefix step at target) = j.Target target ∷ j.Do (a.Step at step g.New) ∷ []
 value_plan (Expr-F.Postfix step at target) = j.Target target ∷ j.Do (a.Step at step g.Old) ∷ []
 value_plan (Expr-F.Cast at of operand) = j.TypeOf of ∷ j.Value operand ∷ j.Asked at of ∷ []
 value_plan (Expr-F.Bracketed at inner) = j.Value inner ∷ j.Do (a.Bracketed at) ∷ []
 value_plan (Expr-F.Integer at spelling) = j.Integer at spelling ∷ []
-value_plan (Expr-F.Text at spelling) = j.Do (a.Unbuilt at) ∷ []
+value_plan (Expr-F.Text at spelling) = j.Text at spelling ∷ []
 value_plan (Expr-F.Constant constant at) = j.Do (a.Constant at constant) ∷ []
 value_plan (Expr-F.List at items) = j.UnbuiltValues items 0 at ∷ []
 value_plan (Expr-F.Map at entries) = j.UnbuiltEntries entries 0 at ∷ []
@@ -92,7 +92,7 @@ statement_plan last (Statement-F.«Statement::Declare» declaration) = j.Declara
 statement_plan last (Statement-F.Continue at) = j.DoStatement (s.Continue at) ∷ []
 statement_plan last (Statement-F.Break at) = j.DoStatement (s.Break at) ∷ []
 statement_plan last (Statement-F.Return at value) = j.Returned at value ∷ []
-statement_plan last (Statement-F.Throw at value) = j.Value value ∷ j.Do (a.Unbuilt at) ∷ []
+statement_plan last (Statement-F.Throw at value) = j.Value value ∷ j.DoStatement (s.Throw at) ∷ []
 statement_plan last (Statement-F.«Statement::Expression» at value) = j.Value value ∷ j.DoStatement (s.Expression at last) ∷ []
 
 abbrev pub body_plan : Open Body-F → List Job

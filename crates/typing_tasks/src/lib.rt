@@ -3,4 +3,7 @@
 
 mod task;
 
-pub use task::{Act, StatementAct, Task, Tasks};
+pub use task::{
+    Act, DeclarationTask, ExpressionTask, LoopTask, StatementAct, StatementTask, Task, Tasks,
+    UnbuiltTask, WordTask,
+};

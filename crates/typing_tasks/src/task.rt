@@ -20,6 +20,7 @@ pub enum Act {
     Binary(u32, BinaryOperator),
     Unary(u32, UnaryOperator),
     Choice(u32),
+    Elvis(u32),
     Bracketed(u32),
     /// A part that is no name is written to.
     Fixed,
@@ -44,6 +45,7 @@ pub enum StatementAct {
     Expression(u32, bool),
     ReturnValue(u32),
     ReturnNothing(u32),
+    Throw(u32),
     Break(u32),
     Continue(u32),
     /// A block of the statements above a height.
@@ -58,9 +60,9 @@ pub enum StatementAct {
     Looped(bool),
 }
 
-/// A part that is to be typed, or what is done once parts are.
+/// An expression that is to be typed.
 #[derive(Clone, Copy)]
-pub enum Task<'a> {
+pub enum ExpressionTask<'a> {
     Value(&'a Expr),
     /// Directly behind a minus that stands at a place.
     Negated(&'a Expr, u32),
@@ -70,30 +72,49 @@ pub enum Task<'a> {
     /// Those from one on.
     Arguments(&'a Items<Argument>, usize),
     Call(u32, &'a Text, &'a Items<Argument>),
+}
+
+/// What is done with a name, a spelling or a type that the script has.
+#[derive(Clone, Copy)]
+pub enum WordTask<'a> {
     /// The arguments above a height are typed.
     Called(u32, &'a Text, usize),
     Integer(u32, &'a Text),
     NegatedInteger(u32, u32, &'a Text),
+    Text(u32, &'a Text),
     Name(u32, &'a Text),
     Written(u32, &'a Text),
     TypeOf(&'a TypeName),
     Asked(u32, &'a TypeName),
-    Do(Act),
-    /// A statement; it may be the last of the main script.
-    Statement(&'a Statement, bool),
+    InstanceOf(u32, &'a TypeName),
+}
+
+/// A statement that is to be typed.
+#[derive(Clone, Copy)]
+pub enum StatementTask<'a> {
+    /// It may be the last of the main script.
+    One(&'a Statement, bool),
     Body(&'a Body),
-    /// A statement with a scope of its own.
+    /// With a scope of its own.
     Scoped(&'a Statement),
     /// A block with a scope of its own.
     Block(&'a Block),
-    /// A body with a loop around it.
-    Looping(&'a Body),
-    LoopBody(&'a Option<Body>),
-    LoopBlock(&'a Block),
     /// Those from one on, in the main script or not, behind one that escapes or not.
     Statements(&'a Items<Subtree<Statement>>, usize, bool, bool),
     /// The statement before, which stands at a place, is typed.
     Reached(&'a Items<Subtree<Statement>>, usize, u32, bool, bool),
+    /// The `else` of an `if`, whose test and first body are typed.
+    Otherwise(u32, &'a Option<Body>),
+    Returned(u32, &'a Option<Argument>),
+}
+
+/// A loop, or a part of one.
+#[derive(Clone, Copy)]
+pub enum LoopTask<'a> {
+    /// A body with a loop around it.
+    Looping(&'a Body),
+    Body(&'a Option<Body>),
+    Block(&'a Block),
     For(
         u32,
         &'a Option<First>,
@@ -114,27 +135,46 @@ pub enum Task<'a> {
     Condition(&'a Option<Subtree<Expr>>),
     UpdateIf(&'a Option<Subtree<Expr>>),
     Update(&'a Expr),
-    /// The `else` of an `if`, whose test and first body are typed.
-    Otherwise(u32, &'a Option<Body>),
-    Returned(u32, &'a Option<Argument>),
-    Declaration(&'a Declaration),
+}
+
+/// A declaration, or a part of one.
+#[derive(Clone, Copy)]
+pub enum DeclarationTask<'a> {
+    Whole(&'a Declaration),
+    /// Those from one on.
     Variables(&'a TypeName, &'a Items<Variable>, usize),
     Variable(&'a TypeName, &'a Variable),
     Initial(&'a TypeName, &'a Option<Argument>),
     CastInitial(&'a TypeName),
     Declare(&'a Spelled, &'a TypeName),
-    DoStatement(StatementAct),
-    /// A name that a construct which is not built declares.
+}
+
+/// Parts of a node that is not built: behind them it is refused.
+#[derive(Clone, Copy)]
+pub enum UnbuiltTask<'a> {
+    /// A name that it declares.
     Noted(&'a Text, &'a TypeName),
     NotedDef(&'a Text),
     Parameters(&'a Items<Parameter>, usize),
-    /// Parts of a node that is not built: behind them it is refused.
-    UnbuiltInner(&'a LambdaBody, u32),
-    UnbuiltValues(&'a Items<Subtree<Expr>>, usize, u32),
-    UnbuiltArguments(&'a Items<Argument>, usize, u32),
-    UnbuiltEntries(&'a Items<Entry>, usize, u32),
-    UnbuiltCatches(&'a Items<Catch>, usize, u32),
+    Inner(&'a LambdaBody, u32),
+    Values(&'a Items<Subtree<Expr>>, usize, u32),
+    Arguments(&'a Items<Argument>, usize, u32),
+    Entries(&'a Items<Entry>, usize, u32),
+    Catches(&'a Items<Catch>, usize, u32),
     Catch(&'a Catch),
+}
+
+/// A part that is to be typed, or what is done once parts are.
+#[derive(Clone, Copy)]
+pub enum Task<'a> {
+    Expression(ExpressionTask<'a>),
+    Word(WordTask<'a>),
+    Do(Act),
+    Statement(StatementTask<'a>),
+    Loop(LoopTask<'a>),
+    Declaration(DeclarationTask<'a>),
+    DoStatement(StatementAct),
+    Unbuilt(UnbuiltTask<'a>),
 }
 
 /// Tasks. Contracts see the next one first.

@@ -21,8 +21,8 @@ const SUM: &str =
 const CALLS: &str =
     "painless 1\nfun 0 loop R - -\ni 9\ncall 1\nbox int\nret\nend\nfun 1 loop I I -\nload 0\ni 0\neq.i\nifz 6\ni 0\nret\nload 0\ni 1\nsub.i\ncall 1\ni 1\nadd.i\nret\nend\n";
 
-/// A text, for which no row is built yet.
-const TEXT: &str = "painless 1\nfun 0 loop R - -\ntext \"a\"\nret\nend\n";
+/// A list, for which no row is built yet.
+const LIST: &str = "painless 1\nfun 0 loop R - -\nlist 0\nret\nend\n";
 
 const LIMITS: Limits = Limits {
     loops: 5,
@@ -143,7 +143,7 @@ fn one_turn(rt: HostRuntime) -> Result<(), Fail> {
 #[test]
 fn a_row_is_wanting(rt: HostRuntime) -> Result<(), Fail> {
     let allow = Catalogue::full(rt.alloc())?;
-    let refused = match verified(rt.alloc(), &allow, TEXT)? {
+    let refused = match verified(rt.alloc(), &allow, LIST)? {
         Some(code) => !have_rows(code.code()),
         None => false,
     };

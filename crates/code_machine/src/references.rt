@@ -1,0 +1,132 @@
+//! Texts, and what is asked of references: whether two are equal or one, their texts joined, and whether one is null.
+ghost use Rattle.std.specs.Prelude.{◌≡◌, List, ◌∷◌, suc};
+ghost use Rattle.code_meaning.specs.declared.word.Word.{Word};
+ghost use Rattle.code_meaning.specs.Machine.{quoted_act, on_reference, on_top, if_null, to_line};
+ghost use Rattle.code_machine.specs.Seen.{Comes, frame_of, with_stack, frames_of, limits_of, world_of};
+ghost use Rattle.code_machine.specs.Rows.{null_in, on_pair, on_references, paired, text_act};
+
+use crate::configuration::{Configuration, End, Limits, Step};
+use crate::throwing::{answered, answered_whole};
+use code_meaning::Word;
+use number_ops::{concatenate, equal, is_same};
+use object_values::Value;
+use pl_code::{Code, Quoting};
+use pl_units::UText;
+use plain_data::Text;
+
+/// An instruction with a text.
+pub fn quoted(
+    run: &mut Configuration,
+    code: &Code,
+    limits: &Limits,
+    kind: Quoting,
+    text: &Text,
+) -> Step
+    ensures { Comes (quoted_act code.now.functions (limits_of limits.now) kind text.now (frame_of run.old.top) (frames_of run.old.below) (world_of run.old.world)) result run.new }
+{
+    match kind {
+        Quoting::Constant => constant(run, text),
+        _ => Step::Ends(End::Stuck),
+    }
+}
+
+fn constant(run: &mut Configuration, text: &Text) -> Step
+    ensures { Comes (text_act text.now (frame_of run.old.top) (frames_of run.old.below) (world_of run.old.world)) result run.new }
+{
+    match UText::from_utf8(run.world.heap.alloc(), text.as_str()) {
+        Ok(text) => run.push(Word::R(Value::Str(text))),
+        Err(_) => Step::NoMemory,
+    }
+}
+
+/// What is asked of two references.
+#[derive(Clone, Copy)]
+pub enum Pairing {
+    /// Their texts, joined.
+    Concat,
+    /// Whether they are equal.
+    Equal,
+    /// Whether they are one.
+    Same,
+}
+
+/// An instruction on two references, which are taken off the stack.
+pub fn pair(run: &mut Configuration, code: &Code, limits: &Limits, kind: Pairing) -> Step
+    ensures { Comes (on_pair run.old.top.stack (λ a b stack. paired code.now.functions (limits_of limits.now) kind a b (frame_of run.old.top) (frames_of run.old.below) (world_of run.old.world) stack)) result run.new }
+{
+    match run.top.stack.pop() {
+        Some(upper) => match run.top.stack.pop() {
+            Some(lower) => pair_words(run, code, limits, kind, &lower, &upper),
+            None => Step::Ends(End::Stuck),
+        },
+        None => Step::Ends(End::Stuck),
+    }
+}
+
+// The same of words that were taken off the stack.
+fn pair_words(
+    run: &mut Configuration,
+    code: &Code,
+    limits: &Limits,
+    kind: Pairing,
+    lower: &Word,
+    upper: &Word,
+) -> Step
+    ensures { (stack : List Word) → Comes (on_references lower.now upper.now (λ a b. paired code.now.functions (limits_of limits.now) kind a b (with_stack (frame_of run.old.top) stack) (frames_of run.old.below) (world_of run.old.world) run.old.top.stack)) result run.new }
+{
+    match upper {
+        Word::R(b) => match lower {
+            Word::R(a) => pair_values(run, code, limits, kind, a, b),
+            _ => Step::Ends(End::Stuck),
+        },
+        _ => Step::Ends(End::Stuck),
+    }
+}
+
+fn pair_values(
+    run: &mut Configuration,
+    code: &Code,
+    limits: &Limits,
+    kind: Pairing,
+    a: &Value,
+    b: &Value,
+) -> Step
+    ensures { (stack : List Word) → Comes (paired code.now.functions (limits_of limits.now) kind a.now b.now (with_stack (frame_of run.old.top) stack) (frames_of run.old.below) (world_of run.old.world) run.old.top.stack) result run.new }
+{
+    match kind {
+        Pairing::Concat => {
+            let answer = concatenate(&mut run.world.heap, a, b);
+            answered_whole(run, code, limits, answer)
+        }
+        Pairing::Equal => {
+            let answer = equal(&mut run.world.heap, a, b);
+            answered(run, code, limits, answer)
+        }
+        Pairing::Same => run.push(Word::I(i32::from(is_same(a, b)))),
+    }
+}
+
+/// To a line where the reference on the stack is null, and else on to the next one.
+pub fn jump_if_null(run: &mut Configuration, line: u32) -> Step
+    ensures { Comes (on_top run.old.top.stack (λ word stack. on_reference word (λ value. if_null value (to_line (frame_of run.old.top) (frames_of run.old.below) (world_of run.old.world) line stack) (to_line (frame_of run.old.top) (frames_of run.old.below) (world_of run.old.world) (suc run.old.top.line) stack)))) result run.new }
+{
+    match run.top.stack.pop() {
+        Some(word) => match null_in(&word) {
+            Some(true) => run.goes_to(line),
+            Some(false) => run.goes_on(),
+            None => Step::Ends(End::Stuck),
+        },
+        None => Step::Ends(End::Stuck),
+    }
+}
+
+// Whether a word is null; none of a number.
+fn null_in(word: &Word) -> Option<bool>
+    ensures { result ≡ null_in word.now }
+{
+    match word {
+        Word::R(Value::Null) => Some(true),
+        Word::R(_) => Some(false),
+        _ => None,
+    }
+}

@@ -1,0 +1,110 @@
+//! Casts of references to types, and instances of types.
+ghost use Rattle.std.specs.Prelude.{◌≡◌, List, ◌∷◌, suc};
+ghost use Rattle.pl_types.specs.Texts.{type_of_full};
+ghost use Rattle.number_ops.specs.Outcomes.{effect};
+ghost use Rattle.number_ops.specs.Casts.{cast_at_run_time};
+ghost use Rattle.number_ops.specs.Relations as relations;
+ghost use Rattle.run_world.specs.World.{acts_in};
+ghost use Rattle.code_meaning.specs.Words as words;
+ghost use Rattle.code_meaning.specs.declared.word.Word.{Word};
+ghost use Rattle.code_meaning.specs.declared.word.Word.TheVariants.{I, R};
+ghost use Rattle.code_meaning.specs.Machine.{cast_act, typed_act, on_type, on_top, on_reference, on_outcome, to_line, is_written};
+ghost use Rattle.code_machine.specs.Seen.{Comes, frame_of, with_stack, frames_of, limits_of, world_of};
+
+use crate::boxes::is_written;
+use crate::configuration::{Configuration, End, Limits, Step};
+use crate::throwing::answered_whole;
+use code_meaning::Word;
+use listing_parts::TypeName;
+use number_ops::{is_instance, to_type};
+use pl_code::{Code, Typed, Way};
+use pl_types::Ty;
+
+/// Casts the reference on the stack. The type is read from its text, which takes memory for arrays.
+pub fn cast(run: &mut Configuration, code: &Code, limits: &Limits, to: &TypeName, way: Way) -> Step
+    ensures { Comes (on_type (type_of_full to.now) (λ to. cast_act code.now.functions (limits_of limits.now) to (is_written way) (frame_of run.old.top) (frames_of run.old.below) (world_of run.old.world))) result run.new }
+{
+    match Ty::of_full_text(run.world.heap.alloc(), to.as_str().as_bytes()) {
+        Ok(Some(to)) => cast_top(run, code, limits, &to, way),
+        Ok(None) => Step::Ends(End::Stuck),
+        Err(_) => Step::NoMemory,
+    }
+}
+
+fn cast_top(run: &mut Configuration, code: &Code, limits: &Limits, to: &Ty, way: Way) -> Step
+    ensures { Comes (cast_act code.now.functions (limits_of limits.now) to.now (is_written way) (frame_of run.old.top) (frames_of run.old.below) (world_of run.old.world)) result run.new }
+{
+    match run.top.stack.pop() {
+        Some(word) => cast_word(run, code, limits, &word, to, way),
+        None => Step::Ends(End::Stuck),
+    }
+}
+
+// The same of a word that was taken off the stack.
+fn cast_word(
+    run: &mut Configuration,
+    code: &Code,
+    limits: &Limits,
+    word: &Word,
+    to: &Ty,
+    way: Way,
+) -> Step
+    ensures { (stack : List Word) → Comes (on_reference word.now (λ value. on_outcome code.now.functions (limits_of limits.now) (acts_in (world_of run.old.world) (effect run.old.world.heap (cast_at_run_time run.old.world.heap.objects value to.now (is_written way)))) R (with_stack (frame_of run.old.top) stack) (frames_of run.old.below) (world_of run.old.world) run.old.top.stack)) result run.new }
+{
+    match word {
+        Word::R(value) => {
+            let answer = to_type(&mut run.world.heap, value, to, is_written(way));
+            answered_whole(run, code, limits, answer)
+        }
+        _ => Step::Ends(End::Stuck),
+    }
+}
+
+/// An instruction with a type, which is read from its text.
+pub fn typed(
+    run: &mut Configuration,
+    code: &Code,
+    limits: &Limits,
+    kind: Typed,
+    of: &TypeName,
+) -> Step
+    ensures { Comes (on_type (type_of_full of.now) (λ of. typed_act code.now.functions (limits_of limits.now) kind of (frame_of run.old.top) (frames_of run.old.below) (world_of run.old.world))) result run.new }
+{
+    match Ty::of_full_text(run.world.heap.alloc(), of.as_str().as_bytes()) {
+        Ok(Some(of)) => typed_by(run, code, limits, kind, &of),
+        Ok(None) => Step::Ends(End::Stuck),
+        Err(_) => Step::NoMemory,
+    }
+}
+
+fn typed_by(run: &mut Configuration, code: &Code, limits: &Limits, kind: Typed, of: &Ty) -> Step
+    ensures { Comes (typed_act code.now.functions (limits_of limits.now) kind of.now (frame_of run.old.top) (frames_of run.old.below) (world_of run.old.world)) result run.new }
+{
+    match kind {
+        Typed::IsA => instance(run, of),
+        _ => Step::Ends(End::Stuck),
+    }
+}
+
+// Whether the reference on the stack is an instance of a type.
+fn instance(run: &mut Configuration, of: &Ty) -> Step
+    ensures { Comes (on_top run.old.top.stack (λ word stack. on_reference word (λ value. to_line (frame_of run.old.top) (frames_of run.old.below) (world_of run.old.world) (suc run.old.top.line) (I (words.bit (relations.is_instance run.old.world.heap.objects value of.now)) ∷ stack)))) result run.new }
+{
+    match run.top.stack.pop() {
+        Some(word) => instance_word(run, &word, of),
+        None => Step::Ends(End::Stuck),
+    }
+}
+
+// The same of a word that was taken off the stack.
+fn instance_word(run: &mut Configuration, word: &Word, of: &Ty) -> Step
+    ensures { (stack : List Word) → Comes (on_reference word.now (λ value. to_line (with_stack (frame_of run.old.top) stack) (frames_of run.old.below) (world_of run.old.world) (suc run.old.top.line) (I (words.bit (relations.is_instance run.old.world.heap.objects value of.now)) ∷ run.old.top.stack))) result run.new }
+{
+    match word {
+        Word::R(value) => {
+            let is = is_instance(&run.world.heap, value, of);
+            run.push(Word::I(i32::from(is)))
+        }
+        _ => Step::Ends(End::Stuck),
+    }
+}
