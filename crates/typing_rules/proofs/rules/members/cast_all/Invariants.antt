@@ -1,4 +1,4 @@
-use Rattle.std.proofs.Common.{◌≡◌, ◌++◌, drop, reverse, Ok}
+use Rattle.std.proofs.Common.{◌≡◌, drop, reverse}
 use Rattle.typing_rules.specs.Rules.Members.{cast_all}
 use Rattle.typing_rules.proofs.Lists.{behind}
 use Rattle.typing_rules.proofs.rules.members.cast_all.Given as goal
