@@ -3,3 +3,4 @@ pub mod Expressions
 pub mod Places
 pub mod Statements
 pub mod Bodies
+pub mod Members

@@ -5,6 +5,7 @@
 pub mod bodies;
 mod config;
 pub mod expressions;
+pub mod members;
 mod pile;
 pub mod places;
 pub mod statements;

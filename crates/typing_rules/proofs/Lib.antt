@@ -1,3 +1,4 @@
 pub mod Worth
 pub mod Lists
 pub mod Escapes
+pub mod Members

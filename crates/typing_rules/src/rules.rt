@@ -5,6 +5,8 @@ pub mod calls;
 pub mod casts;
 pub mod functions;
 pub mod literals;
+mod lookups;
+pub mod members;
 mod nodes;
 pub mod operators;
 pub mod places;

@@ -1,6 +1,7 @@
 -- What goes on by what is known comes to the same.
 use Rattle.std.proofs.Common.{◌≡◌, ℕ, zero, suc, ◌+◌, ◌&&◌, add-one, Bool, true, false, List, [], ◌∷◌, ◌++◌, length, drop, map, slice_get, Option, Some, None, Ok, refl, sym, ap, ◌∙◌}
 use Rattle.pl_types.specs.declared.ty.Ty.{Ty}
+use Rattle.pl_tree.specs.declared.operator.Access.{Access}
 use Rattle.pl_tree.specs.declared.tree.Argument.{Argument}
 use Rattle.pl_tree.specs.declared.tree.Block.{Block, out-Block}
 use Rattle.pl_tree.specs.declared.tree.Body.{Body}
@@ -16,6 +17,7 @@ use Rattle.pl_tree.specs.declared.tree.Spelled.{Spelled}
 use Rattle.pl_tree.specs.declared.tree.Variable.{Variable, out-Variable, roll-Variable, roll-out-Variable}
 use Rattle.pl_tree.specs.declared.tree.Argument.TheFolds.{fold_out-Block, fold_out-Catch, fold_out-Declaration, fold_out-Entry, fold-roll-Variable}
 use Rattle.typed_tree.specs.declared.statement.TypedVariable.{TypedVariable}
+use Rattle.allowlist.specs.Allow.{AllowList}
 use Rattle.typing_rules.specs.declared.header.Header.{Header}
 use Rattle.typing_rules.specs.declared.part.Part.{Part}
 use Rattle.typing_rules.specs.declared.part.Step.{Step}
@@ -57,147 +59,151 @@ drop_end (suc i) (x ∷ all) is = drop_end i all is
 drop_one : {A : Type 0} (i : ℕ) (all : List A) (one : A) → slice_get all i ≡ Some one → drop i all ≡ one ∷ drop (i + 1) all
 drop_one i all one is = drop_at i all one is ∙ ap (λ n. one ∷ drop n all) (sym (add-one i))
 
-module _ (hs : List Header) where
-  behind_none : (n : ℕ) (all : List Statement) → is_empty (map (doer hs) (drop n all)) ≡ none_left (slice_get all n)
+module _ (allow : AllowList) (hs : List Header) where
+  behind_none : (n : ℕ) (all : List Statement) → is_empty (map (doer allow hs) (drop n all)) ≡ none_left (slice_get all n)
   behind_none zero [] = refl
   behind_none zero (x ∷ all) = refl
   behind_none (suc n) [] = refl
   behind_none (suc n) (x ∷ all) = behind_none n all
 
-module _ (hs : List Header) (js : List Job) (c : Config) where
-  pub arguments_go : (all : List Argument) (i : ℕ) (one : Argument) → slice_get all i ≡ Some one → run hs (j.Arguments all i ∷ js) c ≡ run hs (j.Given one ∷ j.Arguments all (i + 1) ∷ js) c
+module _ (allow : AllowList) (hs : List Header) (js : List Job) (c : Config) where
+  pub arguments_go : (all : List Argument) (i : ℕ) (one : Argument) → slice_get all i ≡ Some one → run allow hs (j.Arguments all i ∷ js) c ≡ run allow hs (j.Given one ∷ j.Arguments all (i + 1) ∷ js) c
   unfolding run
-  arguments_go all i one is = ap (λ (t : List Argument). parts (map (argument hs) t) c.state (parts_to c (run hs js))) (drop_one i all one is)
+  arguments_go all i one is = ap (λ (t : List Argument). parts (map (argument allow hs) t) c.state (parts_to c (run allow hs js))) (drop_one i all one is)
 
-  pub arguments_end : (all : List Argument) (i : ℕ) → slice_get all i ≡ None → run hs (j.Arguments all i ∷ js) c ≡ run hs (js) c
+  pub arguments_end : (all : List Argument) (i : ℕ) → slice_get all i ≡ None → run allow hs (j.Arguments all i ∷ js) c ≡ run allow hs (js) c
   unfolding run
-  arguments_end all i is = ap (λ (t : List Argument). parts (map (argument hs) t) c.state (parts_to c (run hs js))) (drop_end i all is)
+  arguments_end all i is = ap (λ (t : List Argument). parts (map (argument allow hs) t) c.state (parts_to c (run allow hs js))) (drop_end i all is)
 
-  pub call_goes : (at : ℕ) (name : List ℕ) (all : List Argument) → run hs (j.Call at name all ∷ js) c ≡ run hs (j.Arguments all 0 ∷ j.Called at name (length c.parts) ∷ js) c
+  pub call_goes : (at : ℕ) (name : List ℕ) (all : List Argument) → run allow hs (j.Call at name all ∷ js) c ≡ run allow hs (j.Arguments all 0 ∷ j.Called at name (length c.parts) ∷ js) c
   unfolding run
   call_goes at name all =
-      (λ i. parts (map (argument hs) all) c.state (λ xs s. behind (calls.call_of hs at name xs) (λ z. record c { parts = z ∷ c.parts; state = s }) (run hs js) i))
-      ∙ sym (λ i. parts (map (argument hs) all) c.state (λ xs s. and_then (above_piled xs c.parts (λ ys rest. bind (calls.call_of hs at name ys) (λ z. Ok (record c { parts = z ∷ rest; state = s }))) i) (run hs js)))
+      (λ i. parts (map (argument allow hs) all) c.state (λ xs s. behind (calls.call_of hs at name xs) (λ z. record c { parts = z ∷ c.parts; state = s }) (run allow hs js) i))
+      ∙ sym (λ i. parts (map (argument allow hs) all) c.state (λ xs s. and_then (above_piled xs c.parts (λ ys rest. bind (calls.call_of hs at name ys) (λ z. Ok (record c { parts = z ∷ rest; state = s }))) i) (run allow hs js)))
 
-  pub scoped_goes : (e : Statement) → run hs (j.Scoped e ∷ js) c ≡ run hs (j.Statement_ e false ∷ j.DoStatement (sa.Close (length c.state.scopes)) ∷ js) c
+  pub method_goes : (at : ℕ) (access : Access) (name : List ℕ) (all : List Argument) → run allow hs (j.Method at access name all ∷ js) c ≡ run allow hs (j.Arguments all 0 ∷ j.MethodCalled at access name (length c.parts) ∷ js) c
+  unfolding run
+  method_goes at access name all = refl
+
+  pub static_goes : (at : ℕ) (access : Access) (of : TypeName) (name : List ℕ) (all : List Argument) → run allow hs (j.Static at access of name all ∷ js) c ≡ run allow hs (j.Arguments all 0 ∷ j.StaticCalled at access of name (length c.parts) ∷ js) c
+  unfolding run
+  static_goes at access of name all = refl
+
+  pub new_goes : (at : ℕ) (of : TypeName) (all : List Argument) → run allow hs (j.New at of all ∷ js) c ≡ run allow hs (j.Arguments all 0 ∷ j.Made at of (length c.parts) ∷ js) c
+  unfolding run
+  new_goes at of all = refl
+
+  pub scoped_goes : (e : Statement) → run allow hs (j.Scoped e ∷ js) c ≡ run allow hs (j.Statement_ e false ∷ j.DoStatement (sa.Close (length c.state.scopes)) ∷ js) c
   unfolding run
   scoped_goes e = refl
 
-  pub for_goes : (at : ℕ) (f : Option First) (d u : Option Expr) (b : Option Body) → run hs (j.For at f d u b ∷ js) c ≡ run hs (j.ForParts at f d u b ∷ j.DoStatement (sa.Close (length c.state.scopes)) ∷ js) c
+  pub for_goes : (at : ℕ) (f : Option First) (d u : Option Expr) (b : Option Body) → run allow hs (j.For at f d u b ∷ js) c ≡ run allow hs (j.ForParts at f d u b ∷ j.DoStatement (sa.Close (length c.state.scopes)) ∷ js) c
   unfolding run
   for_goes at f d u b = refl
 
-  pub looping_goes : (e : Body) → run hs (j.Looping e ∷ js) c ≡ run hs (j.Body_ e ∷ j.DoStatement (sa.Looped c.state.looped) ∷ js) (bodies.looped true c)
+  pub looping_goes : (e : Body) → run allow hs (j.Looping e ∷ js) c ≡ run allow hs (j.Body_ e ∷ j.DoStatement (sa.Looped c.state.looped) ∷ js) (bodies.looped true c)
   unfolding run
   looping_goes e = refl
 
-  pub loop_block_goes : (e : Block) → run hs (j.LoopBlock e ∷ js) c ≡ run hs (j.Block_ e ∷ j.DoStatement (sa.Looped c.state.looped) ∷ js) (bodies.looped true c)
+  pub loop_block_goes : (e : Block) → run allow hs (j.LoopBlock e ∷ js) c ≡ run allow hs (j.Block_ e ∷ j.DoStatement (sa.Looped c.state.looped) ∷ js) (bodies.looped true c)
   unfolding run
   loop_block_goes e = refl
 
-  pub statements_go : (all : List Statement) (i : ℕ) (in_main after : Bool) (one : Statement) → slice_get all i ≡ Some one → run hs (j.Statements all i in_main after ∷ js) c ≡ run hs (following hs all (i + 1) one in_main after ++ js) c
+  pub statements_go : (all : List Statement) (i : ℕ) (in_main after : Bool) (one : Statement) → slice_get all i ≡ Some one → run allow hs (j.Statements all i in_main after ∷ js) c ≡ run allow hs (following allow hs all (i + 1) one in_main after ++ js) c
   unfolding run
   statements_go all i in_main after one is =
-      ap (λ (t : List Statement). statements in_main after (map (doer hs) t) c.state (steps_to c (run hs js))) (drop_one i all one is)
-      ∙ ap (λ (b : Bool). run hs (j.Statement_ one (in_main && b) ∷ j.Reached all (i + 1) (doer hs one).at in_main after ∷ js) c) (behind_none hs (i + 1) all)
+      ap (λ (t : List Statement). statements in_main after (map (doer allow hs) t) c.state (steps_to c (run allow hs js))) (drop_one i all one is)
+      ∙ ap (λ (b : Bool). run allow hs (j.Statement_ one (in_main && b) ∷ j.Reached all (i + 1) (doer allow hs one).at in_main after ∷ js) c) (behind_none allow hs (i + 1) all)
 
-  pub statements_end : (all : List Statement) (i : ℕ) (in_main after : Bool) → slice_get all i ≡ None → run hs (j.Statements all i in_main after ∷ js) c ≡ run hs (js) c
+  pub statements_end : (all : List Statement) (i : ℕ) (in_main after : Bool) → slice_get all i ≡ None → run allow hs (j.Statements all i in_main after ∷ js) c ≡ run allow hs (js) c
   unfolding run
-  statements_end all i in_main after is = ap (λ (t : List Statement). statements in_main after (map (doer hs) t) c.state (steps_to c (run hs js))) (drop_end i all is)
+  statements_end all i in_main after is = ap (λ (t : List Statement). statements in_main after (map (doer allow hs) t) c.state (steps_to c (run allow hs js))) (drop_end i all is)
 
-  pub block_goes : (e : Block) → run hs (j.Block_ e ∷ js) c ≡ run hs (j.Statements (out-Block e).statements 0 false false ∷ j.DoStatement (sa.Close (length c.state.scopes)) ∷ j.DoStatement (sa.Block (out-Block e).at (length c.steps)) ∷ js) c
+  pub block_goes : (e : Block) → run allow hs (j.Block_ e ∷ js) c ≡ run allow hs (j.Statements (out-Block e).statements 0 false false ∷ j.DoStatement (sa.Close (length c.state.scopes)) ∷ j.DoStatement (sa.Block (out-Block e).at (length c.steps)) ∷ js) c
   unfolding run
   block_goes e =
-      ap (λ (x : Braces). x.steps c.state (λ ys s. (run hs js) (record c { steps = rules.block_of x.at ys ∷ c.steps; state = closed (length c.state.scopes) s }))) (fold_out-Block (Doing Part) (Doing Step) Reading (Doing Step) Seen Doer Braces Seen Doer Seen (Ty → Doing TypedVariable) (argument_step hs) (body_step hs) (expression_step hs) (first_step hs) (lambda_step hs) (statement_step hs) (block_step hs) (catch_step hs) (declaration_step hs) (entry_step hs) (variable_step hs) e)
-      ∙ sym (λ i. statements false false (map (doer hs) (out-Block e).statements) c.state (λ ys s. and_then (above_piled ys c.steps (λ zs rest. Ok (record c { steps = rules.block_of (out-Block e).at zs ∷ rest; state = closed (length c.state.scopes) s })) i) (run hs js)))
+      ap (λ (x : Braces). x.steps c.state (λ ys s. (run allow hs js) (record c { steps = rules.block_of x.at ys ∷ c.steps; state = closed (length c.state.scopes) s }))) (fold_out-Block (Doing Part) (Doing Step) Reading (Doing Step) Seen Doer Braces Seen Doer Seen (Ty → Doing TypedVariable) (argument_step allow hs) (body_step allow hs) (expression_step allow hs) (first_step allow hs) (lambda_step allow hs) (statement_step allow hs) (block_step allow hs) (catch_step allow hs) (declaration_step allow hs) (entry_step allow hs) (variable_step allow hs) e)
+      ∙ sym (λ i. statements false false (map (doer allow hs) (out-Block e).statements) c.state (λ ys s. and_then (above_piled ys c.steps (λ zs rest. Ok (record c { steps = rules.block_of (out-Block e).at zs ∷ rest; state = closed (length c.state.scopes) s })) i) (run allow hs js)))
 
-  pub deed_goes : (e : Expr) → run hs (j.Deed e ∷ js) c ≡ run hs (j.Value e ∷ j.DoStatement (sa.First (reading hs e).first) ∷ js) c
+  pub deed_goes : (e : Expr) → run allow hs (j.Deed e ∷ js) c ≡ run allow hs (j.Value e ∷ j.DoStatement (sa.First (reading allow hs e).first) ∷ js) c
   unfolding run
-  deed_goes e = λ i. (reading hs e).value c.state (λ x s. behind (rules.deed (reading hs e).first x) (λ y. record c { steps = y ∷ c.steps; state = s }) (run hs js) i)
+  deed_goes e = λ i. (reading allow hs e).value c.state (λ x s. behind (rules.deed (reading allow hs e).first x) (λ y. record c { steps = y ∷ c.steps; state = s }) (run allow hs js) i)
 
-  pub update_goes : (e : Expr) → run hs (j.Update e ∷ js) c ≡ run hs (j.Value e ∷ j.DoStatement (sa.Update (reading hs e).first) ∷ js) c
+  pub update_goes : (e : Expr) → run allow hs (j.Update e ∷ js) c ≡ run allow hs (j.Value e ∷ j.DoStatement (sa.Update (reading allow hs e).first) ∷ js) c
   unfolding run
-  update_goes e = λ i. (reading hs e).value c.state (λ x s. behind_with (rules.deed (reading hs e).first x) (λ y. Some x.typed) (λ t. record c { tests = t ∷ c.tests; state = s }) (run hs js) i)
+  update_goes e = λ i. (reading allow hs e).value c.state (λ x s. behind_with (rules.deed (reading allow hs e).first x) (λ y. Some x.typed) (λ t. record c { tests = t ∷ c.tests; state = s }) (run allow hs js) i)
 
-  pub declaration_goes : (e : Declaration) → run hs (j.Declaration_ e ∷ js) c ≡ run hs (j.Variables (out-Declaration e).of (out-Declaration e).variables 0 ∷ j.DoStatement (sa.Declaration (out-Declaration e).of.at (length c.variables)) ∷ js) c
+  pub declaration_goes : (e : Declaration) → run allow hs (j.Declaration_ e ∷ js) c ≡ run allow hs (j.Variables (out-Declaration e).of (out-Declaration e).variables 0 ∷ j.DoStatement (sa.Declaration (out-Declaration e).of.at (length c.variables)) ∷ js) c
   unfolding run
   declaration_goes e =
-      ap (λ (x : Doer). x.typed false c.state (step_to c (run hs js))) (fold_out-Declaration (Doing Part) (Doing Step) Reading (Doing Step) Seen Doer Braces Seen Doer Seen (Ty → Doing TypedVariable) (argument_step hs) (body_step hs) (expression_step hs) (first_step hs) (lambda_step hs) (statement_step hs) (block_step hs) (catch_step hs) (declaration_step hs) (entry_step hs) (variable_step hs) e)
-      ∙ sym (λ i. and_then (type_of (out-Declaration e).of) (λ t. typing.variables t (map (variable hs) (out-Declaration e).variables) c.state (λ xs s. and_then (above_piled xs c.variables (λ vs rest. Ok (record c { variables = rest; steps = rules.declaration_of (out-Declaration e).of.at vs ∷ c.steps; state = s })) i) (run hs js))))
+      ap (λ (x : Doer). x.typed false c.state (step_to c (run allow hs js))) (fold_out-Declaration (Doing Part) (Doing Step) Reading (Doing Step) Seen Doer Braces Seen Doer Seen (Ty → Doing TypedVariable) (argument_step allow hs) (body_step allow hs) (expression_step allow hs) (first_step allow hs) (lambda_step allow hs) (statement_step allow hs) (block_step allow hs) (catch_step allow hs) (declaration_step allow hs) (entry_step allow hs) (variable_step allow hs) e)
+      ∙ sym (λ i. and_then (type_of (out-Declaration e).of) (λ t. typing.variables t (map (variable allow hs) (out-Declaration e).variables) c.state (λ xs s. and_then (above_piled xs c.variables (λ vs rest. Ok (record c { variables = rest; steps = rules.declaration_of (out-Declaration e).of.at vs ∷ c.steps; state = s })) i) (run allow hs js))))
 
-  pub variables_go : (of : TypeName) (all : List Variable) (i : ℕ) (one : Variable) → slice_get all i ≡ Some one → run hs (j.Variables of all i ∷ js) c ≡ run hs (j.Variable_ of one ∷ j.Variables of all (i + 1) ∷ js) c
+  pub variables_go : (of : TypeName) (all : List Variable) (i : ℕ) (one : Variable) → slice_get all i ≡ Some one → run allow hs (j.Variables of all i ∷ js) c ≡ run allow hs (j.Variable_ of one ∷ j.Variables of all (i + 1) ∷ js) c
   unfolding run
   variables_go of all i one is =
-      ap (λ (t : List Variable). and_then (type_of of) (λ d. typing.variables d (map (variable hs) t) c.state (variables_to c (run hs js)))) (drop_one i all one is)
-      ∙ again_with (type_of of) (λ d p. variable hs one d c.state (λ x s. and_then p (λ e. typing.variables e (map (variable hs) (drop (i + 1) all)) s (λ xs t. (run hs js) (record c { variables = piled xs (x ∷ c.variables); state = t })))))
+      ap (λ (t : List Variable). and_then (type_of of) (λ d. typing.variables d (map (variable allow hs) t) c.state (variables_to c (run allow hs js)))) (drop_one i all one is)
+      ∙ again_with (type_of of) (λ d p. variable allow hs one d c.state (λ x s. and_then p (λ e. typing.variables e (map (variable allow hs) (drop (i + 1) all)) s (λ xs t. (run allow hs js) (record c { variables = piled xs (x ∷ c.variables); state = t })))))
 
-  pub variables_end : (of : TypeName) (all : List Variable) (i : ℕ) → slice_get all i ≡ None → run hs (j.Variables of all i ∷ js) c ≡ run hs (j.TypeOf of ∷ js) c
+  pub variables_end : (of : TypeName) (all : List Variable) (i : ℕ) → slice_get all i ≡ None → run allow hs (j.Variables of all i ∷ js) c ≡ run allow hs (j.TypeOf of ∷ js) c
   unfolding run
-  variables_end of all i is = ap (λ (t : List Variable). and_then (type_of of) (λ d. typing.variables d (map (variable hs) t) c.state (variables_to c (run hs js)))) (drop_end i all is)
+  variables_end of all i is = ap (λ (t : List Variable). and_then (type_of of) (λ d. typing.variables d (map (variable allow hs) t) c.state (variables_to c (run allow hs js)))) (drop_end i all is)
 
-  variable_rolled : (of : TypeName) (name : Spelled) (v : Option Argument) → run hs (j.Variable_ of (roll-Variable (record { name = name; value = v })) ∷ js) c ≡ run hs (j.TypeOf of ∷ j.Initial of v ∷ j.Declare name of ∷ js) c
+  variable_rolled : (of : TypeName) (name : Spelled) (v : Option Argument) → run allow hs (j.Variable_ of (roll-Variable (record { name = name; value = v })) ∷ js) c ≡ run allow hs (j.TypeOf of ∷ j.Initial of v ∷ j.Declare name of ∷ js) c
   unfolding run
   variable_rolled of name None =
-      ap (λ (x : Ty → Doing TypedVariable). and_then (type_of of) (λ t. x t c.state (variable_to c (run hs js)))) (fold-roll-Variable (Doing Part) (Doing Step) Reading (Doing Step) Seen Doer Braces Seen Doer Seen (Ty → Doing TypedVariable) (argument_step hs) (body_step hs) (expression_step hs) (first_step hs) (lambda_step hs) (statement_step hs) (block_step hs) (catch_step hs) (declaration_step hs) (entry_step hs) (variable_step hs) (record { name = name; value = None }))
-      ∙ (λ i. and_then (type_of of) (λ t. behind (rules.variable_of name t None c.state) (λ p. record c { variables = p.0 ∷ c.variables; state = p.1 }) (run hs js) i))
-      ∙ again (type_of of) (λ q. and_then (bind q (λ to. bind (rules.variable_of name to None c.state) (λ p. Ok (record c { variables = p.0 ∷ c.variables; state = p.1 })))) (run hs js))
+      ap (λ (x : Ty → Doing TypedVariable). and_then (type_of of) (λ t. x t c.state (variable_to c (run allow hs js)))) (fold-roll-Variable (Doing Part) (Doing Step) Reading (Doing Step) Seen Doer Braces Seen Doer Seen (Ty → Doing TypedVariable) (argument_step allow hs) (body_step allow hs) (expression_step allow hs) (first_step allow hs) (lambda_step allow hs) (statement_step allow hs) (block_step allow hs) (catch_step allow hs) (declaration_step allow hs) (entry_step allow hs) (variable_step allow hs) (record { name = name; value = None }))
+      ∙ (λ i. and_then (type_of of) (λ t. behind (rules.variable_of name t None c.state) (λ p. record c { variables = p.0 ∷ c.variables; state = p.1 }) (run allow hs js) i))
+      ∙ again (type_of of) (λ q. and_then (bind q (λ to. bind (rules.variable_of name to None c.state) (λ p. Ok (record c { variables = p.0 ∷ c.variables; state = p.1 })))) (run allow hs js))
   variable_rolled of name (Some e) =
-      ap (λ (x : Ty → Doing TypedVariable). and_then (type_of of) (λ t. x t c.state (variable_to c (run hs js)))) (fold-roll-Variable (Doing Part) (Doing Step) Reading (Doing Step) Seen Doer Braces Seen Doer Seen (Ty → Doing TypedVariable) (argument_step hs) (body_step hs) (expression_step hs) (first_step hs) (lambda_step hs) (statement_step hs) (block_step hs) (catch_step hs) (declaration_step hs) (entry_step hs) (variable_step hs) (record { name = name; value = Some e }))
-      ∙ (λ i. and_then (type_of of) (λ t. argument hs e c.state (λ x s. and_then (casts.cast_to t x) (λ y. behind (rules.variable_of name t (Some y) s) (λ p. record c { variables = p.0 ∷ c.variables; state = p.1 }) (run hs js) i))))
-      ∙ (λ i. and_then (type_of of) (λ t. argument hs e c.state (λ x s. behind_with (casts.cast_to t x) (λ y. Some y) (λ z. record c { tests = z ∷ c.tests; state = s }) (λ d. and_then (one d.tests (λ value rest. bind (Ok t) (λ to. bind (rules.variable_of name to value d.state) (λ p. Ok (record d { tests = rest; variables = p.0 ∷ d.variables; state = p.1 }))))) (run hs js)) i)))
-      ∙ again (type_of of) (λ q. argument hs e c.state (λ x s. and_then (bind (bind q (λ to. bind (casts.cast_to to x) (λ y. Ok (Some y)))) (λ z. Ok (record c { tests = z ∷ c.tests; state = s }))) (λ d. and_then (one d.tests (λ value rest. bind q (λ to. bind (rules.variable_of name to value d.state) (λ p. Ok (record d { tests = rest; variables = p.0 ∷ d.variables; state = p.1 }))))) (run hs js))))
+      ap (λ (x : Ty → Doing TypedVariable). and_then (type_of of) (λ t. x t c.state (variable_to c (run allow hs js)))) (fold-roll-Variable (Doing Part) (Doing Step) Reading (Doing Step) Seen Doer Braces Seen Doer Seen (Ty → Doing TypedVariable) (argument_step allow hs) (body_step allow hs) (expression_step allow hs) (first_step allow hs) (lambda_step allow hs) (statement_step allow hs) (block_step allow hs) (catch_step allow hs) (declaration_step allow hs) (entry_step allow hs) (variable_step allow hs) (record { name = name; value = Some e }))
+      ∙ (λ i. and_then (type_of of) (λ t. argument allow hs e c.state (λ x s. and_then (casts.cast_to t x) (λ y. behind (rules.variable_of name t (Some y) s) (λ p. record c { variables = p.0 ∷ c.variables; state = p.1 }) (run allow hs js) i))))
+      ∙ (λ i. and_then (type_of of) (λ t. argument allow hs e c.state (λ x s. behind_with (casts.cast_to t x) (λ y. Some y) (λ z. record c { tests = z ∷ c.tests; state = s }) (λ d. and_then (one d.tests (λ value rest. bind (Ok t) (λ to. bind (rules.variable_of name to value d.state) (λ p. Ok (record d { tests = rest; variables = p.0 ∷ d.variables; state = p.1 }))))) (run allow hs js)) i)))
+      ∙ again (type_of of) (λ q. argument allow hs e c.state (λ x s. and_then (bind (bind q (λ to. bind (casts.cast_to to x) (λ y. Ok (Some y)))) (λ z. Ok (record c { tests = z ∷ c.tests; state = s }))) (λ d. and_then (one d.tests (λ value rest. bind q (λ to. bind (rules.variable_of name to value d.state) (λ p. Ok (record d { tests = rest; variables = p.0 ∷ d.variables; state = p.1 }))))) (run allow hs js))))
 
-  pub variable_goes : (of : TypeName) (e : Variable) → run hs (j.Variable_ of e ∷ js) c ≡ run hs (j.TypeOf of ∷ j.Initial of (out-Variable e).value ∷ j.Declare (out-Variable e).name of ∷ js) c
-  variable_goes of e = ap (λ (x : Variable). run hs (j.Variable_ of x ∷ js) c) (sym (roll-out-Variable e)) ∙ variable_rolled of (out-Variable e).name (out-Variable e).value
+  pub variable_goes : (of : TypeName) (e : Variable) → run allow hs (j.Variable_ of e ∷ js) c ≡ run allow hs (j.TypeOf of ∷ j.Initial of (out-Variable e).value ∷ j.Declare (out-Variable e).name of ∷ js) c
+  variable_goes of e = ap (λ (x : Variable). run allow hs (j.Variable_ of x ∷ js) c) (sym (roll-out-Variable e)) ∙ variable_rolled of (out-Variable e).name (out-Variable e).value
 
   parameter_by : (name : List ℕ) (v : Option TypeName) (all : List Parameter) (i : ℕ)
-      → and_then (parameter_type v) (λ of. lambda_parameters (drop i all) (noted name of c.state) (nothing_to c (run hs js))) ≡ run hs (parameter_plan name v ++ j.Parameters all i ∷ js) c
+      → and_then (parameter_type v) (λ of. lambda_parameters (drop i all) (noted name of c.state) (nothing_to c (run allow hs js))) ≡ run allow hs (parameter_plan name v ++ j.Parameters all i ∷ js) c
   unfolding run
   parameter_by name None all i = refl
   parameter_by name (Some of) all i = refl
 
-  pub parameters_go : (all : List Parameter) (i : ℕ) (one : Parameter) → slice_get all i ≡ Some one → run hs (j.Parameters all i ∷ js) c ≡ run hs (parameter_plan one.name.spelling one.of ++ j.Parameters all (i + 1) ∷ js) c
+  pub parameters_go : (all : List Parameter) (i : ℕ) (one : Parameter) → slice_get all i ≡ Some one → run allow hs (j.Parameters all i ∷ js) c ≡ run allow hs (parameter_plan one.name.spelling one.of ++ j.Parameters all (i + 1) ∷ js) c
   unfolding run
-  parameters_go all i one is = ap (λ (t : List Parameter). lambda_parameters t c.state (nothing_to c (run hs js))) (drop_one i all one is) ∙ parameter_by one.name.spelling one.of all (i + 1)
+  parameters_go all i one is = ap (λ (t : List Parameter). lambda_parameters t c.state (nothing_to c (run allow hs js))) (drop_one i all one is) ∙ parameter_by one.name.spelling one.of all (i + 1)
 
-  pub parameters_end : (all : List Parameter) (i : ℕ) → slice_get all i ≡ None → run hs (j.Parameters all i ∷ js) c ≡ run hs js c
+  pub parameters_end : (all : List Parameter) (i : ℕ) → slice_get all i ≡ None → run allow hs (j.Parameters all i ∷ js) c ≡ run allow hs js c
   unfolding run
-  parameters_end all i is = ap (λ (t : List Parameter). lambda_parameters t c.state (nothing_to c (run hs js))) (drop_end i all is)
+  parameters_end all i is = ap (λ (t : List Parameter). lambda_parameters t c.state (nothing_to c (run allow hs js))) (drop_end i all is)
 
-  pub values_go : (all : List Expr) (i at : ℕ) (one : Expr) → slice_get all i ≡ Some one → run hs (j.UnbuiltValues all i at ∷ js) c ≡ run hs (j.Value one ∷ j.UnbuiltValues all (i + 1) at ∷ js) c
+  pub values_go : (all : List Expr) (i at : ℕ) (one : Expr) → slice_get all i ≡ Some one → run allow hs (j.UnbuiltValues all i at ∷ js) c ≡ run allow hs (j.Value one ∷ j.UnbuiltValues all (i + 1) at ∷ js) c
   unfolding run
-  values_go all i at one is = ap (λ (t : List Expr). all_seen (map (λ (e : Reading). seen e.value) (map (reading hs) t)) c.state (refused_at at)) (drop_one i all one is)
+  values_go all i at one is = ap (λ (t : List Expr). all_seen (map (λ (e : Reading). seen e.value) (map (reading allow hs) t)) c.state (refused_at at)) (drop_one i all one is)
 
-  pub values_end : (all : List Expr) (i at : ℕ) → slice_get all i ≡ None → run hs (j.UnbuiltValues all i at ∷ js) c ≡ run hs (j.Do (a.Unbuilt at) ∷ js) c
+  pub values_end : (all : List Expr) (i at : ℕ) → slice_get all i ≡ None → run allow hs (j.UnbuiltValues all i at ∷ js) c ≡ run allow hs (j.Do (a.Unbuilt at) ∷ js) c
   unfolding run
-  values_end all i at is = ap (λ (t : List Expr). all_seen (map (λ (e : Reading). seen e.value) (map (reading hs) t)) c.state (refused_at at)) (drop_end i all is)
+  values_end all i at is = ap (λ (t : List Expr). all_seen (map (λ (e : Reading). seen e.value) (map (reading allow hs) t)) c.state (refused_at at)) (drop_end i all is)
 
-  pub unbuilt_arguments_go : (all : List Argument) (i at : ℕ) (one : Argument) → slice_get all i ≡ Some one → run hs (j.UnbuiltArguments all i at ∷ js) c ≡ run hs (j.Given one ∷ j.UnbuiltArguments all (i + 1) at ∷ js) c
+  pub entries_go : (all : List Entry) (i at : ℕ) (one : Entry) → slice_get all i ≡ Some one → run allow hs (j.UnbuiltEntries all i at ∷ js) c ≡ run allow hs (j.Value (out-Entry one).key ∷ j.Value (out-Entry one).value ∷ j.UnbuiltEntries all (i + 1) at ∷ js) c
   unfolding run
-  unbuilt_arguments_go all i at one is = ap (λ (t : List Argument). all_seen (map (λ (m : Doing Part). seen m) (map (argument hs) t)) c.state (refused_at at)) (drop_one i all one is)
+  entries_go all i at one is = ap (λ (t : List Entry). all_seen (map (entry allow hs) t) c.state (refused_at at)) (drop_one i all one is)
+      ∙ ap (λ (x : Seen). x c.state (λ u s. all_seen (map (entry allow hs) (drop (i + 1) all)) s (refused_at at))) (fold_out-Entry (Doing Part) (Doing Step) Reading (Doing Step) Seen Doer Braces Seen Doer Seen (Ty → Doing TypedVariable) (argument_step allow hs) (body_step allow hs) (expression_step allow hs) (first_step allow hs) (lambda_step allow hs) (statement_step allow hs) (block_step allow hs) (catch_step allow hs) (declaration_step allow hs) (entry_step allow hs) (variable_step allow hs) one)
 
-  pub unbuilt_arguments_end : (all : List Argument) (i at : ℕ) → slice_get all i ≡ None → run hs (j.UnbuiltArguments all i at ∷ js) c ≡ run hs (j.Do (a.Unbuilt at) ∷ js) c
+  pub entries_end : (all : List Entry) (i at : ℕ) → slice_get all i ≡ None → run allow hs (j.UnbuiltEntries all i at ∷ js) c ≡ run allow hs (j.Do (a.Unbuilt at) ∷ js) c
   unfolding run
-  unbuilt_arguments_end all i at is = ap (λ (t : List Argument). all_seen (map (λ (m : Doing Part). seen m) (map (argument hs) t)) c.state (refused_at at)) (drop_end i all is)
+  entries_end all i at is = ap (λ (t : List Entry). all_seen (map (entry allow hs) t) c.state (refused_at at)) (drop_end i all is)
 
-  pub entries_go : (all : List Entry) (i at : ℕ) (one : Entry) → slice_get all i ≡ Some one → run hs (j.UnbuiltEntries all i at ∷ js) c ≡ run hs (j.Value (out-Entry one).key ∷ j.Value (out-Entry one).value ∷ j.UnbuiltEntries all (i + 1) at ∷ js) c
+  pub catches_go : (all : List Catch) (i at : ℕ) (one : Catch) → slice_get all i ≡ Some one → run allow hs (j.UnbuiltCatches all i at ∷ js) c ≡ run allow hs (j.Catch_ one ∷ j.UnbuiltCatches all (i + 1) at ∷ js) c
   unfolding run
-  entries_go all i at one is = ap (λ (t : List Entry). all_seen (map (entry hs) t) c.state (refused_at at)) (drop_one i all one is)
-      ∙ ap (λ (x : Seen). x c.state (λ u s. all_seen (map (entry hs) (drop (i + 1) all)) s (refused_at at))) (fold_out-Entry (Doing Part) (Doing Step) Reading (Doing Step) Seen Doer Braces Seen Doer Seen (Ty → Doing TypedVariable) (argument_step hs) (body_step hs) (expression_step hs) (first_step hs) (lambda_step hs) (statement_step hs) (block_step hs) (catch_step hs) (declaration_step hs) (entry_step hs) (variable_step hs) one)
+  catches_go all i at one is = ap (λ (t : List Catch). all_seen (map (handler allow hs) t) c.state (refused_at at)) (drop_one i all one is)
+      ∙ ap (λ (x : Seen). x c.state (λ u s. all_seen (map (handler allow hs) (drop (i + 1) all)) s (refused_at at))) (fold_out-Catch (Doing Part) (Doing Step) Reading (Doing Step) Seen Doer Braces Seen Doer Seen (Ty → Doing TypedVariable) (argument_step allow hs) (body_step allow hs) (expression_step allow hs) (first_step allow hs) (lambda_step allow hs) (statement_step allow hs) (block_step allow hs) (catch_step allow hs) (declaration_step allow hs) (entry_step allow hs) (variable_step allow hs) one)
 
-  pub entries_end : (all : List Entry) (i at : ℕ) → slice_get all i ≡ None → run hs (j.UnbuiltEntries all i at ∷ js) c ≡ run hs (j.Do (a.Unbuilt at) ∷ js) c
+  pub catches_end : (all : List Catch) (i at : ℕ) → slice_get all i ≡ None → run allow hs (j.UnbuiltCatches all i at ∷ js) c ≡ run allow hs (j.Do (a.Unbuilt at) ∷ js) c
   unfolding run
-  entries_end all i at is = ap (λ (t : List Entry). all_seen (map (entry hs) t) c.state (refused_at at)) (drop_end i all is)
+  catches_end all i at is = ap (λ (t : List Catch). all_seen (map (handler allow hs) t) c.state (refused_at at)) (drop_end i all is)
 
-  pub catches_go : (all : List Catch) (i at : ℕ) (one : Catch) → slice_get all i ≡ Some one → run hs (j.UnbuiltCatches all i at ∷ js) c ≡ run hs (j.Catch_ one ∷ j.UnbuiltCatches all (i + 1) at ∷ js) c
+  pub catch_goes : (e : Catch) → run allow hs (j.Catch_ e ∷ js) c ≡ run allow hs (j.Noted (out-Catch e).name.spelling (out-Catch e).of ∷ j.Statements (out-Block (out-Catch e).block).statements 0 false false ∷ j.DoStatement (sa.Close (length c.state.scopes)) ∷ js) c
   unfolding run
-  catches_go all i at one is = ap (λ (t : List Catch). all_seen (map (handler hs) t) c.state (refused_at at)) (drop_one i all one is)
-      ∙ ap (λ (x : Seen). x c.state (λ u s. all_seen (map (handler hs) (drop (i + 1) all)) s (refused_at at))) (fold_out-Catch (Doing Part) (Doing Step) Reading (Doing Step) Seen Doer Braces Seen Doer Seen (Ty → Doing TypedVariable) (argument_step hs) (body_step hs) (expression_step hs) (first_step hs) (lambda_step hs) (statement_step hs) (block_step hs) (catch_step hs) (declaration_step hs) (entry_step hs) (variable_step hs) one)
-
-  pub catches_end : (all : List Catch) (i at : ℕ) → slice_get all i ≡ None → run hs (j.UnbuiltCatches all i at ∷ js) c ≡ run hs (j.Do (a.Unbuilt at) ∷ js) c
-  unfolding run
-  catches_end all i at is = ap (λ (t : List Catch). all_seen (map (handler hs) t) c.state (refused_at at)) (drop_end i all is)
-
-  pub catch_goes : (e : Catch) → run hs (j.Catch_ e ∷ js) c ≡ run hs (j.Noted (out-Catch e).name.spelling (out-Catch e).of ∷ j.Statements (out-Block (out-Catch e).block).statements 0 false false ∷ j.DoStatement (sa.Close (length c.state.scopes)) ∷ js) c
-  unfolding run
-  catch_goes e = ap (λ (x : Braces). and_then (type_of (out-Catch e).of) (λ of. x.steps (noted (out-Catch e).name.spelling of c.state) (λ ys s. (run hs js) (record c { steps = piled ys c.steps; state = closed (length c.state.scopes) s })))) (fold_out-Block (Doing Part) (Doing Step) Reading (Doing Step) Seen Doer Braces Seen Doer Seen (Ty → Doing TypedVariable) (argument_step hs) (body_step hs) (expression_step hs) (first_step hs) (lambda_step hs) (statement_step hs) (block_step hs) (catch_step hs) (declaration_step hs) (entry_step hs) (variable_step hs) (out-Catch e).block)
+  catch_goes e = ap (λ (x : Braces). and_then (type_of (out-Catch e).of) (λ of. x.steps (noted (out-Catch e).name.spelling of c.state) (λ ys s. (run allow hs js) (record c { steps = piled ys c.steps; state = closed (length c.state.scopes) s })))) (fold_out-Block (Doing Part) (Doing Step) Reading (Doing Step) Seen Doer Braces Seen Doer Seen (Ty → Doing TypedVariable) (argument_step allow hs) (body_step allow hs) (expression_step allow hs) (first_step allow hs) (lambda_step allow hs) (statement_step allow hs) (block_step allow hs) (catch_step allow hs) (declaration_step allow hs) (entry_step allow hs) (variable_step allow hs) (out-Catch e).block)

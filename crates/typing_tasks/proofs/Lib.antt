@@ -6,3 +6,4 @@ pub mod PartPlans
 pub mod Goings
 pub mod Firsts
 pub mod Runs
+pub mod Names

@@ -5,6 +5,7 @@ use Rattle.pl_tree.specs.declared.tree.Statement.{Statement, out-Statement, roll
 use Rattle.pl_tree.specs.declared.tree.Argument.TheOpen.{Statement-F}
 use Rattle.pl_tree.specs.declared.tree.Argument.TheFolds.{fold-roll-Statement}
 use Rattle.typed_tree.specs.declared.statement.TypedVariable.{TypedVariable}
+use Rattle.allowlist.specs.Allow.{AllowList}
 use Rattle.typing_rules.specs.declared.header.Header.{Header}
 use Rattle.typing_rules.specs.declared.part.Part.{Part}
 use Rattle.typing_rules.specs.declared.part.Step.{Step}
@@ -21,50 +22,50 @@ use Rattle.typing_tasks.specs.Machine.{run, step_to, refused_at}
 use Rattle.typing_tasks.specs.Plans.{Open, statement_plan}
 use Rattle.typing_tasks.proofs.Behind.{behind, behind_with, again}
 
-module _ (hs : List Header) (js : List Job) (c : Config) where
-  pub statement_rolled : (last : Bool) (y : Open Statement-F) → run hs (j.Statement_ (roll-Statement y) last ∷ js) c ≡ run hs (statement_plan last y ++ js) c
+module _ (allow : AllowList) (hs : List Header) (js : List Job) (c : Config) where
+  pub statement_rolled : (last : Bool) (y : Open Statement-F) → run allow hs (j.Statement_ (roll-Statement y) last ∷ js) c ≡ run allow hs (statement_plan last y ++ js) c
   unfolding run
-  statement_rolled last (Statement-F.If at condition chosen None) = ap (λ (x : Doer). x.typed last c.state (step_to c (run hs js))) (fold-roll-Statement (Doing Part) (Doing Step) Reading (Doing Step) Seen Doer Braces Seen Doer Seen (Ty → Doing TypedVariable) (argument_step hs) (body_step hs) (expression_step hs) (first_step hs) (lambda_step hs) (statement_step hs) (block_step hs) (catch_step hs) (declaration_step hs) (entry_step hs) (variable_step hs) (Statement-F.If at condition chosen None))
-      ∙ (λ i. (reading hs condition).value c.state (λ x s. behind_with (rules.test x) (λ t. Some t) (λ t. record c { tests = t ∷ c.tests; state = s }) (run hs (j.Body_ chosen ∷ j.Otherwise at None ∷ js)) i))
-  statement_rolled last (Statement-F.If at condition chosen (Some other)) = ap (λ (x : Doer). x.typed last c.state (step_to c (run hs js))) (fold-roll-Statement (Doing Part) (Doing Step) Reading (Doing Step) Seen Doer Braces Seen Doer Seen (Ty → Doing TypedVariable) (argument_step hs) (body_step hs) (expression_step hs) (first_step hs) (lambda_step hs) (statement_step hs) (block_step hs) (catch_step hs) (declaration_step hs) (entry_step hs) (variable_step hs) (Statement-F.If at condition chosen (Some other)))
-      ∙ (λ i. (reading hs condition).value c.state (λ x s. behind_with (rules.test x) (λ t. Some t) (λ t. record c { tests = t ∷ c.tests; state = s }) (run hs (j.Body_ chosen ∷ j.Otherwise at (Some other) ∷ js)) i))
-  statement_rolled last (Statement-F.While at condition None) = ap (λ (x : Doer). x.typed last c.state (step_to c (run hs js))) (fold-roll-Statement (Doing Part) (Doing Step) Reading (Doing Step) Seen Doer Braces Seen Doer Seen (Ty → Doing TypedVariable) (argument_step hs) (body_step hs) (expression_step hs) (first_step hs) (lambda_step hs) (statement_step hs) (block_step hs) (catch_step hs) (declaration_step hs) (entry_step hs) (variable_step hs) (Statement-F.While at condition None))
-      ∙ (λ i. (reading hs condition).value c.state (λ x s. behind (rules.loop_test x) (λ t. record c { tests = t ∷ c.tests; state = s }) (run hs (j.DoStatement sa.NoTest ∷ j.LoopBody None ∷ j.DoStatement (sa.Loop at false false) ∷ js)) i))
-  statement_rolled last (Statement-F.While at condition (Some body_)) = ap (λ (x : Doer). x.typed last c.state (step_to c (run hs js))) (fold-roll-Statement (Doing Part) (Doing Step) Reading (Doing Step) Seen Doer Braces Seen Doer Seen (Ty → Doing TypedVariable) (argument_step hs) (body_step hs) (expression_step hs) (first_step hs) (lambda_step hs) (statement_step hs) (block_step hs) (catch_step hs) (declaration_step hs) (entry_step hs) (variable_step hs) (Statement-F.While at condition (Some body_)))
-      ∙ (λ i. (reading hs condition).value c.state (λ x s. behind (rules.loop_test x) (λ t. record c { tests = t ∷ c.tests; state = s }) (run hs (j.DoStatement sa.NoTest ∷ j.LoopBody (Some body_) ∷ j.DoStatement (sa.Loop at false true) ∷ js)) i))
-  statement_rolled last (Statement-F.For at None None None None) = ap (λ (x : Doer). x.typed last c.state (step_to c (run hs js))) (fold-roll-Statement (Doing Part) (Doing Step) Reading (Doing Step) Seen Doer Braces Seen Doer Seen (Ty → Doing TypedVariable) (argument_step hs) (body_step hs) (expression_step hs) (first_step hs) (lambda_step hs) (statement_step hs) (block_step hs) (catch_step hs) (declaration_step hs) (entry_step hs) (variable_step hs) (Statement-F.For at None None None None))
-  statement_rolled last (Statement-F.For at None None None (Some b)) = ap (λ (x : Doer). x.typed last c.state (step_to c (run hs js))) (fold-roll-Statement (Doing Part) (Doing Step) Reading (Doing Step) Seen Doer Braces Seen Doer Seen (Ty → Doing TypedVariable) (argument_step hs) (body_step hs) (expression_step hs) (first_step hs) (lambda_step hs) (statement_step hs) (block_step hs) (catch_step hs) (declaration_step hs) (entry_step hs) (variable_step hs) (Statement-F.For at None None None (Some b)))
-  statement_rolled last (Statement-F.For at None None (Some u) None) = ap (λ (x : Doer). x.typed last c.state (step_to c (run hs js))) (fold-roll-Statement (Doing Part) (Doing Step) Reading (Doing Step) Seen Doer Braces Seen Doer Seen (Ty → Doing TypedVariable) (argument_step hs) (body_step hs) (expression_step hs) (first_step hs) (lambda_step hs) (statement_step hs) (block_step hs) (catch_step hs) (declaration_step hs) (entry_step hs) (variable_step hs) (Statement-F.For at None None (Some u) None))
-  statement_rolled last (Statement-F.For at None None (Some u) (Some b)) = ap (λ (x : Doer). x.typed last c.state (step_to c (run hs js))) (fold-roll-Statement (Doing Part) (Doing Step) Reading (Doing Step) Seen Doer Braces Seen Doer Seen (Ty → Doing TypedVariable) (argument_step hs) (body_step hs) (expression_step hs) (first_step hs) (lambda_step hs) (statement_step hs) (block_step hs) (catch_step hs) (declaration_step hs) (entry_step hs) (variable_step hs) (Statement-F.For at None None (Some u) (Some b)))
-  statement_rolled last (Statement-F.For at None (Some d) None None) = ap (λ (x : Doer). x.typed last c.state (step_to c (run hs js))) (fold-roll-Statement (Doing Part) (Doing Step) Reading (Doing Step) Seen Doer Braces Seen Doer Seen (Ty → Doing TypedVariable) (argument_step hs) (body_step hs) (expression_step hs) (first_step hs) (lambda_step hs) (statement_step hs) (block_step hs) (catch_step hs) (declaration_step hs) (entry_step hs) (variable_step hs) (Statement-F.For at None (Some d) None None))
-  statement_rolled last (Statement-F.For at None (Some d) None (Some b)) = ap (λ (x : Doer). x.typed last c.state (step_to c (run hs js))) (fold-roll-Statement (Doing Part) (Doing Step) Reading (Doing Step) Seen Doer Braces Seen Doer Seen (Ty → Doing TypedVariable) (argument_step hs) (body_step hs) (expression_step hs) (first_step hs) (lambda_step hs) (statement_step hs) (block_step hs) (catch_step hs) (declaration_step hs) (entry_step hs) (variable_step hs) (Statement-F.For at None (Some d) None (Some b)))
-  statement_rolled last (Statement-F.For at None (Some d) (Some u) None) = ap (λ (x : Doer). x.typed last c.state (step_to c (run hs js))) (fold-roll-Statement (Doing Part) (Doing Step) Reading (Doing Step) Seen Doer Braces Seen Doer Seen (Ty → Doing TypedVariable) (argument_step hs) (body_step hs) (expression_step hs) (first_step hs) (lambda_step hs) (statement_step hs) (block_step hs) (catch_step hs) (declaration_step hs) (entry_step hs) (variable_step hs) (Statement-F.For at None (Some d) (Some u) None))
-  statement_rolled last (Statement-F.For at None (Some d) (Some u) (Some b)) = ap (λ (x : Doer). x.typed last c.state (step_to c (run hs js))) (fold-roll-Statement (Doing Part) (Doing Step) Reading (Doing Step) Seen Doer Braces Seen Doer Seen (Ty → Doing TypedVariable) (argument_step hs) (body_step hs) (expression_step hs) (first_step hs) (lambda_step hs) (statement_step hs) (block_step hs) (catch_step hs) (declaration_step hs) (entry_step hs) (variable_step hs) (Statement-F.For at None (Some d) (Some u) (Some b)))
-  statement_rolled last (Statement-F.For at (Some f) None None None) = ap (λ (x : Doer). x.typed last c.state (step_to c (run hs js))) (fold-roll-Statement (Doing Part) (Doing Step) Reading (Doing Step) Seen Doer Braces Seen Doer Seen (Ty → Doing TypedVariable) (argument_step hs) (body_step hs) (expression_step hs) (first_step hs) (lambda_step hs) (statement_step hs) (block_step hs) (catch_step hs) (declaration_step hs) (entry_step hs) (variable_step hs) (Statement-F.For at (Some f) None None None))
-  statement_rolled last (Statement-F.For at (Some f) None None (Some b)) = ap (λ (x : Doer). x.typed last c.state (step_to c (run hs js))) (fold-roll-Statement (Doing Part) (Doing Step) Reading (Doing Step) Seen Doer Braces Seen Doer Seen (Ty → Doing TypedVariable) (argument_step hs) (body_step hs) (expression_step hs) (first_step hs) (lambda_step hs) (statement_step hs) (block_step hs) (catch_step hs) (declaration_step hs) (entry_step hs) (variable_step hs) (Statement-F.For at (Some f) None None (Some b)))
-  statement_rolled last (Statement-F.For at (Some f) None (Some u) None) = ap (λ (x : Doer). x.typed last c.state (step_to c (run hs js))) (fold-roll-Statement (Doing Part) (Doing Step) Reading (Doing Step) Seen Doer Braces Seen Doer Seen (Ty → Doing TypedVariable) (argument_step hs) (body_step hs) (expression_step hs) (first_step hs) (lambda_step hs) (statement_step hs) (block_step hs) (catch_step hs) (declaration_step hs) (entry_step hs) (variable_step hs) (Statement-F.For at (Some f) None (Some u) None))
-  statement_rolled last (Statement-F.For at (Some f) None (Some u) (Some b)) = ap (λ (x : Doer). x.typed last c.state (step_to c (run hs js))) (fold-roll-Statement (Doing Part) (Doing Step) Reading (Doing Step) Seen Doer Braces Seen Doer Seen (Ty → Doing TypedVariable) (argument_step hs) (body_step hs) (expression_step hs) (first_step hs) (lambda_step hs) (statement_step hs) (block_step hs) (catch_step hs) (declaration_step hs) (entry_step hs) (variable_step hs) (Statement-F.For at (Some f) None (Some u) (Some b)))
-  statement_rolled last (Statement-F.For at (Some f) (Some d) None None) = ap (λ (x : Doer). x.typed last c.state (step_to c (run hs js))) (fold-roll-Statement (Doing Part) (Doing Step) Reading (Doing Step) Seen Doer Braces Seen Doer Seen (Ty → Doing TypedVariable) (argument_step hs) (body_step hs) (expression_step hs) (first_step hs) (lambda_step hs) (statement_step hs) (block_step hs) (catch_step hs) (declaration_step hs) (entry_step hs) (variable_step hs) (Statement-F.For at (Some f) (Some d) None None))
-  statement_rolled last (Statement-F.For at (Some f) (Some d) None (Some b)) = ap (λ (x : Doer). x.typed last c.state (step_to c (run hs js))) (fold-roll-Statement (Doing Part) (Doing Step) Reading (Doing Step) Seen Doer Braces Seen Doer Seen (Ty → Doing TypedVariable) (argument_step hs) (body_step hs) (expression_step hs) (first_step hs) (lambda_step hs) (statement_step hs) (block_step hs) (catch_step hs) (declaration_step hs) (entry_step hs) (variable_step hs) (Statement-F.For at (Some f) (Some d) None (Some b)))
-  statement_rolled last (Statement-F.For at (Some f) (Some d) (Some u) None) = ap (λ (x : Doer). x.typed last c.state (step_to c (run hs js))) (fold-roll-Statement (Doing Part) (Doing Step) Reading (Doing Step) Seen Doer Braces Seen Doer Seen (Ty → Doing TypedVariable) (argument_step hs) (body_step hs) (expression_step hs) (first_step hs) (lambda_step hs) (statement_step hs) (block_step hs) (catch_step hs) (declaration_step hs) (entry_step hs) (variable_step hs) (Statement-F.For at (Some f) (Some d) (Some u) None))
-  statement_rolled last (Statement-F.For at (Some f) (Some d) (Some u) (Some b)) = ap (λ (x : Doer). x.typed last c.state (step_to c (run hs js))) (fold-roll-Statement (Doing Part) (Doing Step) Reading (Doing Step) Seen Doer Braces Seen Doer Seen (Ty → Doing TypedVariable) (argument_step hs) (body_step hs) (expression_step hs) (first_step hs) (lambda_step hs) (statement_step hs) (block_step hs) (catch_step hs) (declaration_step hs) (entry_step hs) (variable_step hs) (Statement-F.For at (Some f) (Some d) (Some u) (Some b)))
-  statement_rolled last (Statement-F.ForEach at of name over body_) = ap (λ (x : Doer). x.typed last c.state (step_to c (run hs js))) (fold-roll-Statement (Doing Part) (Doing Step) Reading (Doing Step) Seen Doer Braces Seen Doer Seen (Ty → Doing TypedVariable) (argument_step hs) (body_step hs) (expression_step hs) (first_step hs) (lambda_step hs) (statement_step hs) (block_step hs) (catch_step hs) (declaration_step hs) (entry_step hs) (variable_step hs) (Statement-F.ForEach at of name over body_))
-      ∙ again (type_of of) (λ p. (reading hs over).value c.state (λ x s. and_then p (λ t. looping (body hs body_) (noted name.spelling t s) (refused_at at))))
-  statement_rolled last (Statement-F.ForIn at name over body_) = ap (λ (x : Doer). x.typed last c.state (step_to c (run hs js))) (fold-roll-Statement (Doing Part) (Doing Step) Reading (Doing Step) Seen Doer Braces Seen Doer Seen (Ty → Doing TypedVariable) (argument_step hs) (body_step hs) (expression_step hs) (first_step hs) (lambda_step hs) (statement_step hs) (block_step hs) (catch_step hs) (declaration_step hs) (entry_step hs) (variable_step hs) (Statement-F.ForIn at name over body_))
-  statement_rolled last (Statement-F.Try at block catches) = ap (λ (x : Doer). x.typed last c.state (step_to c (run hs js))) (fold-roll-Statement (Doing Part) (Doing Step) Reading (Doing Step) Seen Doer Braces Seen Doer Seen (Ty → Doing TypedVariable) (argument_step hs) (body_step hs) (expression_step hs) (first_step hs) (lambda_step hs) (statement_step hs) (block_step hs) (catch_step hs) (declaration_step hs) (entry_step hs) (variable_step hs) (Statement-F.Try at block catches))
-  statement_rolled last (Statement-F.Do at block condition) = ap (λ (x : Doer). x.typed last c.state (step_to c (run hs js))) (fold-roll-Statement (Doing Part) (Doing Step) Reading (Doing Step) Seen Doer Braces Seen Doer Seen (Ty → Doing TypedVariable) (argument_step hs) (body_step hs) (expression_step hs) (first_step hs) (lambda_step hs) (statement_step hs) (block_step hs) (catch_step hs) (declaration_step hs) (entry_step hs) (variable_step hs) (Statement-F.Do at block condition))
-      ∙ (λ i. looping (scoped (braces hs block).steps) c.state (λ ys w. (reading hs condition).value w (λ x s. behind (rules.loop_test x) (λ t. record c { tests = t ∷ c.tests; steps = rules.block_of (braces hs block).at ys ∷ c.steps; state = s }) (run hs (j.DoStatement (sa.DoLoop at) ∷ js)) i)))
-  statement_rolled last (Statement-F.«Statement::Declare» declaration) = ap (λ (x : Doer). x.typed last c.state (step_to c (run hs js))) (fold-roll-Statement (Doing Part) (Doing Step) Reading (Doing Step) Seen Doer Braces Seen Doer Seen (Ty → Doing TypedVariable) (argument_step hs) (body_step hs) (expression_step hs) (first_step hs) (lambda_step hs) (statement_step hs) (block_step hs) (catch_step hs) (declaration_step hs) (entry_step hs) (variable_step hs) (Statement-F.«Statement::Declare» declaration))
-  statement_rolled last (Statement-F.Continue at) = ap (λ (x : Doer). x.typed last c.state (step_to c (run hs js))) (fold-roll-Statement (Doing Part) (Doing Step) Reading (Doing Step) Seen Doer Braces Seen Doer Seen (Ty → Doing TypedVariable) (argument_step hs) (body_step hs) (expression_step hs) (first_step hs) (lambda_step hs) (statement_step hs) (block_step hs) (catch_step hs) (declaration_step hs) (entry_step hs) (variable_step hs) (Statement-F.Continue at))
-      ∙ (λ i. behind (rules.continue_of at c.state) (λ y. record c { steps = y ∷ c.steps; state = c.state }) (run hs js) i)
-  statement_rolled last (Statement-F.Break at) = ap (λ (x : Doer). x.typed last c.state (step_to c (run hs js))) (fold-roll-Statement (Doing Part) (Doing Step) Reading (Doing Step) Seen Doer Braces Seen Doer Seen (Ty → Doing TypedVariable) (argument_step hs) (body_step hs) (expression_step hs) (first_step hs) (lambda_step hs) (statement_step hs) (block_step hs) (catch_step hs) (declaration_step hs) (entry_step hs) (variable_step hs) (Statement-F.Break at))
-      ∙ (λ i. behind (rules.break_of at c.state) (λ y. record c { steps = y ∷ c.steps; state = c.state }) (run hs js) i)
-  statement_rolled last (Statement-F.Return at None) = ap (λ (x : Doer). x.typed last c.state (step_to c (run hs js))) (fold-roll-Statement (Doing Part) (Doing Step) Reading (Doing Step) Seen Doer Braces Seen Doer Seen (Ty → Doing TypedVariable) (argument_step hs) (body_step hs) (expression_step hs) (first_step hs) (lambda_step hs) (statement_step hs) (block_step hs) (catch_step hs) (declaration_step hs) (entry_step hs) (variable_step hs) (Statement-F.Return at None))
-  statement_rolled last (Statement-F.Return at (Some value)) = ap (λ (x : Doer). x.typed last c.state (step_to c (run hs js))) (fold-roll-Statement (Doing Part) (Doing Step) Reading (Doing Step) Seen Doer Braces Seen Doer Seen (Ty → Doing TypedVariable) (argument_step hs) (body_step hs) (expression_step hs) (first_step hs) (lambda_step hs) (statement_step hs) (block_step hs) (catch_step hs) (declaration_step hs) (entry_step hs) (variable_step hs) (Statement-F.Return at (Some value)))
-  statement_rolled last (Statement-F.Throw at value) = ap (λ (x : Doer). x.typed last c.state (step_to c (run hs js))) (fold-roll-Statement (Doing Part) (Doing Step) Reading (Doing Step) Seen Doer Braces Seen Doer Seen (Ty → Doing TypedVariable) (argument_step hs) (body_step hs) (expression_step hs) (first_step hs) (lambda_step hs) (statement_step hs) (block_step hs) (catch_step hs) (declaration_step hs) (entry_step hs) (variable_step hs) (Statement-F.Throw at value))
-      ∙ (λ i. (reading hs value).value c.state (λ x s. behind (rules.throw_of at x) (λ y. record c { steps = y ∷ c.steps; state = s }) (run hs js) i))
-  statement_rolled last (Statement-F.«Statement::Expression» at value) = ap (λ (x : Doer). x.typed last c.state (step_to c (run hs js))) (fold-roll-Statement (Doing Part) (Doing Step) Reading (Doing Step) Seen Doer Braces Seen Doer Seen (Ty → Doing TypedVariable) (argument_step hs) (body_step hs) (expression_step hs) (first_step hs) (lambda_step hs) (statement_step hs) (block_step hs) (catch_step hs) (declaration_step hs) (entry_step hs) (variable_step hs) (Statement-F.«Statement::Expression» at value))
-      ∙ (λ i. (reading hs value).value c.state (λ x s. behind (rules.expression_of at last x s) (λ y. record c { steps = y ∷ c.steps; state = s }) (run hs js) i))
+  statement_rolled last (Statement-F.If at condition chosen None) = ap (λ (x : Doer). x.typed last c.state (step_to c (run allow hs js))) (fold-roll-Statement (Doing Part) (Doing Step) Reading (Doing Step) Seen Doer Braces Seen Doer Seen (Ty → Doing TypedVariable) (argument_step allow hs) (body_step allow hs) (expression_step allow hs) (first_step allow hs) (lambda_step allow hs) (statement_step allow hs) (block_step allow hs) (catch_step allow hs) (declaration_step allow hs) (entry_step allow hs) (variable_step allow hs) (Statement-F.If at condition chosen None))
+      ∙ (λ i. (reading allow hs condition).value c.state (λ x s. behind_with (rules.test x) (λ t. Some t) (λ t. record c { tests = t ∷ c.tests; state = s }) (run allow hs (j.Body_ chosen ∷ j.Otherwise at None ∷ js)) i))
+  statement_rolled last (Statement-F.If at condition chosen (Some other)) = ap (λ (x : Doer). x.typed last c.state (step_to c (run allow hs js))) (fold-roll-Statement (Doing Part) (Doing Step) Reading (Doing Step) Seen Doer Braces Seen Doer Seen (Ty → Doing TypedVariable) (argument_step allow hs) (body_step allow hs) (expression_step allow hs) (first_step allow hs) (lambda_step allow hs) (statement_step allow hs) (block_step allow hs) (catch_step allow hs) (declaration_step allow hs) (entry_step allow hs) (variable_step allow hs) (Statement-F.If at condition chosen (Some other)))
+      ∙ (λ i. (reading allow hs condition).value c.state (λ x s. behind_with (rules.test x) (λ t. Some t) (λ t. record c { tests = t ∷ c.tests; state = s }) (run allow hs (j.Body_ chosen ∷ j.Otherwise at (Some other) ∷ js)) i))
+  statement_rolled last (Statement-F.While at condition None) = ap (λ (x : Doer). x.typed last c.state (step_to c (run allow hs js))) (fold-roll-Statement (Doing Part) (Doing Step) Reading (Doing Step) Seen Doer Braces Seen Doer Seen (Ty → Doing TypedVariable) (argument_step allow hs) (body_step allow hs) (expression_step allow hs) (first_step allow hs) (lambda_step allow hs) (statement_step allow hs) (block_step allow hs) (catch_step allow hs) (declaration_step allow hs) (entry_step allow hs) (variable_step allow hs) (Statement-F.While at condition None))
+      ∙ (λ i. (reading allow hs condition).value c.state (λ x s. behind (rules.loop_test x) (λ t. record c { tests = t ∷ c.tests; state = s }) (run allow hs (j.DoStatement sa.NoTest ∷ j.LoopBody None ∷ j.DoStatement (sa.Loop at false false) ∷ js)) i))
+  statement_rolled last (Statement-F.While at condition (Some body_)) = ap (λ (x : Doer). x.typed last c.state (step_to c (run allow hs js))) (fold-roll-Statement (Doing Part) (Doing Step) Reading (Doing Step) Seen Doer Braces Seen Doer Seen (Ty → Doing TypedVariable) (argument_step allow hs) (body_step allow hs) (expression_step allow hs) (first_step allow hs) (lambda_step allow hs) (statement_step allow hs) (block_step allow hs) (catch_step allow hs) (declaration_step allow hs) (entry_step allow hs) (variable_step allow hs) (Statement-F.While at condition (Some body_)))
+      ∙ (λ i. (reading allow hs condition).value c.state (λ x s. behind (rules.loop_test x) (λ t. record c { tests = t ∷ c.tests; state = s }) (run allow hs (j.DoStatement sa.NoTest ∷ j.LoopBody (Some body_) ∷ j.DoStatement (sa.Loop at false true) ∷ js)) i))
+  statement_rolled last (Statement-F.For at None None None None) = ap (λ (x : Doer). x.typed last c.state (step_to c (run allow hs js))) (fold-roll-Statement (Doing Part) (Doing Step) Reading (Doing Step) Seen Doer Braces Seen Doer Seen (Ty → Doing TypedVariable) (argument_step allow hs) (body_step allow hs) (expression_step allow hs) (first_step allow hs) (lambda_step allow hs) (statement_step allow hs) (block_step allow hs) (catch_step allow hs) (declaration_step allow hs) (entry_step allow hs) (variable_step allow hs) (Statement-F.For at None None None None))
+  statement_rolled last (Statement-F.For at None None None (Some b)) = ap (λ (x : Doer). x.typed last c.state (step_to c (run allow hs js))) (fold-roll-Statement (Doing Part) (Doing Step) Reading (Doing Step) Seen Doer Braces Seen Doer Seen (Ty → Doing TypedVariable) (argument_step allow hs) (body_step allow hs) (expression_step allow hs) (first_step allow hs) (lambda_step allow hs) (statement_step allow hs) (block_step allow hs) (catch_step allow hs) (declaration_step allow hs) (entry_step allow hs) (variable_step allow hs) (Statement-F.For at None None None (Some b)))
+  statement_rolled last (Statement-F.For at None None (Some u) None) = ap (λ (x : Doer). x.typed last c.state (step_to c (run allow hs js))) (fold-roll-Statement (Doing Part) (Doing Step) Reading (Doing Step) Seen Doer Braces Seen Doer Seen (Ty → Doing TypedVariable) (argument_step allow hs) (body_step allow hs) (expression_step allow hs) (first_step allow hs) (lambda_step allow hs) (statement_step allow hs) (block_step allow hs) (catch_step allow hs) (declaration_step allow hs) (entry_step allow hs) (variable_step allow hs) (Statement-F.For at None None (Some u) None))
+  statement_rolled last (Statement-F.For at None None (Some u) (Some b)) = ap (λ (x : Doer). x.typed last c.state (step_to c (run allow hs js))) (fold-roll-Statement (Doing Part) (Doing Step) Reading (Doing Step) Seen Doer Braces Seen Doer Seen (Ty → Doing TypedVariable) (argument_step allow hs) (body_step allow hs) (expression_step allow hs) (first_step allow hs) (lambda_step allow hs) (statement_step allow hs) (block_step allow hs) (catch_step allow hs) (declaration_step allow hs) (entry_step allow hs) (variable_step allow hs) (Statement-F.For at None None (Some u) (Some b)))
+  statement_rolled last (Statement-F.For at None (Some d) None None) = ap (λ (x : Doer). x.typed last c.state (step_to c (run allow hs js))) (fold-roll-Statement (Doing Part) (Doing Step) Reading (Doing Step) Seen Doer Braces Seen Doer Seen (Ty → Doing TypedVariable) (argument_step allow hs) (body_step allow hs) (expression_step allow hs) (first_step allow hs) (lambda_step allow hs) (statement_step allow hs) (block_step allow hs) (catch_step allow hs) (declaration_step allow hs) (entry_step allow hs) (variable_step allow hs) (Statement-F.For at None (Some d) None None))
+  statement_rolled last (Statement-F.For at None (Some d) None (Some b)) = ap (λ (x : Doer). x.typed last c.state (step_to c (run allow hs js))) (fold-roll-Statement (Doing Part) (Doing Step) Reading (Doing Step) Seen Doer Braces Seen Doer Seen (Ty → Doing TypedVariable) (argument_step allow hs) (body_step allow hs) (expression_step allow hs) (first_step allow hs) (lambda_step allow hs) (statement_step allow hs) (block_step allow hs) (catch_step allow hs) (declaration_step allow hs) (entry_step allow hs) (variable_step allow hs) (Statement-F.For at None (Some d) None (Some b)))
+  statement_rolled last (Statement-F.For at None (Some d) (Some u) None) = ap (λ (x : Doer). x.typed last c.state (step_to c (run allow hs js))) (fold-roll-Statement (Doing Part) (Doing Step) Reading (Doing Step) Seen Doer Braces Seen Doer Seen (Ty → Doing TypedVariable) (argument_step allow hs) (body_step allow hs) (expression_step allow hs) (first_step allow hs) (lambda_step allow hs) (statement_step allow hs) (block_step allow hs) (catch_step allow hs) (declaration_step allow hs) (entry_step allow hs) (variable_step allow hs) (Statement-F.For at None (Some d) (Some u) None))
+  statement_rolled last (Statement-F.For at None (Some d) (Some u) (Some b)) = ap (λ (x : Doer). x.typed last c.state (step_to c (run allow hs js))) (fold-roll-Statement (Doing Part) (Doing Step) Reading (Doing Step) Seen Doer Braces Seen Doer Seen (Ty → Doing TypedVariable) (argument_step allow hs) (body_step allow hs) (expression_step allow hs) (first_step allow hs) (lambda_step allow hs) (statement_step allow hs) (block_step allow hs) (catch_step allow hs) (declaration_step allow hs) (entry_step allow hs) (variable_step allow hs) (Statement-F.For at None (Some d) (Some u) (Some b)))
+  statement_rolled last (Statement-F.For at (Some f) None None None) = ap (λ (x : Doer). x.typed last c.state (step_to c (run allow hs js))) (fold-roll-Statement (Doing Part) (Doing Step) Reading (Doing Step) Seen Doer Braces Seen Doer Seen (Ty → Doing TypedVariable) (argument_step allow hs) (body_step allow hs) (expression_step allow hs) (first_step allow hs) (lambda_step allow hs) (statement_step allow hs) (block_step allow hs) (catch_step allow hs) (declaration_step allow hs) (entry_step allow hs) (variable_step allow hs) (Statement-F.For at (Some f) None None None))
+  statement_rolled last (Statement-F.For at (Some f) None None (Some b)) = ap (λ (x : Doer). x.typed last c.state (step_to c (run allow hs js))) (fold-roll-Statement (Doing Part) (Doing Step) Reading (Doing Step) Seen Doer Braces Seen Doer Seen (Ty → Doing TypedVariable) (argument_step allow hs) (body_step allow hs) (expression_step allow hs) (first_step allow hs) (lambda_step allow hs) (statement_step allow hs) (block_step allow hs) (catch_step allow hs) (declaration_step allow hs) (entry_step allow hs) (variable_step allow hs) (Statement-F.For at (Some f) None None (Some b)))
+  statement_rolled last (Statement-F.For at (Some f) None (Some u) None) = ap (λ (x : Doer). x.typed last c.state (step_to c (run allow hs js))) (fold-roll-Statement (Doing Part) (Doing Step) Reading (Doing Step) Seen Doer Braces Seen Doer Seen (Ty → Doing TypedVariable) (argument_step allow hs) (body_step allow hs) (expression_step allow hs) (first_step allow hs) (lambda_step allow hs) (statement_step allow hs) (block_step allow hs) (catch_step allow hs) (declaration_step allow hs) (entry_step allow hs) (variable_step allow hs) (Statement-F.For at (Some f) None (Some u) None))
+  statement_rolled last (Statement-F.For at (Some f) None (Some u) (Some b)) = ap (λ (x : Doer). x.typed last c.state (step_to c (run allow hs js))) (fold-roll-Statement (Doing Part) (Doing Step) Reading (Doing Step) Seen Doer Braces Seen Doer Seen (Ty → Doing TypedVariable) (argument_step allow hs) (body_step allow hs) (expression_step allow hs) (first_step allow hs) (lambda_step allow hs) (statement_step allow hs) (block_step allow hs) (catch_step allow hs) (declaration_step allow hs) (entry_step allow hs) (variable_step allow hs) (Statement-F.For at (Some f) None (Some u) (Some b)))
+  statement_rolled last (Statement-F.For at (Some f) (Some d) None None) = ap (λ (x : Doer). x.typed last c.state (step_to c (run allow hs js))) (fold-roll-Statement (Doing Part) (Doing Step) Reading (Doing Step) Seen Doer Braces Seen Doer Seen (Ty → Doing TypedVariable) (argument_step allow hs) (body_step allow hs) (expression_step allow hs) (first_step allow hs) (lambda_step allow hs) (statement_step allow hs) (block_step allow hs) (catch_step allow hs) (declaration_step allow hs) (entry_step allow hs) (variable_step allow hs) (Statement-F.For at (Some f) (Some d) None None))
+  statement_rolled last (Statement-F.For at (Some f) (Some d) None (Some b)) = ap (λ (x : Doer). x.typed last c.state (step_to c (run allow hs js))) (fold-roll-Statement (Doing Part) (Doing Step) Reading (Doing Step) Seen Doer Braces Seen Doer Seen (Ty → Doing TypedVariable) (argument_step allow hs) (body_step allow hs) (expression_step allow hs) (first_step allow hs) (lambda_step allow hs) (statement_step allow hs) (block_step allow hs) (catch_step allow hs) (declaration_step allow hs) (entry_step allow hs) (variable_step allow hs) (Statement-F.For at (Some f) (Some d) None (Some b)))
+  statement_rolled last (Statement-F.For at (Some f) (Some d) (Some u) None) = ap (λ (x : Doer). x.typed last c.state (step_to c (run allow hs js))) (fold-roll-Statement (Doing Part) (Doing Step) Reading (Doing Step) Seen Doer Braces Seen Doer Seen (Ty → Doing TypedVariable) (argument_step allow hs) (body_step allow hs) (expression_step allow hs) (first_step allow hs) (lambda_step allow hs) (statement_step allow hs) (block_step allow hs) (catch_step allow hs) (declaration_step allow hs) (entry_step allow hs) (variable_step allow hs) (Statement-F.For at (Some f) (Some d) (Some u) None))
+  statement_rolled last (Statement-F.For at (Some f) (Some d) (Some u) (Some b)) = ap (λ (x : Doer). x.typed last c.state (step_to c (run allow hs js))) (fold-roll-Statement (Doing Part) (Doing Step) Reading (Doing Step) Seen Doer Braces Seen Doer Seen (Ty → Doing TypedVariable) (argument_step allow hs) (body_step allow hs) (expression_step allow hs) (first_step allow hs) (lambda_step allow hs) (statement_step allow hs) (block_step allow hs) (catch_step allow hs) (declaration_step allow hs) (entry_step allow hs) (variable_step allow hs) (Statement-F.For at (Some f) (Some d) (Some u) (Some b)))
+  statement_rolled last (Statement-F.ForEach at of name over body_) = ap (λ (x : Doer). x.typed last c.state (step_to c (run allow hs js))) (fold-roll-Statement (Doing Part) (Doing Step) Reading (Doing Step) Seen Doer Braces Seen Doer Seen (Ty → Doing TypedVariable) (argument_step allow hs) (body_step allow hs) (expression_step allow hs) (first_step allow hs) (lambda_step allow hs) (statement_step allow hs) (block_step allow hs) (catch_step allow hs) (declaration_step allow hs) (entry_step allow hs) (variable_step allow hs) (Statement-F.ForEach at of name over body_))
+      ∙ again (type_of of) (λ p. (reading allow hs over).value c.state (λ x s. and_then p (λ t. looping (body allow hs body_) (noted name.spelling t s) (refused_at at))))
+  statement_rolled last (Statement-F.ForIn at name over body_) = ap (λ (x : Doer). x.typed last c.state (step_to c (run allow hs js))) (fold-roll-Statement (Doing Part) (Doing Step) Reading (Doing Step) Seen Doer Braces Seen Doer Seen (Ty → Doing TypedVariable) (argument_step allow hs) (body_step allow hs) (expression_step allow hs) (first_step allow hs) (lambda_step allow hs) (statement_step allow hs) (block_step allow hs) (catch_step allow hs) (declaration_step allow hs) (entry_step allow hs) (variable_step allow hs) (Statement-F.ForIn at name over body_))
+  statement_rolled last (Statement-F.Try at block catches) = ap (λ (x : Doer). x.typed last c.state (step_to c (run allow hs js))) (fold-roll-Statement (Doing Part) (Doing Step) Reading (Doing Step) Seen Doer Braces Seen Doer Seen (Ty → Doing TypedVariable) (argument_step allow hs) (body_step allow hs) (expression_step allow hs) (first_step allow hs) (lambda_step allow hs) (statement_step allow hs) (block_step allow hs) (catch_step allow hs) (declaration_step allow hs) (entry_step allow hs) (variable_step allow hs) (Statement-F.Try at block catches))
+  statement_rolled last (Statement-F.Do at block condition) = ap (λ (x : Doer). x.typed last c.state (step_to c (run allow hs js))) (fold-roll-Statement (Doing Part) (Doing Step) Reading (Doing Step) Seen Doer Braces Seen Doer Seen (Ty → Doing TypedVariable) (argument_step allow hs) (body_step allow hs) (expression_step allow hs) (first_step allow hs) (lambda_step allow hs) (statement_step allow hs) (block_step allow hs) (catch_step allow hs) (declaration_step allow hs) (entry_step allow hs) (variable_step allow hs) (Statement-F.Do at block condition))
+      ∙ (λ i. looping (scoped (braces allow hs block).steps) c.state (λ ys w. (reading allow hs condition).value w (λ x s. behind (rules.loop_test x) (λ t. record c { tests = t ∷ c.tests; steps = rules.block_of (braces allow hs block).at ys ∷ c.steps; state = s }) (run allow hs (j.DoStatement (sa.DoLoop at) ∷ js)) i)))
+  statement_rolled last (Statement-F.«Statement::Declare» declaration) = ap (λ (x : Doer). x.typed last c.state (step_to c (run allow hs js))) (fold-roll-Statement (Doing Part) (Doing Step) Reading (Doing Step) Seen Doer Braces Seen Doer Seen (Ty → Doing TypedVariable) (argument_step allow hs) (body_step allow hs) (expression_step allow hs) (first_step allow hs) (lambda_step allow hs) (statement_step allow hs) (block_step allow hs) (catch_step allow hs) (declaration_step allow hs) (entry_step allow hs) (variable_step allow hs) (Statement-F.«Statement::Declare» declaration))
+  statement_rolled last (Statement-F.Continue at) = ap (λ (x : Doer). x.typed last c.state (step_to c (run allow hs js))) (fold-roll-Statement (Doing Part) (Doing Step) Reading (Doing Step) Seen Doer Braces Seen Doer Seen (Ty → Doing TypedVariable) (argument_step allow hs) (body_step allow hs) (expression_step allow hs) (first_step allow hs) (lambda_step allow hs) (statement_step allow hs) (block_step allow hs) (catch_step allow hs) (declaration_step allow hs) (entry_step allow hs) (variable_step allow hs) (Statement-F.Continue at))
+      ∙ (λ i. behind (rules.continue_of at c.state) (λ y. record c { steps = y ∷ c.steps; state = c.state }) (run allow hs js) i)
+  statement_rolled last (Statement-F.Break at) = ap (λ (x : Doer). x.typed last c.state (step_to c (run allow hs js))) (fold-roll-Statement (Doing Part) (Doing Step) Reading (Doing Step) Seen Doer Braces Seen Doer Seen (Ty → Doing TypedVariable) (argument_step allow hs) (body_step allow hs) (expression_step allow hs) (first_step allow hs) (lambda_step allow hs) (statement_step allow hs) (block_step allow hs) (catch_step allow hs) (declaration_step allow hs) (entry_step allow hs) (variable_step allow hs) (Statement-F.Break at))
+      ∙ (λ i. behind (rules.break_of at c.state) (λ y. record c { steps = y ∷ c.steps; state = c.state }) (run allow hs js) i)
+  statement_rolled last (Statement-F.Return at None) = ap (λ (x : Doer). x.typed last c.state (step_to c (run allow hs js))) (fold-roll-Statement (Doing Part) (Doing Step) Reading (Doing Step) Seen Doer Braces Seen Doer Seen (Ty → Doing TypedVariable) (argument_step allow hs) (body_step allow hs) (expression_step allow hs) (first_step allow hs) (lambda_step allow hs) (statement_step allow hs) (block_step allow hs) (catch_step allow hs) (declaration_step allow hs) (entry_step allow hs) (variable_step allow hs) (Statement-F.Return at None))
+  statement_rolled last (Statement-F.Return at (Some value)) = ap (λ (x : Doer). x.typed last c.state (step_to c (run allow hs js))) (fold-roll-Statement (Doing Part) (Doing Step) Reading (Doing Step) Seen Doer Braces Seen Doer Seen (Ty → Doing TypedVariable) (argument_step allow hs) (body_step allow hs) (expression_step allow hs) (first_step allow hs) (lambda_step allow hs) (statement_step allow hs) (block_step allow hs) (catch_step allow hs) (declaration_step allow hs) (entry_step allow hs) (variable_step allow hs) (Statement-F.Return at (Some value)))
+  statement_rolled last (Statement-F.Throw at value) = ap (λ (x : Doer). x.typed last c.state (step_to c (run allow hs js))) (fold-roll-Statement (Doing Part) (Doing Step) Reading (Doing Step) Seen Doer Braces Seen Doer Seen (Ty → Doing TypedVariable) (argument_step allow hs) (body_step allow hs) (expression_step allow hs) (first_step allow hs) (lambda_step allow hs) (statement_step allow hs) (block_step allow hs) (catch_step allow hs) (declaration_step allow hs) (entry_step allow hs) (variable_step allow hs) (Statement-F.Throw at value))
+      ∙ (λ i. (reading allow hs value).value c.state (λ x s. behind (rules.throw_of at x) (λ y. record c { steps = y ∷ c.steps; state = s }) (run allow hs js) i))
+  statement_rolled last (Statement-F.«Statement::Expression» at value) = ap (λ (x : Doer). x.typed last c.state (step_to c (run allow hs js))) (fold-roll-Statement (Doing Part) (Doing Step) Reading (Doing Step) Seen Doer Braces Seen Doer Seen (Ty → Doing TypedVariable) (argument_step allow hs) (body_step allow hs) (expression_step allow hs) (first_step allow hs) (lambda_step allow hs) (statement_step allow hs) (block_step allow hs) (catch_step allow hs) (declaration_step allow hs) (entry_step allow hs) (variable_step allow hs) (Statement-F.«Statement::Expression» at value))
+      ∙ (λ i. (reading allow hs value).value c.state (λ x s. behind (rules.expression_of at last x s) (λ y. record c { steps = y ∷ c.steps; state = s }) (run allow hs js) i))
 
-  pub statement_planned : (last : Bool) (e : Statement) → run hs (j.Statement_ e last ∷ js) c ≡ run hs (statement_plan last (out-Statement e) ++ js) c
-  statement_planned last e = ap (λ (x : Statement). run hs (j.Statement_ x last ∷ js) c) (sym (roll-out-Statement e)) ∙ statement_rolled last (out-Statement e)
+  pub statement_planned : (last : Bool) (e : Statement) → run allow hs (j.Statement_ e last ∷ js) c ≡ run allow hs (statement_plan last (out-Statement e) ++ js) c
+  statement_planned last e = ap (λ (x : Statement). run allow hs (j.Statement_ x last ∷ js) c) (sym (roll-out-Statement e)) ∙ statement_rolled last (out-Statement e)

@@ -1,5 +1,6 @@
 -- What is still to be typed, as plain data.
 use Rattle.std.specs.Prelude.{ℕ, Bool, List, Option}
+use Rattle.pl_tree.specs.declared.operator.Access.{Access}
 use Rattle.pl_tree.specs.declared.tree.Argument.{Argument}
 use Rattle.pl_tree.specs.declared.tree.Body.{Body}
 use Rattle.pl_tree.specs.declared.tree.Block.{Block}
@@ -26,6 +27,14 @@ pub data Job : Type 0 where
   Arguments : List Argument → ℕ → Job
   Call : ℕ → List ℕ → List Argument → Job
   Called : ℕ → List ℕ → ℕ → Job
+  Method : ℕ → Access → List ℕ → List Argument → Job
+  MethodCalled : ℕ → Access → List ℕ → ℕ → Job
+  Static : ℕ → Access → TypeName → List ℕ → List Argument → Job
+  StaticCalled : ℕ → Access → TypeName → List ℕ → ℕ → Job
+  New : ℕ → TypeName → List Argument → Job
+  Made : ℕ → TypeName → ℕ → Job
+  Read : ℕ → Access → List ℕ → Job
+  Field : ℕ → Access → TypeName → List ℕ → Job
   Integer : ℕ → List ℕ → Job
   NegatedInteger : ℕ → ℕ → List ℕ → Job
   Text : ℕ → List ℕ → Job
@@ -68,7 +77,6 @@ pub data Job : Type 0 where
   Parameters : List Parameter → ℕ → Job
   UnbuiltInner : LambdaBody → ℕ → Job
   UnbuiltValues : List Expr → ℕ → ℕ → Job
-  UnbuiltArguments : List Argument → ℕ → ℕ → Job
   UnbuiltEntries : List Entry → ℕ → ℕ → Job
   UnbuiltCatches : List Catch → ℕ → ℕ → Job
   Catch_ : Catch → Job

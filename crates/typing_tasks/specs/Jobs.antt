@@ -24,6 +24,9 @@ expression_job (e.Target x) = j.Target x.now
 expression_job (e.Given x) = j.Given x.now
 expression_job (e.Arguments all i) = j.Arguments all.now i
 expression_job (e.Call at name all) = j.Call at name.now all.now
+expression_job (e.Method at access name all) = j.Method at access name.now all.now
+expression_job (e.Static at access of name all) = j.Static at access of.now name.now all.now
+expression_job (e.New at of all) = j.New at of.now all.now
 
 abbrev pub word_job : WordTask → Job
 word_job (w.Called at name height) = j.Called at name.now height
@@ -35,6 +38,11 @@ word_job (w.Written at spelling) = j.Written at spelling.now
 word_job (w.TypeOf of) = j.TypeOf of.now
 word_job (w.Asked at of) = j.Asked at of.now
 word_job (w.InstanceOf at of) = j.InstanceOf at of.now
+word_job (w.MethodCalled at access name height) = j.MethodCalled at access name.now height
+word_job (w.StaticCalled at access of name height) = j.StaticCalled at access of.now name.now height
+word_job (w.Made at of height) = j.Made at of.now height
+word_job (w.Read at access name) = j.Read at access name.now
+word_job (w.Field at access of name) = j.Field at access of.now name.now
 
 abbrev pub statement_job : StatementTask → Job
 statement_job (s.One x last) = j.Statement_ x.now last
@@ -73,7 +81,6 @@ unbuilt_job (u.NotedDef name) = j.NotedDef name.now
 unbuilt_job (u.Parameters all i) = j.Parameters all.now i
 unbuilt_job (u.Inner x at) = j.UnbuiltInner x.now at
 unbuilt_job (u.Values all i at) = j.UnbuiltValues all.now i at
-unbuilt_job (u.Arguments all i at) = j.UnbuiltArguments all.now i at
 unbuilt_job (u.Entries all i at) = j.UnbuiltEntries all.now i at
 unbuilt_job (u.Catches all i at) = j.UnbuiltCatches all.now i at
 unbuilt_job (u.Catch x) = j.Catch_ x.now

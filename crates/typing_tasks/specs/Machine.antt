@@ -1,5 +1,5 @@
 -- What jobs come to.
-use Rattle.std.specs.Prelude.{ℕ, false, List, [], ◌∷◌, reverse, drop, map, Option, Some, None, Ok, Err}
+use Rattle.std.specs.Prelude.{ℕ, false, List, [], ◌∷◌, length, reverse, drop, map, Option, Some, None, Ok, Err}
 use Rattle.pl_types.specs.declared.rules.TheConstants.{OUT_OF_PROFILE}
 use Rattle.pl_tree.specs.declared.tree.Argument.{Argument}
 use Rattle.pl_tree.specs.declared.tree.Body.{Body}
@@ -9,6 +9,7 @@ use Rattle.pl_tree.specs.declared.tree.First.{First}
 use Rattle.pl_tree.specs.declared.tree.TypeName.{TypeName}
 use Rattle.typed_tree.specs.declared.statement.TypedVariable.{TypedVariable}
 use Rattle.typed_tree.specs.declared.typed.Typed.{Typed}
+use Rattle.allowlist.specs.Allow.{AllowList}
 use Rattle.typing_rules.specs.declared.header.Header.{Header}
 use Rattle.typing_rules.specs.declared.part.Part.{Part}
 use Rattle.typing_rules.specs.declared.part.Place.{Place}
@@ -25,6 +26,7 @@ use Rattle.typing_rules.specs.Typing.{Reading, Seen, reading, argument, body, do
 use Rattle.typing_acts.specs.declared.config.Config.{Config}
 use Rattle.typing_acts.specs.Piles.{one}
 use Rattle.typing_acts.specs.Expressions as expressions
+use Rattle.typing_acts.specs.Members as members
 use Rattle.typing_acts.specs.Places as places
 use Rattle.typing_acts.specs.Statements as deeds
 use Rattle.typing_acts.specs.Bodies as bodies
@@ -110,92 +112,99 @@ nothing_to c k u s = k (record c { state = s })
 abbrev pub refused_at : {A : Type 0} → ℕ → A → State → Answer
 refused_at at x s = Err (refusal OUT_OF_PROFILE at)
 
-module _ (hs : List Header) where
+module _ (allow : AllowList) (hs : List Header) where
   -- a `for` in its scope
   abbrev pub for_parts : ℕ → Option First → Option Expr → Option Expr → Option Body → Doing Step
   for_parts at f c u b =
-      do f ← perhaps (first_if hs f); c ← loop_condition (reading_if hs c); u ← loop_update (reading_if hs u); y ← looping (perhaps (body_if hs b)); pure (loop_of at f c u y)
+      do f ← perhaps (first_if allow hs f); c ← loop_condition (reading_if allow hs c); u ← loop_update (reading_if allow hs u); y ← looping (perhaps (body_if allow hs b)); pure (loop_of at f c u y)
 
   -- an `else`, or none
   abbrev pub otherwise : ℕ → Option Body → Config → (Config → Answer) → Answer
   otherwise at None c k = and_then (deeds.if_alone at c) k
-  otherwise at (Some b) c k = body hs b c.state (step_to c (λ d. and_then (deeds.if_else at d) k))
+  otherwise at (Some b) c k = body allow hs b c.state (step_to c (λ d. and_then (deeds.if_else at d) k))
 
   abbrev pub loop_body : Option Body → Config → (Config → Answer) → Answer
   loop_body None c k = k c
-  loop_body (Some b) c k = looping (body hs b) c.state (step_to c k)
+  loop_body (Some b) c k = looping (body allow hs b) c.state (step_to c k)
 
   abbrev pub initial_part : TypeName → Option Argument → Config → (Config → Answer) → Answer
   initial_part of None c k = k (record c { tests = None ∷ c.tests })
-  initial_part of (Some e) c k = argument hs e c.state (part_to c (λ d. and_then (deeds.initial of d) k))
+  initial_part of (Some e) c k = argument allow hs e c.state (part_to c (λ d. and_then (deeds.initial of d) k))
 
   abbrev pub first_part : Option First → Config → (Config → Answer) → Answer
   first_part None c k = k c
-  first_part (Some f) c k = first hs f c.state (step_to c k)
+  first_part (Some f) c k = first allow hs f c.state (step_to c k)
 
   -- a handler: its name is in sight in its block
   abbrev pub caught : Catch → Config → (Config → Answer) → Answer
   caught e c k = and_then (type_of (out-Catch e).of) (λ of.
-      scoped (do setting (noted (out-Catch e).name.spelling of); (braces hs (out-Catch e).block).steps) c.state (steps_to c k))
+      scoped (do setting (noted (out-Catch e).name.spelling of); (braces allow hs (out-Catch e).block).steps) c.state (steps_to c k))
 
-abbrev pub mean : List Header → Job → Config → (Config → Answer) → Answer
-mean hs (j.Value e) c k = (reading hs e).value c.state (part_to c k)
-mean hs (j.Negated e minus) c k = (reading hs e).negated minus c.state (part_to c k)
-mean hs (j.Target e) c k = (reading hs e).place c.state (place_to c k)
-mean hs (j.Given e) c k = argument hs e c.state (part_to c k)
-mean hs (j.Arguments all i) c k = parts (map (argument hs) (drop i all)) c.state (parts_to c k)
-mean hs (j.Call at name all) c k = call hs at name (map (argument hs) all) c.state (part_to c k)
-mean hs (j.Called at name height) c k = and_then (expressions.call hs at name height c) k
-mean hs (j.Integer at spelling) c k = and_then (expressions.integer at spelling c) k
-mean hs (j.NegatedInteger minus at spelling) c k = and_then (expressions.negated_integer minus at spelling c) k
-mean hs (j.Text at spelling) c k = and_then (expressions.text at spelling c) k
-mean hs (j.Name at name) c k = and_then (expressions.local at name c) k
-mean hs (j.Written at name) c k = and_then (places.written at name c) k
-mean hs (j.TypeOf of) c k = and_then (type_of of) (λ t. k c)
-mean hs (j.Asked at of) c k = and_then (expressions.asked at of c) k
-mean hs (j.InstanceOf at of) c k = and_then (expressions.instance_of at of c) k
-mean hs (j.Do act) c k = and_then (does act c) k
-mean hs (j.Statement_ e last) c k = (doer hs e).typed last c.state (step_to c k)
-mean hs (j.Body_ e) c k = body hs e c.state (step_to c k)
-mean hs (j.Scoped e) c k = scoped ((doer hs e).typed false) c.state (step_to c k)
-mean hs (j.Block_ e) c k = scoped (braces hs e).steps c.state (block_to c k (braces hs e).at)
-mean hs (j.Looping e) c k = looping (body hs e) c.state (step_to c k)
-mean hs (j.LoopBody e) c k = loop_body hs e c k
-mean hs (j.LoopBlock e) c k = looping (scoped (braces hs e).steps) c.state (block_to c k (braces hs e).at)
-mean hs (j.Statements all i in_main after) c k = statements in_main after (map (doer hs) (drop i all)) c.state (steps_to c k)
-mean hs (j.Reached all i at in_main after) c k = one c.steps (λ x rest. and_then (reached after at x) (λ y.
-    statements in_main y.escapes (map (doer hs) (drop i all)) c.state (λ ys s. k (record c { steps = piled ys (y ∷ rest); state = s }))))
-mean hs (j.For at f d u b) c k = scoped (for_parts hs at f d u b) c.state (step_to c k)
-mean hs (j.ForParts at f d u b) c k = for_parts hs at f d u b c.state (step_to c k)
-mean hs (j.FirstIf e) c k = first_part hs e c k
-mean hs (j.First_ e) c k = first hs e c.state (step_to c k)
-mean hs (j.Deed e) c k = loop_step (reading hs e) c.state (step_to c k)
-mean hs (j.Condition e) c k = loop_condition (reading_if hs e) c.state (test_to c k)
-mean hs (j.UpdateIf e) c k = loop_update (reading_if hs e) c.state (test_to c k)
-mean hs (j.Update e) c k = loop_update (Some (reading hs e)) c.state (test_to c k)
-mean hs (j.Otherwise at e) c k = otherwise hs at e c k
-mean hs (j.Returned at e) c k = returned at (argument_if hs e) c.state (step_to c k)
-mean hs (j.Declaration_ e) c k = (declaration hs e).typed false c.state (step_to c k)
-mean hs (j.Variables of all i) c k = and_then (type_of of) (λ t. typing.variables t (map (variable hs) (drop i all)) c.state (variables_to c k))
-mean hs (j.Variable_ of e) c k = and_then (type_of of) (λ t. variable hs e t c.state (variable_to c k))
-mean hs (j.Initial of e) c k = initial_part hs of e c k
-mean hs (j.CastInitial of) c k = and_then (deeds.initial of c) k
-mean hs (j.Declare name of) c k = and_then (deeds.variable name of c) k
-mean hs (j.DoStatement act) c k = and_then (does_statement act c) k
-mean hs (j.Noted name of) c k = and_then (type_of of) (λ t. k (bodies.note name t c))
-mean hs (j.NotedDef name) c k = k (bodies.note name ty.Def c)
-mean hs (j.Parameters all i) c k = lambda_parameters (drop i all) c.state (nothing_to c k)
-mean hs (j.UnbuiltInner e at) c k = inner hs e c.state (refused_at at)
-mean hs (j.UnbuiltValues all i at) c k = all_seen (map (λ (e : Reading). seen e.value) (map (reading hs) (drop i all))) c.state (refused_at at)
-mean hs (j.UnbuiltArguments all i at) c k = all_seen (map (λ (m : Doing Part). seen m) (map (argument hs) (drop i all))) c.state (refused_at at)
-mean hs (j.UnbuiltEntries all i at) c k = all_seen (map (entry hs) (drop i all)) c.state (refused_at at)
-mean hs (j.UnbuiltCatches all i at) c k = all_seen (map (handler hs) (drop i all)) c.state (refused_at at)
-mean hs (j.Catch_ e) c k = caught hs e c k
+abbrev pub mean : AllowList → List Header → Job → Config → (Config → Answer) → Answer
+mean allow hs (j.Value e) c k = (reading allow hs e).value c.state (part_to c k)
+mean allow hs (j.Negated e minus) c k = (reading allow hs e).negated minus c.state (part_to c k)
+mean allow hs (j.Target e) c k = (reading allow hs e).place c.state (place_to c k)
+mean allow hs (j.Given e) c k = argument allow hs e c.state (part_to c k)
+mean allow hs (j.Arguments all i) c k = parts (map (argument allow hs) (drop i all)) c.state (parts_to c k)
+mean allow hs (j.Call at name all) c k = call allow hs at name (map (argument allow hs) all) c.state (part_to c k)
+mean allow hs (j.Called at name height) c k = and_then (expressions.call hs at name height c) k
+mean allow hs (j.Method at access name all) c k = parts (map (argument allow hs) all) c.state (parts_to c (λ d. and_then (members.method allow at access name (length c.parts) d) k))
+mean allow hs (j.MethodCalled at access name height) c k = and_then (members.method allow at access name height c) k
+mean allow hs (j.Static at access of name all) c k = parts (map (argument allow hs) all) c.state (parts_to c (λ d. and_then (members.static allow at access of name (length c.parts) d) k))
+mean allow hs (j.StaticCalled at access of name height) c k = and_then (members.static allow at access of name height c) k
+mean allow hs (j.New at of all) c k = parts (map (argument allow hs) all) c.state (parts_to c (λ d. and_then (members.made allow at of (length c.parts) d) k))
+mean allow hs (j.Made at of height) c k = and_then (members.made allow at of height c) k
+mean allow hs (j.Read at access name) c k = and_then (members.read allow at access name c) k
+mean allow hs (j.Field at access of name) c k = and_then (members.field allow at access of name c) k
+mean allow hs (j.Integer at spelling) c k = and_then (expressions.integer at spelling c) k
+mean allow hs (j.NegatedInteger minus at spelling) c k = and_then (expressions.negated_integer minus at spelling c) k
+mean allow hs (j.Text at spelling) c k = and_then (expressions.text at spelling c) k
+mean allow hs (j.Name at name) c k = and_then (expressions.local at name c) k
+mean allow hs (j.Written at name) c k = and_then (places.written at name c) k
+mean allow hs (j.TypeOf of) c k = and_then (type_of of) (λ t. k c)
+mean allow hs (j.Asked at of) c k = and_then (expressions.asked at of c) k
+mean allow hs (j.InstanceOf at of) c k = and_then (expressions.instance_of at of c) k
+mean allow hs (j.Do act) c k = and_then (does act c) k
+mean allow hs (j.Statement_ e last) c k = (doer allow hs e).typed last c.state (step_to c k)
+mean allow hs (j.Body_ e) c k = body allow hs e c.state (step_to c k)
+mean allow hs (j.Scoped e) c k = scoped ((doer allow hs e).typed false) c.state (step_to c k)
+mean allow hs (j.Block_ e) c k = scoped (braces allow hs e).steps c.state (block_to c k (braces allow hs e).at)
+mean allow hs (j.Looping e) c k = looping (body allow hs e) c.state (step_to c k)
+mean allow hs (j.LoopBody e) c k = loop_body allow hs e c k
+mean allow hs (j.LoopBlock e) c k = looping (scoped (braces allow hs e).steps) c.state (block_to c k (braces allow hs e).at)
+mean allow hs (j.Statements all i in_main after) c k = statements in_main after (map (doer allow hs) (drop i all)) c.state (steps_to c k)
+mean allow hs (j.Reached all i at in_main after) c k = one c.steps (λ x rest. and_then (reached after at x) (λ y.
+    statements in_main y.escapes (map (doer allow hs) (drop i all)) c.state (λ ys s. k (record c { steps = piled ys (y ∷ rest); state = s }))))
+mean allow hs (j.For at f d u b) c k = scoped (for_parts allow hs at f d u b) c.state (step_to c k)
+mean allow hs (j.ForParts at f d u b) c k = for_parts allow hs at f d u b c.state (step_to c k)
+mean allow hs (j.FirstIf e) c k = first_part allow hs e c k
+mean allow hs (j.First_ e) c k = first allow hs e c.state (step_to c k)
+mean allow hs (j.Deed e) c k = loop_step (reading allow hs e) c.state (step_to c k)
+mean allow hs (j.Condition e) c k = loop_condition (reading_if allow hs e) c.state (test_to c k)
+mean allow hs (j.UpdateIf e) c k = loop_update (reading_if allow hs e) c.state (test_to c k)
+mean allow hs (j.Update e) c k = loop_update (Some (reading allow hs e)) c.state (test_to c k)
+mean allow hs (j.Otherwise at e) c k = otherwise allow hs at e c k
+mean allow hs (j.Returned at e) c k = returned at (argument_if allow hs e) c.state (step_to c k)
+mean allow hs (j.Declaration_ e) c k = (declaration allow hs e).typed false c.state (step_to c k)
+mean allow hs (j.Variables of all i) c k = and_then (type_of of) (λ t. typing.variables t (map (variable allow hs) (drop i all)) c.state (variables_to c k))
+mean allow hs (j.Variable_ of e) c k = and_then (type_of of) (λ t. variable allow hs e t c.state (variable_to c k))
+mean allow hs (j.Initial of e) c k = initial_part allow hs of e c k
+mean allow hs (j.CastInitial of) c k = and_then (deeds.initial of c) k
+mean allow hs (j.Declare name of) c k = and_then (deeds.variable name of c) k
+mean allow hs (j.DoStatement act) c k = and_then (does_statement act c) k
+mean allow hs (j.Noted name of) c k = and_then (type_of of) (λ t. k (bodies.note name t c))
+mean allow hs (j.NotedDef name) c k = k (bodies.note name ty.Def c)
+mean allow hs (j.Parameters all i) c k = lambda_parameters (drop i all) c.state (nothing_to c k)
+mean allow hs (j.UnbuiltInner e at) c k = inner allow hs e c.state (refused_at at)
+mean allow hs (j.UnbuiltValues all i at) c k = all_seen (map (λ (e : Reading). seen e.value) (map (reading allow hs) (drop i all))) c.state (refused_at at)
+mean allow hs (j.UnbuiltEntries all i at) c k = all_seen (map (entry allow hs) (drop i all)) c.state (refused_at at)
+mean allow hs (j.UnbuiltCatches all i at) c k = all_seen (map (handler allow hs) (drop i all)) c.state (refused_at at)
+mean allow hs (j.Catch_ e) c k = caught allow hs e c k
 
 abbrev pub ended : Config → Answer
 ended c = Ok (reverse c.steps, c.state)
 
 -- what jobs come to, one after the other
-unfoldable pub run : List Header → List Job → Config → Answer
-run hs [] c = ended c
-run hs (job ∷ jobs) c = mean hs job c (run hs jobs)
+unfoldable pub run : AllowList → List Header → List Job → Config → Answer
+run allow hs [] c = ended c
+run allow hs (job ∷ jobs) c = mean allow hs job c (run allow hs jobs)

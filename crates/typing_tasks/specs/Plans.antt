@@ -1,11 +1,12 @@
 -- What is to be done for each node, as a list of jobs.
 use Rattle.std.specs.Prelude.{ℕ, Bool, false, ◌&&◌, List, [], ◌∷◌, slice_get, Option, Some, None}
+use Rattle.pl_tree.specs.declared.operator.Access.{Access}
 use Rattle.pl_tree.specs.declared.operator.UnaryOperator.{UnaryOperator}
 use Rattle.pl_tree.specs.declared.operator.UnaryOperator.TheVariants as sign
 use Rattle.pl_tree.specs.declared.tree.TypeName.{TypeName}
 use Rattle.pl_tree.specs.declared.tree.Argument.{Argument}
 use Rattle.pl_tree.specs.declared.tree.Body.{Body}
-use Rattle.pl_tree.specs.declared.tree.Expr.{Expr}
+use Rattle.pl_tree.specs.declared.tree.Expr.{Expr, out-Expr}
 use Rattle.pl_tree.specs.declared.tree.First.{First}
 use Rattle.pl_tree.specs.declared.tree.LambdaBody.{LambdaBody}
 use Rattle.pl_tree.specs.declared.tree.Statement.{Statement}
@@ -18,6 +19,7 @@ use Rattle.pl_tree.specs.declared.tree.Argument.TheOpen.{Argument-F, Body-F, Exp
 use Rattle.typed_tree.specs.declared.operation.Gives.TheVariants as g
 use Rattle.typing_tasks.specs.declared.task.Act.TheVariants as a
 use Rattle.typing_tasks.specs.declared.task.StatementAct.TheVariants as s
+use Rattle.allowlist.specs.Allow.{AllowList}
 use Rattle.typing_rules.specs.declared.header.Header.{Header}
 use Rattle.typing_rules.specs.Typing.{doer}
 use Rattle.typing_tasks.specs.Going.{is_there, none_left}
@@ -31,6 +33,20 @@ Open F = F Argument Body Expr First LambdaBody Statement Block Catch Declaration
 abbrev pub unary_plan : UnaryOperator → ℕ → Expr → List Job
 unary_plan sign.Minus at operand = j.Negated operand at ∷ []
 unary_plan operator at operand = j.Value operand ∷ j.Do (a.Unary at operator) ∷ []
+
+-- the type that an expression is, if it is one
+abbrev pub type_in : Open Expr-F → Option TypeName
+type_in (Expr-F.Type of) = Some of
+type_in _ = None
+
+-- a name, or a call, of a value or of a type
+abbrev pub member_plan : Access → ℕ → Expr → Option TypeName → List ℕ → List Job
+member_plan access at receiver None name = j.Value receiver ∷ j.Read at access name ∷ []
+member_plan access at receiver (Some of) name = j.Field at access of name ∷ []
+
+abbrev pub method_plan : Access → ℕ → Expr → Option TypeName → List ℕ → List Argument → List Job
+method_plan access at receiver None name given = j.Value receiver ∷ j.Method at access name given ∷ []
+method_plan access at receiver (Some of) name given = j.TypeOf of ∷ j.Static at access of name given ∷ []
 
 abbrev pub value_plan : Open Expr-F → List Job
 value_plan (Expr-F.Assign operator at target value) = j.Target target ∷ j.Value value ∷ j.Do (a.Assign at operator) ∷ []
@@ -50,12 +66,12 @@ value_plan (Expr-F.List at items) = j.UnbuiltValues items 0 at ∷ []
 value_plan (Expr-F.Map at entries) = j.UnbuiltEntries entries 0 at ∷ []
 value_plan (Expr-F.Name at spelling) = j.Name at spelling ∷ []
 value_plan (Expr-F.Call at spelling given) = j.Call at spelling given ∷ []
-value_plan (Expr-F.New at of given) = j.TypeOf of ∷ j.UnbuiltArguments given 0 at ∷ []
+value_plan (Expr-F.New at of given) = j.TypeOf of ∷ j.New at of given ∷ []
 value_plan (Expr-F.NewArray at of sizes) = j.TypeOf of ∷ j.UnbuiltValues sizes 0 at ∷ []
 value_plan (Expr-F.NewItems at of items) = j.TypeOf of ∷ j.UnbuiltValues items 0 at ∷ []
 value_plan (Expr-F.Type of) = j.TypeOf of ∷ j.Do (a.Unbuilt of.at) ∷ []
-value_plan (Expr-F.Member access at receiver spelling) = j.Value receiver ∷ j.Do (a.Unbuilt at) ∷ []
-value_plan (Expr-F.Method access at receiver spelling given) = j.Value receiver ∷ j.UnbuiltArguments given 0 at ∷ []
+value_plan (Expr-F.Member access at receiver spelling) = member_plan access at receiver (type_in (out-Expr receiver)) spelling
+value_plan (Expr-F.Method access at receiver spelling given) = method_plan access at receiver (type_in (out-Expr receiver)) spelling given
 value_plan (Expr-F.Element access at receiver spelling) = j.Value receiver ∷ j.Do (a.Unbuilt at) ∷ []
 value_plan (Expr-F.Index at receiver index) = j.Value receiver ∷ j.Value index ∷ j.Do (a.Unbuilt at) ∷ []
 
@@ -67,6 +83,7 @@ negated_plan minus e _ = j.Value e ∷ j.Do (a.Unary minus sign.Minus) ∷ []
 -- what is written to
 abbrev pub target_plan : Expr → Open Expr-F → List Job
 target_plan e (Expr-F.Name at spelling) = j.Written at spelling ∷ []
+target_plan e (Expr-F.Member access at receiver spelling) = j.Value receiver ∷ j.Do (a.Unbuilt at) ∷ []
 target_plan e _ = j.Value e ∷ j.Do a.Fixed ∷ []
 
 abbrev pub argument_plan : Open Argument-F → List Job
@@ -143,8 +160,8 @@ abbrev pub variable_plan : TypeName → Variable → List Job
 variable_plan of e = j.TypeOf of ∷ j.Initial of (out-Variable e).value ∷ j.Declare (out-Variable e).name of ∷ []
 
 -- a statement, and what is behind it, from a place of the list on
-abbrev pub following : List Header → List Statement → ℕ → Statement → Bool → Bool → List Job
-following hs all i one in_main after = j.Statement_ one (in_main && none_left (slice_get all i)) ∷ j.Reached all i (doer hs one).at in_main after ∷ []
+abbrev pub following : AllowList → List Header → List Statement → ℕ → Statement → Bool → Bool → List Job
+following allow hs all i one in_main after = j.Statement_ one (in_main && none_left (slice_get all i)) ∷ j.Reached all i (doer allow hs one).at in_main after ∷ []
 
 -- The first token of an expression is that of the expression at its left end, or its own.
 abbrev pub left_of : Open Expr-F → Option Expr

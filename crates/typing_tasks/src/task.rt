@@ -4,8 +4,8 @@ ghost use Rattle.std.specs.Prelude.{◌≡◌, ◌∷◌, [], OnOk};
 ghost use Rattle.typing_tasks.specs.Jobs.{job, Pops};
 
 use pl_tree::{
-    Argument, BinaryOperator, Block, Body, Catch, Constant, Declaration, Entry, Expr, First,
-    LambdaBody, Parameter, Spelled, Statement, Step, TypeName, UnaryOperator, Variable,
+    Access, Argument, BinaryOperator, Block, Body, Catch, Constant, Declaration, Entry, Expr,
+    First, LambdaBody, Parameter, Spelled, Statement, Step, TypeName, UnaryOperator, Variable,
 };
 use plain_data::{Items, Subtree, Text};
 use std::alloc::{AllocError, Global};
@@ -72,6 +72,11 @@ pub enum ExpressionTask<'a> {
     /// Those from one on.
     Arguments(&'a Items<Argument>, usize),
     Call(u32, &'a Text, &'a Items<Argument>),
+    /// A call on a value that is typed.
+    Method(u32, Access, &'a Text, &'a Items<Argument>),
+    /// A call on a type.
+    Static(u32, Access, &'a TypeName, &'a Text, &'a Items<Argument>),
+    New(u32, &'a TypeName, &'a Items<Argument>),
 }
 
 /// What is done with a name, a spelling or a type that the script has.
@@ -87,6 +92,16 @@ pub enum WordTask<'a> {
     TypeOf(&'a TypeName),
     Asked(u32, &'a TypeName),
     InstanceOf(u32, &'a TypeName),
+    /// The arguments above a height of a call on a value are typed.
+    MethodCalled(u32, Access, &'a Text, usize),
+    /// Those of a call on a type.
+    StaticCalled(u32, Access, &'a TypeName, &'a Text, usize),
+    /// Those of a `new`.
+    Made(u32, &'a TypeName, usize),
+    /// A name of a value that is typed.
+    Read(u32, Access, &'a Text),
+    /// A name of a type.
+    Field(u32, Access, &'a TypeName, &'a Text),
 }
 
 /// A statement that is to be typed.
@@ -158,7 +173,6 @@ pub enum UnbuiltTask<'a> {
     Parameters(&'a Items<Parameter>, usize),
     Inner(&'a LambdaBody, u32),
     Values(&'a Items<Subtree<Expr>>, usize, u32),
-    Arguments(&'a Items<Argument>, usize, u32),
     Entries(&'a Items<Entry>, usize, u32),
     Catches(&'a Items<Catch>, usize, u32),
     Catch(&'a Catch),

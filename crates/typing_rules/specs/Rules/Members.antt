@@ -1,8 +1,7 @@
 -- Members: which one a name means, and its call.
-use Rattle.std.specs.Prelude.{ℕ, ◌+◌, ◌-◌, ◌&&◌, ◌||◌, ◌==◌, nat_le, Bool, true, false, List, [], ◌∷◌, ◌++◌, codes, length, Option, Some, None, Ok, if◌then◌else◌}
+use Rattle.std.specs.Prelude.{ℕ, ◌-◌, ◌&&◌, nat_le, Bool, true, false, List, [], ◌∷◌, ◌++◌, codes, length, Option, Some, None, Ok, if◌then◌else◌}
 use Rattle.std.specs.List.{list_all}
 use Rattle.pl_types.specs.declared.ty.Ty.{Ty, out-Ty}
-use Rattle.pl_types.specs.declared.ty.Ty.TheVariants as t
 use Rattle.pl_types.specs.declared.ty.Ty.TheOpen.{Ty-F}
 use Rattle.pl_types.specs.declared.rules.TheConstants.{UNKNOWN_MEMBER, BAD_NULLABLE, OUT_OF_PROFILE}
 use Rattle.pl_tree.specs.declared.operator.Access.{Access}
@@ -15,7 +14,6 @@ use Rattle.allowlist.specs.Index.{member_at}
 use Rattle.member_acts.specs.Members.{is_built}
 use Rattle.member_names.specs.Names.{text_of}
 use Rattle.typed_tree.specs.declared.operation.Member.{Member}
-use Rattle.typed_tree.specs.declared.operation.Operation.{Operation}
 use Rattle.typed_tree.specs.declared.operation.Operation.TheVariants as o
 use Rattle.typed_tree.specs.declared.typed.Typed.{Typed}
 use Rattle.typed_tree.specs.declared.typed.Node.TheVariants as n

@@ -101,7 +101,7 @@ fn is_literal(form: Form) -> bool
     }
 }
 
-fn is_primitive(of: &Ty) -> bool
+pub(crate) fn is_primitive(of: &Ty) -> bool
     ensures { result ≡ spec.is_primitive (spec.primitive_of of.now) }
 {
     match primitive_of(of) {

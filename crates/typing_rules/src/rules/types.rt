@@ -10,7 +10,7 @@ use pl_tree::{TypeBase, TypeName};
 use pl_types::{Fail, Ty, classes, rules};
 
 /// Whether a class is built: Object, Comparable, CharSequence, String, StringBuilder, and those of exceptions.
-fn is_built_class(class: u32) -> bool
+pub(crate) fn is_built_class(class: u32) -> bool
     ensures { result ≡ spec.is_built_class class }
 {
     class <= classes::CHAR_SEQUENCE

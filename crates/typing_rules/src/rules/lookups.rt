@@ -1,0 +1,122 @@
+//! Which member of the catalogue a name means.
+
+ghost use Rattle.std.specs.Prelude.{◌≡◌, ◌<◌, [], IfOk, IfSome};
+ghost use Rattle.std.specs.List.{list_all};
+ghost use Rattle.allowlist.specs.Allow.{own_member, member_of};
+ghost use Rattle.allowlist.specs.Index.{member_at};
+ghost use Rattle.typing_rules.specs.Outcomes.{Keeps};
+ghost use Rattle.typing_rules.specs.Rules.Members as spec;
+
+use crate::refuse::refuse;
+use crate::rules::types::{is_built, is_built_class};
+use allowlist::{Accessor, Allow, MEMBER_COUNT, MemberKind, MemberType};
+use pl_types::{Fail, Ty, rules};
+
+/// The member of the catalogue with a number.
+pub(crate) fn member_at(allow: &Allow, number: u32) -> &MemberType
+    requires { number < MEMBER_COUNT }
+    ensures { result.now ≡ member_at number }
+{
+    allow.member_type(number)
+}
+
+/// The member of a class with a name and a number of parameters, its own or one from above.
+pub(crate) fn member_of(allow: &Allow, class: u32, name: &str, arity: u32) -> Option<u32>
+    ensures found { result ≡ member_of allow.now class name.now arity }
+    ensures within { IfSome result (λ number. number < MEMBER_COUNT) }
+{
+    allow.member(class, name, arity)
+}
+
+/// The constructor that a class itself has with a number of parameters.
+#[tactic(auto, using(crate::proofs::Members::own_none, crate::proofs::Members::own_is, crate::proofs::Members::own_other))]
+pub(crate) fn constructor_of(allow: &Allow, class: u32, arity: u32) -> Option<u32>
+    ensures found { result ≡ own_member allow.now class [] arity }
+    ensures within { IfSome result (λ number. number < MEMBER_COUNT) }
+{
+    let number = member_of(allow, class, "", arity)?;
+    if member_at(allow, number).owner == class {
+        Some(number)
+    } else {
+        None
+    }
+}
+
+/// The getter of a name: what `get` before it means, or else `is`.
+pub(crate) fn getter(allow: &Allow, class: u32, name: &str) -> Option<u32>
+    ensures found { result ≡ spec.getter allow.now class name.now }
+    ensures within { IfSome result (λ number. number < MEMBER_COUNT) }
+{
+    match allow.accessor(class, Accessor::Get, name) {
+        Some(number) => Some(number),
+        None => allow.accessor(class, Accessor::Is, name),
+    }
+}
+
+fn is_open(of: &Ty) -> bool
+    ensures { result ≡ spec.is_open of.now }
+{
+    match of {
+        Ty::Void => true,
+        _ => is_built(of),
+    }
+}
+
+fn all_open(types: &[Ty]) -> bool
+    ensures { result ≡ list_all spec.is_open types.now }
+{
+    types.iter().all(|of| is_open(of))
+}
+
+/// Whether all types that a member names are built.
+fn is_open_member(member: &MemberType) -> bool
+    ensures { result ≡ spec.is_open_member member.now }
+{
+    is_built_class(member.owner) && (all_open(member.params.as_slice()) && is_open(&member.result))
+}
+
+fn is_kind(wanted: MemberKind, kind: MemberKind) -> bool
+    ensures { result ≡ spec.is_kind wanted kind }
+{
+    match (wanted, kind) {
+        (MemberKind::Constructor, MemberKind::Constructor) => true,
+        (MemberKind::Static, MemberKind::Static) => true,
+        (MemberKind::Instance, MemberKind::Instance) => true,
+        (MemberKind::Field, MemberKind::Field) => true,
+        _ => false,
+    }
+}
+
+fn wanted_as(allow: &Allow, kind: MemberKind, at: u32, number: u32) -> Result<u32, Fail>
+    requires { number < MEMBER_COUNT }
+    ensures rule { Keeps (spec.wanted_as kind at number) result }
+    ensures within { IfOk result (λ found. found < MEMBER_COUNT) }
+{
+    let member = member_at(allow, number);
+    if !is_kind(kind, member.kind) {
+        return Err(refuse(rules::UNKNOWN_MEMBER, at));
+    }
+    if !(member_acts::is_built(number) && is_open_member(member)) {
+        return Err(refuse(rules::OUT_OF_PROFILE, at));
+    }
+    Ok(number)
+}
+
+/// What is found, where it is of the kind that is wanted.
+///
+/// UnknownMember (7): nothing is found, or something of another kind. OutOfProfile (19): it is not built.
+pub(crate) fn wanted(
+    allow: &Allow,
+    kind: MemberKind,
+    at: u32,
+    found: Option<u32>,
+) -> Result<u32, Fail>
+    requires { IfSome found (λ number. number < MEMBER_COUNT) }
+    ensures rule { Keeps (spec.wanted kind at found) result }
+    ensures within { IfOk result (λ number. number < MEMBER_COUNT) }
+{
+    match found {
+        None => Err(refuse(rules::UNKNOWN_MEMBER, at)),
+        Some(number) => wanted_as(allow, kind, at, number),
+    }
+}
