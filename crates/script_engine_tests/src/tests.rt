@@ -58,6 +58,7 @@ fn references_end(rt: HostRuntime) -> Result<(), Fail> {
         references::RELATIONS,
         references::CHOICES,
         references::THROWN,
+        references::MEMBERS,
     ] {
         all_end(&rt, &compiler, USUAL, table)?;
     }

@@ -46,7 +46,7 @@ fn started<'c>(
     code: &'c Verified,
 ) -> Result<Option<VerifiedActivation<'c>>, AllocError> {
     let arguments = Elements::new(alloc);
-    if !have_rows(code.code()) {
+    if !have_rows(code.allow(), code.code()) {
         return Ok(None);
     }
     if !fit_main(code.code(), arguments.as_slice()) {
@@ -144,7 +144,7 @@ fn one_turn(rt: HostRuntime) -> Result<(), Fail> {
 fn a_row_is_wanting(rt: HostRuntime) -> Result<(), Fail> {
     let allow = Catalogue::full(rt.alloc())?;
     let refused = match verified(rt.alloc(), &allow, LIST)? {
-        Some(code) => !have_rows(code.code()),
+        Some(code) => !have_rows(code.allow(), code.code()),
         None => false,
     };
     assert!(rt; refused);

@@ -165,6 +165,50 @@ I 1: int f(boolean b) { if (b) { return 1 } throw null } f(true)
 thrown NullPointerException: int f(boolean b) { if (b) { return 1 } throw null } f(false)
 I 2: for (int i = 0; i < 3; i++) { if (i == 2) { return i } } throw null";
 
+/// Members, `new` and `?.`, with the ticks that they pay.
+pub const MEMBERS: &str = "I 3: 'Ann'.length()
+T 3 N: 'Ann'.length() + ' ' + 'Ann'.toUpperCase().charAt(1)
+I 1: String.valueOf(1).concat('2').indexOf('2')
+T a1b: new StringBuilder('a').append(1).append('b').toString()
+T a: StringBuilder b = new StringBuilder(); b.append('abc').setLength(1); b.toString()
+T off: new IllegalStateException('off').message
+thrown NullPointerException: String s = null; s.length()
+thrown ArithmeticException / by zero: String s = null; s.concat('' + 1 / 0)
+thrown StringIndexOutOfBoundsException Index 2 out of bounds for length 1: 'a'.substring(2)
+thrown StringIndexOutOfBoundsException Index 1 out of bounds for length 1: 'a'.charAt(1)
+null: String s; s?.trim()
+T none: String s; s?.concat('' + 1 / 0) ?: 'none'
+thrown IllegalArgumentException no: throw new IllegalArgumentException('no')
+thrown IllegalArgumentException: throw new IllegalArgumentException()
+T NOBODY: String name; name?.trim() ?: 'nobody'.toUpperCase()
+null: new Exception().message
+true: 'a'.equals('a')
+false: Object o = 1; o.equals(1L)
+T 1: Object o = 1; o.toString()
+thrown NullPointerException: Object o; o.toString()
+I -1: 'a'.compareTo('b')
+I 4: CharSequence s = 'abcd'; s.length()
+C 98: CharSequence s = 'abcd'; s.charAt(1)
+T a0b1b2b: StringBuilder b = new StringBuilder('a'); for (int i = 0; i < 3; i++) { b.append(i).append('b') } b.toString()
+T cba: StringBuilder b = new StringBuilder(); b.insert(0, 'a').insert(0, 'b').insert(0, (char)99); b.toString()
+true: StringBuilder b = new StringBuilder(); b.append(1) === null ? false : true
+null: void f(StringBuilder b) { b.setLength(0) } f(new StringBuilder('x'))
+T xyz: void f(StringBuilder b) { b.append('yz') } StringBuilder b = new StringBuilder('x'); f(b); b.toString()
+thrown RuntimeException deep: int f(int n) { if (n == 0) { throw new RuntimeException('deep') } return f(n - 1) } f(9)
+T a: StringBuilder b = null; b?.toString() ?: 'a'
+true: new Exception('x') instanceof Exception && !(new Exception('x') instanceof RuntimeException)
+T m: Exception e = new NumberFormatException('m'); e.getMessage()
+thrown ClassCastException Cannot cast from [Exception] to [RuntimeException]: Exception e = new Exception('m'); (RuntimeException)e
+T m: Exception e = new NumberFormatException('m'); RuntimeException r = (RuntimeException)e; r.getMessage()
+I 3, 1 ticks: 'Ann'.length()
+I 0, 2 ticks: new StringBuilder().length()
+thrown NullPointerException, 0 ticks: String s = null; s.length()
+thrown StringIndexOutOfBoundsException Index 1 out of bounds for length 1, 1 ticks: 'a'.charAt(1)
+I 2, 2 ticks: int f() { return 'ab'.length() } f()
+null, 0 ticks: String s; s?.trim()
+T ab, 1 ticks: String s = ' ab '; s?.trim()
+B 1: Object o = (byte)1; o";
+
 fn room(room: u64) -> Bounds {
     Bounds {
         loops: 1_000,
@@ -175,7 +219,7 @@ fn room(room: u64) -> Bounds {
 }
 
 /// Scripts at the edge of their room: a text costs its units and 1, an exception the units of its message and 1.
-pub fn bounded() -> [(Bounds, &'static str); 8] {
+pub fn bounded() -> [(Bounds, &'static str); 9] {
     [
         (room(0), "limit room: throw null
 limit room: '' + ''
@@ -193,6 +237,13 @@ limit room: 'a' + 'b'"),
 limit room: 'abc' + 'defg'
 T abc: 'a' + 'b' + 'c'
 limit room: 'a' + 'b' + 'c' + ''"),
+        (room(5), "I 4: new StringBuilder('ab').append('cd').length()
+limit room: new StringBuilder('ab').append('cde').length()
+T abcd: new StringBuilder('abcd').append('').length() == 4 ? 'abcd' : ''
+limit room: throw new Exception('abcde')
+thrown Exception abcd: throw new Exception('abcd')
+limit room: 'abc'.concat('de')
+T abcd: 'abc'.concat('d')"),
         (room(9), "limit room: 1 / 0"),
         (room(10), "thrown ArithmeticException / by zero: 1 / 0"),
         (room(11), "limit room: String s = 'a'; while (s != 'abcd') { s = s == 'a' ? s + 'b' : s == 'ab' ? s + 'c' : s + 'd' } s"),
