@@ -11,7 +11,7 @@ pub struct Row {
     pub left: &'static str,
 }
 
-pub const ROWS: [Row; 50] = [
+pub const ROWS: [Row; 66] = [
     // int s = 0; for (int i = 0; i < 5; i++) { s += i } s
     Row {
         listing: "painless 1\nfun 0 loop R - II\ni 0\nstore 0\ni 0\nstore 1\ngoto 13\nload 0\nload 1\nadd.i\nstore 0\nload 1\ni 1\nadd.i\nstore 1\nload 1\ni 5\nlt.i\nloop 5\nload 0\nbox int\nret\nend\n",
@@ -461,5 +461,149 @@ pub const ROWS: [Row; 50] = [
         ticks: 100,
         room: 1,
         left: "thrown; steps 2; ticks 0",
+    },
+    // the length of a text, which costs a tick
+    Row {
+        listing: "painless 1\nfun 0 loop I - -\ntext \"abc\"\ninvoke java.lang.CharSequence.length/0\nret\nend\n",
+        loops: 100,
+        depth: 100,
+        ticks: 1,
+        room: 0,
+        left: "i 3; steps 3; ticks 1",
+    },
+    // the same without a tick
+    Row {
+        listing: "painless 1\nfun 0 loop I - -\ntext \"abc\"\ninvoke java.lang.CharSequence.length/0\nret\nend\n",
+        loops: 100,
+        depth: 100,
+        ticks: 0,
+        room: 0,
+        left: "ticks; steps 2; ticks 0",
+    },
+    // an argument that is an int, and a result that is a char
+    Row {
+        listing: "painless 1\nfun 0 loop I - -\ntext \"abc\"\ni 1\ninvoke java.lang.CharSequence.charAt/1\nret\nend\n",
+        loops: 100,
+        depth: 100,
+        ticks: 100,
+        room: 0,
+        left: "i 98; steps 4; ticks 1",
+    },
+    // .. and one that the member refuses
+    Row {
+        listing: "painless 1\nfun 0 loop I - -\ntext \"abc\"\ni 3\ninvoke java.lang.CharSequence.charAt/1\nret\nend\n",
+        loops: 100,
+        depth: 100,
+        ticks: 100,
+        room: 1000,
+        left: "thrown; steps 3; ticks 1",
+    },
+    // null has no length, and the call is not paid
+    Row {
+        listing: "painless 1\nfun 0 loop I - -\nnull\ninvoke java.lang.CharSequence.length/0\nret\nend\n",
+        loops: 100,
+        depth: 100,
+        ticks: 0,
+        room: 100,
+        left: "thrown; steps 2; ticks 0",
+    },
+    // a text stays a reference
+    Row {
+        listing: "painless 1\nfun 0 loop R - -\ntext \"abc\"\ni 1\ninvoke java.lang.String.substring/1\nret\nend\n",
+        loops: 100,
+        depth: 100,
+        ticks: 100,
+        room: 100,
+        left: "text bc; steps 4; ticks 1",
+    },
+    // a static member
+    Row {
+        listing: "painless 1\nfun 0 loop I - -\ntext \"12\"\ninvoke java.lang.Integer.parseInt/1\nret\nend\n",
+        loops: 100,
+        depth: 100,
+        ticks: 100,
+        room: 0,
+        left: "i 12; steps 3; ticks 1",
+    },
+    // a builder that is made, and its text
+    Row {
+        listing: "painless 1\nfun 0 loop R - -\nnew java.lang.StringBuilder/0\ntext \"ab\"\ninvoke java.lang.StringBuilder.append/1\ninvoke java.lang.Object.toString/0\nret\nend\n",
+        loops: 100,
+        depth: 100,
+        ticks: 3,
+        room: 1000,
+        left: "text ab; steps 5; ticks 3",
+    },
+    // the same with less ticks
+    Row {
+        listing: "painless 1\nfun 0 loop R - -\nnew java.lang.StringBuilder/0\ntext \"ab\"\ninvoke java.lang.StringBuilder.append/1\ninvoke java.lang.Object.toString/0\nret\nend\n",
+        loops: 100,
+        depth: 100,
+        ticks: 1,
+        room: 1000,
+        left: "ticks; steps 3; ticks 1",
+    },
+    // no room for a builder
+    Row {
+        listing: "painless 1\nfun 0 loop R - -\nnew java.lang.StringBuilder/0\nret\nend\n",
+        loops: 100,
+        depth: 100,
+        ticks: 100,
+        room: 0,
+        left: "room; steps 1; ticks 1",
+    },
+    // a field is read without a tick
+    Row {
+        listing: "painless 1\nfun 0 loop I - -\nfield java.lang.Integer.MAX_VALUE\nret\nend\n",
+        loops: 100,
+        depth: 100,
+        ticks: 0,
+        room: 0,
+        left: "i 2147483647; steps 2; ticks 0",
+    },
+    // a member that no list has
+    Row {
+        listing: "painless 1\nfun 0 loop I - -\ntext \"abc\"\ninvoke java.lang.CharSequence.size/0\nret\nend\n",
+        loops: 100,
+        depth: 100,
+        ticks: 100,
+        room: 100,
+        left: "stuck; steps 2; ticks 0",
+    },
+    // a member by a class that inherits it
+    Row {
+        listing: "painless 1\nfun 0 loop I - -\ntext \"abc\"\ninvoke java.lang.String.length/0\nret\nend\n",
+        loops: 100,
+        depth: 100,
+        ticks: 100,
+        room: 100,
+        left: "stuck; steps 2; ticks 0",
+    },
+    // a member on an int that is in no box
+    Row {
+        listing: "painless 1\nfun 0 loop I - -\ni 1\ninvoke java.lang.CharSequence.length/0\nret\nend\n",
+        loops: 100,
+        depth: 100,
+        ticks: 100,
+        room: 100,
+        left: "stuck; steps 2; ticks 0",
+    },
+    // a member with too few words
+    Row {
+        listing: "painless 1\nfun 0 loop I - -\ni 1\ninvoke java.lang.CharSequence.charAt/1\nret\nend\n",
+        loops: 100,
+        depth: 100,
+        ticks: 100,
+        room: 100,
+        left: "stuck; steps 2; ticks 0",
+    },
+    // a member of lists, which is not built
+    Row {
+        listing: "painless 1\nfun 0 loop R - -\nnew java.util.ArrayList/0\nret\nend\n",
+        loops: 100,
+        depth: 100,
+        ticks: 100,
+        room: 100,
+        left: "stuck; steps 1; ticks 1",
     },
 ];

@@ -1,4 +1,5 @@
 use crate::rows::{ROWS, Row};
+use allowlist::{Allow, Catalogue};
 use code_machine::{Activation, End, Limits, Outcome};
 use code_meaning::Word;
 use object_heap::{Heap, Which};
@@ -62,14 +63,20 @@ fn left_text(alloc: Global, outcome: Option<Outcome>) -> Result<String, AllocErr
 }
 
 /// Runs code in turns of `q` instructions, and tells what it leaves.
-fn run_in_turns(alloc: Global, code: &Code, row: &Row, q: u64) -> Result<String, AllocError> {
+fn run_in_turns(
+    alloc: Global,
+    code: &Code,
+    allow: &Allow,
+    row: &Row,
+    q: u64,
+) -> Result<String, AllocError> {
     let limits = Limits {
         loops: row.loops,
         depth: row.depth,
         ticks: row.ticks,
     };
     let heap = Heap::new(alloc, row.room);
-    let mut activation = Activation::start(code, heap, Elements::new(alloc), limits)?;
+    let mut activation = Activation::start(code, allow, heap, Elements::new(alloc), limits)?;
     for _ in 0..10_000 {
         if activation.turn(q) != Turn::More {
             break;
@@ -78,10 +85,10 @@ fn run_in_turns(alloc: Global, code: &Code, row: &Row, q: u64) -> Result<String,
     left_text(alloc, activation.outcome())
 }
 
-fn leaves(alloc: Global, row: &Row, q: u64) -> Result<bool, AllocError> {
+fn leaves(alloc: Global, allow: &Allow, row: &Row, q: u64) -> Result<bool, AllocError> {
     match read_listing(alloc, row.listing.as_bytes()) {
         Ok(code) => {
-            let left = run_in_turns(alloc, &code, row, q)?;
+            let left = run_in_turns(alloc, &code, allow, row, q)?;
             Ok(left.as_str() == row.left)
         }
         Err(_) => Ok(false),
@@ -89,8 +96,9 @@ fn leaves(alloc: Global, row: &Row, q: u64) -> Result<bool, AllocError> {
 }
 
 fn all_leave(alloc: Global, q: u64) -> Result<bool, AllocError> {
+    let allow = Catalogue::full(alloc)?;
     for row in ROWS.iter() {
-        if !leaves(alloc, row, q)? {
+        if !leaves(alloc, &allow, row, q)? {
             return Ok(false);
         }
     }
@@ -115,5 +123,65 @@ fn runs_in_turns_of_seven(rt: HostRuntime) -> Result<(), Fail> {
 fn runs_at_once(rt: HostRuntime) -> Result<(), Fail> {
     let all = all_leave(rt.alloc(), 1_000_000)?;
     assert!(rt; all);
+    Ok(())
+}
+
+// The length of a text in a list, and the same under a list that lacks it.
+const LENGTH: Row = Row {
+    listing: "painless 1\nfun 0 loop I - -\ntext \"abc\"\ninvoke java.lang.CharSequence.length/0\nret\nend\n",
+    loops: 100,
+    depth: 100,
+    ticks: 100,
+    room: 100,
+    left: "i 3; steps 3; ticks 1",
+};
+
+const NO_LENGTH: Row = Row {
+    left: "stuck; steps 2; ticks 0",
+    ..LENGTH
+};
+
+const WITH_LENGTH: &[u8] = b"class java.lang.CharSequence {\n int length()\n}\n";
+
+const WITHOUT_LENGTH: &[u8] = b"class java.lang.CharSequence {\n char charAt(int)\n}\n";
+
+#[test]
+fn members_of_the_list_alone_are_called(rt: HostRuntime) -> Result<(), Fail> {
+    let Ok(with) = Allow::read(rt.alloc(), WITH_LENGTH) else {
+        return Err("no list")?;
+    };
+    let Ok(without) = Allow::read(rt.alloc(), WITHOUT_LENGTH) else {
+        return Err("no list")?;
+    };
+    let called = leaves(rt.alloc(), &with, &LENGTH, 1)?;
+    let stuck = leaves(rt.alloc(), &without, &NO_LENGTH, 1)?;
+    assert!(rt; called && stuck);
+    Ok(())
+}
+
+// charAt, length and charAt once more
+const REACHES: &[u8] =
+    b"painless 1\nfun 0 loop I - -\ntext \"abc\"\ni 1\ninvoke java.lang.CharSequence.charAt/1\ntext \"abc\"\ninvoke java.lang.CharSequence.length/0\ntext \"abc\"\ni 1\ninvoke java.lang.CharSequence.charAt/1\nadd.i\nadd.i\nret\nend\n";
+
+#[test]
+fn members_are_reached_once(rt: HostRuntime) -> Result<(), Fail> {
+    let alloc = rt.alloc();
+    let allow = Catalogue::full(alloc)?;
+    let Ok(code) = read_listing(alloc, REACHES) else {
+        return Err("no code")?;
+    };
+    let limits = Limits {
+        loops: 0,
+        depth: 0,
+        ticks: 100,
+    };
+    let heap = Heap::new(alloc, 100);
+    let mut activation = Activation::start(&code, &allow, heap, Elements::new(alloc), limits)?;
+    activation.turn(100);
+    let reached = match &activation.outcome() {
+        Some(outcome) => outcome.reached.as_slice() == [3, 4].as_slice(),
+        None => false,
+    };
+    assert!(rt; reached);
     Ok(())
 }
