@@ -6,7 +6,8 @@ ghost use Rattle.pl_tree.specs.declared.tree.Expr.{out-Expr};
 ghost use Rattle.pl_tree.specs.declared.tree.LambdaBody.{out-LambdaBody};
 ghost use Rattle.typing_tasks.specs.Plans as spec;
 
-use pl_tree::{Argument, Expr, LambdaBody, UnaryOperator};
+use pl_tree::{Access, Argument, Expr, LambdaBody, UnaryOperator};
+use plain_data::{Items, Text};
 use std::alloc::AllocError;
 use typed_tree::Gives;
 use typing_tasks::{Act, ExpressionTask, StatementTask, Task, Tasks, UnbuiltTask, WordTask};
@@ -25,6 +26,48 @@ fn unary<'a>(
         _ => tasks.push_two(
             Task::Expression(ExpressionTask::Value(operand)),
             Task::Do(Act::Unary(at, operator)),
+        ),
+    }
+}
+
+/// The same, for a name of a value or of a type.
+fn member<'a>(
+    tasks: &mut Tasks<'a>,
+    access: Access,
+    at: u32,
+    receiver: &'a Expr,
+    name: &'a Text,
+) -> Result<(), AllocError>
+    ensures { OnOk result (tasks.new ≡ spec.member_plan access at receiver.now (spec.type_in (out-Expr receiver.now)) name.now ++ tasks.old) }
+{
+    match receiver {
+        Expr::Type { of } => tasks.push(Task::Word(WordTask::Field(at, access, of, name))),
+        _ => tasks.push_two(
+            Task::Expression(ExpressionTask::Value(receiver)),
+            Task::Word(WordTask::Read(at, access, name)),
+        ),
+    }
+}
+
+/// The same, for a call on a value or on a type.
+fn method<'a>(
+    tasks: &mut Tasks<'a>,
+    access: Access,
+    at: u32,
+    receiver: &'a Expr,
+    name: &'a Text,
+    given: &'a Items<Argument>,
+) -> Result<(), AllocError>
+    ensures { OnOk result (tasks.new ≡ spec.method_plan access at receiver.now (spec.type_in (out-Expr receiver.now)) name.now given.now ++ tasks.old) }
+{
+    match receiver {
+        Expr::Type { of } => tasks.push_two(
+            Task::Word(WordTask::TypeOf(of)),
+            Task::Expression(ExpressionTask::Static(at, access, of, name, given)),
+        ),
+        _ => tasks.push_two(
+            Task::Expression(ExpressionTask::Value(receiver)),
+            Task::Expression(ExpressionTask::Method(at, access, name, given)),
         ),
     }
 }
@@ -113,7 +156,7 @@ pub fn value<'a>(tasks: &mut Tasks<'a>, e: &'a Expr) -> Result<(), AllocError>
         } => tasks.push(Task::Expression(ExpressionTask::Call(*at, spelling, arguments))),
         Expr::New { at, of, arguments } => tasks.push_two(
             Task::Word(WordTask::TypeOf(of)),
-            Task::Unbuilt(UnbuiltTask::Arguments(arguments, 0, *at)),
+            Task::Expression(ExpressionTask::New(*at, of, arguments)),
         ),
         Expr::NewArray { at, of, sizes } => {
             tasks.push_two(
@@ -132,24 +175,18 @@ pub fn value<'a>(tasks: &mut Tasks<'a>, e: &'a Expr) -> Result<(), AllocError>
             Task::Do(Act::Unbuilt(of.at)),
         ),
         Expr::Member {
-            access: _,
+            access,
             at,
             receiver,
-            spelling: _,
-        } => tasks.push_two(
-            Task::Expression(ExpressionTask::Value(receiver.get())),
-            Task::Do(Act::Unbuilt(*at)),
-        ),
+            spelling,
+        } => member(tasks, *access, *at, receiver.get(), spelling),
         Expr::Method {
-            access: _,
+            access,
             at,
             receiver,
-            spelling: _,
+            spelling,
             arguments,
-        } => tasks.push_two(
-            Task::Expression(ExpressionTask::Value(receiver.get())),
-            Task::Unbuilt(UnbuiltTask::Arguments(arguments, 0, *at)),
-        ),
+        } => method(tasks, *access, *at, receiver.get(), spelling, arguments),
         Expr::Element {
             access: _,
             at,
@@ -192,6 +229,15 @@ pub fn target<'a>(tasks: &mut Tasks<'a>, e: &'a Expr) -> Result<(), AllocError>
 {
     match e {
         Expr::Name { at, spelling } => tasks.push(Task::Word(WordTask::Written(*at, spelling))),
+        Expr::Member {
+            access: _,
+            at,
+            receiver,
+            spelling: _,
+        } => tasks.push_two(
+            Task::Expression(ExpressionTask::Value(receiver.get())),
+            Task::Do(Act::Unbuilt(*at)),
+        ),
         _ => tasks.push_two(
             Task::Expression(ExpressionTask::Value(e)),
             Task::Do(Act::Fixed),

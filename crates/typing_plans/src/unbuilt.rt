@@ -6,7 +6,8 @@ ghost use Rattle.typing_tasks.specs.Job as j;
 ghost use Rattle.typing_tasks.specs.Machine.{run};
 ghost use Rattle.typing_tasks.specs.Plans as spec;
 
-use pl_tree::{Argument, Catch, Entry, Expr, Parameter};
+use allowlist::Allow;
+use pl_tree::{Catch, Entry, Expr, Parameter};
 use pl_types::Fail;
 use plain_data::{Items, Subtree};
 use std::alloc::AllocError;
@@ -17,6 +18,7 @@ use typing_tasks::{Act, ExpressionTask, StatementAct, StatementTask, Task, Tasks
 /// Expressions from one on.
 #[tactic(auto, using(typing_tasks::proofs::Goings::values_go, typing_tasks::proofs::Goings::values_end))]
 pub fn values<'a>(
+    _allow: &Allow,
     _headers: &[Header],
     _config: &Config,
     tasks: &mut Tasks<'a>,
@@ -24,7 +26,7 @@ pub fn values<'a>(
     i: usize,
     at: u32,
 ) -> Result<(), Fail>
-    ensures { Goes (run _headers.now (j.UnbuiltValues all.now i at ∷ tasks.old) _config.now) result (run _headers.now tasks.new _config.now) }
+    ensures { Goes (run _allow.now _headers.now (j.UnbuiltValues all.now i at ∷ tasks.old) _config.now) result (run _allow.now _headers.now tasks.new _config.now) }
 {
     let _count = all.len();
     let Some(one) = all.get(i) else {
@@ -38,33 +40,10 @@ pub fn values<'a>(
     Ok(())
 }
 
-/// Arguments from one on.
-#[tactic(auto, using(typing_tasks::proofs::Goings::unbuilt_arguments_go, typing_tasks::proofs::Goings::unbuilt_arguments_end))]
-pub fn arguments<'a>(
-    _headers: &[Header],
-    _config: &Config,
-    tasks: &mut Tasks<'a>,
-    all: &'a Items<Argument>,
-    i: usize,
-    at: u32,
-) -> Result<(), Fail>
-    ensures { Goes (run _headers.now (j.UnbuiltArguments all.now i at ∷ tasks.old) _config.now) result (run _headers.now tasks.new _config.now) }
-{
-    let _count = all.len();
-    let Some(one) = all.get(i) else {
-        tasks.push(Task::Do(Act::Unbuilt(at)))?;
-        return Ok(());
-    };
-    tasks.push_two(
-        Task::Expression(ExpressionTask::Given(one)),
-        Task::Unbuilt(UnbuiltTask::Arguments(all, i + 1, at)),
-    )?;
-    Ok(())
-}
-
 /// Entries of a map from one on.
 #[tactic(auto, using(typing_tasks::proofs::Goings::entries_go, typing_tasks::proofs::Goings::entries_end))]
 pub fn entries<'a>(
+    _allow: &Allow,
     _headers: &[Header],
     _config: &Config,
     tasks: &mut Tasks<'a>,
@@ -72,7 +51,7 @@ pub fn entries<'a>(
     i: usize,
     at: u32,
 ) -> Result<(), Fail>
-    ensures { Goes (run _headers.now (j.UnbuiltEntries all.now i at ∷ tasks.old) _config.now) result (run _headers.now tasks.new _config.now) }
+    ensures { Goes (run _allow.now _headers.now (j.UnbuiltEntries all.now i at ∷ tasks.old) _config.now) result (run _allow.now _headers.now tasks.new _config.now) }
 {
     let _count = all.len();
     let Some(one) = all.get(i) else {
@@ -90,6 +69,7 @@ pub fn entries<'a>(
 /// Handlers of a `try` from one on.
 #[tactic(auto, using(typing_tasks::proofs::Goings::catches_go, typing_tasks::proofs::Goings::catches_end))]
 pub fn catches<'a>(
+    _allow: &Allow,
     _headers: &[Header],
     _config: &Config,
     tasks: &mut Tasks<'a>,
@@ -97,7 +77,7 @@ pub fn catches<'a>(
     i: usize,
     at: u32,
 ) -> Result<(), Fail>
-    ensures { Goes (run _headers.now (j.UnbuiltCatches all.now i at ∷ tasks.old) _config.now) result (run _headers.now tasks.new _config.now) }
+    ensures { Goes (run _allow.now _headers.now (j.UnbuiltCatches all.now i at ∷ tasks.old) _config.now) result (run _allow.now _headers.now tasks.new _config.now) }
 {
     let _count = all.len();
     let Some(one) = all.get(i) else {
@@ -114,12 +94,13 @@ pub fn catches<'a>(
 /// A handler, whose name is in sight in its block.
 #[tactic(auto, using(typing_tasks::proofs::Goings::catch_goes))]
 pub fn catch<'a>(
+    _allow: &Allow,
     _headers: &[Header],
     config: &Config,
     tasks: &mut Tasks<'a>,
     e: &'a Catch,
 ) -> Result<(), Fail>
-    ensures { Goes (run _headers.now (j.Catch_ e.now ∷ tasks.old) config.now) result (run _headers.now tasks.new config.now) }
+    ensures { Goes (run _allow.now _headers.now (j.Catch_ e.now ∷ tasks.old) config.now) result (run _allow.now _headers.now tasks.new config.now) }
 {
     let height = config.state.scopes.len();
     tasks.push_three(
@@ -143,13 +124,14 @@ fn parameter<'a>(tasks: &mut Tasks<'a>, e: &'a Parameter) -> Result<(), AllocErr
 /// Parameters of a function value from one on.
 #[tactic(auto, using(typing_tasks::proofs::Goings::parameters_go, typing_tasks::proofs::Goings::parameters_end))]
 pub fn parameters<'a>(
+    _allow: &Allow,
     _headers: &[Header],
     _config: &Config,
     tasks: &mut Tasks<'a>,
     all: &'a Items<Parameter>,
     at: usize,
 ) -> Result<(), Fail>
-    ensures { Goes (run _headers.now (j.Parameters all.now at ∷ tasks.old) _config.now) result (run _headers.now tasks.new _config.now) }
+    ensures { Goes (run _allow.now _headers.now (j.Parameters all.now at ∷ tasks.old) _config.now) result (run _allow.now _headers.now tasks.new _config.now) }
 {
     let _count = all.len();
     let Some(one) = all.get(at) else {
