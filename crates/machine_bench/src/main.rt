@@ -2,6 +2,7 @@
 //! instruction. It measures where it is given an argument, and else prints nothing: `rt run -- times`.
 #![tactic(auto)]
 
+use allowlist::{Allow, Catalogue};
 use code_machine::{Activation, Limits};
 use object_heap::Heap;
 use object_values::Elements;
@@ -39,9 +40,9 @@ fn straight(alloc: Global) -> Result<String, AllocError> {
 }
 
 /// How many instructions a run takes, in turns of so many. It is 0 where the run does not end.
-fn run(alloc: Global, code: &Code, q: u64) -> Result<u64, AllocError> {
+fn run(alloc: Global, code: &Code, allow: &Allow, q: u64) -> Result<u64, AllocError> {
     let heap = Heap::new(alloc, 1_000_000);
-    let mut activation = Activation::start(code, heap, Elements::new(alloc), LIMITS)?;
+    let mut activation = Activation::start(code, allow, heap, Elements::new(alloc), LIMITS)?;
     for _ in 0..100_000_000 {
         if activation.turn(q) != Turn::More {
             break;
@@ -58,10 +59,11 @@ fn measure(
     alloc: Global,
     name: &str,
     code: &Code,
+    allow: &Allow,
     q: u64,
 ) -> io::Result<()> {
     let start = Instant::now(rt)?;
-    let Ok(steps) = run(alloc, code, q) else {
+    let Ok(steps) = run(alloc, code, allow, q) else {
         return Ok(());
     };
     let spent = start.elapsed(rt)?.as_nanos();
@@ -76,6 +78,9 @@ fn main(rt: HostRuntime) -> io::Result<()> {
     let Ok(line) = straight(rt.alloc()) else {
         return Ok(());
     };
+    let Ok(allow) = Catalogue::full(rt.alloc()) else {
+        return Ok(());
+    };
     for (name, listing) in [
         ("a loop", LOOP),
         ("calls", CALLS),
@@ -85,7 +90,7 @@ fn main(rt: HostRuntime) -> io::Result<()> {
             return Ok(());
         };
         for q in [1, 1_000, 100_000_000] {
-            measure(&rt, rt.alloc(), name, &code, q)?;
+            measure(&rt, rt.alloc(), name, &code, &allow, q)?;
         }
     }
     Ok(())
