@@ -9,7 +9,8 @@ use Rattle.typed_tree.specs.declared.statement.TypedStatement.{TypedStatement}
 use Rattle.typed_tree.specs.declared.statement.TypedVariable.{TypedVariable}
 use Rattle.program_meaning.specs.Tree.{Name, Expr, Maybe, Missing, Given, If, While, DoWhile, Block, Stmts, Finish, Then, Declare, Variable, Program}
 use Rattle.program_meaning.specs.Programs.{before, declared, stmts_of, maybe_of}
-use Rattle.program_types.specs.Agreeing.{BeginAgrees}
+use Rattle.allowlist.specs.Allow.{AllowList}
+use Rattle.program_types.specs.Agreeing.{Known, known, BeginAgrees}
 use Rattle.program_code.specs.Lying.{lying_of}
 use Rattle.code_generator.specs.Jobs.{Job, Value, Put, Jump, Bind, One, Run, Declared, Close, Both, Either, Skip, Update, Test, Last, Turned, First, IsFirst, keep, entry, flow_of}
 use Rattle.code_generator.specs.Sound.{Agree, Keeps, BeginLies, variable, names_in, names_behind}
@@ -24,7 +25,7 @@ use Rattle.code_generator.proofs.Parts.{drop_one, drop_end}
 use Rattle.code_generator.proofs.Rows.{kept_mapped}
 use Rattle.code_generator.proofs.Steps.{instead, never}
 
-module _ (funs : Program) (of : Ty) (js : List Job) (c : Config) (exits : Option Exits) where
+module _ (funs : Known) (of : Ty) (js : List Job) (c : Config) (exits : Option Exits) where
   -- what follows a scope that is left
   left : (js' : List Job) (body : Stmts) (height : ℕ) (flows : List Flow) → height ≡ length c.scope → Agree funs of js' (names_in c) flows → Agree funs of js' (keep height (names_behind (names_in c) body)) flows
   left js' body height flows e a = subst (λ (g : List Variable). Agree funs of js' g flows) (sym (closed_names c height body e)) a
@@ -64,22 +65,22 @@ module _ (funs : Program) (js : List Job) (c : Config) (exits : Option Exits) wh
       → Keeps funs (Run (stmts_of (drop at all)) exits ∷ js) c (Ok tt) (Run (before s (stmts_of (drop (at + 1) all))) exits ∷ js) c
   keeps_row all at s e =
       subst (λ (ss : List TypedStatement). Keeps funs (Run (stmts_of ss) exits ∷ js) c (Ok tt) (Run (before s (stmts_of (drop (at + 1) all))) exits ∷ js) c) (sym (drop_one at all s e))
-      (instead funs (Run (before s (stmts_of (drop (at + 1) all))) exits ∷ js) (Run (before s (stmts_of (drop (at + 1) all))) exits ∷ js) c (λ of s. s) refl)
+      (instead funs (Run (before s (stmts_of (drop (at + 1) all))) exits ∷ js) (Run (before s (stmts_of (drop (at + 1) all))) exits ∷ js) c (λ allow of s. s) refl)
 
   pub keeps_row_end : (all : List TypedStatement) (at : ℕ) (result : Result Unit CodeError) (js' : List Job) → slice_get all at ≡ None → Keeps funs (Run Finish exits ∷ js) c result js' c → Keeps funs (Run (stmts_of (drop at all)) exits ∷ js) c result js' c
   keeps_row_end all at result js' e b = subst (λ (ss : List TypedStatement). Keeps funs (Run (stmts_of ss) exits ∷ js) c result js' c) (sym (drop_end at all e)) b
 
   pub keeps_variables_end : (all : List TypedVariable) (at : ℕ) (rest : Stmts) → slice_get all at ≡ None → Keeps funs (Run (declared (drop at all) rest) exits ∷ js) c (Ok tt) (Run rest exits ∷ js) c
   keeps_variables_end all at rest e =
-      subst (λ (xs : List TypedVariable). Keeps funs (Run (declared xs rest) exits ∷ js) c (Ok tt) (Run rest exits ∷ js) c) (sym (drop_end at all e)) (instead funs (Run rest exits ∷ js) (Run rest exits ∷ js) c (λ of s. s) refl)
+      subst (λ (xs : List TypedVariable). Keeps funs (Run (declared xs rest) exits ∷ js) c (Ok tt) (Run rest exits ∷ js) c) (sym (drop_end at all e)) (instead funs (Run rest exits ∷ js) (Run rest exits ∷ js) c (λ allow of s. s) refl)
 
   first_keeps : (x : Name) (at : Ty) (m : Maybe) (rest : Stmts) (first : Job) → First at m first → Keeps funs (Run (Declare x at m rest) exits ∷ js) c (Ok tt) (first ∷ Declared x at ∷ Run rest exits ∷ js) c
   first_keeps x at Missing rest first e =
       subst (λ (first : Job). Keeps funs (Run (Declare x at Missing rest) exits ∷ js) c (Ok tt) (first ∷ Declared x at ∷ Run rest exits ∷ js) c) (sym e)
-      (instead funs (Run (Declare x at Missing rest) exits ∷ js) _ c (λ of s. (s.0.1, (s.0.2, s.1))) refl)
+      (instead funs (Run (Declare x at Missing rest) exits ∷ js) _ c (λ allow of s. (s.0.1, (s.0.2, s.1))) refl)
   first_keeps x at (Given a) rest first e =
       subst (λ (first : Job). Keeps funs (Run (Declare x at (Given a) rest) exits ∷ js) c (Ok tt) (first ∷ Declared x at ∷ Run rest exits ∷ js) c) (sym e.1)
-      (instead funs (Run (Declare x at (Given a) rest) exits ∷ js) _ c (λ of s. (s.0.0.0, (s.0.1, (s.0.2, s.1)))) refl)
+      (instead funs (Run (Declare x at (Given a) rest) exits ∷ js) _ c (λ allow of s. (s.0.0.0, (s.0.1, (s.0.2, s.1)))) refl)
 
   pub keeps_variables : (all : List TypedVariable) (at : ℕ) (x : TypedVariable) (rest : Stmts) (first : Job) → slice_get all at ≡ Some x → IsFirst x first
       → Keeps funs (Run (declared (drop at all) rest) exits ∷ js) c (Ok tt) (first ∷ Declared x.name x.of ∷ Run (declared (drop (at + 1) all) rest) exits ∷ js) c
@@ -87,25 +88,25 @@ module _ (funs : Program) (js : List Job) (c : Config) (exits : Option Exits) wh
       subst (λ (xs : List TypedVariable). Keeps funs (Run (declared xs rest) exits ∷ js) c (Ok tt) (first ∷ Declared x.name x.of ∷ Run (declared (drop (at + 1) all) rest) exits ∷ js) c) (sym (drop_one at all x e))
       (first_keeps x.name x.of (maybe_of x.value) (declared (drop (at + 1) all) rest) first h)
 
-  begin_lies : (m : Maybe) (at : Ty) (g : List Variable) → BeginAgrees funs g m at → BeginLies m at
-  begin_lies Missing at g h = tt
-  begin_lies (Given a) at g h = ap lying_of h.1
+  begin_lies : (allow : AllowList) (m : Maybe) (at : Ty) (g : List Variable) → BeginAgrees (known allow funs) g m at → BeginLies m at
+  begin_lies allow Missing at g h = tt
+  begin_lies allow (Given a) at g h = ap lying_of h.1
 
   pub keeps_first : (all : List TypedVariable) (at : ℕ) (x : TypedVariable) (rest : Stmts) (result : Result Unit CodeError) (js' : List Job) (c' : Config) → slice_get all at ≡ Some x → (BeginLies (maybe_of x.value) x.of → ⊥)
       → Keeps funs (Run (declared (drop at all) rest) exits ∷ js) c result js' c'
   keeps_first all at x rest result js' c' is n =
       subst (λ (xs : List TypedVariable). Keeps funs (Run (declared xs rest) exits ∷ js) c result js' c') (sym (drop_one at all x is))
-      (never funs (Run (declared (x ∷ drop (at + 1) all) rest) exits ∷ js) js' c result c' (λ of s. n (begin_lies (maybe_of x.value) x.of (names_in c) s.0.0)))
+      (never funs (Run (declared (x ∷ drop (at + 1) all) rest) exits ∷ js) js' c result c' (λ allow of s. n (begin_lies allow (maybe_of x.value) x.of (names_in c) s.0.0)))
 
 -- ---- the names in sight
 
 module _ (funs : Program) (js : List Job) (c : Config) where
   pub keeps_closed : (height : ℕ) (new : List d.Entry) → new ≡ keep height c.scope → Keeps funs (Close height ∷ js) c (Ok tt) js (record c { scope = new })
   keeps_closed height new e = record {
-    by = λ s. record {
+    by = λ allow s. record {
       result = s.result;
       lies = s.lies;
-      agree = subst (λ (g : List Variable). Agree funs s.result js g c.flows) (sym (ap (λ (es : List d.Entry). map variable (map entry es)) e ∙ ap (map variable) (kept_mapped entry height c.scope) ∙ kept_mapped variable height (map entry c.scope))) s.agree;
+      agree = subst (λ (g : List Variable). Agree (known allow funs) s.result js g c.flows) (sym (ap (λ (es : List d.Entry). map variable (map entry es)) e ∙ ap (map variable) (kept_mapped entry height c.scope) ∙ kept_mapped variable height (map entry c.scope))) s.agree;
       free = s.free;
     };
   }
@@ -113,10 +114,10 @@ module _ (funs : Program) (js : List Job) (c : Config) where
   pub keeps_declared : (x : Name) (at : Ty) (y : d.Entry) (n : ℕ) (scope : List d.Entry) (locals : List Slot) (lines : List Line) → entry y ≡ record { name = x; of = at; local = n } → scope ≡ y ∷ c.scope
       → Keeps funs (Declared x at ∷ js) c (Ok tt) js (record c { scope = scope; locals = locals; lines = lines })
   keeps_declared x at y n scope locals lines e es = record {
-    by = λ s. record {
+    by = λ allow s. record {
       result = s.result;
       lies = s.lies;
-      agree = subst (λ (g : List Variable). Agree funs s.result js g c.flows) (sym (ap (λ (es : List d.Entry). map variable (map entry es)) es ∙ ap (λ z. variable z ∷ names_in c) e)) s.agree.1;
+      agree = subst (λ (g : List Variable). Agree (known allow funs) s.result js g c.flows) (sym (ap (λ (es : List d.Entry). map variable (map entry es)) es ∙ ap (λ z. variable z ∷ names_in c) e)) s.agree.1;
       free = s.free;
     };
   }

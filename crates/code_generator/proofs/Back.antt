@@ -9,6 +9,8 @@ use Rattle.pl_code.specs.declared.kinds.Numbered.{Numbered}
 use Rattle.pl_code.specs.declared.code.FunCode.{FunCode}
 use Rattle.pl_code.specs.declared.code.Instruction.{Instruction}
 use Rattle.pl_code.specs.declared.code.Instruction.TheVariants as i
+use Rattle.allowlist.specs.declared.member.MemberKind.{MemberKind}
+use Rattle.code_generator.specs.Called.{call_code}
 use Rattle.code_meaning.specs.Machine.{traps_at}
 use Rattle.program_meaning.specs.Tree.{Name, Program}
 use Rattle.pl_code.specs.declared.kinds.Numbered.TheVariants as numbered
@@ -17,7 +19,7 @@ use Rattle.program_code.specs.Parts.{cast_code}
 use Rattle.program_code.specs.Stands.{At, AllAt, end_all}
 use Rattle.code_generator.specs.Checks.{lying}
 use Rattle.code_generator.specs.Labels.{or_first, bound, settled_line}
-use Rattle.code_generator.specs.Jobs.{Job, Put, Convert, Ask, Jump, Bind, Load, Store, Stand, Holds, Back, IsLocal, scope_in, next_in}
+use Rattle.code_generator.specs.Jobs.{Job, Put, Convert, Ask, Call, Jump, Bind, Load, Store, Stand, Holds, Back, IsLocal, scope_in, next_in}
 use Rattle.code_generator.specs.declared.config.Config.{Config}
 use Rattle.code_generator.specs.declared.config.Flow.{Flow}
 use Rattle.code_generator.specs.declared.labels.Line.{Line}
@@ -168,12 +170,19 @@ module _ (funs : Program) (js : List Job) (c : Config) where
   pub ask_back : (is : Ty) (xs : List Line) → xs ≡ c.lines ++ line.Fixed (i.Typed typed.IsA (full_text is)) ∷ [] → Back funs (Ask is ∷ js) c js (record c { lines = xs })
   ask_back is xs e = record { by = λ f labels m. let before = (put_back (i.Typed typed.IsA (full_text is) ∷ []) xs e).by f labels m in record { holds = before.holds; stand = (before.stand.0.0, before.stand.1) } }
 
+  pub call_back : (kind : MemberKind) (text : List ℕ) (xs : List Line) → xs ≡ c.lines ++ line.Fixed (call_code kind text) ∷ [] → Back funs (Call kind text ∷ js) c js (record c { lines = xs })
+  call_back kind text xs e = record { by = λ f labels m. let before = (put_back (call_code kind text ∷ []) xs e).by f labels m in record { holds = before.holds; stand = (before.stand.0.0, before.stand.1) } }
+
   pub jump_back : (kind : Numbered) (label : ℕ) (xs : List Line) → xs ≡ c.lines ++ line.Jump kind label ∷ [] → Back funs (Jump kind label ∷ js) c js (record c { lines = xs })
   jump_back kind label xs e = subst (λ xs. Back funs (Jump kind label ∷ js) c js (record c { lines = xs })) (sym e) (jump_more funs js c kind label)
 
   pub bind_back : (label n : ℕ) (ls : List (Option ℕ)) → n ≡ length c.lines → slice_get c.labels label ≡ Some None → ls ≡ slice_set c.labels label (Some n) → Back funs (Bind label ∷ js) c js (record c { labels = ls })
   bind_back label n ls e free is =
       subst (λ ls. Back funs (Bind label ∷ js) c js (record c { labels = ls })) (sym (is ∙ ap (λ n. slice_set c.labels label (Some n)) e)) (bind_more funs js c label free)
+
+  pub with_label : (js' : List Job) (ls : List (Option ℕ)) → ls ≡ c.labels ++ None ∷ [] → Back funs js c js' c → Back funs js c js' (record c { labels = ls })
+  with_label js' ls e b =
+      subst (λ ls. Back funs js c js' (record c { labels = ls })) (sym e) (back_all funs js js' js' c c (record c { labels = c.labels ++ None ∷ [] }) b (labels_more funs js' c (None ∷ [])))
 
   pub with_labels : (js' : List Job) (ls ls' : List (Option ℕ)) → ls ≡ c.labels ++ None ∷ [] → ls' ≡ ls ++ None ∷ [] → Back funs js c js' c → Back funs js c js' (record c { labels = ls' })
   with_labels js' ls ls' e e' b =

@@ -13,4 +13,5 @@ pub mod Fitting
 pub mod Free
 pub mod Known
 pub mod Agreeing
+pub mod Called
 pub mod Whole

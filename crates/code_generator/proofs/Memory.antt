@@ -8,4 +8,4 @@ use Rattle.code_generator.specs.declared.error.CodeError.{CodeError}
 use Rattle.code_generator.specs.declared.error.CodeError.TheVariants.{NoMemory}
 
 pub only_memory : (funs : Program) (js js' : List Job) (c c' : Config) (e : CodeError) → e ≡ NoMemory → Keeps funs js c (Err e) js' c'
-only_memory funs js js' c c' e is = record { by = λ s. is }
+only_memory funs js js' c c' e is = record { by = λ allow s. is }

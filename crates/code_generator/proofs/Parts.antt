@@ -9,13 +9,14 @@ use Rattle.typed_tree.specs.declared.program.TypedFunction.{TypedFunction}
 use Rattle.typed_tree.specs.declared.typed.Typed.{Typed}
 use Rattle.pl_types.specs.declared.ty.Ty.{Ty}
 use Rattle.program_meaning.specs.Tree.{Exprs, None', One, Fun, Program, type_of}
-use Rattle.program_types.specs.Agreeing.{types_of, types_in, Calls, Applies}
+use Rattle.allowlist.specs.Allow.{AllowList}
+use Rattle.program_types.specs.Agreeing.{Known, known, types_of, types_in, Calls, Applies}
 use Rattle.program_types.specs.Types.{IsNamed, Casts}
 use Rattle.program_meaning.specs.Programs.{expr_of, exprs_of, fun_of, variable_of, program_of}
 use Rattle.program_code.specs.Lying.{Lying, Bare, Whole, lying_of}
 use Rattle.program_code.specs.Stands.{AllLie, CastFits, lyings, lyings_of, Fitting}
 use Rattle.code_generator.specs.Functions.{function_at}
-use Rattle.code_generator.specs.Jobs.{Job, Value, Values, Back, Wanted, As, Wants, Taken, wanted, parts_from, lyings_in}
+use Rattle.code_generator.specs.Jobs.{Job, Value, Values, Back, Wanted, As, Wants, Taken, wanted, parts_from, lyings_in, member_takes}
 use Rattle.code_generator.specs.Sound.{Keeps, Refuses, Names}
 use Rattle.code_generator.specs.declared.task.Wanted as dw
 use Rattle.code_generator.specs.declared.task.Wanted.TheVariants as w
@@ -103,10 +104,17 @@ others_lie [] (suc at) k ks e = absurd cc
 others_lie (x ∷ params) zero k ks e = cc
 others_lie (x ∷ params) (suc at) k ks e = others_lie params at k ks e
 
+rest_lie : (ls : List Lying) (at : ℕ) (k : Lying) (ks : List Lying) → k ∷ ks ≡ drop at ls → ks ≡ drop (suc at) ls
+rest_lie [] zero k ks e = absurd cc
+rest_lie [] (suc at) k ks e = absurd cc
+rest_lie (x ∷ ls) zero k ks e = cc
+rest_lie (x ∷ ls) (suc at) k ks e = rest_lie ls at k ks e
+
 pub wanted_of_others : (kind : dw.Wanted) (at : ℕ) (k : Lying) (ks : List Lying) → Wants (wanted at kind) (k ∷ ks) → Wants (wanted (at + 1) kind) ks
 wanted_of_others w.Any at k ks h = tt
 wanted_of_others (w.All one) at k ks h = h.1
 wanted_of_others (w.As params) at k ks h = others_lie params.now at k ks h ∙ ap (λ n. lyings_in (drop n params.now)) (sym (add-one at))
+wanted_of_others (w.Member kind params) at k ks h = rest_lie (member_takes kind params.now) at k ks h ∙ ap (λ n. drop n (member_takes kind params.now)) (sym (add-one at))
 
 pub refuses_param : (params : List Named) (at : ℕ) (x : Named) (k : Lying) → slice_get params at ≡ Some x → k ≢ lying_of x.of → Refuses (As (lyings_in (drop at params))) k
 refuses_param params at x k is n = record { by = λ ks h. let e : k ∷ ks ≡ lying_of x.of ∷ lyings_in (drop (at + 1) params) = h ∙ ap lyings_in (drop_one at params x is) in n cc }
@@ -132,11 +140,11 @@ params_typed : (params : List Named) → map lying_of (types_in (map variable_of
 params_typed [] = refl
 params_typed (x ∷ xs) = ap (λ l. lying_of x.of ∷ l) (params_typed xs)
 
-pub call_gives : (p : typed.Program) (number : ℕ) (f : TypedFunction) (ofs : List Ty) (of : Ty) → function_at p number ≡ Some f → Calls (program_of p) number ofs of → lying_of of ≡ lying_of f.result
-call_gives p number f ofs of is x = ap lying_of (x.gives ∙ ap (λ (g : Fun). g.result) (fun_at p number f x.fun is x.is))
+pub call_gives : (allow : AllowList) (p : typed.Program) (number : ℕ) (f : TypedFunction) (ofs : List Ty) (of : Ty) → function_at p number ≡ Some f → Calls (known allow (program_of p)) number ofs of → lying_of of ≡ lying_of f.result
+call_gives allow p number f ofs of is x = ap lying_of (x.gives ∙ ap (λ (g : Fun). g.result) (fun_at p number f x.fun is x.is))
 
-pub call_takes : (p : typed.Program) (number : ℕ) (f : TypedFunction) (parts : Exprs) (of : Ty) → function_at p number ≡ Some f → Calls (program_of p) number (types_of parts) of → Wants (As (lyings_in f.parameters)) (lyings parts)
-call_takes p number f parts of is x =
+pub call_takes : (allow : AllowList) (p : typed.Program) (number : ℕ) (f : TypedFunction) (parts : Exprs) (of : Ty) → function_at p number ≡ Some f → Calls (known allow (program_of p)) number (types_of parts) of → Wants (As (lyings_in f.parameters)) (lyings parts)
+call_takes allow p number f parts of is x =
     types_lie parts ∙ ap (map lying_of) (x.takes ∙ ap (λ (g : Fun). types_in g.params) (fun_at p number f x.fun is x.is)) ∙ params_typed f.parameters
 
 -- ---- steps over the parts of a well-formed program
@@ -147,41 +155,41 @@ module _ (funs : Program) (js : List Job) (c : Config) where
   keeps_part parts at x kind is =
       subst (λ (es : Exprs). Keeps funs (Values es (wanted at kind) ∷ js) c (Ok tt) (Value (expr_of x) ∷ Values (parts_from (at + 1) parts) (wanted (at + 1) kind) ∷ js) c) (sym (parts_go parts at x is))
       (instead funs (Values (One (expr_of x) (parts_from (at + 1) parts)) (wanted at kind) ∷ js) (Value (expr_of x) ∷ Values (parts_from (at + 1) parts) (wanted (at + 1) kind) ∷ js) c
-      (λ of s. (s.0.0.0, ((s.0.0.1, wanted_of_others kind at (lying_of (type_of (expr_of x))) (lyings (parts_from (at + 1) parts)) s.0.1), s.1))) refl)
+      (λ allow of s. (s.0.0.0, ((s.0.0.1, wanted_of_others kind at (lying_of (type_of (expr_of x))) (lyings (parts_from (at + 1) parts)) s.0.1), s.1))) refl)
 
   pub keeps_no_part : (parts : List Typed) (at : ℕ) (kind : dw.Wanted) → slice_get parts at ≡ None → Keeps funs (Values (parts_from at parts) (wanted at kind) ∷ js) c (Ok tt) js c
   keeps_no_part parts at kind is =
-      subst (λ (es : Exprs). Keeps funs (Values es (wanted at kind) ∷ js) c (Ok tt) js c) (sym (parts_stop parts at is)) (instead funs (Values None' (wanted at kind) ∷ js) js c (λ of s. s.1) refl)
+      subst (λ (es : Exprs). Keeps funs (Values es (wanted at kind) ∷ js) c (Ok tt) js c) (sym (parts_stop parts at is)) (instead funs (Values None' (wanted at kind) ∷ js) js c (λ allow of s. s.1) refl)
 
   pub keeps_unfit : (parts : List Typed) (at : ℕ) (x : Typed) (kind : dw.Wanted) (result : Result Unit CodeError) (js' : List Job) (c' : Config) → slice_get parts at ≡ Some x
       → Refuses (wanted at kind) (lying_of (type_of (expr_of x))) → Keeps funs (Values (parts_from at parts) (wanted at kind) ∷ js) c result js' c'
   keeps_unfit parts at x kind result js' c' is n =
       subst (λ (es : Exprs). Keeps funs (Values es (wanted at kind) ∷ js) c result js' c') (sym (parts_go parts at x is))
-      (never funs (Values (One (expr_of x) (parts_from (at + 1) parts)) (wanted at kind) ∷ js) js' c result c' (λ of s. n.by (lyings (parts_from (at + 1) parts)) s.0.1))
+      (never funs (Values (One (expr_of x) (parts_from (at + 1) parts)) (wanted at kind) ∷ js) js' c result c' (λ allow of s. n.by (lyings (parts_from (at + 1) parts)) s.0.1))
 
   pub keeps_unended : (parts : List Typed) (at : ℕ) (kind : dw.Wanted) (result : Result Unit CodeError) (js' : List Job) (c' : Config) → slice_get parts at ≡ None
       → (Wants (wanted at kind) [] → ⊥) → Keeps funs (Values (parts_from at parts) (wanted at kind) ∷ js) c result js' c'
   keeps_unended parts at kind result js' c' is n =
       subst (λ (es : Exprs). Keeps funs (Values es (wanted at kind) ∷ js) c result js' c') (sym (parts_stop parts at is))
-      (never funs (Values None' (wanted at kind) ∷ js) js' c result c' (λ of s. n s.0.1))
+      (never funs (Values None' (wanted at kind) ∷ js) js' c result c' (λ allow of s. n s.0.1))
 
 -- ---- casts of a well-formed program
 
-pub cast_there : (funs : Program) (c : Cast) (parts : List Typed) (of : Ty) → slice_get parts 0 ≡ None → Applies funs (operation.Cast c) (types_of (exprs_of (map expr_of parts))) of → ⊥
+pub cast_there : (funs : Known) (c : Cast) (parts : List Typed) (of : Ty) → slice_get parts 0 ≡ None → Applies funs (operation.Cast c) (types_of (exprs_of (map expr_of parts))) of → ⊥
 cast_there funs c [] of e x = x
 cast_there funs c (y ∷ parts) of e x = cc
 
-pub cast_alone : (funs : Program) (c : Cast) (parts : List Typed) (of : Ty) → length parts ≢ 1 → Applies funs (operation.Cast c) (types_of (exprs_of (map expr_of parts))) of → ⊥
+pub cast_alone : (funs : Known) (c : Cast) (parts : List Typed) (of : Ty) → length parts ≢ 1 → Applies funs (operation.Cast c) (types_of (exprs_of (map expr_of parts))) of → ⊥
 cast_alone funs c [] of n x = x
 cast_alone funs c (y ∷ []) of n x = n refl
 cast_alone funs c (y ∷ z ∷ parts) of n x = x
 
-casts : (funs : Program) (c : Cast) (parts : List Typed) (x : Typed) (of : Ty) → slice_get parts 0 ≡ Some x → Applies funs (operation.Cast c) (types_of (exprs_of (map expr_of parts))) of → Casts c (type_of (expr_of x)) of
+casts : (funs : Known) (c : Cast) (parts : List Typed) (x : Typed) (of : Ty) → slice_get parts 0 ≡ Some x → Applies funs (operation.Cast c) (types_of (exprs_of (map expr_of parts))) of → Casts c (type_of (expr_of x)) of
 casts funs c [] x of e h = absurd h
 casts funs c (y ∷ []) x of e h = let same : y ≡ x = cc in subst (λ (x : Typed). Casts c (type_of (expr_of x)) of) same h
 casts funs c (y ∷ z ∷ parts) x of e h = absurd h
 
-module _ (funs : Program) (c : Cast) (parts : List Typed) (x : Typed) (of : Ty) where
+module _ (funs : Known) (c : Cast) (parts : List Typed) (x : Typed) (of : Ty) where
   pub well_cast_fits : (given gives : Lying) → slice_get parts 0 ≡ Some x → given ≡ lying_of (type_of (expr_of x)) → gives ≡ lying_of of → Applies funs (operation.Cast c) (types_of (exprs_of (map expr_of parts))) of → CastFits c of given gives
   well_cast_fits given gives is e r h =
       subst (λ (k : Lying). CastFits c of k gives) (sym e) (subst (λ (k : Lying). CastFits c of (lying_of (type_of (expr_of x))) k) (sym r) (casts_fit c (type_of (expr_of x)) of (casts funs c parts x of is h)))
@@ -196,7 +204,7 @@ pub record AskLies (is : Ty) (parts : Exprs) (of : Ty) : Type 0 where
   pub gives : lying_of of ≡ Bare
   pub named : IsNamed is
 
-pub ask_lies : (funs : Program) (is : Ty) (parts : Exprs) (of : Ty) → Applies funs (operation.InstanceOf is) (types_of parts) of → AskLies is parts of
+pub ask_lies : (funs : Known) (is : Ty) (parts : Exprs) (of : Ty) → Applies funs (operation.InstanceOf is) (types_of parts) of → AskLies is parts of
 ask_lies funs is None' of x = absurd x
 ask_lies funs is (One a None') of x = record { operands = (is_whole (type_of a) x.0, tt); gives = flag_lies of x.2; named = x.1 }
 ask_lies funs is (One a (One b parts)) of x = absurd x

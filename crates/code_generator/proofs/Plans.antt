@@ -14,13 +14,17 @@ use Rattle.typed_tree.specs.declared.operation.Logical.TheVariants.{And, Or}
 use Rattle.typed_tree.specs.declared.operation.Target.TheVariants as target
 use Rattle.typed_tree.specs.declared.operation.Change.{Change}
 use Rattle.typed_tree.specs.declared.operation.Gives.{Gives}
-use Rattle.program_meaning.specs.Tree.{Name, Expr, Local, Logic, Conditional, Elvis, Assign, Modify, Apply, Exprs, None', One, Program, type_of}
+use Rattle.program_meaning.specs.Tree.{Name, Expr, Local, Logic, Conditional, Elvis, Assign, Modify, Apply, Guarded, Exprs, None', One, Program, type_of}
 use Rattle.program_code.specs.Lying.{lying_of, Lying, Bare, Whole}
-use Rattle.program_code.specs.Parts.{operation_code, operator_code, kept_before, kept_behind}
+use Rattle.program_code.specs.Parts.{operation_code, operator_code, kept_before, kept_behind, without_null}
+use Rattle.allowlist.specs.declared.member.MemberKind.{MemberKind}
+use Rattle.allowlist.specs.declared.member.MemberKind.TheVariants as kinds
+use Rattle.typed_tree.specs.declared.operation.Member.{Member}
+use Rattle.code_generator.specs.Called.{member_operation}
 use Rattle.code_generator.specs.Checks.{jump_of}
-use Rattle.program_code.specs.Stands.{Entry, Scope, IsEntry, At, end_expr, settled, settles, Fitting, ChangeFits, lyings, change_first, change_last, elvis_right}
+use Rattle.program_code.specs.Stands.{Entry, Scope, IsEntry, At, end_expr, end_exprs, MemberFits, GuardFits, settled, settles, Fitting, ChangeFits, lyings, change_first, change_last, elvis_right}
 use Rattle.code_generator.specs.Labels.{line_of}
-use Rattle.code_generator.specs.Jobs.{Job, Value, Values, Put, Convert, Ask, Jump, Bind, Load, Store, Wanted, Wants, Taken, Back}
+use Rattle.code_generator.specs.Jobs.{Job, Value, Values, Put, Convert, Ask, Call, Jump, Bind, Load, Store, Wanted, Wants, Taken, Back}
 use Rattle.code_generator.specs.declared.config.Config.{Config}
 use Rattle.code_generator.proofs.Back.{planned}
 
@@ -150,6 +154,50 @@ module _ (funs : Program) (js : List Job) (c : Config) where
       → Back funs (Value (Apply at of (operation.InstanceOf is) parts) ∷ js) c (Values parts wanted ∷ Ask is ∷ js) c
   ask_plan at of is parts wanted e =
       planned funs (Value (Apply at of (operation.InstanceOf is) parts) ∷ js) c (Values parts wanted ∷ Ask is ∷ js) (λ f labels g n p flows s. ((s.0.0, (s.1.0, tt), e s.0.1), s.1.1))
+
+  pub member_plan : (at : ℕ) (of : Ty) (kind : MemberKind) (m : Member) (parts : Exprs) (wanted : Wanted) (lies : Lying) → lies ≡ lying_of of → (Wants wanted (lyings parts) → MemberFits kind m (lyings parts) of)
+      → Back funs (Value (Apply at of (member_operation kind m) parts) ∷ js) c (Values parts wanted ∷ Call kind m.text ∷ Put (without_null lies) ∷ js) c
+  member_plan at of kind m parts wanted lies e fits =
+      subst (λ (lies : Lying). Back funs (Value (Apply at of (member_operation kind m) parts) ∷ js) c (Values parts wanted ∷ Call kind m.text ∷ Put (without_null lies) ∷ js) c) (sym e) (by_kind kind fits)
+    where
+      by_kind : (kind : MemberKind) → (Wants wanted (lyings parts) → MemberFits kind m (lyings parts) of)
+          → Back funs (Value (Apply at of (member_operation kind m) parts) ∷ js) c (Values parts wanted ∷ Call kind m.text ∷ Put (without_null (lying_of of)) ∷ js) c
+      by_kind kinds.Constructor fits =
+          planned funs (Value (Apply at of (operation.Constructor m) parts) ∷ js) c (Values parts wanted ∷ Call kinds.Constructor m.text ∷ Put (without_null (lying_of of)) ∷ js)
+          (λ f labels g n p flows s. ((s.0.0, (s.1.0, s.1.1.0), fits s.0.1), s.1.1.1))
+      by_kind kinds.Static fits =
+          planned funs (Value (Apply at of (operation.Static m) parts) ∷ js) c (Values parts wanted ∷ Call kinds.Static m.text ∷ Put (without_null (lying_of of)) ∷ js)
+          (λ f labels g n p flows s. ((s.0.0, (s.1.0, s.1.1.0), fits s.0.1), s.1.1.1))
+      by_kind kinds.Instance fits =
+          planned funs (Value (Apply at of (operation.Instance m) parts) ∷ js) c (Values parts wanted ∷ Call kinds.Instance m.text ∷ Put (without_null (lying_of of)) ∷ js)
+          (λ f labels g n p flows s. ((s.0.0, (s.1.0, s.1.1.0), fits s.0.1), s.1.1.1))
+      by_kind kinds.Field fits =
+          planned funs (Value (Apply at of (operation.Field m) parts) ∷ js) c (Values parts wanted ∷ Call kinds.Field m.text ∷ Put (without_null (lying_of of)) ∷ js)
+          (λ f labels g n p flows s. ((s.0.0, (s.1.0, s.1.1.0), fits s.0.1), s.1.1.1))
+
+  pub guarded_plan : (at : ℕ) (of : Ty) (m : Member) (a : Expr) (others : Exprs) (wanted : Wanted) (lies : Lying) (end : ℕ) → lies ≡ lying_of of
+      → (Wants wanted (lyings others) → GuardFits (operation.Instance m) (lying_of (type_of a) ∷ lyings others) of)
+      → Back funs (Value (Guarded at of (operation.Instance m) (One a others)) ∷ js) c
+      (Value a ∷ Put (i.Plain plain.Dup ∷ []) ∷ Jump numbered.IfNull end ∷ Values others wanted ∷ Call kinds.Instance m.text ∷ Bind end ∷ Put (without_null lies) ∷ js) c
+  guarded_plan at of m a others wanted lies end e fits =
+      subst (λ (lies : Lying). Back funs (Value (Guarded at of (operation.Instance m) (One a others)) ∷ js) c
+      (Value a ∷ Put (i.Plain plain.Dup ∷ []) ∷ Jump numbered.IfNull end ∷ Values others wanted ∷ Call kinds.Instance m.text ∷ Bind end ∷ Put (without_null lies) ∷ js) c) (sym e)
+      (planned funs (Value (Guarded at of (operation.Instance m) (One a others)) ∷ js) c
+      (Value a ∷ Put (i.Plain plain.Dup ∷ []) ∷ Jump numbered.IfNull end ∷ Values others wanted ∷ Call kinds.Instance m.text ∷ Bind end ∷ Put (without_null (lying_of of)) ∷ js)
+      (λ f labels g n p flows s.
+      let q = end_expr p a in
+      let r = end_exprs (suc (suc q)) others in (
+        (
+          s.0,
+          s.1.0.0,
+          goes_to f (suc q) numbered.IfNull (line_of labels end) (suc r) s.1.1.1.1.1.0 s.1.1.0,
+          s.1.1.1.0.0,
+          (s.1.1.1.1.0, tt),
+          s.1.1.1.1.1.1.0,
+          fits s.1.1.1.0.1,
+        ),
+        s.1.1.1.1.1.1.1,
+      )))
 
   pub values_end : (wanted : Wanted) → Wants wanted [] → Back funs (Values None' wanted ∷ js) c js c
   values_end wanted e = planned funs (Values None' wanted ∷ js) c js (λ f labels g n p flows s. ((tt, e), s))

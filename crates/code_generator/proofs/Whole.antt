@@ -6,7 +6,7 @@ use Rattle.pl_code.specs.declared.code.FunCode.{FunCode}
 use Rattle.typed_tree.specs.declared.program.Named.{Named}
 use Rattle.program_meaning.specs.Tree.{Fun, Program, Variable}
 use Rattle.program_types.specs.Types.{HasValues}
-use Rattle.program_types.specs.Agreeing.{StmtsAgree, HaveValues, FunAgrees}
+use Rattle.program_types.specs.Agreeing.{Known, StmtsAgree, HaveValues, FunAgrees}
 use Rattle.program_meaning.specs.Programs.{variable_of, fun_of, program_of}
 use Rattle.typed_tree.specs.declared.program.Program as typed
 use Rattle.typed_tree.specs.declared.program.TypedFunction.{TypedFunction}
@@ -112,7 +112,7 @@ has_values_at [] at x is h = absurd cc
 has_values_at (y ∷ all) zero x is h = let same : y ≡ x = cc in subst (λ (x : Named). HasValues x.of) same h.0
 has_values_at (y ∷ all) (suc at) x is h = has_values_at all at x is h.1
 
-pub sound_start : (funs : Program) (fun : Fun) (c : Config) → Begun fun c → FunAgrees funs fun → Sound funs (Run fun.body None ∷ End fun.result ∷ []) c
+pub sound_start : (funs : Known) (fun : Fun) (c : Config) → Begun fun c → FunAgrees funs fun → Sound funs (Run fun.body None ∷ End fun.result ∷ []) c
 sound_start funs fun c begun h = record {
   result = fun.result;
   lies = begun.result;

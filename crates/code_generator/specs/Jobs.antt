@@ -8,18 +8,20 @@ use Rattle.pl_code.specs.declared.code.FunCode.{FunCode}
 use Rattle.pl_code.specs.declared.code.Instruction.{Instruction}
 use Rattle.pl_code.specs.declared.code.Instruction.TheVariants as i
 use Rattle.pl_types.specs.declared.ty.Ty.{Ty}
+use Rattle.allowlist.specs.declared.member.MemberKind.{MemberKind}
 use Rattle.pl_types.specs.declared.conversion.Cast.{Cast}
 use Rattle.pl_types.specs.Texts.{full_text}
 use Rattle.std.specs.Borrow.{Bor}
 use Rattle.program_meaning.specs.Tree.{Name, Expr, Exprs, Maybe, Missing, Given, Stmt, Stmts, Finish, Then, Program, type_of}
 use Rattle.program_meaning.specs.Programs.{expr_of, exprs_of, before, declared, stmts_of, maybe_of}
 use Rattle.program_code.specs.Lying.{Lying, Absent, lying_of}
-use Rattle.program_code.specs.Stands.{Entry, Scope, IsEntry, At, AllAt, end_all, end_expr, end_exprs, ExprAt, ExprsAt, AllLie, lyings, falls, all_fall, continues, any_continues, end_skip, end_update, end_test, end_last, end_stmt, end_stmts, next_stmt, next_stmts, Jumps, no_jumps, HasLocal, SkipAt, UpdateAt, TestAt, LastAt, StmtAt, StmtsAt, EndAt, end_end}
+use Rattle.program_code.specs.Stands.{Entry, Scope, IsEntry, At, AllAt, end_all, end_expr, end_exprs, ExprAt, ExprsAt, AllLie, lyings, with_receiver, falls, all_fall, continues, any_continues, end_skip, end_update, end_test, end_last, end_stmt, end_stmts, next_stmt, next_stmts, Jumps, no_jumps, HasLocal, SkipAt, UpdateAt, TestAt, LastAt, StmtAt, StmtsAt, EndAt, end_end}
 use Rattle.program_code.specs.Parts.{default_code, cast_code}
 use Rattle.typed_tree.specs.declared.statement.TypedVariable.{TypedVariable}
 use Rattle.code_generator.specs.Checks.{lying}
 use Rattle.code_generator.specs.Labels.{line_of, settled_line}
 use Rattle.code_generator.specs.Pieces.{piece}
+use Rattle.code_generator.specs.Called.{call_code}
 use Rattle.code_generator.specs.Opened.{statement_of}
 use Rattle.code_generator.specs.declared.task.Exits.{Exits}
 use Rattle.code_generator.specs.declared.task.Tail.{Tail}
@@ -57,6 +59,8 @@ pub data Job : Type 0 where
   -- a cast to a type, and whether a value is of a type
   Convert : (by : Cast) (to : Ty) → Job
   Ask : (is : Ty) → Job
+  -- a member of a text that is called, made or read
+  Call : (kind : MemberKind) (text : List ℕ) → Job
   Jump : (kind : Numbered) (label : ℕ) → Job
   Bind : (label : ℕ) → Job
   Load : (name : Name) (lies : Lying) → Job
@@ -88,10 +92,15 @@ parts_from at parts = exprs_of (map expr_of (drop at parts))
 abbrev pub lyings_in : List Named → List Lying
 lyings_in params = map (λ (x : Named). lying_of x.of) params
 
+-- how the parts of a member with these parameters lie
+abbrev pub member_takes : MemberKind → List Ty → List Lying
+member_takes kind params = with_receiver kind (map lying_of params)
+
 abbrev pub wanted : ℕ → dw.Wanted → Wanted
 wanted at w.Any = Any
 wanted at (w.All one) = All (lying one)
 wanted at (w.As params) = As (lyings_in (drop at params.now))
+wanted at (w.Member kind params) = As (drop at (member_takes kind params.now))
 
 abbrev pub First : Ty → Maybe → Job → Type 0
 First of Missing first = first ≡ Put (default_code of)
@@ -113,6 +122,7 @@ job (t.Values parts at kind) = Values (parts_from at parts.now) (wanted at kind)
 job (t.Put what) = Put (piece what)
 job (t.Convert by to) = Convert by to.now
 job (t.Ask is) = Ask is.now
+job (t.Call kind text) = Call kind text.now
 job (t.Jump kind label) = Jump kind label
 job (t.Bind label) = Bind label
 job (t.Load name lies) = Load name.now (lying lies)
@@ -213,6 +223,7 @@ module _ (funs : Program) (k : Lying) (f : FunCode) (labels : List (Option ℕ))
   Stand (Put is ∷ js) g n p flows = AllAt f [] p is × Stand js g n (end_all p is) flows
   Stand (Convert by to ∷ js) g n p flows = AllAt f [] p (cast_code by to) × Stand js g n (end_all p (cast_code by to)) flows
   Stand (Ask is ∷ js) g n p flows = At f [] p (i.Typed typed.IsA (full_text is)) × Stand js g n (suc p) flows
+  Stand (Call kind text ∷ js) g n p flows = At f [] p (call_code kind text) × Stand js g n (suc p) flows
   Stand (Jump kind label ∷ js) g n p flows = At f [] p (i.Numbered kind (line_of labels label)) × Stand js g n (suc p) flows
   Stand (Bind label ∷ js) g n p flows = (line_of labels label ≡ p) × Stand js g n p flows
   Stand (Load x lies ∷ js) g n p flows =

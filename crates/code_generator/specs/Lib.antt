@@ -2,6 +2,7 @@ pub mod Errors
 pub mod Checks
 pub mod Labels
 pub mod Pieces
+pub mod Called
 pub mod Opened
 pub mod Jobs
 pub mod Scopes

@@ -5,7 +5,7 @@ use Rattle.pl_code.specs.declared.code.Instruction.TheVariants as i
 use Rattle.pl_code.specs.declared.kinds.ArithmeticOp.{ArithmeticOp}
 use Rattle.pl_code.specs.declared.kinds.Numbered.TheVariants as numbered
 use Rattle.pl_code.specs.declared.kinds.Width.{Width}
-use Rattle.program_code.specs.Parts.{constant_code, text_code, default_code, operator_code, pops, kept_before, kept_behind}
+use Rattle.program_code.specs.Parts.{constant_code, text_code, default_code, operator_code, pops, without_null, kept_before, kept_behind}
 use Rattle.program_code.specs.Stands.{settled}
 use Rattle.code_generator.specs.Checks.{lying}
 use Rattle.code_generator.specs.declared.pieces.Piece.{Piece}
@@ -27,6 +27,7 @@ piece (p.Int number) = i.Int number ∷ []
 piece (p.Constant constant) = constant_code constant ∷ []
 piece (p.Text text) = text_code text.now ∷ []
 piece (p.Pop lies) = pops (lying lies)
+piece (p.WithoutNull lies) = without_null (lying lies)
 piece (p.Settled operator) = settled operator ∷ []
 piece (p.Before gives) = kept_before gives
 piece (p.Behind gives) = kept_behind gives

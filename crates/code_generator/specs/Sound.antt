@@ -7,11 +7,13 @@ use Rattle.pl_types.specs.declared.conversion.Cast.TheVariants as cast
 use Rattle.program_meaning.specs.Tree.{Name, Maybe, Missing, Given, Stmts, Finish, Then, Declare, Variable, Program, type_of}
 use Rattle.program_types.specs.Types.{HasValues}
 use Rattle.program_types.specs.Types as types
-use Rattle.program_types.specs.Agreeing.{IsVariable, ExprAgrees, ExprsAgree, TestAgrees, UpdateAgrees, StmtAgrees, StmtsAgree}
+use Rattle.allowlist.specs.Allow.{AllowList}
+use Rattle.member_names.specs.Names.{has_form}
+use Rattle.program_types.specs.Agreeing.{Known, known, IsVariable, ExprAgrees, ExprsAgree, TestAgrees, UpdateAgrees, StmtAgrees, StmtsAgree}
 use Rattle.program_code.specs.Lying.{Lying, lying_of}
 use Rattle.program_code.specs.Stands.{Entry, lyings}
 use Rattle.code_generator.specs.Checks.{lying}
-use Rattle.code_generator.specs.Jobs.{Job, Value, Values, Put, Convert, Ask, Jump, Bind, Load, Store, One, Run, Declared, Close, Flows, Both, Either, Skip, Update, Test, Last, Turned, End, Wanted, Wants, keep, scope_in, flow_of, flow_in, both, either, on, on_top, on_two}
+use Rattle.code_generator.specs.Jobs.{Job, Value, Values, Put, Convert, Ask, Call, Jump, Bind, Load, Store, One, Run, Declared, Close, Flows, Both, Either, Skip, Update, Test, Last, Turned, End, Wanted, Wants, keep, scope_in, flow_of, flow_in, both, either, on, on_top, on_two}
 use Rattle.code_generator.specs.declared.task.Exits.{Exits}
 use Rattle.code_generator.specs.declared.config.Config.{Config}
 use Rattle.code_generator.specs.declared.config.Flow.{Flow}
@@ -62,7 +64,7 @@ is_looped None = false
 is_looped (Some exits) = true
 
 -- What is still to be written of a function that gives a value of this type agrees with the names in sight and with the flows.
-module _ (funs : Program) (result : Ty) where
+module _ (funs : Known) (result : Ty) where
   abbrev pub Agree : List Job → List Variable → List Flow → Type 0
   Agree [] g flows = Unit {0}
   Agree (Value e ∷ js) g flows = ExprAgrees funs g e × Agree js g flows
@@ -70,6 +72,7 @@ module _ (funs : Program) (result : Ty) where
   Agree (Put is ∷ js) g flows = Agree js g flows
   Agree (Convert by to ∷ js) g flows = Names by to × Agree js g flows
   Agree (Ask is ∷ js) g flows = types.IsNamed is × Agree js g flows
+  Agree (Call kind text ∷ js) g flows = (has_form kind text ≡ true) × Agree js g flows
   Agree (Jump kind label ∷ js) g flows = Agree js g flows
   Agree (Bind label ∷ js) g flows = Agree js g flows
   Agree (Load x lies ∷ js) g flows = IsNamed g x lies × Agree js g flows
@@ -106,12 +109,12 @@ AreFree labels limit (label ∷ more) = (label < limit) × (slice_get labels lab
 -- ---- steps
 
 -- What is still to be written of a function of a well-formed program, behind what is written.
-pub record Sound (funs : Program) (js : List Job) (c : Config) : Type 0 where
+pub record Sound (funs : Known) (js : List Job) (c : Config) : Type 0 where
   pub result : Ty
   pub lies : lying c.result ≡ lying_of result
   pub agree : Agree funs result js (names_in c) c.flows
   pub free : AreFree c.labels (length c.labels) (binds js)
 
--- A step leaves what is still to be written so, unless memory runs out.
+-- A step leaves what is still to be written so, whatever members are allowed, unless memory runs out.
 pub record Keeps (funs : Program) (js : List Job) (c : Config) (result : Result Unit CodeError) (js' : List Job) (c' : Config) : Type 0 where
-  pub by : Sound funs js c → MatchResult result (λ done. Sound funs js' c') (λ e. e ≡ NoMemory)
+  pub by : (allow : AllowList) → Sound (known allow funs) js c → MatchResult result (λ done. Sound (known allow funs) js' c') (λ e. e ≡ NoMemory)

@@ -19,12 +19,15 @@ use crate::checks::{cast_fits, change_fits, known};
 use crate::config::Config;
 use crate::error::CodeError;
 use crate::lying::{Lies, alike, lies_of, operator_gives, operator_takes};
+use crate::members::{apply_member, guarded};
 use crate::pieces::Piece;
 use crate::pile::Pile;
 use crate::task::{Task, Wanted};
+use allowlist::{Allow, MemberKind};
 use pl_code::{Numbered, Plain};
 use pl_types::{Cast, Ty};
 use plain_data::{Items, Subtree, Text};
+use std::alloc::Global;
 use typed_tree::{
     Change, Constant, Gives, Logical, Node, Operation, Operator, Program, Target, Typed,
     TypedFunction,
@@ -46,6 +49,8 @@ pub fn lies_as(e: &Typed, wanted: Lies) -> Result<(), CodeError>
 
 /// What is to be written for an expression.
 pub fn value<'a>(
+    alloc: Global,
+    catalogue: &'a Allow,
     program: &'a Program,
     config: &mut Config,
     tasks: &mut Pile<Task<'a>>,
@@ -78,7 +83,9 @@ pub fn value<'a>(
             right.get(),
         ),
         Node::Apply { operation, parts } => {
-            apply(program, config, tasks, e.at, &e.of, operation, parts)
+            apply(
+                alloc, catalogue, program, config, tasks, e.at, &e.of, operation, parts,
+            )
         }
         Node::Logical {
             operator,
@@ -126,7 +133,11 @@ pub fn value<'a>(
             right.get(),
             *gives,
         ),
-        Node::Guarded { .. } => Err(CodeError::Unbuilt),
+        Node::Guarded { operation, parts } => {
+            guarded(
+                alloc, catalogue, program, config, tasks, e.at, &e.of, operation, parts,
+            )
+        }
         Node::Lambda { .. } => Err(CodeError::Unbuilt),
         Node::Reference { .. } => Err(CodeError::Unbuilt),
         Node::NewReference { .. } => Err(CodeError::Unbuilt),
@@ -352,6 +363,8 @@ fn modify<'a>(
 }
 
 fn apply<'a>(
+    alloc: Global,
+    catalogue: &'a Allow,
     program: &'a Program,
     config: &Config,
     tasks: &mut Pile<Task<'a>>,
@@ -370,6 +383,62 @@ fn apply<'a>(
             apply_instance_of(program, config, tasks, at, of, is, parts)
         }
         Operation::Function(it) => apply_call(program, config, tasks, at, of, *it, parts),
+        Operation::Instance(it) => {
+            apply_member(
+                alloc,
+                catalogue,
+                program,
+                config,
+                tasks,
+                at,
+                of,
+                MemberKind::Instance,
+                it,
+                parts,
+            )
+        }
+        Operation::Static(it) => {
+            apply_member(
+                alloc,
+                catalogue,
+                program,
+                config,
+                tasks,
+                at,
+                of,
+                MemberKind::Static,
+                it,
+                parts,
+            )
+        }
+        Operation::Constructor(it) => {
+            apply_member(
+                alloc,
+                catalogue,
+                program,
+                config,
+                tasks,
+                at,
+                of,
+                MemberKind::Constructor,
+                it,
+                parts,
+            )
+        }
+        Operation::Field(it) => {
+            apply_member(
+                alloc,
+                catalogue,
+                program,
+                config,
+                tasks,
+                at,
+                of,
+                MemberKind::Field,
+                it,
+                parts,
+            )
+        }
         _ => Err(CodeError::Unbuilt),
     }
 }

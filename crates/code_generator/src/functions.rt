@@ -8,7 +8,8 @@ ghost use Rattle.program_code.specs.Correct.{IsCodeOf};
 ghost use Rattle.program_code.specs.Lying.{Absent, kind_of, lying_of};
 ghost use Rattle.program_code.specs.Stands.{Compiled};
 ghost use Rattle.program_meaning.specs.Programs.{program_of, fun_of, variable_of};
-ghost use Rattle.program_types.specs.Agreeing.{FunAgrees, HaveValues, WellFormed};
+ghost use Rattle.allowlist.specs.Allow.{AllowList};
+ghost use Rattle.program_types.specs.Agreeing.{FunAgrees, HaveValues, WellFormed, known};
 ghost use Rattle.program_types.specs.Types.{HasValues};
 
 use crate::config::{Config, Entry};
@@ -19,6 +20,7 @@ use crate::pile::Pile;
 use crate::scopes::{entry_for, present};
 use crate::task::{Tail, Task};
 use crate::writer::walk;
+use allowlist::Allow;
 use pl_code::{Code, FunCode, Slot};
 use plain_data::Items;
 use program_code::compiler_laws;
@@ -26,42 +28,47 @@ use std::alloc::Global;
 use typed_tree::{Named, Program, TypedFunction};
 
 /// Code of a program: function k of the program is function k of the code, and where the program comes to an end, its code comes to the
-/// same end.
+/// same end. Of the list, only its catalogue of members counts.
 ///
 /// # Errors
 ///
 /// `Malformed` where the program breaks a rule of types or scopes; `Unbuilt` where it has a part of a kind that has no code yet;
 /// `NoMemory`. A well-formed program, as typing makes them, gets `NoMemory` at most.
-pub fn generate(alloc: Global, program: &Program) -> Result<Code, CodeError>
+pub fn generate(alloc: Global, catalogue: &Allow, program: &Program) -> Result<Code, CodeError>
     ensures code { IfOk result (λ code. IsCodeOf program.now code.functions) }
     ensures ends { IfOk result (λ code. EndsAsProgram program.now code.functions) }
-    ensures total { WellFormed (program_of program.now) → OnlyMemory result }
+    ensures total { (allow : AllowList) → WellFormed (known allow (program_of program.now)) → OnlyMemory result }
 {
     compiler_laws();
-    write(alloc, program)
+    write(alloc, catalogue, program)
 }
 
-fn write(alloc: Global, program: &Program) -> Result<Code, CodeError>
+fn write(alloc: Global, catalogue: &Allow, program: &Program) -> Result<Code, CodeError>
     ensures code { IfOk result (λ code. Compiled (program_of program.now) code.functions) }
-    ensures total { WellFormed (program_of program.now) → OnlyMemory result }
+    ensures total { (allow : AllowList) → WellFormed (known allow (program_of program.now)) → OnlyMemory result }
 {
     let mut functions = Items::new(alloc);
-    let main = function(alloc, program, &program.main)?;
+    let main = function(alloc, catalogue, program, &program.main)?;
     functions.push(main)?;
     for at in 0..u64::MAX {
         let Some(f) = program.functions.get(at as usize) else {
             return Ok(Code { functions });
         };
-        let code = function(alloc, program, f)?;
+        let code = function(alloc, catalogue, program, f)?;
         functions.push(code)?;
     }
     Err(CodeError::NoMemory)
 }
 
 /// Code of a function.
-fn function(alloc: Global, program: &Program, f: &TypedFunction) -> Result<FunCode, CodeError>
+fn function(
+    alloc: Global,
+    catalogue: &Allow,
+    program: &Program,
+    f: &TypedFunction,
+) -> Result<FunCode, CodeError>
     ensures code { IfOk result (λ code. FunStands (program_of program.now) code (fun_of f.now)) }
-    ensures total { FunAgrees (program_of program.now) (fun_of f.now) → OnlyMemory result }
+    ensures total { (allow : AllowList) → FunAgrees (known allow (program_of program.now)) (fun_of f.now) → OnlyMemory result }
 {
     let mut config = begin(alloc, f)?;
     let mut tasks = Pile::new(alloc);
@@ -69,7 +76,7 @@ fn function(alloc: Global, program: &Program, f: &TypedFunction) -> Result<FunCo
         Task::Rest(Tail::Row(&f.body, 0), None),
         Task::End(&f.result),
     )?;
-    walk(alloc, program, &mut config, &mut tasks)?;
+    walk(alloc, catalogue, program, &mut config, &mut tasks)?;
     config.finish(alloc, &f.result)
 }
 

@@ -13,6 +13,7 @@ mod flows;
 mod functions;
 mod labels;
 mod lying;
+mod members;
 mod naming;
 mod pieces;
 mod pile;

@@ -6,7 +6,7 @@ ghost use Rattle.code_generator.specs.declared.labels.Line.TheVariants.{Fixed};
 ghost use Rattle.code_generator.specs.Pieces.{piece, if_any, in_width};
 ghost use Rattle.pl_code.specs.declared.code.Instruction.TheVariants as i;
 ghost use Rattle.pl_code.specs.declared.kinds.Width.{Width};
-ghost use Rattle.program_code.specs.Parts.{constant_code, text_code, arithmetic_code, boolean_code, turned_round, operator_code, default_code, default_of_primitive, pops, kept_before, kept_behind};
+ghost use Rattle.program_code.specs.Parts.{constant_code, text_code, arithmetic_code, boolean_code, turned_round, operator_code, default_code, default_of_primitive, pops, without_null, kept_before, kept_behind};
 ghost use Rattle.program_code.specs.Stands.{settled};
 
 use crate::labels::Line;
@@ -29,6 +29,8 @@ pub enum Piece<'a> {
     Text(&'a Text),
     /// A value is dropped that lies so.
     Pop(Lies),
+    /// A null is dropped where what is given lies so.
+    WithoutNull(Lies),
     /// The value that settles an operator before its right side.
     Settled(Logical),
     /// What keeps a value below a change of it.
@@ -59,6 +61,7 @@ pub fn put<'a>(alloc: Global, lines: &mut Items<Line>, what: Piece<'a>) -> Resul
         Piece::Constant(constant) => one(lines, constant_of(constant)),
         Piece::Text(text) => put_text(alloc, lines, text),
         Piece::Pop(lies) => put_pop(lines, lies),
+        Piece::WithoutNull(lies) => put_without_null(lines, lies),
         Piece::Settled(operator) => put_settled(lines, operator),
         Piece::Before(gives) => put_before(lines, gives),
         Piece::Behind(gives) => put_behind(lines, gives),
@@ -93,6 +96,15 @@ fn put_pop(lines: &mut Items<Line>, lies: Lies) -> Result<(), AllocError>
     match lies {
         Lies::Absent => Ok(()),
         _ => one(lines, Instruction::Plain(Plain::Pop)),
+    }
+}
+
+fn put_without_null(lines: &mut Items<Line>, lies: Lies) -> Result<(), AllocError>
+    ensures { OnOk result (lines.new ≡ lines.old ++ map Fixed (without_null (lying lies))) }
+{
+    match lies {
+        Lies::Absent => one(lines, Instruction::Plain(Plain::Pop)),
+        _ => Ok(()),
     }
 }
 

@@ -15,12 +15,14 @@ use crate::expressions::value;
 use crate::flows::{add, both, either, end, last, skip, test, turned, update};
 use crate::labels::Line;
 use crate::lying::{Lies, alike, lies_of};
+use crate::naming::put_member;
 use crate::pieces::{Piece, put};
 use crate::pile::Pile;
 use crate::scopes::{close, declare, rest, statement, variables};
 use crate::statements::one;
 use crate::task::Task;
 use crate::values::values;
+use allowlist::{Allow, MemberKind};
 use pl_code::{Instruction, Numbered};
 use pl_types::{Cast, Ty};
 use plain_data::Text;
@@ -30,6 +32,7 @@ use typed_tree::{Program, Typed};
 /// Goes on with a task.
 pub fn step<'a>(
     alloc: Global,
+    catalogue: &'a Allow,
     program: &'a Program,
     config: &mut Config,
     tasks: &mut Pile<Task<'a>>,
@@ -40,7 +43,7 @@ pub fn step<'a>(
 {
     match task {
         Task::Value(e) => {
-            return expression(program, config, tasks, e);
+            return expression(alloc, catalogue, program, config, tasks, e);
         }
         Task::Put(what) => {
             return piece(alloc, program, config, tasks, what);
@@ -50,6 +53,9 @@ pub fn step<'a>(
         }
         Task::Ask(is) => {
             return ask(alloc, program, config, tasks, is);
+        }
+        Task::Call(kind, text) => {
+            return call(alloc, program, config, tasks, kind, text);
         }
         Task::Jump(kind, label) => {
             return jump(program, config, tasks, kind, label);
@@ -115,6 +121,8 @@ pub fn step<'a>(
 }
 
 fn expression<'a>(
+    alloc: Global,
+    catalogue: &'a Allow,
     program: &'a Program,
     config: &mut Config,
     tasks: &mut Pile<Task<'a>>,
@@ -123,7 +131,7 @@ fn expression<'a>(
     ensures back { OnOk result (Back (program_of program.now) (j.Value (expr_of e.now) ∷ jobs tasks.old) config.old (jobs tasks.new) config.new) }
     ensures sound { Keeps (program_of program.now) (j.Value (expr_of e.now) ∷ jobs tasks.old) config.old result (jobs tasks.new) config.new }
 {
-    value(program, config, tasks, e)
+    value(alloc, catalogue, program, config, tasks, e)
 }
 
 fn piece<'a>(
@@ -166,6 +174,21 @@ fn ask<'a>(
     ensures sound { Keeps (program_of program.now) (j.Ask is.now ∷ jobs tasks.now) config.old result (jobs tasks.now) config.new }
 {
     put_instance_of(alloc, &mut config.lines, is)?;
+    Ok(())
+}
+
+fn call<'a>(
+    alloc: Global,
+    program: &'a Program,
+    config: &mut Config,
+    tasks: &Pile<Task<'a>>,
+    kind: MemberKind,
+    text: &Text,
+) -> Result<(), CodeError>
+    ensures back { OnOk result (Back (program_of program.now) (j.Call kind text.now ∷ jobs tasks.now) config.old (jobs tasks.now) config.new) }
+    ensures sound { Keeps (program_of program.now) (j.Call kind text.now ∷ jobs tasks.now) config.old result (jobs tasks.now) config.new }
+{
+    put_member(alloc, &mut config.lines, kind, text)?;
     Ok(())
 }
 

@@ -3,6 +3,7 @@
 use crate::config::Flow;
 use crate::lying::Lies;
 use crate::pieces::Piece;
+use allowlist::MemberKind;
 use pl_code::Numbered;
 use pl_types::{Cast, Ty};
 use plain_data::{Items, Subtree, Text};
@@ -16,6 +17,8 @@ pub enum Wanted<'a> {
     All(Lies),
     /// As parameters do.
     As(&'a Items<Named>),
+    /// As the receiver, where there is one, and the arguments of a member with these parameters do.
+    Member(MemberKind, &'a Items<Ty>),
 }
 
 /// Where `break` and `continue` go.
@@ -46,6 +49,8 @@ pub enum Task<'a> {
     Convert(Cast, &'a Ty),
     /// Whether a value is of a type.
     Ask(&'a Ty),
+    /// A member of a text is called, made or read.
+    Call(MemberKind, &'a Text),
     /// A jump to a label.
     Jump(Numbered, u32),
     /// A label is here.

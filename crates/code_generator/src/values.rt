@@ -12,6 +12,7 @@ use crate::config::Config;
 use crate::error::CodeError;
 use crate::expressions::lies_as;
 use crate::lying::lies_of;
+use crate::members::parameter;
 use crate::pile::Pile;
 use crate::task::{Task, Wanted};
 use plain_data::{Items, Subtree};
@@ -49,6 +50,10 @@ fn last<'a>(kind: Wanted<'a>, at: usize) -> Result<(), CodeError>
             None => Ok(()),
             Some(_) => Err(CodeError::Malformed),
         },
+        Wanted::Member(kind, params) => match parameter(kind, params, at) {
+            None => Ok(()),
+            Some(_) => Err(CodeError::Malformed),
+        },
         _ => Ok(()),
     }
 }
@@ -62,6 +67,10 @@ fn fits<'a>(part: &Typed, kind: Wanted<'a>, at: usize) -> Result<(), CodeError>
         Wanted::All(lies) => lies_as(part, lies),
         Wanted::As(params) => match params.get(at) {
             Some(param) => lies_as(part, lies_of(&param.of)),
+            None => Err(CodeError::Malformed),
+        },
+        Wanted::Member(kind, params) => match parameter(kind, params, at) {
+            Some(lies) => lies_as(part, lies),
             None => Err(CodeError::Malformed),
         },
     }

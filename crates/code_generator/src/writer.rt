@@ -4,31 +4,35 @@ ghost use Rattle.std.specs.Prelude.{[], OnOk};
 ghost use Rattle.code_generator.specs.Jobs.{Back, jobs};
 ghost use Rattle.code_generator.specs.Errors.{OnlyMemory};
 ghost use Rattle.code_generator.specs.Sound.{Sound};
+ghost use Rattle.allowlist.specs.Allow.{AllowList};
 ghost use Rattle.program_meaning.specs.Programs.{program_of};
+ghost use Rattle.program_types.specs.Agreeing.{known};
 
 use crate::config::Config;
 use crate::error::CodeError;
 use crate::pile::Pile;
 use crate::step::step;
 use crate::task::Task;
+use allowlist::Allow;
 use std::alloc::Global;
 use typed_tree::Program;
 
 /// Goes on until nothing is left to be written.
 pub fn walk<'a>(
     alloc: Global,
+    catalogue: &'a Allow,
     program: &'a Program,
     config: &mut Config,
     tasks: &mut Pile<Task<'a>>,
 ) -> Result<(), CodeError>
     ensures back { OnOk result (Back (program_of program.now) (jobs tasks.old) config.old [] config.new) }
-    ensures total { Sound (program_of program.now) (jobs tasks.old) config.old → OnlyMemory result }
+    ensures total { (allow : AllowList) → Sound (known allow (program_of program.now)) (jobs tasks.old) config.old → OnlyMemory result }
 {
     for _ in 0..u64::MAX {
         let Some(task) = tasks.pop() else {
             return Ok(());
         };
-        step(alloc, program, config, tasks, task)?;
+        step(alloc, catalogue, program, config, tasks, task)?;
     }
     Err(CodeError::NoMemory)
 }

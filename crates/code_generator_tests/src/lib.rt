@@ -4,6 +4,8 @@
 #[cfg(test)]
 mod build;
 #[cfg(test)]
+mod members;
+#[cfg(test)]
 mod references;
 #[cfg(test)]
 mod tests;

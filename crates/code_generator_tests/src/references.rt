@@ -94,16 +94,16 @@ throw
 end
 ";
 
-fn string() -> Ty {
+pub fn string() -> Ty {
     Ty::Class(STRING)
 }
 
-fn text(alloc: Global, it: &str) -> Result<Subtree<Typed>, AllocError> {
+pub fn text(alloc: Global, it: &str) -> Result<Subtree<Typed>, AllocError> {
     let it = Text::new(alloc, it)?;
     expression(alloc, string(), Node::Text(it))
 }
 
-fn cast_to(
+pub fn cast_to(
     alloc: Global,
     to: Ty,
     cast: Cast,
@@ -127,7 +127,7 @@ fn two_parts(
 }
 
 // A script of one parameter `x` and one statement.
-fn script(
+pub fn script(
     alloc: Global,
     of: Ty,
     given: Ty,

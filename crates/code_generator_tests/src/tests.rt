@@ -2,6 +2,7 @@ use crate::build::{
     binary, boolean, both, cast, changed, constant, expression, function, int, local, long, named,
     number, one_part, statement, variable,
 };
+use allowlist::Allow;
 use arithmetic::Op;
 use code_generator::{CodeError, generate};
 use pl_code::listing;
@@ -245,13 +246,14 @@ fn deep_statement(alloc: Global) -> Result<Program, AllocError> {
 }
 
 // How many lines the main script's code has.
-fn count_of_lines(alloc: Global, program: &Program) -> usize {
-    match generate(alloc, program) {
+fn count_of_lines(alloc: Global, program: &Program) -> Result<usize, AllocError> {
+    let catalogue = Allow::full(alloc)?;
+    match generate(alloc, &catalogue, program) {
         Ok(code) => match code.functions.get(0) {
-            Some(main) => main.lines.len(),
-            None => 0,
+            Some(main) => Ok(main.lines.len()),
+            None => Ok(0),
         },
-        Err(_) => 0,
+        Err(_) => Ok(0),
     }
 }
 
@@ -259,7 +261,8 @@ fn count_of_lines(alloc: Global, program: &Program) -> usize {
 fn deep_expressions(rt: HostRuntime) -> Result<(), Fail> {
     let alloc = rt.alloc();
     let program = deep_expression(alloc)?;
-    assert!(rt; count_of_lines(alloc, &program) == 64_002);
+    let lines = count_of_lines(alloc, &program)?;
+    assert!(rt; lines == 64_002);
     Ok(())
 }
 
@@ -267,13 +270,15 @@ fn deep_expressions(rt: HostRuntime) -> Result<(), Fail> {
 fn deep_statements(rt: HostRuntime) -> Result<(), Fail> {
     let alloc = rt.alloc();
     let program = deep_statement(alloc)?;
-    assert!(rt; count_of_lines(alloc, &program) == 96_001);
+    let lines = count_of_lines(alloc, &program)?;
+    assert!(rt; lines == 96_001);
     Ok(())
 }
 
 // Whether a program's code has this listing.
 pub fn has_listing(alloc: Global, program: &Program, text: &str) -> Result<bool, AllocError> {
-    match generate(alloc, program) {
+    let catalogue = Allow::full(alloc)?;
+    match generate(alloc, &catalogue, program) {
         Ok(code) => {
             let written = listing(alloc, &code)?;
             Ok(written.as_str() == text)
@@ -317,7 +322,8 @@ fn malformed(rt: HostRuntime) -> Result<(), Fail> {
         functions: Items::new(alloc),
         main: main_script(alloc, int(), body)?,
     };
-    let refused = match generate(alloc, &program) {
+    let catalogue = Allow::full(alloc)?;
+    let refused = match generate(alloc, &catalogue, &program) {
         Ok(_) => false,
         Err(error) => error == CodeError::Malformed,
     };

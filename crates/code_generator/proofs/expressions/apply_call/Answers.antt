@@ -12,10 +12,10 @@ returns-clause-back c =
     (call_fits c.args.program.now c.args.number c.in-Some.callee.now _ _ (sym c.in-Some.ensures) (sym c.lies_of.ensures ∙ c.in_ok-alike.ensures ∙ c.lies_of-2.ensures))))
 
 pub returns-in_default-clause-sound : goal.returns-in_default-clause-sound
-returns-in_default-clause-sound c = (never _ _ _ _ _ _ (λ of s. function_there c.args.program.now _ _ s.0.1.is (sym c.in_default.ensures)))
+returns-in_default-clause-sound c = (never _ _ _ _ _ _ (λ allow of s. function_there c.args.program.now _ _ s.0.1.is (sym c.in_default.ensures)))
 
 pub returns-in_err-alike-clause-sound : goal.returns-in_err-alike-clause-sound
-returns-in_err-alike-clause-sound c = (never _ _ _ _ _ _ (λ of s. c.in_err-alike.ensures (c.lies_of.ensures ∙ call_gives c.args.program.now _ c.in-Some.callee.now _ _ (sym c.in-Some.ensures) s.0.1 ∙ sym c.lies_of-2.ensures)))
+returns-in_err-alike-clause-sound c = (never _ _ _ _ _ _ (λ allow of s. c.in_err-alike.ensures (c.lies_of.ensures ∙ call_gives allow c.args.program.now _ c.in-Some.callee.now _ _ (sym c.in-Some.ensures) s.0.1 ∙ sym c.lies_of-2.ensures)))
 
 pub returns-clause-sound : goal.returns-clause-sound
-returns-clause-sound c = rw c.in_ok-push_two.ensures ((instead _ _ _ _ (λ of s. ((s.0.0, call_takes c.args.program.now _ c.in-Some.callee.now _ _ (sym c.in-Some.ensures) s.0.1), s.1)) refl))
+returns-clause-sound c = rw c.in_ok-push_two.ensures ((instead _ _ _ _ (λ allow of s. ((s.0.0, call_takes allow c.args.program.now _ c.in-Some.callee.now _ _ (sym c.in-Some.ensures) s.0.1), s.1)) refl))

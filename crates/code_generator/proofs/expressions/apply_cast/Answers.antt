@@ -1,5 +1,6 @@
 use Rattle.std.proofs.Common.{Some, sym, ap, ◌∙◌, refl}
 use Rattle.program_meaning.specs.Programs.{program_of}
+use Rattle.program_types.specs.Agreeing.{known}
 use Rattle.code_generator.specs.Jobs.{jobs, Any}
 use Rattle.code_generator.proofs.Plans.{cast_plan}
 use Rattle.code_generator.proofs.Parts.{cast_fits, cast_there, cast_alone, well_cast_fits, well_cast_names}
@@ -15,14 +16,14 @@ returns-clause-back c =
 
 pub returns-clause-sound : goal.returns-clause-sound
 returns-clause-sound c = rw c.in_ok-push_two.ensures ((instead _ _ _ _
-    (λ of s. ((s.0.0, tt), (well_cast_names (program_of c.args.program.now) c.args.cast c.args.parts.now c.get-2.result.now _ (sym c.in-Some.ensures.value ∙ ap (λ x. Some x) (sym c.get-2.ensures)) s.0.1, s.1))) refl))
+    (λ allow of s. ((s.0.0, tt), (well_cast_names (known allow (program_of c.args.program.now)) c.args.cast c.args.parts.now c.get-2.result.now _ (sym c.in-Some.ensures.value ∙ ap (λ x. Some x) (sym c.get-2.ensures)) s.0.1, s.1))) refl))
 
 pub returns-in_default-clause-sound : goal.returns-in_default-clause-sound
-returns-in_default-clause-sound c = never _ _ _ _ _ _ (λ of s. cast_there (program_of c.args.program.now) c.args.cast c.args.parts.now _ (sym c.in_default.ensures.value) s.0.1)
+returns-in_default-clause-sound c = never _ _ _ _ _ _ (λ allow of s. cast_there (known allow (program_of c.args.program.now)) c.args.cast c.args.parts.now _ (sym c.in_default.ensures.value) s.0.1)
 
 pub returns-then-len-ne1-clause-sound : goal.returns-then-len-ne1-clause-sound
-returns-then-len-ne1-clause-sound c = never _ _ _ _ _ _ (λ of s. cast_alone (program_of c.args.program.now) c.args.cast c.args.parts.now _ (λ e. c.if-len-ne1.true (c.len.ensures ∙ e)) s.0.1)
+returns-then-len-ne1-clause-sound c = never _ _ _ _ _ _ (λ allow of s. cast_alone (known allow (program_of c.args.program.now)) c.args.cast c.args.parts.now _ (λ e. c.if-len-ne1.true (c.len.ensures ∙ e)) s.0.1)
 
 pub returns-in_err-cast_fits-clause-sound : goal.returns-in_err-cast_fits-clause-sound
 returns-in_err-cast_fits-clause-sound c = never _ _ _ _ _ _
-    (λ of s. c.in_err-cast_fits.ensures (well_cast_fits (program_of c.args.program.now) c.args.cast c.args.parts.now c.get-2.result.now _ _ _ (sym c.in-Some.ensures.value ∙ ap (λ x. Some x) (sym c.get-2.ensures)) c.lies_in.ensures c.lies_of.ensures s.0.1))
+    (λ allow of s. c.in_err-cast_fits.ensures (well_cast_fits (known allow (program_of c.args.program.now)) c.args.cast c.args.parts.now c.get-2.result.now _ _ _ (sym c.in-Some.ensures.value ∙ ap (λ x. Some x) (sym c.get-2.ensures)) c.lies_in.ensures c.lies_of.ensures s.0.1))

@@ -1,4 +1,5 @@
 use Rattle.std.specs.Prelude.{map}
+use Rattle.program_types.specs.Agreeing.{known}
 use Rattle.program_meaning.specs.Programs.{program_of, expr_of, exprs_of}
 use Rattle.std.proofs.Common.{sym, ◌∙◌, refl}
 use Rattle.program_code.specs.Lying.{Whole}
@@ -16,16 +17,16 @@ returns-clause-back c =
 
 pub returns-in_err-alike-clause-sound : goal.returns-in_err-alike-clause-sound
 returns-in_err-alike-clause-sound c = never _ _ _ _ _ _
-    (λ of s. c.in_err-alike.ensures (c.lies_of.ensures
-    ∙ (ask_lies (program_of c.args.program.now) c.args.is.now (exprs_of (map expr_of c.args.parts.now)) c.args.of.now s.0.1).gives))
+    (λ allow of s. c.in_err-alike.ensures (c.lies_of.ensures
+    ∙ (ask_lies (known allow (program_of c.args.program.now)) c.args.is.now (exprs_of (map expr_of c.args.parts.now)) c.args.of.now s.0.1).gives))
 
 pub returns-in_err-known-clause-sound : goal.returns-in_err-known-clause-sound
 returns-in_err-known-clause-sound c = never _ _ _ _ _ _
-    (λ of s. c.in_err-known.ensures (named_known c.args.is.now
-    (ask_lies (program_of c.args.program.now) c.args.is.now (exprs_of (map expr_of c.args.parts.now)) c.args.of.now s.0.1).named))
+    (λ allow of s. c.in_err-known.ensures (named_known c.args.is.now
+    (ask_lies (known allow (program_of c.args.program.now)) c.args.is.now (exprs_of (map expr_of c.args.parts.now)) c.args.of.now s.0.1).named))
 
 pub returns-clause-sound : goal.returns-clause-sound
 returns-clause-sound c = rw c.in_ok-push_two.ensures (instead _ _ _ _
-    (λ of s.
-    let lies = ask_lies (program_of c.args.program.now) c.args.is.now (exprs_of (map expr_of c.args.parts.now)) c.args.of.now s.0.1 in
+    (λ allow of s.
+    let lies = ask_lies (known allow (program_of c.args.program.now)) c.args.is.now (exprs_of (map expr_of c.args.parts.now)) c.args.of.now s.0.1 in
     ((s.0.0, lies.operands), (lies.named, s.1))) refl)

@@ -16,13 +16,13 @@ returns-clause-back c =
 
 pub returns-clause-sound : goal.returns-clause-sound
 returns-clause-sound c = rw c.in_ok-push_three-2.ensures (rw c.in_ok-push_two.ensures (rw c.in_ok-push_three.ensures
-    (with_two _ _ _ c.args.config.now c.fresh.new.self c.fresh-2.new.self c.in_ok-end.end c.in_ok-other.other c.in_ok-end.ensures.label c.in_ok-end.ensures.labels c.in_ok-other.ensures.label c.in_ok-other.ensures.labels (λ of s. (s.0.0, (s.0.1, s.1))) refl)))
+    (with_two _ _ _ c.args.config.now c.fresh.new.self c.fresh-2.new.self c.in_ok-end.end c.in_ok-other.other c.in_ok-end.ensures.label c.in_ok-end.ensures.labels c.in_ok-other.ensures.label c.in_ok-other.ensures.labels (λ allow of s. (s.0.0, (s.0.1, s.1))) refl)))
 
 pub returns-in_err-lies_as-clause-sound : goal.returns-in_err-lies_as-clause-sound
-returns-in_err-lies_as-clause-sound c = never _ _ _ _ _ _ (λ of s. c.in_err-lies_as.ensures (ap lying_of s.0.2 ∙ is_whole _ s.0.4))
+returns-in_err-lies_as-clause-sound c = never _ _ _ _ _ _ (λ allow of s. c.in_err-lies_as.ensures (ap lying_of s.0.2 ∙ is_whole _ s.0.4))
 
 pub returns-in_err-lies_as-2-clause-sound : goal.returns-in_err-lies_as-2-clause-sound
-returns-in_err-lies_as-2-clause-sound c = never _ _ _ _ _ _ (λ of s. c.in_err-lies_as-2.ensures (ap lying_of s.0.3 ∙ is_whole _ s.0.4))
+returns-in_err-lies_as-2-clause-sound c = never _ _ _ _ _ _ (λ allow of s. c.in_err-lies_as-2.ensures (ap lying_of s.0.3 ∙ is_whole _ s.0.4))
 
 pub returns-in_err-alike-clause-sound : goal.returns-in_err-alike-clause-sound
-returns-in_err-alike-clause-sound c = never _ _ _ _ _ _ (λ of s. c.in_err-alike.ensures (c.lies_of.ensures ∙ is_whole _ s.0.4))
+returns-in_err-alike-clause-sound c = never _ _ _ _ _ _ (λ allow of s. c.in_err-alike.ensures (c.lies_of.ensures ∙ is_whole _ s.0.4))

@@ -14,13 +14,13 @@ returns-clause-back c =
     c.in_ok-lies_as.ensures c.in_ok-lies_as-2.ensures (sym c.lies_of.ensures ∙ c.in_ok-alike.ensures)))))
 
 pub returns-clause-sound : goal.returns-clause-sound
-returns-clause-sound c = rw c.in_ok-push_four.ensures (rw c.in_ok-push_three.ensures (with_two _ _ _ c.args.config.now c.fresh.new.self c.fresh-2.new.self c.in_ok-end.end c.in_ok-settled.settled c.in_ok-end.ensures.label c.in_ok-end.ensures.labels c.in_ok-settled.ensures.label c.in_ok-settled.ensures.labels (λ of s. (s.0.0, (s.0.1, s.1))) refl))
+returns-clause-sound c = rw c.in_ok-push_four.ensures (rw c.in_ok-push_three.ensures (with_two _ _ _ c.args.config.now c.fresh.new.self c.fresh-2.new.self c.in_ok-end.end c.in_ok-settled.settled c.in_ok-end.ensures.label c.in_ok-end.ensures.labels c.in_ok-settled.ensures.label c.in_ok-settled.ensures.labels (λ allow of s. (s.0.0, (s.0.1, s.1))) refl))
 
 pub returns-in_err-lies_as-clause-sound : goal.returns-in_err-lies_as-clause-sound
-returns-in_err-lies_as-clause-sound c = never _ _ _ _ _ _ (λ of s. c.in_err-lies_as.ensures (flag_lies _ s.0.2))
+returns-in_err-lies_as-clause-sound c = never _ _ _ _ _ _ (λ allow of s. c.in_err-lies_as.ensures (flag_lies _ s.0.2))
 
 pub returns-in_err-lies_as-2-clause-sound : goal.returns-in_err-lies_as-2-clause-sound
-returns-in_err-lies_as-2-clause-sound c = never _ _ _ _ _ _ (λ of s. c.in_err-lies_as-2.ensures (flag_lies _ s.0.3))
+returns-in_err-lies_as-2-clause-sound c = never _ _ _ _ _ _ (λ allow of s. c.in_err-lies_as-2.ensures (flag_lies _ s.0.3))
 
 pub returns-in_err-alike-clause-sound : goal.returns-in_err-alike-clause-sound
-returns-in_err-alike-clause-sound c = never _ _ _ _ _ _ (λ of s. c.in_err-alike.ensures (c.lies_of.ensures ∙ flag_lies _ s.0.4))
+returns-in_err-alike-clause-sound c = never _ _ _ _ _ _ (λ allow of s. c.in_err-alike.ensures (c.lies_of.ensures ∙ flag_lies _ s.0.4))

@@ -15,11 +15,11 @@ returns-clause-back c =
 
 pub returns-in_err-change_fits-clause-sound : goal.returns-in_err-change_fits-clause-sound
 returns-in_err-change_fits-clause-sound c = rw c.in-Local.is (never _ _ _ _ _ _
-    (λ of s. c.in_err-change_fits.ensures (subst (λ (k : Lying). ChangeFits c.args.change c.args.of.now k) (sym c.lies_in.ensures) (changes_fit c.args.change c.args.of.now _ s.0.2))))
+    (λ allow of s. c.in_err-change_fits.ensures (subst (λ (k : Lying). ChangeFits c.args.change c.args.of.now k) (sym c.lies_in.ensures) (changes_fit c.args.change c.args.of.now _ s.0.2))))
 
 pub returns-clause-sound : goal.returns-clause-sound
 returns-clause-sound c = rw c.in_ok-push_four-2.ensures (rw c.in_ok-push_four.ensures (rw c.in-Local.is (instead _ _ _ _
-    (λ of s. (
+    (λ allow of s. (
       record { of = c.args.of.now; is = s.0.1; lies_so = c.lies_of-lies.ensures },
       (
         (changes_name c.args.change c.args.of.now _ s.0.2).before,

@@ -1,6 +1,7 @@
 use Rattle.std.proofs.Common.{rules}
 use Rattle.std.proofs.lemmas.Result.{IfOk-weaker}
 use Rattle.program_meaning.specs.Programs.{fun_of, program_of}
+use Rattle.program_types.specs.Agreeing.{known}
 use Rattle.code_generator.proofs.Whole.{function_stands, sound_start}
 use Rattle.code_generator.proofs.functions.function.Goals as goal
 
@@ -10,4 +11,4 @@ returns-clause-code c =
     IfOk-weaker c.finish.result _ _ (λ code d. function_stands (program_of c.args.program.now) (fun_of c.args.f.now) c.in_ok-config.config c.walk.new.config code c.in_ok-config.ensures.begun whole d) c.finish.ensures.code
 
 pub returns-in_err-walk-clause-total : goal.returns-in_err-walk-clause-total
-returns-in_err-walk-clause-total c = λ h. let whole = rw c.new-tasks.ensures at (rw c.in_ok-push_two.ensures at c.in_err-walk.ensures.total) in let m = whole (sound_start (program_of c.args.program.now) (fun_of c.args.f.now) c.in_ok-config.config c.in_ok-config.ensures.begun h) in search rules
+returns-in_err-walk-clause-total c = λ allow h. let whole = rw c.new-tasks.ensures at (rw c.in_ok-push_two.ensures at c.in_err-walk.ensures.total) in let m = whole allow (sound_start (known allow (program_of c.args.program.now)) (fun_of c.args.f.now) c.in_ok-config.config c.in_ok-config.ensures.begun h) in search rules

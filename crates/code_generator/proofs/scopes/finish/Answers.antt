@@ -3,4 +3,4 @@ use Rattle.code_generator.proofs.Steps.{instead}
 use Rattle.code_generator.proofs.scopes.finish.Goals as goal
 
 pub returns-clause-sound : goal.returns-clause-sound
-returns-clause-sound c = rw c.in_ok-push.ensures (instead _ _ _ _ (λ of s. s.1) refl)
+returns-clause-sound c = rw c.in_ok-push.ensures (instead _ _ _ _ (λ allow of s. s.1) refl)

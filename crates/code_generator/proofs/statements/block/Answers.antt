@@ -5,4 +5,4 @@ use Rattle.code_generator.proofs.Agreeing.{block_agrees}
 use Rattle.code_generator.proofs.statements.block.Goals as goal
 
 pub returns-clause-sound : goal.returns-clause-sound
-returns-clause-sound c = rw c.in_ok-push_two.ensures (instead _ _ _ _ (λ of s. block_agrees _ of (jobs c.args.tasks.now) c.args.config.now c.args.exits _ c.len-height.result c.len-height.ensures s) refl)
+returns-clause-sound c = rw c.in_ok-push_two.ensures (instead _ _ _ _ (λ allow of s. block_agrees _ of (jobs c.args.tasks.now) c.args.config.now c.args.exits _ c.len-height.result c.len-height.ensures s) refl)

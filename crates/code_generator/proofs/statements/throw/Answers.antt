@@ -4,7 +4,7 @@ use Rattle.code_generator.proofs.Steps.{instead, never}
 use Rattle.code_generator.proofs.statements.throw.Goals as goal
 
 pub returns-in_err-lies_as-clause-sound : goal.returns-in_err-lies_as-clause-sound
-returns-in_err-lies_as-clause-sound c = never _ _ _ _ _ _ (λ of s. c.in_err-lies_as.ensures (is_whole _ s.0.1))
+returns-in_err-lies_as-clause-sound c = never _ _ _ _ _ _ (λ allow of s. c.in_err-lies_as.ensures (is_whole _ s.0.1))
 
 pub returns-clause-sound : goal.returns-clause-sound
-returns-clause-sound c = rw c.in_ok-push_three.ensures (instead _ _ _ _ (λ of s. (s.0.0, s.1)) refl)
+returns-clause-sound c = rw c.in_ok-push_three.ensures (instead _ _ _ _ (λ allow of s. (s.0.0, s.1)) refl)

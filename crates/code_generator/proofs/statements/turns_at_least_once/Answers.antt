@@ -15,4 +15,4 @@ returns-clause-back c =
     (do_while_plan _ (jobs c.args.tasks.now) c.args.config.now c.args.exits _ _ c.len-height.result c.in_ok-first.first c.in_ok-start.start (record { out = c.in_ok-out.out; on = c.in_ok-on.on }) c.len-height.ensures))))))))
 
 pub returns-clause-sound : goal.returns-clause-sound
-returns-clause-sound c = rw c.in_ok-push_four-2.ensures (rw c.in_ok-push_four.ensures (rw c.in_ok-push_three.ensures (rw c.body-within.ensures (rw c.part-test.ensures (with_four _ _ _ c.args.config.now c.fresh.new.self c.fresh-2.new.self c.fresh-3.new.self c.fresh-4.new.self c.in_ok-out.out c.in_ok-first.first c.in_ok-on.on c.in_ok-start.start c.in_ok-out.ensures.label c.in_ok-out.ensures.labels c.in_ok-first.ensures.label c.in_ok-first.ensures.labels c.in_ok-on.ensures.label c.in_ok-on.ensures.labels c.in_ok-start.ensures.label c.in_ok-start.ensures.labels (λ of s. do_while_agrees _ of (jobs c.args.tasks.now) c.args.config.now c.args.exits _ _ c.len-height.result c.in_ok-first.first c.in_ok-start.start (record { out = c.in_ok-out.out; on = c.in_ok-on.on }) c.len-height.ensures s) refl)))))
+returns-clause-sound c = rw c.in_ok-push_four-2.ensures (rw c.in_ok-push_four.ensures (rw c.in_ok-push_three.ensures (rw c.body-within.ensures (rw c.part-test.ensures (with_four _ _ _ c.args.config.now c.fresh.new.self c.fresh-2.new.self c.fresh-3.new.self c.fresh-4.new.self c.in_ok-out.out c.in_ok-first.first c.in_ok-on.on c.in_ok-start.start c.in_ok-out.ensures.label c.in_ok-out.ensures.labels c.in_ok-first.ensures.label c.in_ok-first.ensures.labels c.in_ok-on.ensures.label c.in_ok-on.ensures.labels c.in_ok-start.ensures.label c.in_ok-start.ensures.labels (λ allow of s. do_while_agrees _ of (jobs c.args.tasks.now) c.args.config.now c.args.exits _ _ c.len-height.result c.in_ok-first.first c.in_ok-start.start (record { out = c.in_ok-out.out; on = c.in_ok-on.on }) c.len-height.ensures s) refl)))))

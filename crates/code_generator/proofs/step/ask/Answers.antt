@@ -8,9 +8,9 @@ pub returns-clause-back : goal.returns-clause-back
 returns-clause-back c = ask_back _ _ _ _ _ c.in_ok-put_instance_of.ensures.lines
 
 pub returns-clause-sound : goal.returns-clause-sound
-returns-clause-sound c = lined _ _ _ _ _ (λ of s. s.1) refl
+returns-clause-sound c = lined _ _ _ _ _ (λ allow of s. s.1) refl
 
 pub returns-in_err-put_instance_of-clause-sound : goal.returns-in_err-put_instance_of-clause-sound
 returns-in_err-put_instance_of-clause-sound c =
     let p = err_from_is_err_and c.from_residual.result c.from_residual.ensures.1 in
-    rw p.1 (record { by = λ s. p.2 ∙ c.in_err-put_instance_of.ensures.total s.agree.0 })
+    rw p.1 (record { by = λ allow s. p.2 ∙ c.in_err-put_instance_of.ensures.total s.agree.0 })

@@ -7,4 +7,4 @@ pub returns-clause-back : goal.returns-clause-back
 returns-clause-back c = jump_back _ _ _ _ _ _ c.in_ok-push.ensures.ok
 
 pub returns-clause-sound : goal.returns-clause-sound
-returns-clause-sound c = lined _ _ _ _ _ (λ of s. s) refl
+returns-clause-sound c = lined _ _ _ _ _ (λ allow of s. s) refl

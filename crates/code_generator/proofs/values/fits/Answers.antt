@@ -1,5 +1,7 @@
 use Rattle.std.proofs.Common.{sym, ◌∙◌}
 use Rattle.std.proofs.lemmas.Result.{MatchResult-weaker}
+use Rattle.code_generator.specs.Jobs.{member_takes}
+use Rattle.code_generator.proofs.Called.{taken_at, refuses_at, refuses_behind}
 use Rattle.code_generator.proofs.Parts.{taken_param, refuses_param, refuses_more}
 use Rattle.code_generator.proofs.values.fits.Goals as goal
 
@@ -10,3 +12,11 @@ returns-in-Some c = rw c.in-As.is (MatchResult-weaker c.lies_as-in-Some.result c
 
 pub returns-in-None : goal.returns-in-None
 returns-in-None c = rw c.in-As.is (refuses_more c.in-As.params.now c.args.at _ (sym c.in-None.ensures.value))
+
+pub returns-in-Some-parameter : goal.returns-in-Some-parameter
+returns-in-Some-parameter c = rw c.in-Member.is (MatchResult-weaker c.lies_as-in-Some-parameter.result c.lies_as-in-Some-parameter.ensures
+    (λ _ d. taken_at (member_takes c.in-Member.kind c.in-Member.params.now) c.args.at _ _ (sym c.in-Some-parameter.ensures) d)
+    (λ _ d. refuses_at (member_takes c.in-Member.kind c.in-Member.params.now) c.args.at _ _ (sym c.in-Some-parameter.ensures) d))
+
+pub returns-in-None-parameter : goal.returns-in-None-parameter
+returns-in-None-parameter c = rw c.in-Member.is (refuses_behind (member_takes c.in-Member.kind c.in-Member.params.now) c.args.at _ (sym c.in-None-parameter.ensures))

@@ -1,4 +1,6 @@
 use Rattle.std.proofs.Common.{sym}
+use Rattle.code_generator.specs.Jobs.{member_takes}
+use Rattle.code_generator.proofs.Called.{last_at, some_at}
 use Rattle.code_generator.proofs.Parts.{last_param, some_param}
 use Rattle.code_generator.proofs.values.last.Goals as goal
 
@@ -7,3 +9,9 @@ returns-in-None c = rw c.in-As.is (last_param c.in-As.params.now c.args.at (sym 
 
 pub returns-in-Some : goal.returns-in-Some
 returns-in-Some c = rw c.in-As.is (λ h. some_param c.in-As.params.now c.args.at _ (sym c.in-Some.ensures.value) h)
+
+pub returns-in-None-parameter : goal.returns-in-None-parameter
+returns-in-None-parameter c = rw c.in-Member.is (last_at (member_takes c.in-Member.kind c.in-Member.params.now) c.args.at (sym c.in-None-parameter.ensures))
+
+pub returns-in-Some-parameter : goal.returns-in-Some-parameter
+returns-in-Some-parameter c = rw c.in-Member.is (λ h. some_at (member_takes c.in-Member.kind c.in-Member.params.now) c.args.at _ (sym c.in-Some-parameter.ensures) h)
