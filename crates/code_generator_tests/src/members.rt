@@ -1,7 +1,7 @@
 use crate::build::{expression, int, local, number, one_part, statement};
 use crate::references::{cast_to, script, string, text};
 use crate::tests::{has_listing, returned};
-use allowlist::{Allow, MEMBER_COUNT};
+use allowlist::{Catalogue, MEMBER_COUNT};
 use pl_types::classes::{CHAR_SEQUENCE, STRING, STRING_BUILDER};
 use pl_types::{Cast, Primitive, Ty};
 use plain_data::{Items, Subtree, Text};
@@ -70,7 +70,7 @@ fn member(
     arity: u32,
     text: &str,
 ) -> Result<Member, AllocError> {
-    let allow = Allow::full(alloc)?;
+    let allow = Catalogue::full(alloc)?;
     let number = match allow.member(class, name, arity) {
         Some(number) => number,
         None => MEMBER_COUNT,
