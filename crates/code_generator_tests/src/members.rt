@@ -1,7 +1,7 @@
 use crate::build::{expression, int, local, number, one_part, statement};
 use crate::references::{cast_to, script, string, text};
 use crate::tests::{has_listing, returned};
-use allowlist::{Allow, MEMBER_COUNT};
+use allowlist::{Catalogue, MEMBER_COUNT};
 use pl_types::classes::{CHAR_SEQUENCE, STRING, STRING_BUILDER};
 use pl_types::{Cast, Primitive, Ty};
 use plain_data::{Items, Subtree, Text};
@@ -70,7 +70,7 @@ fn member(
     arity: u32,
     text: &str,
 ) -> Result<Member, AllocError> {
-    let allow = Allow::full(alloc)?;
+    let allow = Catalogue::full(alloc)?;
     let number = match allow.member(class, name, arity) {
         Some(number) => number,
         None => MEMBER_COUNT,
@@ -117,8 +117,19 @@ fn gives(
 #[test]
 fn called_on_a_value(rt: HostRuntime) -> Result<(), Fail> {
     let alloc = rt.alloc();
-    let length = member(alloc, CHAR_SEQUENCE, "length", 0, "java.lang.CharSequence.length/0")?;
-    let value = one_part(alloc, int(), Operation::Instance(length), text(alloc, "ab")?)?;
+    let length = member(
+        alloc,
+        CHAR_SEQUENCE,
+        "length",
+        0,
+        "java.lang.CharSequence.length/0",
+    )?;
+    let value = one_part(
+        alloc,
+        int(),
+        Operation::Instance(length),
+        text(alloc, "ab")?,
+    )?;
     let same = gives(alloc, Ty::Def, int(), value, LENGTH)?;
     assert!(rt; same);
     Ok(())
@@ -128,8 +139,19 @@ fn called_on_a_value(rt: HostRuntime) -> Result<(), Fail> {
 fn made(rt: HostRuntime) -> Result<(), Fail> {
     let alloc = rt.alloc();
     let make = member(alloc, STRING_BUILDER, "", 1, "java.lang.StringBuilder/1")?;
-    let receiver = one_part(alloc, builder(), Operation::Constructor(make), text(alloc, "a")?)?;
-    let append = member(alloc, STRING_BUILDER, "append", 1, "java.lang.StringBuilder.append/1")?;
+    let receiver = one_part(
+        alloc,
+        builder(),
+        Operation::Constructor(make),
+        text(alloc, "a")?,
+    )?;
+    let append = member(
+        alloc,
+        STRING_BUILDER,
+        "append",
+        1,
+        "java.lang.StringBuilder.append/1",
+    )?;
     let value = called_with(alloc, builder(), append, receiver, boxed(alloc, 1)?)?;
     let same = gives(alloc, Ty::Def, builder(), value, APPENDED)?;
     assert!(rt; same);
@@ -140,7 +162,12 @@ fn made(rt: HostRuntime) -> Result<(), Fail> {
 fn called_on_a_class(rt: HostRuntime) -> Result<(), Fail> {
     let alloc = rt.alloc();
     let value_of = member(alloc, STRING, "valueOf", 1, "java.lang.String.valueOf/1")?;
-    let value = one_part(alloc, string(), Operation::Static(value_of), boxed(alloc, 1)?)?;
+    let value = one_part(
+        alloc,
+        string(),
+        Operation::Static(value_of),
+        boxed(alloc, 1)?,
+    )?;
     let same = gives(alloc, Ty::Def, string(), value, VALUE)?;
     assert!(rt; same);
     Ok(())
@@ -162,7 +189,13 @@ fn left_out_by_null(rt: HostRuntime) -> Result<(), Fail> {
 #[test]
 fn given_nothing(rt: HostRuntime) -> Result<(), Fail> {
     let alloc = rt.alloc();
-    let set = member(alloc, STRING_BUILDER, "setLength", 1, "java.lang.StringBuilder.setLength/1")?;
+    let set = member(
+        alloc,
+        STRING_BUILDER,
+        "setLength",
+        1,
+        "java.lang.StringBuilder.setLength/1",
+    )?;
     let receiver = local(alloc, builder(), "x")?;
     let value = called_with(alloc, Ty::Void, set, receiver, number(alloc, 0)?)?;
     let only = statement(alloc, StatementNode::Expression(value))?;

@@ -2,7 +2,7 @@ use crate::build::{
     binary, boolean, both, cast, changed, constant, expression, function, int, local, long, named,
     number, one_part, statement, variable,
 };
-use allowlist::Allow;
+use allowlist::Catalogue;
 use arithmetic::Op;
 use code_generator::{CodeError, generate};
 use pl_code::listing;
@@ -247,7 +247,7 @@ fn deep_statement(alloc: Global) -> Result<Program, AllocError> {
 
 // How many lines the main script's code has.
 fn count_of_lines(alloc: Global, program: &Program) -> Result<usize, AllocError> {
-    let catalogue = Allow::full(alloc)?;
+    let catalogue = Catalogue::full(alloc)?;
     match generate(alloc, &catalogue, program) {
         Ok(code) => match code.functions.get(0) {
             Some(main) => Ok(main.lines.len()),
@@ -277,7 +277,7 @@ fn deep_statements(rt: HostRuntime) -> Result<(), Fail> {
 
 // Whether a program's code has this listing.
 pub fn has_listing(alloc: Global, program: &Program, text: &str) -> Result<bool, AllocError> {
-    let catalogue = Allow::full(alloc)?;
+    let catalogue = Catalogue::full(alloc)?;
     match generate(alloc, &catalogue, program) {
         Ok(code) => {
             let written = listing(alloc, &code)?;
@@ -322,7 +322,7 @@ fn malformed(rt: HostRuntime) -> Result<(), Fail> {
         functions: Items::new(alloc),
         main: main_script(alloc, int(), body)?,
     };
-    let catalogue = Allow::full(alloc)?;
+    let catalogue = Catalogue::full(alloc)?;
     let refused = match generate(alloc, &catalogue, &program) {
         Ok(_) => false,
         Err(error) => error == CodeError::Malformed,
