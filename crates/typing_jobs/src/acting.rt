@@ -7,6 +7,7 @@ ghost use Rattle.typing_tasks.specs.Job as j;
 ghost use Rattle.typing_tasks.specs.Machine.{run};
 
 use crate::acts::{does, does_statement};
+use allowlist::Allow;
 use pl_tree::{Spelled, TypeName};
 use pl_types::{Fail, Ty};
 use plain_data::Text;
@@ -20,6 +21,7 @@ use typing_tasks::{Act, StatementAct, Tasks};
 #[tactic(auto, unfolding(typing_tasks::specs::Machine::run))]
 pub fn called<'a>(
     alloc: Global,
+    _allow: &Allow,
     _headers: &[Header],
     config: &mut Config,
     _tasks: &Tasks<'a>,
@@ -27,7 +29,7 @@ pub fn called<'a>(
     name: &Text,
     height: usize,
 ) -> Result<(), Fail>
-    ensures { Goes (run _headers.now (j.Called at name.now height ∷ _tasks.now) config.old) result (run _headers.now _tasks.now config.new) }
+    ensures { Goes (run _allow.now _headers.now (j.Called at name.now height ∷ _tasks.now) config.old) result (run _allow.now _headers.now _tasks.now config.new) }
 {
     expressions::call(alloc, _headers, config, at, name, height)?;
     Ok(())
@@ -37,13 +39,14 @@ pub fn called<'a>(
 #[tactic(auto, unfolding(typing_tasks::specs::Machine::run))]
 pub fn integer<'a>(
     alloc: Global,
+    _allow: &Allow,
     _headers: &[Header],
     config: &mut Config,
     _tasks: &Tasks<'a>,
     at: u32,
     spelling: &Text,
 ) -> Result<(), Fail>
-    ensures { Goes (run _headers.now (j.Integer at spelling.now ∷ _tasks.now) config.old) result (run _headers.now _tasks.now config.new) }
+    ensures { Goes (run _allow.now _headers.now (j.Integer at spelling.now ∷ _tasks.now) config.old) result (run _allow.now _headers.now _tasks.now config.new) }
 {
     expressions::integer(alloc, config, at, spelling)?;
     Ok(())
@@ -53,6 +56,7 @@ pub fn integer<'a>(
 #[tactic(auto, unfolding(typing_tasks::specs::Machine::run))]
 pub fn negated_integer<'a>(
     alloc: Global,
+    _allow: &Allow,
     _headers: &[Header],
     config: &mut Config,
     _tasks: &Tasks<'a>,
@@ -60,7 +64,7 @@ pub fn negated_integer<'a>(
     at: u32,
     spelling: &Text,
 ) -> Result<(), Fail>
-    ensures { Goes (run _headers.now (j.NegatedInteger minus at spelling.now ∷ _tasks.now) config.old) result (run _headers.now _tasks.now config.new) }
+    ensures { Goes (run _allow.now _headers.now (j.NegatedInteger minus at spelling.now ∷ _tasks.now) config.old) result (run _allow.now _headers.now _tasks.now config.new) }
 {
     expressions::negated_integer(alloc, config, minus, at, spelling)?;
     Ok(())
@@ -70,13 +74,14 @@ pub fn negated_integer<'a>(
 #[tactic(auto, unfolding(typing_tasks::specs::Machine::run))]
 pub fn text<'a>(
     alloc: Global,
+    _allow: &Allow,
     _headers: &[Header],
     config: &mut Config,
     _tasks: &Tasks<'a>,
     at: u32,
     spelling: &Text,
 ) -> Result<(), Fail>
-    ensures { Goes (run _headers.now (j.Text at spelling.now ∷ _tasks.now) config.old) result (run _headers.now _tasks.now config.new) }
+    ensures { Goes (run _allow.now _headers.now (j.Text at spelling.now ∷ _tasks.now) config.old) result (run _allow.now _headers.now _tasks.now config.new) }
 {
     expressions::text(alloc, config, at, spelling)?;
     Ok(())
@@ -86,13 +91,14 @@ pub fn text<'a>(
 #[tactic(auto, unfolding(typing_tasks::specs::Machine::run))]
 pub fn name<'a>(
     alloc: Global,
+    _allow: &Allow,
     _headers: &[Header],
     config: &mut Config,
     _tasks: &Tasks<'a>,
     at: u32,
     spelling: &Text,
 ) -> Result<(), Fail>
-    ensures { Goes (run _headers.now (j.Name at spelling.now ∷ _tasks.now) config.old) result (run _headers.now _tasks.now config.new) }
+    ensures { Goes (run _allow.now _headers.now (j.Name at spelling.now ∷ _tasks.now) config.old) result (run _allow.now _headers.now _tasks.now config.new) }
 {
     expressions::local(alloc, config, at, spelling)?;
     Ok(())
@@ -102,13 +108,14 @@ pub fn name<'a>(
 #[tactic(auto, unfolding(typing_tasks::specs::Machine::run))]
 pub fn written<'a>(
     alloc: Global,
+    _allow: &Allow,
     _headers: &[Header],
     config: &mut Config,
     _tasks: &Tasks<'a>,
     at: u32,
     spelling: &Text,
 ) -> Result<(), Fail>
-    ensures { Goes (run _headers.now (j.Written at spelling.now ∷ _tasks.now) config.old) result (run _headers.now _tasks.now config.new) }
+    ensures { Goes (run _allow.now _headers.now (j.Written at spelling.now ∷ _tasks.now) config.old) result (run _allow.now _headers.now _tasks.now config.new) }
 {
     places::written(alloc, config, at, spelling)?;
     Ok(())
@@ -118,13 +125,14 @@ pub fn written<'a>(
 #[tactic(auto, unfolding(typing_tasks::specs::Machine::run))]
 pub fn asked<'a>(
     alloc: Global,
+    _allow: &Allow,
     _headers: &[Header],
     config: &mut Config,
     _tasks: &Tasks<'a>,
     at: u32,
     of: &TypeName,
 ) -> Result<(), Fail>
-    ensures { Goes (run _headers.now (j.Asked at of.now ∷ _tasks.now) config.old) result (run _headers.now _tasks.now config.new) }
+    ensures { Goes (run _allow.now _headers.now (j.Asked at of.now ∷ _tasks.now) config.old) result (run _allow.now _headers.now _tasks.now config.new) }
 {
     expressions::asked(alloc, config, at, of)?;
     Ok(())
@@ -134,13 +142,14 @@ pub fn asked<'a>(
 #[tactic(auto, unfolding(typing_tasks::specs::Machine::run))]
 pub fn instance_of<'a>(
     alloc: Global,
+    _allow: &Allow,
     _headers: &[Header],
     config: &mut Config,
     _tasks: &Tasks<'a>,
     at: u32,
     of: &TypeName,
 ) -> Result<(), Fail>
-    ensures { Goes (run _headers.now (j.InstanceOf at of.now ∷ _tasks.now) config.old) result (run _headers.now _tasks.now config.new) }
+    ensures { Goes (run _allow.now _headers.now (j.InstanceOf at of.now ∷ _tasks.now) config.old) result (run _allow.now _headers.now _tasks.now config.new) }
 {
     expressions::instance_of(alloc, config, at, of)?;
     Ok(())
@@ -150,12 +159,13 @@ pub fn instance_of<'a>(
 #[tactic(auto, unfolding(typing_tasks::specs::Machine::run))]
 pub fn act<'a>(
     alloc: Global,
+    _allow: &Allow,
     _headers: &[Header],
     config: &mut Config,
     _tasks: &Tasks<'a>,
     what: Act,
 ) -> Result<(), Fail>
-    ensures { Goes (run _headers.now (j.Do what ∷ _tasks.now) config.old) result (run _headers.now _tasks.now config.new) }
+    ensures { Goes (run _allow.now _headers.now (j.Do what ∷ _tasks.now) config.old) result (run _allow.now _headers.now _tasks.now config.new) }
 {
     does(alloc, config, what)?;
     Ok(())
@@ -164,12 +174,13 @@ pub fn act<'a>(
 /// A type, which is only looked at.
 #[tactic(auto, unfolding(typing_tasks::specs::Machine::run))]
 pub fn type_is<'a>(
+    _allow: &Allow,
     _headers: &[Header],
     _config: &Config,
     _tasks: &Tasks<'a>,
     of: &TypeName,
 ) -> Result<(), Fail>
-    ensures { Goes (run _headers.now (j.TypeOf of.now ∷ _tasks.now) _config.now) result (run _headers.now _tasks.now _config.now) }
+    ensures { Goes (run _allow.now _headers.now (j.TypeOf of.now ∷ _tasks.now) _config.now) result (run _allow.now _headers.now _tasks.now _config.now) }
 {
     let _of = type_of(of)?;
     Ok(())
@@ -179,12 +190,13 @@ pub fn type_is<'a>(
 #[tactic(auto, unfolding(typing_tasks::specs::Machine::run))]
 pub fn cast_initial<'a>(
     alloc: Global,
+    _allow: &Allow,
     _headers: &[Header],
     config: &mut Config,
     _tasks: &Tasks<'a>,
     of: &TypeName,
 ) -> Result<(), Fail>
-    ensures { Goes (run _headers.now (j.CastInitial of.now ∷ _tasks.now) config.old) result (run _headers.now _tasks.now config.new) }
+    ensures { Goes (run _allow.now _headers.now (j.CastInitial of.now ∷ _tasks.now) config.old) result (run _allow.now _headers.now _tasks.now config.new) }
 {
     statements::initial(alloc, config, of)?;
     Ok(())
@@ -194,13 +206,14 @@ pub fn cast_initial<'a>(
 #[tactic(auto, unfolding(typing_tasks::specs::Machine::run))]
 pub fn declare<'a>(
     alloc: Global,
+    _allow: &Allow,
     _headers: &[Header],
     config: &mut Config,
     _tasks: &Tasks<'a>,
     name: &Spelled,
     of: &TypeName,
 ) -> Result<(), Fail>
-    ensures { Goes (run _headers.now (j.Declare name.now of.now ∷ _tasks.now) config.old) result (run _headers.now _tasks.now config.new) }
+    ensures { Goes (run _allow.now _headers.now (j.Declare name.now of.now ∷ _tasks.now) config.old) result (run _allow.now _headers.now _tasks.now config.new) }
 {
     statements::variable(alloc, config, name, of)?;
     Ok(())
@@ -210,12 +223,13 @@ pub fn declare<'a>(
 #[tactic(auto, unfolding(typing_tasks::specs::Machine::run))]
 pub fn statement_act<'a>(
     alloc: Global,
+    _allow: &Allow,
     _headers: &[Header],
     config: &mut Config,
     _tasks: &Tasks<'a>,
     what: StatementAct,
 ) -> Result<(), Fail>
-    ensures { Goes (run _headers.now (j.DoStatement what ∷ _tasks.now) config.old) result (run _headers.now _tasks.now config.new) }
+    ensures { Goes (run _allow.now _headers.now (j.DoStatement what ∷ _tasks.now) config.old) result (run _allow.now _headers.now _tasks.now config.new) }
 {
     does_statement(alloc, config, what)?;
     Ok(())
@@ -241,13 +255,14 @@ fn note(alloc: Global, config: &mut Config, name: &Text, of: Ty) -> Result<(), A
 #[tactic(auto, unfolding(typing_tasks::specs::Machine::run))]
 pub fn noted<'a>(
     alloc: Global,
+    _allow: &Allow,
     _headers: &[Header],
     config: &mut Config,
     _tasks: &Tasks<'a>,
     name: &Text,
     of: &TypeName,
 ) -> Result<(), Fail>
-    ensures { Goes (run _headers.now (j.Noted name.now of.now ∷ _tasks.now) config.old) result (run _headers.now _tasks.now config.new) }
+    ensures { Goes (run _allow.now _headers.now (j.Noted name.now of.now ∷ _tasks.now) config.old) result (run _allow.now _headers.now _tasks.now config.new) }
 {
     let of = type_of(of)?;
     note(alloc, config, name, of)?;
@@ -258,12 +273,13 @@ pub fn noted<'a>(
 #[tactic(auto, unfolding(typing_tasks::specs::Machine::run))]
 pub fn noted_def<'a>(
     alloc: Global,
+    _allow: &Allow,
     _headers: &[Header],
     config: &mut Config,
     _tasks: &Tasks<'a>,
     name: &Text,
 ) -> Result<(), Fail>
-    ensures { Goes (run _headers.now (j.NotedDef name.now ∷ _tasks.now) config.old) result (run _headers.now _tasks.now config.new) }
+    ensures { Goes (run _allow.now _headers.now (j.NotedDef name.now ∷ _tasks.now) config.old) result (run _allow.now _headers.now _tasks.now config.new) }
 {
     note(alloc, config, name, Ty::Def)?;
     Ok(())

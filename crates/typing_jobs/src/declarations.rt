@@ -6,6 +6,7 @@ ghost use Rattle.typing_tasks.specs.Jobs.{declaration_job};
 ghost use Rattle.typing_tasks.specs.Machine.{run};
 
 use crate::acting;
+use allowlist::Allow;
 use pl_types::Fail;
 use std::alloc::Global;
 use typing_acts::Config;
@@ -18,12 +19,13 @@ use typing_tasks::{DeclarationTask, Tasks};
 #[tactic(auto, using(typing_tasks::proofs::PartPlans::initial_planned, typing_tasks::proofs::Goings::variable_goes))]
 pub fn step<'a>(
     alloc: Global,
+    allow: &Allow,
     headers: &[Header],
     config: &mut Config,
     tasks: &mut Tasks<'a>,
     task: DeclarationTask<'a>,
 ) -> Result<(), Fail>
-    ensures { Goes (run headers.now (declaration_job task.entry ∷ tasks.old) config.old) result (run headers.now tasks.new config.new) }
+    ensures { Goes (run allow.now headers.now (declaration_job task.entry ∷ tasks.old) config.old) result (run allow.now headers.now tasks.new config.new) }
 {
     match task {
         DeclarationTask::Variable(of, e) => {
@@ -34,15 +36,15 @@ pub fn step<'a>(
             statements::initial(tasks, of, e)?;
             return Ok(());
         },
-        DeclarationTask::Whole(e) => return goes::declaration(headers, config, tasks, e),
+        DeclarationTask::Whole(e) => return goes::declaration(allow, headers, config, tasks, e),
         DeclarationTask::Variables(of, all, at) => return goes::variables(
-            headers, config, tasks, of, all, at,
+            allow, headers, config, tasks, of, all, at,
         ),
         DeclarationTask::CastInitial(of) => return acting::cast_initial(
-            alloc, headers, config, tasks, of,
+            alloc, allow, headers, config, tasks, of,
         ),
         DeclarationTask::Declare(name, of) => return acting::declare(
-            alloc, headers, config, tasks, name, of,
+            alloc, allow, headers, config, tasks, name, of,
         ),
     }
 }

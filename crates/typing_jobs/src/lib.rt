@@ -7,6 +7,7 @@ mod acts;
 mod declarations;
 mod expressions;
 mod loops;
+mod members;
 mod pass;
 mod statements;
 mod unbuilt;

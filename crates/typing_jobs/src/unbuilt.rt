@@ -6,6 +6,7 @@ ghost use Rattle.typing_tasks.specs.Jobs.{unbuilt_job};
 ghost use Rattle.typing_tasks.specs.Machine.{run};
 
 use crate::acting;
+use allowlist::Allow;
 use pl_types::Fail;
 use std::alloc::Global;
 use typing_acts::Config;
@@ -17,12 +18,13 @@ use typing_tasks::{Tasks, UnbuiltTask};
 #[tactic(auto, using(typing_tasks::proofs::PartPlans::inner_planned))]
 pub fn step<'a>(
     alloc: Global,
+    allow: &Allow,
     headers: &[Header],
     config: &mut Config,
     tasks: &mut Tasks<'a>,
     task: UnbuiltTask<'a>,
 ) -> Result<(), Fail>
-    ensures { Goes (run headers.now (unbuilt_job task.entry ∷ tasks.old) config.old) result (run headers.now tasks.new config.new) }
+    ensures { Goes (run allow.now headers.now (unbuilt_job task.entry ∷ tasks.old) config.old) result (run allow.now headers.now tasks.new config.new) }
 {
     match task {
         UnbuiltTask::Inner(e, at) => {
@@ -30,26 +32,23 @@ pub fn step<'a>(
             return Ok(());
         },
         UnbuiltTask::Noted(name, of) => return acting::noted(
-            alloc, headers, config, tasks, name, of,
+            alloc, allow, headers, config, tasks, name, of,
         ),
         UnbuiltTask::NotedDef(name) => return acting::noted_def(
-            alloc, headers, config, tasks, name,
+            alloc, allow, headers, config, tasks, name,
         ),
         UnbuiltTask::Parameters(all, at) => return unbuilt::parameters(
-            headers, config, tasks, all, at,
+            allow, headers, config, tasks, all, at,
         ),
         UnbuiltTask::Values(all, i, at) => return unbuilt::values(
-            headers, config, tasks, all, i, at,
-        ),
-        UnbuiltTask::Arguments(all, i, at) => return unbuilt::arguments(
-            headers, config, tasks, all, i, at,
+            allow, headers, config, tasks, all, i, at,
         ),
         UnbuiltTask::Entries(all, i, at) => return unbuilt::entries(
-            headers, config, tasks, all, i, at,
+            allow, headers, config, tasks, all, i, at,
         ),
         UnbuiltTask::Catches(all, i, at) => return unbuilt::catches(
-            headers, config, tasks, all, i, at,
+            allow, headers, config, tasks, all, i, at,
         ),
-        UnbuiltTask::Catch(e) => return unbuilt::catch(headers, config, tasks, e),
+        UnbuiltTask::Catch(e) => return unbuilt::catch(allow, headers, config, tasks, e),
     }
 }

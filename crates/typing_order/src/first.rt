@@ -6,6 +6,7 @@ ghost use Rattle.typing_rules.specs.Outcomes.{Keeps};
 ghost use Rattle.typing_rules.specs.Typing.{reading};
 ghost use Rattle.typing_tasks.specs.Plans as spec;
 
+use allowlist::Allow;
 use pl_tree::Expr;
 use pl_types::Fail;
 use typing_rules::Header;
@@ -106,8 +107,8 @@ fn place_of(e: &Expr) -> u32
 
 /// The first token of an expression: that of the expression at its left end.
 #[tactic(auto, using(typing_tasks::proofs::Firsts::first_is))]
-pub fn first_of(_headers: &[Header], e: &Expr) -> Result<u32, Fail>
-    ensures { Keeps (Ok (reading _headers.now e.now).first) result }
+pub fn first_of(_allow: &Allow, _headers: &[Header], e: &Expr) -> Result<u32, Fail>
+    ensures { Keeps (Ok (reading _allow.now _headers.now e.now).first) result }
 {
     let mut left = e;
     for _ in 0..u64::MAX {

@@ -9,7 +9,10 @@ ghost use Rattle.typing_tasks.specs.Machine.{run};
 ghost use Rattle.typing_tasks.specs.Plans as spec;
 
 use crate::first::first_of;
-use pl_tree::{Argument, Block, Body, Declaration, Expr, First, Statement, TypeName, Variable};
+use allowlist::Allow;
+use pl_tree::{
+    Access, Argument, Block, Body, Declaration, Expr, First, Statement, TypeName, Variable,
+};
 use pl_types::Fail;
 use plain_data::{Items, Subtree, Text};
 use std::alloc::AllocError;
@@ -23,13 +26,14 @@ use typing_tasks::{
 /// Arguments from one on: this one, and then the rest.
 #[tactic(auto, using(typing_tasks::proofs::Goings::arguments_go, typing_tasks::proofs::Goings::arguments_end))]
 pub fn arguments<'a>(
+    _allow: &Allow,
     _headers: &[Header],
     _config: &Config,
     tasks: &mut Tasks<'a>,
     all: &'a Items<Argument>,
     at: usize,
 ) -> Result<(), Fail>
-    ensures { Goes (run _headers.now (j.Arguments all.now at ∷ tasks.old) _config.now) result (run _headers.now tasks.new _config.now) }
+    ensures { Goes (run _allow.now _headers.now (j.Arguments all.now at ∷ tasks.old) _config.now) result (run _allow.now _headers.now tasks.new _config.now) }
 {
     let _count = all.len();
     let Some(one) = all.get(at) else {
@@ -45,6 +49,7 @@ pub fn arguments<'a>(
 /// A call of a function: its arguments, and then the call.
 #[tactic(auto, using(typing_tasks::proofs::Goings::call_goes))]
 pub fn call<'a>(
+    _allow: &Allow,
     _headers: &[Header],
     config: &Config,
     tasks: &mut Tasks<'a>,
@@ -52,7 +57,7 @@ pub fn call<'a>(
     name: &'a Text,
     all: &'a Items<Argument>,
 ) -> Result<(), Fail>
-    ensures { Goes (run _headers.now (j.Call at name.now all.now ∷ tasks.old) config.now) result (run _headers.now tasks.new config.now) }
+    ensures { Goes (run _allow.now _headers.now (j.Call at name.now all.now ∷ tasks.old) config.now) result (run _allow.now _headers.now tasks.new config.now) }
 {
     let height = config.parts.len();
     tasks.push_two(
@@ -62,15 +67,82 @@ pub fn call<'a>(
     Ok(())
 }
 
+/// A call on a value that is typed: the arguments, and then the call.
+#[tactic(auto, using(typing_tasks::proofs::Goings::method_goes))]
+pub fn method<'a>(
+    _allow: &Allow,
+    _headers: &[Header],
+    config: &Config,
+    tasks: &mut Tasks<'a>,
+    at: u32,
+    access: Access,
+    name: &'a Text,
+    all: &'a Items<Argument>,
+) -> Result<(), Fail>
+    ensures { Goes (run _allow.now _headers.now (j.Method at access name.now all.now ∷ tasks.old) config.now) result (run _allow.now _headers.now tasks.new config.now) }
+{
+    let height = config.parts.len();
+    tasks.push_two(
+        Task::Expression(ExpressionTask::Arguments(all, 0)),
+        Task::Word(WordTask::MethodCalled(at, access, name, height)),
+    )?;
+    Ok(())
+}
+
+/// A call on a type: the arguments, and then the call.
+#[tactic(auto, using(typing_tasks::proofs::Goings::static_goes))]
+pub fn static_call<'a>(
+    _allow: &Allow,
+    _headers: &[Header],
+    config: &Config,
+    tasks: &mut Tasks<'a>,
+    at: u32,
+    access: Access,
+    of: &'a TypeName,
+    name: &'a Text,
+    all: &'a Items<Argument>,
+) -> Result<(), Fail>
+    ensures { Goes (run _allow.now _headers.now (j.Static at access of.now name.now all.now ∷ tasks.old) config.now) result (run _allow.now _headers.now tasks.new config.now) }
+{
+    let height = config.parts.len();
+    tasks.push_two(
+        Task::Expression(ExpressionTask::Arguments(all, 0)),
+        Task::Word(WordTask::StaticCalled(at, access, of, name, height)),
+    )?;
+    Ok(())
+}
+
+/// `new`: the arguments, and then the object.
+#[tactic(auto, using(typing_tasks::proofs::Goings::new_goes))]
+pub fn new_object<'a>(
+    _allow: &Allow,
+    _headers: &[Header],
+    config: &Config,
+    tasks: &mut Tasks<'a>,
+    at: u32,
+    of: &'a TypeName,
+    all: &'a Items<Argument>,
+) -> Result<(), Fail>
+    ensures { Goes (run _allow.now _headers.now (j.New at of.now all.now ∷ tasks.old) config.now) result (run _allow.now _headers.now tasks.new config.now) }
+{
+    let height = config.parts.len();
+    tasks.push_two(
+        Task::Expression(ExpressionTask::Arguments(all, 0)),
+        Task::Word(WordTask::Made(at, of, height)),
+    )?;
+    Ok(())
+}
+
 /// A statement in a scope of its own.
 #[tactic(auto, using(typing_tasks::proofs::Goings::scoped_goes))]
 pub fn scoped<'a>(
+    _allow: &Allow,
     _headers: &[Header],
     config: &Config,
     tasks: &mut Tasks<'a>,
     e: &'a Statement,
 ) -> Result<(), Fail>
-    ensures { Goes (run _headers.now (j.Scoped e.now ∷ tasks.old) config.now) result (run _headers.now tasks.new config.now) }
+    ensures { Goes (run _allow.now _headers.now (j.Scoped e.now ∷ tasks.old) config.now) result (run _allow.now _headers.now tasks.new config.now) }
 {
     let height = config.state.scopes.len();
     tasks.push_two(
@@ -83,12 +155,13 @@ pub fn scoped<'a>(
 /// A block in a scope of its own.
 #[tactic(auto, using(typing_tasks::proofs::Goings::block_goes))]
 pub fn block<'a>(
+    _allow: &Allow,
     _headers: &[Header],
     config: &Config,
     tasks: &mut Tasks<'a>,
     e: &'a Block,
 ) -> Result<(), Fail>
-    ensures { Goes (run _headers.now (j.Block_ e.now ∷ tasks.old) config.now) result (run _headers.now tasks.new config.now) }
+    ensures { Goes (run _allow.now _headers.now (j.Block_ e.now ∷ tasks.old) config.now) result (run _allow.now _headers.now tasks.new config.now) }
 {
     let names = config.state.scopes.len();
     let height = config.steps.len();
@@ -103,12 +176,13 @@ pub fn block<'a>(
 /// A body with a loop around it.
 #[tactic(auto, using(typing_tasks::proofs::Goings::looping_goes))]
 pub fn looping<'a>(
+    _allow: &Allow,
     _headers: &[Header],
     config: &mut Config,
     tasks: &mut Tasks<'a>,
     e: &'a Body,
 ) -> Result<(), Fail>
-    ensures { Goes (run _headers.now (j.Looping e.now ∷ tasks.old) config.old) result (run _headers.now tasks.new config.new) }
+    ensures { Goes (run _allow.now _headers.now (j.Looping e.now ∷ tasks.old) config.old) result (run _allow.now _headers.now tasks.new config.new) }
 {
     let before = config.state.looped;
     bodies::looped(config, true);
@@ -122,12 +196,13 @@ pub fn looping<'a>(
 /// A block with a loop around it.
 #[tactic(auto, using(typing_tasks::proofs::Goings::loop_block_goes))]
 pub fn loop_block<'a>(
+    _allow: &Allow,
     _headers: &[Header],
     config: &mut Config,
     tasks: &mut Tasks<'a>,
     e: &'a Block,
 ) -> Result<(), Fail>
-    ensures { Goes (run _headers.now (j.LoopBlock e.now ∷ tasks.old) config.old) result (run _headers.now tasks.new config.new) }
+    ensures { Goes (run _allow.now _headers.now (j.LoopBlock e.now ∷ tasks.old) config.old) result (run _allow.now _headers.now tasks.new config.new) }
 {
     let before = config.state.looped;
     bodies::looped(config, true);
@@ -141,6 +216,7 @@ pub fn loop_block<'a>(
 /// A `for` in a scope of its own.
 #[tactic(auto, using(typing_tasks::proofs::Goings::for_goes))]
 pub fn for_loop<'a>(
+    _allow: &Allow,
     _headers: &[Header],
     config: &Config,
     tasks: &mut Tasks<'a>,
@@ -150,7 +226,7 @@ pub fn for_loop<'a>(
     update: &'a Option<Subtree<Expr>>,
     body: &'a Option<Body>,
 ) -> Result<(), Fail>
-    ensures { Goes (run _headers.now (j.For at first.now condition.now update.now body.now ∷ tasks.old) config.now) result (run _headers.now tasks.new config.now) }
+    ensures { Goes (run _allow.now _headers.now (j.For at first.now condition.now update.now body.now ∷ tasks.old) config.now) result (run _allow.now _headers.now tasks.new config.now) }
 {
     let height = config.state.scopes.len();
     tasks.push_two(
@@ -163,14 +239,15 @@ pub fn for_loop<'a>(
 /// What a `for` begins with.
 #[tactic(auto, using(typing_tasks::proofs::Goings::deed_goes))]
 pub fn deed<'a>(
+    allow: &Allow,
     headers: &[Header],
     _config: &Config,
     tasks: &mut Tasks<'a>,
     e: &'a Expr,
 ) -> Result<(), Fail>
-    ensures { Goes (run headers.now (j.Deed e.now ∷ tasks.old) _config.now) result (run headers.now tasks.new _config.now) }
+    ensures { Goes (run allow.now headers.now (j.Deed e.now ∷ tasks.old) _config.now) result (run allow.now headers.now tasks.new _config.now) }
 {
-    let first = first_of(headers, e)?;
+    let first = first_of(allow, headers, e)?;
     tasks.push_two(
         Task::Expression(ExpressionTask::Value(e)),
         Task::DoStatement(StatementAct::First(first)),
@@ -181,14 +258,15 @@ pub fn deed<'a>(
 /// What it goes on with.
 #[tactic(auto, using(typing_tasks::proofs::Goings::update_goes))]
 pub fn update<'a>(
+    allow: &Allow,
     headers: &[Header],
     _config: &Config,
     tasks: &mut Tasks<'a>,
     e: &'a Expr,
 ) -> Result<(), Fail>
-    ensures { Goes (run headers.now (j.Update e.now ∷ tasks.old) _config.now) result (run headers.now tasks.new _config.now) }
+    ensures { Goes (run allow.now headers.now (j.Update e.now ∷ tasks.old) _config.now) result (run allow.now headers.now tasks.new _config.now) }
 {
-    let first = first_of(headers, e)?;
+    let first = first_of(allow, headers, e)?;
     tasks.push_two(
         Task::Expression(ExpressionTask::Value(e)),
         Task::DoStatement(StatementAct::Update(first)),
@@ -197,8 +275,8 @@ pub fn update<'a>(
 }
 
 /// Where a statement stands.
-fn place_of(_headers: &[Header], e: &Statement) -> u32
-    ensures { result ≡ (doer _headers.now e.now).at }
+fn place_of(_allow: &Allow, _headers: &[Header], e: &Statement) -> u32
+    ensures { result ≡ (doer _allow.now _headers.now e.now).at }
 {
     match e {
         Statement::If { at, .. } => *at,
@@ -229,6 +307,7 @@ fn is_last(all: &Items<Subtree<Statement>>, at: usize, in_main: bool) -> bool
 
 /// Puts on a statement, and what is behind it, from a place of the list on.
 fn following<'a>(
+    allow: &Allow,
     headers: &[Header],
     tasks: &mut Tasks<'a>,
     all: &'a Items<Subtree<Statement>>,
@@ -237,10 +316,10 @@ fn following<'a>(
     in_main: bool,
     after: bool,
 ) -> Result<(), AllocError>
-    ensures { OnOk result (tasks.new ≡ spec.following headers.now all.now at one.now in_main after ++ tasks.old) }
+    ensures { OnOk result (tasks.new ≡ spec.following allow.now headers.now all.now at one.now in_main after ++ tasks.old) }
 {
     let last = is_last(all, at, in_main);
-    let place = place_of(headers, one);
+    let place = place_of(allow, headers, one);
     tasks.push_two(
         Task::Statement(StatementTask::One(one, last)),
         Task::Statement(StatementTask::Reached(all, at, place, in_main, after)),
@@ -250,6 +329,7 @@ fn following<'a>(
 /// Statements from one on: this one, and then what is behind it.
 #[tactic(auto, using(typing_tasks::proofs::Goings::statements_go, typing_tasks::proofs::Goings::statements_end))]
 pub fn statements<'a>(
+    allow: &Allow,
     headers: &[Header],
     _config: &Config,
     tasks: &mut Tasks<'a>,
@@ -258,19 +338,29 @@ pub fn statements<'a>(
     in_main: bool,
     after: bool,
 ) -> Result<(), Fail>
-    ensures { Goes (run headers.now (j.Statements all.now at in_main after ∷ tasks.old) _config.now) result (run headers.now tasks.new _config.now) }
+    ensures { Goes (run allow.now headers.now (j.Statements all.now at in_main after ∷ tasks.old) _config.now) result (run allow.now headers.now tasks.new _config.now) }
 {
     let _count = all.len();
     let Some(one) = all.get(at) else {
         return Ok(());
     };
-    following(headers, tasks, all, at + 1, one.get(), in_main, after)?;
+    following(
+        allow,
+        headers,
+        tasks,
+        all,
+        at + 1,
+        one.get(),
+        in_main,
+        after,
+    )?;
     Ok(())
 }
 
 /// What is behind a statement that is typed.
 #[tactic(auto, unfolding(typing_tasks::specs::Machine::run))]
 pub fn behind<'a>(
+    _allow: &Allow,
     _headers: &[Header],
     config: &mut Config,
     tasks: &mut Tasks<'a>,
@@ -280,7 +370,7 @@ pub fn behind<'a>(
     in_main: bool,
     after: bool,
 ) -> Result<(), Fail>
-    ensures { Goes (run _headers.now (j.Reached all.now at place in_main after ∷ tasks.old) config.old) result (run _headers.now tasks.new config.new) }
+    ensures { Goes (run _allow.now _headers.now (j.Reached all.now at place in_main after ∷ tasks.old) config.old) result (run _allow.now _headers.now tasks.new config.new) }
 {
     let Some(x) = config.steps.pop() else {
         return Err(Fail::NoMemory);
@@ -295,12 +385,13 @@ pub fn behind<'a>(
 /// A declaration: its variables, and then the statement.
 #[tactic(auto, using(typing_tasks::proofs::Goings::declaration_goes))]
 pub fn declaration<'a>(
+    _allow: &Allow,
     _headers: &[Header],
     config: &Config,
     tasks: &mut Tasks<'a>,
     e: &'a Declaration,
 ) -> Result<(), Fail>
-    ensures { Goes (run _headers.now (j.Declaration_ e.now ∷ tasks.old) config.now) result (run _headers.now tasks.new config.now) }
+    ensures { Goes (run _allow.now _headers.now (j.Declaration_ e.now ∷ tasks.old) config.now) result (run _allow.now _headers.now tasks.new config.now) }
 {
     let height = config.variables.len();
     tasks.push_two(
@@ -313,6 +404,7 @@ pub fn declaration<'a>(
 /// Variables from one on: this one, and then the rest.
 #[tactic(auto, using(typing_tasks::proofs::Goings::variables_go, typing_tasks::proofs::Goings::variables_end))]
 pub fn variables<'a>(
+    _allow: &Allow,
     _headers: &[Header],
     _config: &Config,
     tasks: &mut Tasks<'a>,
@@ -320,7 +412,7 @@ pub fn variables<'a>(
     all: &'a Items<Variable>,
     at: usize,
 ) -> Result<(), Fail>
-    ensures { Goes (run _headers.now (j.Variables of.now all.now at ∷ tasks.old) _config.now) result (run _headers.now tasks.new _config.now) }
+    ensures { Goes (run _allow.now _headers.now (j.Variables of.now all.now at ∷ tasks.old) _config.now) result (run _allow.now _headers.now tasks.new _config.now) }
 {
     let _count = all.len();
     let Some(one) = all.get(at) else {

@@ -4,4 +4,4 @@ use Rattle.typing_jobs.proofs.pass.run.Given as goal
 
 -- what is left comes to what the whole comes to
 abbrev pub invariant-loop : goal.invariant-loop
-invariant-loop l = run l.fn.headers l.fn.tasks l.fn.config ≡ run l.fn.headers l.tasks l.config
+invariant-loop l = run l.fn.allow l.fn.headers l.fn.tasks l.fn.config ≡ run l.fn.allow l.fn.headers l.tasks l.config

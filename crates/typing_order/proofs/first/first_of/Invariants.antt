@@ -4,4 +4,4 @@ use Rattle.typing_order.proofs.first.first_of.Given as goal
 
 -- what is left begins as the whole does
 abbrev pub invariant-loop : goal.invariant-loop
-invariant-loop l = (reading l.fn._headers l.left).first ≡ (reading l.fn._headers l.fn.e).first
+invariant-loop l = (reading l.fn._allow l.fn._headers l.left).first ≡ (reading l.fn._allow l.fn._headers l.fn.e).first
