@@ -165,8 +165,8 @@ run_time_code to way = run_time_code_layer (out-Ty to) to way
 
 -- a cast to a type
 abbrev pub cast_code : Cast → Ty → List Instruction
-cast_code (cast.Number from into) to = number_code from into
-cast_code (cast.Wrap from into) to = number_code from into ++ i.Boxing into ∷ []
+cast_code (cast.Number p q) to = number_code p q
+cast_code (cast.Wrap p q) to = number_code p q ++ i.Boxing q ∷ []
 cast_code cast.Implicit to = run_time_code to way.Implicit
 cast_code cast.Explicit to = run_time_code to way.Explicit
 cast_code cast.CharToText to = i.Boxing prim.Char ∷ i.Cast (full_text (t.Class STRING)) way.Explicit ∷ []

@@ -267,9 +267,9 @@ text_if (Some value) store = Acts (effect store (cast_at_run_time store.objects 
 -- A cast to a type. Those of primitives are known before the script runs, and give a value at once.
 abbrev pub casts : Cast → Ty → Value → Store → Operated
 casts cast.Keep to value store = Gives value
-casts (cast.Number from into) to value store = gives_if (number_cast from into value)
-casts (cast.Wrap from into) to value store = gives_if (box_if into (number_cast from into value))
-casts (cast.Unwrap from into) to value store = Meaningless
+casts (cast.Number p q) to value store = gives_if (number_cast p q value)
+casts (cast.Wrap p q) to value store = gives_if (box_if q (number_cast p q value))
+casts (cast.Unwrap p q) to value store = Meaningless
 casts cast.Implicit to value store = Acts (effect store (cast_at_run_time store.objects value to false))
 casts cast.Explicit to value store = Acts (effect store (cast_at_run_time store.objects value to true))
 casts cast.CharToText to value store = text_if (in_box prim.Char value) store

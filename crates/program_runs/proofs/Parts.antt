@@ -188,8 +188,8 @@ module _ (allow : AllowList) where
   text_is_known = ap is_known (sym (t.rolls-Class STRING)) ∙ fold-roll-Ty Bool known_layer (Ty-F.Class STRING)
 
   pub cast_rows : (c : Cast) (to : Ty) → AsksKnown c to → AllRows (cast_code c to)
-  cast_rows (cast.Number from into) to asks = number_rows from into
-  cast_rows (cast.Wrap from into) to asks = both_rows (number_code from into) (i.Boxing into ∷ []) (number_rows from into) refl
+  cast_rows (cast.Number p q) to asks = number_rows p q
+  cast_rows (cast.Wrap p q) to asks = both_rows (number_code p q) (i.Boxing q ∷ []) (number_rows p q) refl
   cast_rows cast.Implicit to asks = run_time_rows to way.Implicit asks
   cast_rows cast.Explicit to asks = run_time_rows to way.Explicit asks
   cast_rows cast.CharToText to asks = one_row (i.Cast (full_text (t.Class STRING)) way.Explicit) (known_row (t.Class STRING) text_is_known)

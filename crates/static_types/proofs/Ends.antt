@@ -2,6 +2,7 @@
 use Rattle.std.proofs.Common.{◌≡◌, ℕ, zero, suc, ◌-◌, Bool, true, false, List, [], ◌∷◌, ◌++◌, length, reverse, map, append-nil, Some, Ok, Err, refl, sym, ap, ◌∙◌, arith}
 use Rattle.std.proofs.lemmas.Grind.{common_steps}
 use Rattle.pl_tree.specs.declared.tree.Statement.{Statement}
+use Rattle.allowlist.specs.Allow.{AllowList}
 use Rattle.typing_rules.specs.declared.header.Header.{Header}
 use Rattle.typing_rules.specs.declared.part.Step.{Step}
 use Rattle.typing_rules.specs.declared.state.State.{State}
@@ -29,15 +30,15 @@ pub taken_all : {A : Type 0} (xs : List A) → gathered (length xs - 0) xs [] �
 taken_all xs = let e : length xs - 0 ≡ length xs = omega arith in
     ap (λ n. gathered n xs []) e ∙ gathered_all xs [] ∙ ap (λ ys. Some (ys, [])) (append-nil (reverse xs))
 
-body_runs : (hs : List Header) (in_main : Bool) (all : List Statement) (s : State)
-    → steps_of hs in_main all s ≡ bind (run hs (jobs_of in_main all) (fresh s)) (λ whole. Ok whole.0)
+body_runs : (allow : AllowList) (hs : List Header) (in_main : Bool) (all : List Statement) (s : State)
+    → steps_of allow hs in_main all s ≡ bind (run allow hs (jobs_of in_main all) (fresh s)) (λ whole. Ok whole.0)
 unfolding run
-body_runs hs in_main all s = sym (λ i. bind (statements in_main false (map (doer hs) all) s (λ ys t. Ok (reverse_piled ys i, t))) (λ whole. Ok whole.0))
+body_runs allow hs in_main all s = sym (λ i. bind (statements in_main false (map (doer allow hs) all) s (λ ys t. Ok (reverse_piled ys i, t))) (λ whole. Ok whole.0))
 
-pub body_ends : (hs : List Header) (in_main : Bool) (all : List Statement) (s : State) (c : Config)
-    → run hs (jobs_of in_main all) (fresh s) ≡ ended c → steps_of hs in_main all s ≡ Ok (reverse c.steps)
-body_ends hs in_main all s c is = body_runs hs in_main all s ∙ ap (λ (o : Answer). bind o (λ whole. Ok whole.0)) is
+pub body_ends : (allow : AllowList) (hs : List Header) (in_main : Bool) (all : List Statement) (s : State) (c : Config)
+    → run allow hs (jobs_of in_main all) (fresh s) ≡ ended c → steps_of allow hs in_main all s ≡ Ok (reverse c.steps)
+body_ends allow hs in_main all s c is = body_runs allow hs in_main all s ∙ ap (λ (o : Answer). bind o (λ whole. Ok whole.0)) is
 
-pub body_fails : (hs : List Header) (in_main : Bool) (all : List Statement) (s : State) (r : Refusal)
-    → run hs (jobs_of in_main all) (fresh s) ≡ Err r → steps_of hs in_main all s ≡ Err r
-body_fails hs in_main all s r is = body_runs hs in_main all s ∙ ap (λ (o : Answer). bind o (λ whole. Ok whole.0)) is
+pub body_fails : (allow : AllowList) (hs : List Header) (in_main : Bool) (all : List Statement) (s : State) (r : Refusal)
+    → run allow hs (jobs_of in_main all) (fresh s) ≡ Err r → steps_of allow hs in_main all s ≡ Err r
+body_fails allow hs in_main all s r is = body_runs allow hs in_main all s ∙ ap (λ (o : Answer). bind o (λ whole. Ok whole.0)) is

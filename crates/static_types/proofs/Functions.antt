@@ -13,6 +13,7 @@ use Rattle.pl_tree.specs.declared.tree.Argument.TheFolds.{fold_out-Block}
 use Rattle.typed_tree.specs.declared.program.TypedFunction.{TypedFunction}
 use Rattle.typed_tree.specs.declared.statement.TypedVariable.{TypedVariable}
 use Rattle.typing_rules.specs.declared.header.ContextTypes.{ContextTypes}
+use Rattle.allowlist.specs.Allow.{AllowList}
 use Rattle.typing_rules.specs.declared.header.Header.{Header}
 use Rattle.typing_rules.specs.declared.part.Part.{Part}
 use Rattle.typing_rules.specs.declared.part.Step.{Step}
@@ -29,72 +30,72 @@ twice : {B : Type 0} (o : Out Whole) (f : List Step → Out B) → bind o (λ w.
 twice (Ok w) f = refl
 twice (Err r) f = refl
 
-pub function_by : (hs : List Header) (f : Function) (h : Header)
-    → function_of hs f h ≡ bind (steps_of hs false (out-Block f.body).statements (function_start h)) (λ ys. finished f h ys)
-function_by hs f h =
-    ap (λ (x : Braces). bind (ran x.steps (function_start h)) (λ whole. finished f h whole.0)) (fold_out-Block (Doing Part) (Doing Step) Reading (Doing Step) Seen Doer Braces Seen Doer Seen (Ty → Doing TypedVariable) (argument_step hs) (body_step hs) (expression_step hs) (first_step hs) (lambda_step hs) (statement_step hs) (block_step hs) (catch_step hs) (declaration_step hs) (entry_step hs) (variable_step hs) f.body)
-    ∙ twice (ran (statements false false (map (doer hs) (out-Block f.body).statements)) (function_start h)) (finished f h)
+pub function_by : (allow : AllowList) (hs : List Header) (f : Function) (h : Header)
+    → function_of allow hs f h ≡ bind (steps_of allow hs false (out-Block f.body).statements (function_start h)) (λ ys. finished f h ys)
+function_by allow hs f h =
+    ap (λ (x : Braces). bind (ran x.steps (function_start h)) (λ whole. finished f h whole.0)) (fold_out-Block (Doing Part) (Doing Step) Reading (Doing Step) Seen Doer Braces Seen Doer Seen (Ty → Doing TypedVariable) (argument_step allow hs) (body_step allow hs) (expression_step allow hs) (first_step allow hs) (lambda_step allow hs) (statement_step allow hs) (block_step allow hs) (catch_step allow hs) (declaration_step allow hs) (entry_step allow hs) (variable_step allow hs) f.body)
+    ∙ twice (ran (statements false false (map (doer allow hs) (out-Block f.body).statements)) (function_start h)) (finished f h)
 
-pub main_by : (context : ContextTypes) (hs : List Header) (all : List Statement) → main_of context hs all ≡ bind (steps_of hs true all (main_start context)) (λ ys. Ok (main context ys))
-main_by context hs all = twice (ran (statements true false (map (doer hs) all)) (main_start context)) (λ ys. Ok (main context ys))
+pub main_by : (context : ContextTypes) (allow : AllowList) (hs : List Header) (all : List Statement) → main_of allow context hs all ≡ bind (steps_of allow hs true all (main_start context)) (λ ys. Ok (main context ys))
+main_by context allow hs all = twice (ran (statements true false (map (doer allow hs) all)) (main_start context)) (λ ys. Ok (main context ys))
 
 abbrev pub behind : {A : Type 0} → List A → Out (List A) → Out (List A)
 behind done rest = bind rest (λ xs. Ok (done ++ xs))
 
-pub no_functions : (hs : List Header) (fs : List Function) → functions hs fs [] ≡ Ok []
-no_functions hs [] = refl
-no_functions hs (f ∷ fs) = refl
+pub no_functions : (allow : AllowList) (hs : List Header) (fs : List Function) → functions allow hs fs [] ≡ Ok []
+no_functions allow hs [] = refl
+no_functions allow hs (f ∷ fs) = refl
 
 -- no header is left
-pub behind_none : (done : List TypedFunction) (hs : List Header) (fs : List Function) (left : List Header) → left ≡ [] → behind done (functions hs fs left) ≡ Ok done
-behind_none done hs fs left is =
-    ap (λ (l : List Header). behind done (functions hs fs l)) is ∙ ap (behind done) (no_functions hs fs) ∙ ap (λ (xs : List TypedFunction). Ok xs) (append-nil done)
+pub behind_none : (done : List TypedFunction) (allow : AllowList) (hs : List Header) (fs : List Function) (left : List Header) → left ≡ [] → behind done (functions allow hs fs left) ≡ Ok done
+behind_none done allow hs fs left is =
+    ap (λ (l : List Header). behind done (functions allow hs fs l)) is ∙ ap (behind done) (no_functions allow hs fs) ∙ ap (λ (xs : List TypedFunction). Ok xs) (append-nil done)
 
 moved : (done : List TypedFunction) (x : TypedFunction) (o : Out (List TypedFunction)) → behind done (bind o (λ ys. Ok (x ∷ ys))) ≡ behind (done ++ x ∷ []) o
 moved done x (Ok ys) = ap (λ (zs : List TypedFunction). Ok zs) (grind (arith, common_steps))
 moved done x (Err r) = refl
 
 -- one function more
-pub behind_more : (done : List TypedFunction) (hs : List Header) (f : Function) (fs : List Function) (h : Header) (left : List Header) (x : TypedFunction)
-    → function_of hs f h ≡ Ok x → behind done (functions hs (f ∷ fs) (h ∷ left)) ≡ behind (done ++ x ∷ []) (functions hs fs left)
-behind_more done hs f fs h left x is =
-    ap (λ (o : Out TypedFunction). behind done (bind o (λ y. bind (functions hs fs left) (λ ys. Ok (y ∷ ys))))) is ∙ moved done x (functions hs fs left)
+pub behind_more : (done : List TypedFunction) (allow : AllowList) (hs : List Header) (f : Function) (fs : List Function) (h : Header) (left : List Header) (x : TypedFunction)
+    → function_of allow hs f h ≡ Ok x → behind done (functions allow hs (f ∷ fs) (h ∷ left)) ≡ behind (done ++ x ∷ []) (functions allow hs fs left)
+behind_more done allow hs f fs h left x is =
+    ap (λ (o : Out TypedFunction). behind done (bind o (λ y. bind (functions allow hs fs left) (λ ys. Ok (y ∷ ys))))) is ∙ moved done x (functions allow hs fs left)
 
-pub behind_fails : (done : List TypedFunction) (hs : List Header) (f : Function) (fs : List Function) (h : Header) (left : List Header) (r : Refusal)
-    → function_of hs f h ≡ Err r → behind done (functions hs (f ∷ fs) (h ∷ left)) ≡ Err r
-behind_fails done hs f fs h left r is = ap (λ (o : Out TypedFunction). behind done (bind o (λ y. bind (functions hs fs left) (λ ys. Ok (y ∷ ys))))) is
+pub behind_fails : (done : List TypedFunction) (allow : AllowList) (hs : List Header) (f : Function) (fs : List Function) (h : Header) (left : List Header) (r : Refusal)
+    → function_of allow hs f h ≡ Err r → behind done (functions allow hs (f ∷ fs) (h ∷ left)) ≡ Err r
+behind_fails done allow hs f fs h left r is = ap (λ (o : Out TypedFunction). behind done (bind o (λ y. bind (functions allow hs fs left) (λ ys. Ok (y ∷ ys))))) is
 
-pub function_is : (hs : List Header) (f : Function) (h : Header) (ys : List Step)
-    → steps_of hs false (out-Block f.body).statements (function_start h) ≡ Ok ys → function_of hs f h ≡ finished f h ys
-function_is hs f h ys is = function_by hs f h ∙ ap (λ (o : Out (List Step)). bind o (λ zs. finished f h zs)) is
+pub function_is : (allow : AllowList) (hs : List Header) (f : Function) (h : Header) (ys : List Step)
+    → steps_of allow hs false (out-Block f.body).statements (function_start h) ≡ Ok ys → function_of allow hs f h ≡ finished f h ys
+function_is allow hs f h ys is = function_by allow hs f h ∙ ap (λ (o : Out (List Step)). bind o (λ zs. finished f h zs)) is
 
-pub function_fails : (hs : List Header) (f : Function) (h : Header) (r : Refusal)
-    → steps_of hs false (out-Block f.body).statements (function_start h) ≡ Err r → function_of hs f h ≡ Err r
-function_fails hs f h r is = function_by hs f h ∙ ap (λ (o : Out (List Step)). bind o (λ zs. finished f h zs)) is
+pub function_fails : (allow : AllowList) (hs : List Header) (f : Function) (h : Header) (r : Refusal)
+    → steps_of allow hs false (out-Block f.body).statements (function_start h) ≡ Err r → function_of allow hs f h ≡ Err r
+function_fails allow hs f h r is = function_by allow hs f h ∙ ap (λ (o : Out (List Step)). bind o (λ zs. finished f h zs)) is
 
 -- headers, bodies and the main script
-pub typing_is : (context : ContextTypes) (tree : Tree) (hs : List Header) (fs : List TypedFunction) (m : TypedFunction)
-    → headers tree.functions [] ≡ Ok hs → functions hs tree.functions hs ≡ Ok fs → main_of context hs tree.statements ≡ Ok m
-    → typing_of context tree ≡ Ok (program fs m)
-typing_is context tree hs fs m a b c =
-    ap (λ (o : Out (List Header)). bind o (λ hs. bind (functions hs tree.functions hs) (λ fs. bind (main_of context hs tree.statements) (λ m. Ok (program fs m))))) a
-    ∙ ap (λ (o : Out (List TypedFunction)). bind o (λ fs. bind (main_of context hs tree.statements) (λ m. Ok (program fs m)))) b
+pub typing_is : (context : ContextTypes) (tree : Tree) (allow : AllowList) (hs : List Header) (fs : List TypedFunction) (m : TypedFunction)
+    → headers tree.functions [] ≡ Ok hs → functions allow hs tree.functions hs ≡ Ok fs → main_of allow context hs tree.statements ≡ Ok m
+    → typing_of allow context tree ≡ Ok (program fs m)
+typing_is context tree allow hs fs m a b c =
+    ap (λ (o : Out (List Header)). bind o (λ hs. bind (functions allow hs tree.functions hs) (λ fs. bind (main_of allow context hs tree.statements) (λ m. Ok (program fs m))))) a
+    ∙ ap (λ (o : Out (List TypedFunction)). bind o (λ fs. bind (main_of allow context hs tree.statements) (λ m. Ok (program fs m)))) b
     ∙ ap (λ (o : Out TypedFunction). bind o (λ m. Ok (program fs m))) c
 
-pub main_fails : (context : ContextTypes) (tree : Tree) (hs : List Header) (fs : List TypedFunction) (r : Refusal)
-    → headers tree.functions [] ≡ Ok hs → functions hs tree.functions hs ≡ Ok fs → main_of context hs tree.statements ≡ Err r
-    → typing_of context tree ≡ Err r
-main_fails context tree hs fs r a b c =
-    ap (λ (o : Out (List Header)). bind o (λ hs. bind (functions hs tree.functions hs) (λ fs. bind (main_of context hs tree.statements) (λ m. Ok (program fs m))))) a
-    ∙ ap (λ (o : Out (List TypedFunction)). bind o (λ fs. bind (main_of context hs tree.statements) (λ m. Ok (program fs m)))) b
+pub main_fails : (context : ContextTypes) (tree : Tree) (allow : AllowList) (hs : List Header) (fs : List TypedFunction) (r : Refusal)
+    → headers tree.functions [] ≡ Ok hs → functions allow hs tree.functions hs ≡ Ok fs → main_of allow context hs tree.statements ≡ Err r
+    → typing_of allow context tree ≡ Err r
+main_fails context tree allow hs fs r a b c =
+    ap (λ (o : Out (List Header)). bind o (λ hs. bind (functions allow hs tree.functions hs) (λ fs. bind (main_of allow context hs tree.statements) (λ m. Ok (program fs m))))) a
+    ∙ ap (λ (o : Out (List TypedFunction)). bind o (λ fs. bind (main_of allow context hs tree.statements) (λ m. Ok (program fs m)))) b
     ∙ ap (λ (o : Out TypedFunction). bind o (λ m. Ok (program fs m))) c
 
 -- a function whose body is typed is what it comes to, and one whose body is refused is refused
-pub function_goes : (hs : List Header) (f : Function) (h : Header) (ys : List Step) (result : Result TypedFunction Fail)
-    → steps_of hs false (out-Block f.body).statements (function_start h) ≡ Ok ys → Keeps (finished f h ys) result → Keeps (function_of hs f h) result
-function_goes hs f h ys result is k = subst (λ o. Keeps o result) (sym (function_is hs f h ys is)) k
+pub function_goes : (allow : AllowList) (hs : List Header) (f : Function) (h : Header) (ys : List Step) (result : Result TypedFunction Fail)
+    → steps_of allow hs false (out-Block f.body).statements (function_start h) ≡ Ok ys → Keeps (finished f h ys) result → Keeps (function_of allow hs f h) result
+function_goes allow hs f h ys result is k = subst (λ o. Keeps o result) (sym (function_is allow hs f h ys is)) k
 
-pub function_refuses : (hs : List Header) (f : Function) (h : Header) (fail : Fail)
-    → KeepsSteps (steps_of hs false (out-Block f.body).statements (function_start h)) (Err fail) → Keeps (function_of hs f h) (Err fail)
-function_refuses hs f h (Refused r) is = function_fails hs f h r is
-function_refuses hs f h NoMemory is = tt
+pub function_refuses : (allow : AllowList) (hs : List Header) (f : Function) (h : Header) (fail : Fail)
+    → KeepsSteps (steps_of allow hs false (out-Block f.body).statements (function_start h)) (Err fail) → Keeps (function_of allow hs f h) (Err fail)
+function_refuses allow hs f h (Refused r) is = function_fails allow hs f h r is
+function_refuses allow hs f h NoMemory is = tt

@@ -5,6 +5,7 @@ use Rattle.std.specs.Prelude.{◌≡◌, Bool, false, List, [], ◌∷◌, map, 
 use Rattle.pl_types.specs.declared.refusal.Fail.{Fail}
 use Rattle.pl_types.specs.declared.refusal.Fail.TheVariants.{Refused, NoMemory}
 use Rattle.pl_tree.specs.declared.tree.Statement.{Statement}
+use Rattle.allowlist.specs.Allow.{AllowList}
 use Rattle.typing_rules.specs.declared.header.Header.{Header}
 use Rattle.typing_rules.specs.declared.part.Step.{Step}
 use Rattle.typing_rules.specs.declared.state.State.{State}
@@ -16,8 +17,8 @@ use Rattle.typing_jobs.specs.Job as j
 use Rattle.typing_jobs.specs.Job.{Job}
 use Rattle.typing_jobs.specs.Machine.{ended}
 
-abbrev pub steps_of : List Header → Bool → List Statement → State → Out (List Step)
-steps_of hs in_main all s = bind (ran (statements in_main false (map (doer hs) all)) s) (λ whole. Ok whole.0)
+abbrev pub steps_of : AllowList → List Header → Bool → List Statement → State → Out (List Step)
+steps_of allow hs in_main all s = bind (ran (statements in_main false (map (doer allow hs) all)) s) (λ whole. Ok whole.0)
 
 -- the code gives these statements, or tells the refusal; want of memory is free
 abbrev pub KeepsSteps : Out (List Step) → Result (Vec Step Global) Fail → Type 0

@@ -4,6 +4,7 @@ ghost use Rattle.std.specs.Prelude.{◌≡◌, IfOk};
 ghost use Rattle.typing_jobs.specs.Machine as machine;
 ghost use Rattle.static_types.specs.Bodies as spec;
 
+use allowlist::Allow;
 use pl_tree::Statement;
 use pl_types::Fail;
 use plain_data::{Items, Subtree};
@@ -43,16 +44,17 @@ fn tasks_of<'a>(
 /// What is known, and the statements, where a body ends.
 fn ended(
     alloc: Global,
+    allow: &Allow,
     headers: &[Header],
     state: State,
     all: &Items<Subtree<Statement>>,
     in_main: bool,
 ) -> Result<Config, Fail>
-    ensures { spec.Ends (machine.run headers.now (spec.jobs_of in_main all.now) (spec.fresh state)) result }
+    ensures { spec.Ends (machine.run allow.now headers.now (spec.jobs_of in_main all.now) (spec.fresh state)) result }
 {
     let mut config = fresh(alloc, state);
     let mut tasks = tasks_of(alloc, all, in_main)?;
-    run(alloc, headers, &mut config, &mut tasks)?;
+    run(alloc, allow, headers, &mut config, &mut tasks)?;
     Ok(config)
 }
 
@@ -68,14 +70,15 @@ fn steps_in(alloc: Global, mut config: Config) -> Result<Option<Vec<Step>>, Allo
 #[tactic(auto, using(crate::proofs::Ends::body_ends, crate::proofs::Ends::body_fails))]
 pub fn body(
     alloc: Global,
+    allow: &Allow,
     headers: &[Header],
     state: State,
     all: &Items<Subtree<Statement>>,
     in_main: bool,
 ) -> Result<Vec<Step>, Fail>
-    ensures { spec.KeepsSteps (spec.steps_of headers.now in_main all.now state) result }
+    ensures { spec.KeepsSteps (spec.steps_of allow.now headers.now in_main all.now state) result }
 {
-    let config = ended(alloc, headers, state, all, in_main)?;
+    let config = ended(alloc, allow, headers, state, all, in_main)?;
     match steps_in(alloc, config)? {
         Some(steps) => Ok(steps),
         None => Err(Fail::NoMemory),
