@@ -18,6 +18,7 @@ fn names_and_types_are_refused(rt: HostRuntime) -> Result<(), TestFail> {
     are_refused(&rt, alloc, Wanted::Number, &rows::FUNCTIONS);
     are_refused(&rt, alloc, Wanted::Number, &rows::TYPES);
     are_refused(&rt, alloc, Wanted::Number, &rows::NOT_BUILT);
+    are_refused(&rt, alloc, Wanted::Number, &rows::MEMBERS);
     Ok(())
 }
 

@@ -325,15 +325,13 @@ pub const RANGES: [(&str, u8, u32); 12] = [
 ];
 
 /// What is not built.
-pub const NOT_BUILT: [(&str, u8, u32); 29] = [
+pub const NOT_BUILT: [(&str, u8, u32); 27] = [
     ("[1]", 19, 0),
     ("[1:2]", 19, 0),
     ("int[] x; 1", 19, 0),
     ("List l; 1", 19, 0),
     ("int[] f() { return 1 } 1", 19, 0),
     ("(1)[0]", 19, 3),
-    ("(1).x", 7, 4),
-    ("(1).x()", 7, 4),
     ("1 instanceof List", 19, 13),
     ("int f(int a) { return a } f(x -> x)", 19, 28),
     ("int f(int a) { return a } f(() -> 1)", 19, 28),
@@ -591,4 +589,27 @@ pub const WORKED_REFUSED: [(&str, u8, u32); 10] = [
     ("while (true) { } 1", 12, 17),
     ("break", 14, 0),
     ("g(1)", 8, 0),
+];
+
+/// Members: none of that name, of another kind, or with arguments that are not cast.
+pub const MEMBERS: [(&str, u8, u32); 19] = [
+    ("(1).x", 7, 4),
+    ("(1).x()", 7, 4),
+    ("null.toString()", 7, 5),
+    ("'a'.nope()", 7, 4),
+    ("'a'.isEmpty", 7, 4),
+    ("'a'.valueOf(1)", 7, 4),
+    ("String.length()", 7, 7),
+    ("Exception.x", 7, 10),
+    ("new String()", 7, 0),
+    ("new int()", 7, 0),
+    ("new Foo()", 6, 4),
+    ("'a'.nope(x)", 4, 9),
+    ("'a'.substring('b')", 9, 14),
+    ("'a'.concat(1)", 9, 11),
+    ("'a'?.length()", 17, 5),
+    ("'a,b'.splitOnToken(',')", 19, 6),
+    ("def d = 'a'; d.length()", 19, 15),
+    ("StringBuilder b; b.length = 1", 19, 19),
+    ("void f() { } f().x(); 1", 7, 17),
 ];
