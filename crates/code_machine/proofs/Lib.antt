@@ -6,3 +6,5 @@ pub mod Numbers
 pub mod Rows
 pub mod Reaching
 pub mod Landing
+pub mod Places
+pub mod Entering
