@@ -21,7 +21,7 @@ use Rattle.program_types.specs.Enough.{enough}
 use Rattle.program_code.specs.Lying.{Whole, lying_of, lying_of_layer, low}
 use Rattle.program_code.specs.Correct as code
 use Rattle.program_code.specs.Correct.{EndsAs, Words}
-use Rattle.program_outcome.proofs.Outcome.{programs_end}
+use Rattle.program_outcome.specs.Outcome.{CodeEndsAsPrograms}
 use Rattle.code_meaning.specs.declared.word.Word.{Word}
 use Rattle.code_meaning.specs.Machine as code_config
 use Rattle.code_meaning.specs.Machine.{Next, Goes, Ends, start, after}
@@ -147,10 +147,10 @@ have_none : (params : List Variable) → params ≡ [] → HaveAll (types_in par
 have_none [] none = tt
 have_none (x ∷ params) none = cc
 
-pub runs_as_its_program : (script : Script) (store : Store) (limits : Limits) (a : Activation) (q : ℕ) (o : Outcome)
+pub runs_as_its_program : CodeEndsAsPrograms → (script : Script) (store : Store) (limits : Limits) (a : Activation) (q : ℕ) (o : Outcome)
     → a ≡ record { code = script.code.functions; limits = limits; allow = script.allow.now; now = Some (start script.code.functions [] (world_at store limits)); steps = 0 }
     → IsTrue (is_over (later q a).now) → LeftBy (later q a) o → RunsAsItsProgram script store limits o
-runs_as_its_program script store limits a q o begun over by allow context p is none reference =
+runs_as_its_program outcomes script store limits a q o begun over by allow context p is none reference =
     let main = fun_of p.main in
     let functions = script.code.functions in
     let no_params : main.params ≡ [] = is.variables ∙ ap (map variable_of) none in
@@ -158,7 +158,7 @@ runs_as_its_program script store limits a q o begun over by allow context p is n
     let w = world_at store limits in
     let kept = limits_of limits script.allow.now in
     let formed = subst (λ list. WellFormed (known list (program_of p))) (sym is.allowed) is.formed in
-    let out = programs_end p functions kept formed is.code [] (have_none main.params no_params) w in
+    let out = outcomes p functions kept formed is.code [] (have_none main.params no_params) w in
     let words : out.words ≡ [] = no_words out.words main.params no_params out.are.are in
     let b : Activation = record { code = functions; limits = limits; allow = script.allow.now; now = Some (start functions [] w); steps = 0 } in
     let stands : (later q b).now ≡ Some (Ends out.end) =
@@ -177,8 +177,8 @@ runs_as_its_program script store limits a q o begun over by allow context p is n
     })
 
 -- .. and so does what a turn that came to the end has left
-pub turned_runs : (script : Script) (store : Store) (limits : Limits) (a new : Activation) (q : ℕ) (o : Outcome)
+pub turned_runs : CodeEndsAsPrograms → (script : Script) (store : Store) (limits : Limits) (a new : Activation) (q : ℕ) (o : Outcome)
     → a ≡ record { code = script.code.functions; limits = limits; allow = script.allow.now; now = Some (start script.code.functions [] (world_at store limits)); steps = 0 }
     → Turned q a new turn.Done → LeftBy new o → RunsAsItsProgram script store limits o
-turned_runs script store limits a new q o begun turned by =
-    runs_as_its_program script store limits a q o begun (subst (λ x. IsTrue (is_over x.now)) turned.0 turned.1) (subst (λ x. LeftBy x o) turned.0 by)
+turned_runs outcomes script store limits a new q o begun turned by =
+    runs_as_its_program outcomes script store limits a q o begun (subst (λ x. IsTrue (is_over x.now)) turned.0 turned.1) (subst (λ x. LeftBy x o) turned.0 by)

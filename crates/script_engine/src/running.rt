@@ -8,6 +8,7 @@ use code_machine::{Activation, Limits};
 use code_meaning::Word;
 use object_heap::{End, Heap, Outcome};
 use object_values::{Elements, Value};
+use program_outcome::programs_end;
 use std::alloc::AllocError;
 use task_core::Turn;
 
@@ -68,6 +69,7 @@ impl<'a> Script<'a> {
     pub fn run(&self, heap: Heap, limits: Limits) -> Result<Outcome, AllocError>
         ensures { IfOk result (RunsAsItsProgram self.now heap limits) }
     {
+        programs_end();
         let args = Elements::new(heap.alloc());
         let mut activation = Activation::start(&self.code, self.allow, heap, args, limits)?;
         match activation.turn(u64::MAX) {
