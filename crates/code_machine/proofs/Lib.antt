@@ -7,6 +7,3 @@ pub mod Rows
 pub mod Reaching
 pub mod Given
 pub mod Landing
-pub mod Taking
-pub mod Places
-pub mod Entering

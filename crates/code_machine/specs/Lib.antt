@@ -1,4 +1,3 @@
-pub mod Frames
 pub mod Seen
 pub mod Rows
 pub mod Members

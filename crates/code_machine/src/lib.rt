@@ -5,7 +5,6 @@ mod activation;
 mod boxes;
 mod calls;
 mod configuration;
-mod frames;
 mod jumps;
 mod laws;
 mod members;
