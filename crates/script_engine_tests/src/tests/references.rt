@@ -221,32 +221,53 @@ fn room(room: u64) -> Bounds {
 /// Scripts at the edge of their room: a text costs its units and 1, an exception the units of its message and 1.
 pub fn bounded() -> [(Bounds, &'static str); 9] {
     [
-        (room(0), "limit room: throw null
+        (
+            room(0),
+            "limit room: throw null
 limit room: '' + ''
 T abc: 'abc'
 I 1: Object o = 1; o
-limit room: def d; int i = d; i"),
-        (room(1), "thrown NullPointerException: throw null
+limit room: def d; int i = d; i",
+        ),
+        (
+            room(1),
+            "thrown NullPointerException: throw null
 T : '' + ''
 limit room: (String)(char)97
-limit room: '' + 'a'"),
-        (room(2), "T a: (String)(char)97
+limit room: '' + 'a'",
+        ),
+        (
+            room(2),
+            "T a: (String)(char)97
 T a: '' + 'a'
-limit room: 'a' + 'b'"),
-        (room(7), "T abcdef: 'abc' + 'def'
+limit room: 'a' + 'b'",
+        ),
+        (
+            room(7),
+            "T abcdef: 'abc' + 'def'
 limit room: 'abc' + 'defg'
 T abc: 'a' + 'b' + 'c'
-limit room: 'a' + 'b' + 'c' + ''"),
-        (room(5), "I 4: new StringBuilder('ab').append('cd').length()
+limit room: 'a' + 'b' + 'c' + ''",
+        ),
+        (
+            room(5),
+            "I 4: new StringBuilder('ab').append('cd').length()
 limit room: new StringBuilder('ab').append('cde').length()
 T abcd: new StringBuilder('abcd').append('').length() == 4 ? 'abcd' : ''
 limit room: throw new Exception('abcde')
 thrown Exception abcd: throw new Exception('abcd')
 limit room: 'abc'.concat('de')
-T abcd: 'abc'.concat('d')"),
+T abcd: 'abc'.concat('d')",
+        ),
         (room(9), "limit room: 1 / 0"),
         (room(10), "thrown ArithmeticException / by zero: 1 / 0"),
-        (room(11), "limit room: String s = 'a'; while (s != 'abcd') { s = s == 'a' ? s + 'b' : s == 'ab' ? s + 'c' : s + 'd' } s"),
-        (room(12), "T abcd, 3 ticks: String s = 'a'; while (s != 'abcd') { s = s == 'a' ? s + 'b' : s == 'ab' ? s + 'c' : s + 'd' } s"),
+        (
+            room(11),
+            "limit room: String s = 'a'; while (s != 'abcd') { s = s == 'a' ? s + 'b' : s == 'ab' ? s + 'c' : s + 'd' } s",
+        ),
+        (
+            room(12),
+            "T abcd, 3 ticks: String s = 'a'; while (s != 'abcd') { s = s == 'a' ? s + 'b' : s == 'ab' ? s + 'c' : s + 'd' } s",
+        ),
     ]
 }
