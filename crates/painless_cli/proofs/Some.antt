@@ -7,9 +7,11 @@ use Rattle.std.proofs.lemmas.Slice.Eq.{bytes_eq-Decides}
 use Rattle.std.specs.Str.{IsUtf8, is_utf8, IsValidUpTo, bytes_eq}
 use Rattle.pl_types.specs.declared.refusal.Refusal.{Refusal}
 use Rattle.pl_types.specs.declared.ty.Ty.{out-Ty}
+use Rattle.pl_types.specs.declared.ty.Ty.TheVariants as t
 use Rattle.allowlist.specs.Allow.{full_list}
 use Rattle.typed_tree.specs.declared.program.Program.{Program}
 use Rattle.typing_laws.specs.Laws.{IsContext}
+use Rattle.typing_laws.proofs.Types.{built_named, def_built}
 use Rattle.script_engine.specs.Programs.{IsProgramOf}
 use Rattle.script_engine.specs.Laws.{TextsAreAnswered, ProgramsEnd}
 use Rattle.script_engine.proofs.Texts.{Answered, then_some}
@@ -68,7 +70,7 @@ is_eval (word ∷ name ∷ next ∷ rest) = inr (λ other e. cc)
 
 pub is_context : IsContext eval_types
 unfolding out-Ty denote.Hole.Carrier.out
-is_context = record { distinct = tt; present = tt; result = record { listed = refl } }
+is_context = record { distinct = tt; present = tt; result = built_named t.Def def_built }
 
 module _ (texts : TextsAreAnswered) (ends : ProgramsEnd) where
   goes_on : (text : List ℕ) (reading : Result Program Refusal) → IsProgramOf full_list eval_types text reading → Answered (MeansText text)

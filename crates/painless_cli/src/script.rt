@@ -70,16 +70,25 @@ fn run(alloc: Global, script: &Script<'_>) -> Result<Outcome, AllocError>
     script.run(heap, limits)
 }
 
+/// What a text comes to under the full catalogue.
+fn run_under(alloc: Global, allow: &Allow, text: &str) -> Result<Outcome, Fail>
+    requires full { allow.now ≡ full_list }
+    ensures exact { Comes (MeansText text.now) result }
+    ensures only { (reading : Result (End Value) Refusal) → MeansText text.now reading → Comes (λ a. a ≡ reading) result }
+{
+    match compiled(alloc, text, allow) {
+        Ok(script) => Ok(run(alloc, &script)?),
+        Err(fail) => Err(fail),
+    }
+}
+
 /// What a text comes to.
 fn run_text(alloc: Global, text: &str) -> Result<Outcome, Fail>
     ensures exact { Comes (MeansText text.now) result }
     ensures only { (reading : Result (End Value) Refusal) → MeansText text.now reading → Comes (λ a. a ≡ reading) result }
 {
     let allow = Catalogue::full(alloc)?;
-    match compiled(alloc, text, &allow) {
-        Ok(script) => Ok(run(alloc, &script)?),
-        Err(fail) => Err(fail),
-    }
+    run_under(alloc, &allow, text)
 }
 
 /// What a script's bytes come to: how their program's run ends, and what it leaves, or the first rule by which they are refused.

@@ -1,6 +1,6 @@
 -- The one program of the text has run.
 use Rattle.painless_cli.proofs.Runs.{text_comes, text_comes_only, text_fails_only}
-use Rattle.painless_cli.proofs.script.run_text.Goals as goal
+use Rattle.painless_cli.proofs.script.run_under.Goals as goal
 
 pub returns-in_ok-run-in-Ok-clause-exact : goal.returns-in_ok-run-in-Ok-clause-exact
 returns-in_ok-run-in-Ok-clause-exact c = text_comes c.args.text.now c.in-Ok.script c.in_ok-run-in-Ok.field-0 c.in_ok-run-in-Ok.ensures c.in-Ok.ensures.exact
