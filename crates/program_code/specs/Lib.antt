@@ -1,5 +1,6 @@
 pub mod Lying
 pub mod Parts
 pub mod Stands
+pub mod Placed
 pub mod Correct
 pub mod Example

@@ -3,10 +3,13 @@
 use Rattle.std.specs.Prelude.{◌≡◌, ◌≢◌, ℕ, suc, ◌++◌, ◌||◌, Bool, true, false, List, [], ◌∷◌, map, length, Option, Some, None, slice_get, pos, if◌then◌else◌}
 use Rattle.std.specs.Str.{bytes_eq}
 use Rattle.pl_types.specs.declared.ty.Ty.{Ty}
+use Rattle.pl_types.specs.declared.ty.Ty.TheVariants as t
+use Rattle.pl_types.specs.Classes.{full_name}
 use Rattle.pl_code.specs.declared.kinds.Plain.TheVariants as plain
 use Rattle.pl_code.specs.declared.kinds.Numbered.TheVariants as numbered
 use Rattle.pl_code.specs.declared.kinds.Slot.{Slot}
 use Rattle.pl_code.specs.declared.code.FunCode.{FunCode}
+use Rattle.pl_code.specs.declared.code.Trap.{Trap}
 use Rattle.pl_code.specs.declared.code.Instruction.{Instruction}
 use Rattle.pl_code.specs.declared.code.Instruction.TheVariants as i
 use Rattle.typed_tree.specs.declared.operation.Constant.{Constant}
@@ -25,7 +28,7 @@ use Rattle.typed_tree.specs.declared.operation.Target.TheVariants as target
 use Rattle.typed_tree.specs.declared.operation.Change.{Change}
 use Rattle.typed_tree.specs.declared.operation.Gives.{Gives}
 pub use Rattle.program_meaning.specs.Falls.{falls, all_fall, continues, any_continues}
-use Rattle.program_meaning.specs.Tree.{Name, Expr, Literal, Quoted, Local, Apply, Guarded, Logic, Conditional, Elvis, Assign, Modify, Lambda, Reference, NewReference, Exprs, None', One, Maybe, Missing, Given, Stmt, Do, If, While, DoWhile, ForEach, Try, Block, Break, Continue, Return, Throw, Stmts, Finish, Then, Declare, Variable, Fun, Program, type_of}
+use Rattle.program_meaning.specs.Tree.{Name, Expr, Literal, Quoted, Local, Apply, Guarded, Logic, Conditional, Elvis, Assign, Modify, Lambda, Reference, NewReference, Exprs, None', One, Maybe, Missing, Given, Stmt, Do, If, While, DoWhile, ForEach, Try, Block, Break, Continue, Return, Throw, Stmts, Finish, Then, Declare, Catches, NoCatch, Catch, Variable, Fun, Program, type_of}
 use Rattle.code_meaning.specs.Machine.{Handlers, traps_at}
 use Rattle.program_code.specs.Lying.{Lying, Bare, Whole, Absent, lying_of, kind_of, result_of}
 use Rattle.pl_types.specs.declared.conversion.Cast.{Cast}
@@ -258,6 +261,11 @@ end_skip false p = p
 abbrev pub end_dropped : ℕ → Expr → ℕ
 end_dropped p a = end_all (end_expr p a) (pops (lying_of (type_of a)))
 
+-- behind a catch a jump over those that follow it, if any do, where it is reached
+abbrev pub jumps_over : Stmts → Catches → Bool
+jumps_over body NoCatch = false
+jumps_over body (Catch class x next rest) = all_fall body
+
 abbrev pub end_update : Bool → ℕ → Maybe → ℕ
 end_update false p update = p
 end_update true p Missing = p
@@ -289,7 +297,7 @@ abbrev mutual
   end_stmt p (While test update body) = suc (end_test (end_update (goes_on body) (end_stmts (suc p) body) update) test)
   end_stmt p (DoWhile body test) = suc (suc (end_last (goes_on body) (end_stmts (suc p) body) test))
   end_stmt p (ForEach x of element over body) = p
-  end_stmt p (Try body catches) = p
+  end_stmt p (Try body catches) = end_catches (end_skip (all_fall body) (end_stmts p body)) catches
   end_stmt p (Block body) = end_stmts p body
   end_stmt p Break = suc p
   end_stmt p Continue = suc p
@@ -301,6 +309,18 @@ abbrev mutual
   end_stmts p (Then t rest) = end_stmts (end_stmt p t) rest
   end_stmts p (Declare x of value rest) = end_stmts (suc (end_value p value of)) rest
 
+  pub end_catches : ℕ → Catches → ℕ
+  end_catches p NoCatch = p
+  end_catches p (Catch class x body rest) = end_catches (end_skip (jumps_over body rest) (end_stmts (suc p) body)) rest
+
+-- where the code of a `try` ends before its catches
+abbrev pub end_tried : ℕ → Stmts → ℕ
+end_tried p body = end_skip (all_fall body) (end_stmts p body)
+
+-- where that of a catch ends before those that follow it
+abbrev pub end_caught : ℕ → Stmts → Catches → ℕ
+end_caught p body rest = end_skip (jumps_over body rest) (end_stmts (suc p) body)
+
 -- the number of the next local behind a part
 abbrev mutual
   pub next_stmt : ℕ → Stmt → ℕ
@@ -309,7 +329,7 @@ abbrev mutual
   next_stmt n (While test update body) = next_stmts n body
   next_stmt n (DoWhile body test) = next_stmts n body
   next_stmt n (ForEach x of element over body) = n
-  next_stmt n (Try body catches) = n
+  next_stmt n (Try body catches) = next_catches (next_stmts n body) catches
   next_stmt n (Block body) = next_stmts n body
   next_stmt n Break = n
   next_stmt n Continue = n
@@ -320,6 +340,46 @@ abbrev mutual
   next_stmts n Finish = n
   next_stmts n (Then t rest) = next_stmts (next_stmt n t) rest
   next_stmts n (Declare x of value rest) = next_stmts (suc n) rest
+
+  pub next_catches : ℕ → Catches → ℕ
+  next_catches n NoCatch = n
+  next_catches n (Catch class x body rest) = next_catches (next_stmts (suc n) body) rest
+
+-- ---- traps
+
+-- the catches that stand from a line on
+abbrev pub handlers_of : ℕ → Catches → Handlers
+handlers_of p NoCatch = []
+handlers_of p (Catch class x body rest) = record { class = Some class; at = p } ∷ handlers_of (end_caught p body rest) rest
+
+abbrev pub trap_of : ℕ → ℕ → ℕ → ℕ → Trap
+trap_of from to at class = record { from = from; to = to; at = at; class = full_name class }
+
+-- The trap lines of a part in their order. Those of a `try` are over its block and the jump behind it, and come behind those of the
+-- block: what is thrown goes to the innermost first.
+abbrev mutual
+  pub traps_stmt : ℕ → Stmt → List Trap
+  traps_stmt p (Do a) = []
+  traps_stmt p (If c a b) = traps_stmts (suc (end_expr p c)) a ++ traps_stmts (end_skip (all_fall a) (end_stmts (suc (end_expr p c)) a)) b
+  traps_stmt p (While test update body) = traps_stmts (suc p) body
+  traps_stmt p (DoWhile body test) = traps_stmts (suc p) body
+  traps_stmt p (ForEach x of element over body) = []
+  traps_stmt p (Try body catches) = traps_stmts p body ++ traps_catches p (end_tried p body) (end_tried p body) catches
+  traps_stmt p (Block body) = traps_stmts p body
+  traps_stmt p Break = []
+  traps_stmt p Continue = []
+  traps_stmt p (Return value) = []
+  traps_stmt p (Throw value) = []
+
+  pub traps_stmts : ℕ → Stmts → List Trap
+  traps_stmts p Finish = []
+  traps_stmts p (Then t rest) = traps_stmt p t ++ traps_stmts (end_stmt p t) rest
+  traps_stmts p (Declare x of value rest) = traps_stmts (suc (end_value p value of)) rest
+
+  -- over these lines, and the catches stand from another on
+  pub traps_catches : ℕ → ℕ → ℕ → Catches → List Trap
+  traps_catches from to p NoCatch = []
+  traps_catches from to p (Catch class x body rest) = trap_of from to p class ∷ (traps_stmts (suc p) body ++ traps_catches from to (end_caught p body rest) rest)
 
 -- ---- statements
 
@@ -386,7 +446,10 @@ abbrev mutual
       × At f h (end_last (goes_on body) (end_stmts (suc p) body) test) (i.Int (pos 1))
       × At f h (suc (end_last (goes_on body) (end_stmts (suc p) body) test)) (i.Numbered numbered.Loop (suc p))
   StmtAt funs f h k g n j p (ForEach x of element over body) = Unit {0}
-  StmtAt funs f h k g n j p (Try body catches) = Unit {0}
+  StmtAt funs f h k g n j p (Try body catches) =
+      StmtsAt funs f (handlers_of (end_tried p body) catches ++ h) k g n j p body
+      × SkipAt f (handlers_of (end_tried p body) catches ++ h) (all_fall body) (end_stmts p body) (end_stmt p (Try body catches))
+      × CatchesAt funs f h k g (next_stmts n body) j (end_stmt p (Try body catches)) (end_tried p body) catches
   StmtAt funs f h k g n j p (Block body) = StmtsAt funs f h k g n j p body
   StmtAt funs f h k g n j p Break = At f h p (i.Numbered numbered.Goto j.out)
   StmtAt funs f h k g n j p Continue = At f h p (i.Numbered numbered.Goto j.on)
@@ -402,6 +465,16 @@ abbrev mutual
       × HasLocal f n of
       × At f h (end_value p value of) (i.Numbered numbered.Store n)
       × StmtsAt funs f h k (record { name = x; of = of; local = n } ∷ g) (suc n) j (suc (end_value p value of)) rest
+
+  -- each catch stores the exception in its variable; behind it control goes to a line
+  pub CatchesAt : Program → FunCode → Handlers → Lying → Scope → ℕ → Jumps → ℕ → ℕ → Catches → Type 0
+  CatchesAt funs f h k g n j to p NoCatch = Unit {0}
+  CatchesAt funs f h k g n j to p (Catch class x body rest) =
+      HasLocal f n (t.Class class)
+      × At f h p (i.Numbered numbered.Store n)
+      × StmtsAt funs f h k (record { name = x; of = t.Class class; local = n } ∷ g) (suc n) j (suc p) body
+      × SkipAt f h (jumps_over body rest) (end_stmts (suc p) body) to
+      × CatchesAt funs f h k g (next_stmts (suc n) body) j to (end_caught p body rest) rest
 
 -- ---- functions
 
@@ -444,7 +517,7 @@ pub record FunAt (funs : Program) (code : List FunCode) (number : ℕ) (fun : Fu
   pub stands : StmtsAt funs body [] (lying_of fun.result) (scope_of fun.params 0 []) (length fun.params) no_jumps 0 fun.body
   pub ends : EndAt body (all_fall fun.body) (end_stmts 0 fun.body) fun.result
   pub lines : length body.lines ≡ end_end (all_fall fun.body) (end_stmts 0 fun.body) fun.result
-  pub traps : body.traps ≡ []
+  pub traps : body.traps ≡ traps_stmts 0 fun.body
 
 -- each function of the program has its code, and there is no further one
 pub record Compiled (funs : Program) (code : List FunCode) : Type 0 where

@@ -7,6 +7,9 @@ use Rattle.pl_types.specs.declared.primitive.Primitive.{Primitive}
 use Rattle.pl_types.specs.declared.primitive.Primitive.TheVariants as prim
 use Rattle.pl_types.specs.declared.ty.Ty.{Ty, out-Ty}
 use Rattle.pl_types.specs.declared.ty.Ty.TheOpen.{Ty-F}
+use Rattle.pl_types.specs.Classes.{class_is_below}
+use Rattle.object_values.specs.declared.object.Object.{Object}
+use Rattle.object_values.specs.declared.object.Object.TheVariants as o
 use Rattle.object_values.specs.declared.value.Value.{Value}
 use Rattle.object_values.specs.declared.value.Value.TheVariants as v
 use Rattle.object_values.specs.declared.object.Owner.{Owner}
@@ -20,7 +23,7 @@ use Rattle.typed_tree.specs.declared.operation.Change.{Change}
 use Rattle.typed_tree.specs.declared.operation.Gives.{Gives as Given_by}
 use Rattle.typed_tree.specs.declared.operation.Gives.TheVariants as gives
 use Rattle.run_world.specs.World.{World, Limits, Limit, Room, Outcome, Given, Raised, Full, acts_in, Counted, Counts, Passes, take_turn, enter, pay_member}
-use Rattle.program_meaning.specs.Tree.{Name, Expr, Literal, Quoted, Local, Apply, Guarded, Logic, Conditional, Elvis, Assign, Modify, Lambda, Reference, NewReference, Exprs, None', One, Maybe, Missing, Given as Present, Stmt, Do, If, While, DoWhile, ForEach, Try, Block, Break, Continue, Return, Throw, Stmts, Finish, Then, Declare, Variable, Fun, Program}
+use Rattle.program_meaning.specs.Tree.{Name, Expr, Literal, Quoted, Local, Apply, Guarded, Logic, Conditional, Elvis, Assign, Modify, Lambda, Reference, NewReference, Exprs, None', One, Maybe, Missing, Given as Present, Stmt, Do, If, While, DoWhile, ForEach, Try, Block, Break, Continue, Return, Throw, Stmts, Finish, Then, Declare, Catches, NoCatch, Catch, Variable, Fun, Program}
 use Rattle.number_ops.specs.Operators.{is_null}
 use Rattle.number_ops.specs.Relations.{is_instance, thrown}
 use Rattle.pl_units.specs.Utf16.{units}
@@ -163,6 +166,11 @@ goes_again Broke s e again = Done Normal s e
 goes_again Continued s e again = again
 goes_again (Returned value) s e again = Done (Returned value) s e
 
+-- an exception, and a class that is its own or above it
+unfoldable pub is_of_class : ℕ → Option Object → Bool
+is_of_class class (Some (o.Exc raised message)) = class_is_below raised class
+is_of_class class other = false
+
 -- what a function gives to its caller
 abbrev pub returned : Ty → Flow → Option Value
 returned of Normal = Some (default_of of)
@@ -276,6 +284,21 @@ module _ (funs : Program) (limits : Limits) (m : Meaning) where
       bind (m.stmts d (record { world = w; turns = suc s.turns }) e body) (λ flow s e.
       goes_again flow s e (bind (value_if test (v.Bool true) d s e) (λ value s e. choose value (m.stmt d s e (DoWhile body test)) (Done Normal s e))))
 
+  -- The first catch that takes an exception, on the world as it was left. The exception is the catch's variable.
+  abbrev pub caught : Place → Catches → ℕ → State → Env → Out Flow
+  caught d NoCatch id s e = Thrown id s e
+  caught d (Catch class x body rest) id s e =
+      if is_of_class class (slice_get s.world.store.objects id)
+      then leave (m.stmts d s (record { name = x; value = v.Ref id } ∷ e) body)
+      else caught d rest id s e
+
+  -- limits pass every `try`
+  abbrev pub handled : Place → Catches → Out Flow → Out Flow
+  handled d catches (Done flow s e) = Done flow s e
+  handled d catches (Thrown id s e) = caught d catches id s e
+  handled d catches (Over limit w) = Over limit w
+  handled d catches More = More
+
   abbrev pub stmt_of : Place → State → Env → Stmt → Out Flow
   stmt_of d s e (Do a) = bind (m.expr d s e a) (λ value s e. Done Normal s e)
   stmt_of d s e (If c a b) = bind (m.expr d s e c) (λ value s e. choose value (m.stmts d s e a) (m.stmts d s e b))
@@ -283,7 +306,7 @@ module _ (funs : Program) (limits : Limits) (m : Meaning) where
       bind (value_if test (v.Bool true) d s e) (λ value s e. choose value (turned (take_turn limits s.turns s.world) d s e test update body) (Done Normal s e))
   stmt_of d s e (DoWhile body test) = done_turn (take_turn limits s.turns s.world) d s e body test
   stmt_of d s e (ForEach x of element over body) = More
-  stmt_of d s e (Try body catches) = More
+  stmt_of d s e (Try body catches) = handled d catches (m.stmts d s e body)
   stmt_of d s e (Block body) = m.stmts d s e body
   stmt_of d s e Break = Done Broke s e
   stmt_of d s e Continue = Done Continued s e

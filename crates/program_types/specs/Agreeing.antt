@@ -22,7 +22,7 @@ use Rattle.typed_tree.specs.declared.operation.Operation.{Operation}
 use Rattle.typed_tree.specs.declared.operation.Operation.TheVariants as operation
 use Rattle.typed_tree.specs.declared.operation.Target.TheVariants as target
 use Rattle.typed_tree.specs.declared.operation.Change.{Change}
-use Rattle.program_meaning.specs.Tree.{Name, Expr, Literal, Quoted, Local, Apply, Guarded, Logic, Conditional, Elvis, Assign, Modify, Lambda, Reference, NewReference, Exprs, None', One, Maybe, Missing, Given, Stmt, Do, If, While, DoWhile, ForEach, Try, Block, Break, Continue, Return, Throw, Stmts, Finish, Then, Declare, Variable, Fun, Program, type_of}
+use Rattle.program_meaning.specs.Tree.{Name, Expr, Literal, Quoted, Local, Apply, Guarded, Logic, Conditional, Elvis, Assign, Modify, Lambda, Reference, NewReference, Exprs, None', One, Maybe, Missing, Given, Stmt, Do, If, While, DoWhile, ForEach, Try, Block, Break, Continue, Return, Throw, Stmts, Finish, Then, Declare, Catches, NoCatch, Catch, Variable, Fun, Program, type_of}
 use Rattle.program_types.specs.Types.{HasValues, IsReference, IsNamed, string, IsOf, Takes, Casts}
 
 -- the names in sight, the newest first
@@ -176,7 +176,7 @@ abbrev mutual
   StmtAgrees funs of looped g (While test update body) = TestAgrees funs g test × UpdateAgrees funs g update × StmtsAgree funs of true g body
   StmtAgrees funs of looped g (DoWhile body test) = StmtsAgree funs of true g body × TestAgrees funs g test
   StmtAgrees funs of looped g (ForEach x element cast over body) = ⊥
-  StmtAgrees funs of looped g (Try body catches) = ⊥
+  StmtAgrees funs of looped g (Try body catches) = StmtsAgree funs of looped g body × CatchesAgree funs of looped g catches
   StmtAgrees funs of looped g (Block body) = StmtsAgree funs of looped g body
   StmtAgrees funs of looped g Break = looped ≡ true
   StmtAgrees funs of looped g Continue = looped ≡ true
@@ -188,6 +188,12 @@ abbrev mutual
   StmtsAgree funs of looped g (Then t rest) = StmtAgrees funs of looped g t × StmtsAgree funs of looped g rest
   StmtsAgree funs of looped g (Declare x at value rest) =
       BeginAgrees funs g value at × HasValues at × StmtsAgree funs of looped (record { name = x; of = at } ∷ g) rest
+
+  -- a catch is of a class that code may name, and its name is in sight in its block
+  pub CatchesAgree : Known → Ty → Bool → Scope → Catches → Type 0
+  CatchesAgree funs of looped g NoCatch = Unit {0}
+  CatchesAgree funs of looped g (Catch class x body rest) =
+      IsNamed (t.Class class) × StmtsAgree funs of looped (record { name = x; of = t.Class class } ∷ g) body × CatchesAgree funs of looped g rest
 
 -- the parameters' scope, the last of them the newest
 abbrev pub scope_of : List Variable → Scope → Scope

@@ -88,3 +88,11 @@ whole_loop at has_first has_body c = two c.tests (λ test update tests. step_if 
 
 abbrev pub do_loop : ℕ → Config → Out Config
 do_loop at c = one c.tests (λ test tests. one c.steps (λ body rest. Ok (record c { tests = tests; steps = rules.do_of at body test ∷ rest })))
+
+-- a catch, whose block is typed
+abbrev pub catch : ℕ → ℕ → List ℕ → Config → Out Config
+catch at class name c = one c.steps (λ y rest. Ok (record c { steps = rest; catches = rules.caught at class name y ∷ c.catches }))
+
+-- a `try`, whose block is typed, with the catches above a height
+abbrev pub whole_try : ℕ → ℕ → Config → Out Config
+whole_try at height c = above height c.catches (λ cs below. one c.steps (λ y rest. Ok (record c { steps = rules.try_of at y cs ∷ rest; catches = below })))

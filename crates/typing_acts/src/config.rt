@@ -1,7 +1,7 @@
 use crate::pile::Pile;
 use plain_data::Subtree;
 use typed_tree::{Typed, TypedVariable};
-use typing_rules::{Part, Place, State, Step};
+use typing_rules::{Caught, Part, Place, State, Step};
 
 /// What typing has so far: what is known, and the parts that are typed and wait for their node.
 pub struct Config {
@@ -12,6 +12,8 @@ pub struct Config {
     pub tests: Pile<Option<Subtree<Typed>>>,
     pub variables: Pile<TypedVariable>,
     pub steps: Pile<Step>,
+    /// Those of a `try` whose other parts are not typed yet.
+    pub catches: Pile<Caught>,
 }
 
 impl Drop for Config {
@@ -23,6 +25,7 @@ impl Drop for Config {
             tests: _tests,
             variables: _variables,
             steps: _steps,
+            catches: _catches,
         } = self;
     }
 }

@@ -9,7 +9,7 @@ use crate::config::Config;
 use crate::pile::Pile;
 use pl_tree::{Spelled, TypeName};
 use pl_types::{Fail, Refusal, rules};
-use plain_data::Items;
+use plain_data::{Items, Text};
 use std::alloc::Global;
 use typing_rules::rules::{casts, statements, types};
 use typing_rules::{Form, Step};
@@ -277,6 +277,39 @@ pub fn do_loop(alloc: Global, config: &mut Config, at: u32) -> Result<(), Fail>
         return Err(Fail::NoMemory);
     };
     let step = statements::do_of(alloc, at, body, test)?;
+    config.steps.push(step)?;
+    Ok(())
+}
+
+/// A catch, whose block is typed.
+pub fn catch(
+    alloc: Global,
+    config: &mut Config,
+    at: u32,
+    class: u32,
+    name: &Text,
+) -> Result<(), Fail>
+    ensures { KeepsIn (spec.catch at class name.now config.old) result config.new }
+{
+    let Some(body) = config.steps.pop() else {
+        return Err(Fail::NoMemory);
+    };
+    let caught = statements::caught(alloc, at, class, name, body)?;
+    config.catches.push(caught)?;
+    Ok(())
+}
+
+/// A `try`, whose block is typed, with the catches above a height.
+pub fn whole_try(alloc: Global, config: &mut Config, at: u32, height: usize) -> Result<(), Fail>
+    ensures { KeepsIn (spec.whole_try at height config.old) result config.new }
+{
+    let Some(catches) = config.catches.take_above(alloc, height)? else {
+        return Err(Fail::NoMemory);
+    };
+    let Some(body) = config.steps.pop() else {
+        return Err(Fail::NoMemory);
+    };
+    let step = statements::try_of(alloc, at, body, catches)?;
     config.steps.push(step)?;
     Ok(())
 }

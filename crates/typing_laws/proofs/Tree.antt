@@ -27,6 +27,7 @@ use Rattle.typed_tree.specs.declared.operation.Gives.{Gives}
 use Rattle.typed_tree.specs.declared.operation.Gives.TheVariants as gv
 use Rattle.typed_tree.specs.declared.statement.TypedVariable.{TypedVariable}
 use Rattle.typing_rules.specs.declared.header.Header.{Header}
+use Rattle.typing_rules.specs.declared.part.Caught.{Caught}
 use Rattle.typing_rules.specs.declared.part.Part.{Part}
 use Rattle.typing_rules.specs.declared.part.Step.{Step}
 use Rattle.typing_rules.specs.declared.scopes.Entry as scopes
@@ -54,22 +55,22 @@ use Rattle.typing_laws.proofs.Compounds.{condition_is, no_condition, update_is, 
 
 module _ (funs : Script) (hs : List Header) (heads : Heads funs hs) where
   abbrev first : First → Doing Step
-  first = fold-First (Doing Part) (Doing Step) Reading (Doing Step) Seen Doer Braces Seen Doer Seen (Ty → Doing TypedVariable) (argument_step funs.allowed hs) (body_step funs.allowed hs) (expression_step funs.allowed hs) (first_step funs.allowed hs) (lambda_step funs.allowed hs) (statement_step funs.allowed hs) (block_step funs.allowed hs) (catch_step funs.allowed hs) (declaration_step funs.allowed hs) (entry_step funs.allowed hs) (variable_step funs.allowed hs)
+  first = fold-First (Doing Part) (Doing Step) Reading (Doing Step) Seen Doer Braces (Doing Caught) Doer Seen (Ty → Doing TypedVariable) (argument_step funs.allowed hs) (body_step funs.allowed hs) (expression_step funs.allowed hs) (first_step funs.allowed hs) (lambda_step funs.allowed hs) (statement_step funs.allowed hs) (block_step funs.allowed hs) (catch_step funs.allowed hs) (declaration_step funs.allowed hs) (entry_step funs.allowed hs) (variable_step funs.allowed hs)
 
   abbrev inner : LambdaBody → Seen
-  inner = fold-LambdaBody (Doing Part) (Doing Step) Reading (Doing Step) Seen Doer Braces Seen Doer Seen (Ty → Doing TypedVariable) (argument_step funs.allowed hs) (body_step funs.allowed hs) (expression_step funs.allowed hs) (first_step funs.allowed hs) (lambda_step funs.allowed hs) (statement_step funs.allowed hs) (block_step funs.allowed hs) (catch_step funs.allowed hs) (declaration_step funs.allowed hs) (entry_step funs.allowed hs) (variable_step funs.allowed hs)
+  inner = fold-LambdaBody (Doing Part) (Doing Step) Reading (Doing Step) Seen Doer Braces (Doing Caught) Doer Seen (Ty → Doing TypedVariable) (argument_step funs.allowed hs) (body_step funs.allowed hs) (expression_step funs.allowed hs) (first_step funs.allowed hs) (lambda_step funs.allowed hs) (statement_step funs.allowed hs) (block_step funs.allowed hs) (catch_step funs.allowed hs) (declaration_step funs.allowed hs) (entry_step funs.allowed hs) (variable_step funs.allowed hs)
 
   abbrev handler : Catch → Seen
-  handler = fold-Catch (Doing Part) (Doing Step) Reading (Doing Step) Seen Doer Braces Seen Doer Seen (Ty → Doing TypedVariable) (argument_step funs.allowed hs) (body_step funs.allowed hs) (expression_step funs.allowed hs) (first_step funs.allowed hs) (lambda_step funs.allowed hs) (statement_step funs.allowed hs) (block_step funs.allowed hs) (catch_step funs.allowed hs) (declaration_step funs.allowed hs) (entry_step funs.allowed hs) (variable_step funs.allowed hs)
+  handler = fold-Catch (Doing Part) (Doing Step) Reading (Doing Step) Seen Doer Braces (Doing Caught) Doer Seen (Ty → Doing TypedVariable) (argument_step funs.allowed hs) (body_step funs.allowed hs) (expression_step funs.allowed hs) (first_step funs.allowed hs) (lambda_step funs.allowed hs) (statement_step funs.allowed hs) (block_step funs.allowed hs) (catch_step funs.allowed hs) (declaration_step funs.allowed hs) (entry_step funs.allowed hs) (variable_step funs.allowed hs)
 
   abbrev declaration : Declaration → Doer
-  declaration = fold-Declaration (Doing Part) (Doing Step) Reading (Doing Step) Seen Doer Braces Seen Doer Seen (Ty → Doing TypedVariable) (argument_step funs.allowed hs) (body_step funs.allowed hs) (expression_step funs.allowed hs) (first_step funs.allowed hs) (lambda_step funs.allowed hs) (statement_step funs.allowed hs) (block_step funs.allowed hs) (catch_step funs.allowed hs) (declaration_step funs.allowed hs) (entry_step funs.allowed hs) (variable_step funs.allowed hs)
+  declaration = fold-Declaration (Doing Part) (Doing Step) Reading (Doing Step) Seen Doer Braces (Doing Caught) Doer Seen (Ty → Doing TypedVariable) (argument_step funs.allowed hs) (body_step funs.allowed hs) (expression_step funs.allowed hs) (first_step funs.allowed hs) (lambda_step funs.allowed hs) (statement_step funs.allowed hs) (block_step funs.allowed hs) (catch_step funs.allowed hs) (declaration_step funs.allowed hs) (entry_step funs.allowed hs) (variable_step funs.allowed hs)
 
   abbrev entry : Entry → Seen
-  entry = fold-Entry (Doing Part) (Doing Step) Reading (Doing Step) Seen Doer Braces Seen Doer Seen (Ty → Doing TypedVariable) (argument_step funs.allowed hs) (body_step funs.allowed hs) (expression_step funs.allowed hs) (first_step funs.allowed hs) (lambda_step funs.allowed hs) (statement_step funs.allowed hs) (block_step funs.allowed hs) (catch_step funs.allowed hs) (declaration_step funs.allowed hs) (entry_step funs.allowed hs) (variable_step funs.allowed hs)
+  entry = fold-Entry (Doing Part) (Doing Step) Reading (Doing Step) Seen Doer Braces (Doing Caught) Doer Seen (Ty → Doing TypedVariable) (argument_step funs.allowed hs) (body_step funs.allowed hs) (expression_step funs.allowed hs) (first_step funs.allowed hs) (lambda_step funs.allowed hs) (statement_step funs.allowed hs) (block_step funs.allowed hs) (catch_step funs.allowed hs) (declaration_step funs.allowed hs) (entry_step funs.allowed hs) (variable_step funs.allowed hs)
 
   abbrev variable : Variable → Ty → Doing TypedVariable
-  variable = fold-Variable (Doing Part) (Doing Step) Reading (Doing Step) Seen Doer Braces Seen Doer Seen (Ty → Doing TypedVariable) (argument_step funs.allowed hs) (body_step funs.allowed hs) (expression_step funs.allowed hs) (first_step funs.allowed hs) (lambda_step funs.allowed hs) (statement_step funs.allowed hs) (block_step funs.allowed hs) (catch_step funs.allowed hs) (declaration_step funs.allowed hs) (entry_step funs.allowed hs) (variable_step funs.allowed hs)
+  variable = fold-Variable (Doing Part) (Doing Step) Reading (Doing Step) Seen Doer Braces (Doing Caught) Doer Seen (Ty → Doing TypedVariable) (argument_step funs.allowed hs) (body_step funs.allowed hs) (expression_step funs.allowed hs) (first_step funs.allowed hs) (lambda_step funs.allowed hs) (statement_step funs.allowed hs) (block_step funs.allowed hs) (catch_step funs.allowed hs) (declaration_step funs.allowed hs) (entry_step funs.allowed hs) (variable_step funs.allowed hs)
 
   abbrev OfArgument : Argument → Type 0
   OfArgument x = Value (PartAt funs) (argument funs.allowed hs x)
@@ -316,41 +317,41 @@ module _ (funs : Script) (hs : List Header) (heads : Heads funs hs) where
   -- ---- the kinds of nodes
 
   expr_layer : (y : WithExpr) → OfExpr (roll-Expr (bareExpr y))
-  expr_layer (Expr-F.Assign operator at target value) = subst (ReadingIs funs) (sym (fold-roll-Expr (Doing Part) (Doing Step) Reading (Doing Step) Seen Doer Braces Seen Doer Seen (Ty → Doing TypedVariable) (argument_step funs.allowed hs) (body_step funs.allowed hs) (expression_step funs.allowed hs) (first_step funs.allowed hs) (lambda_step funs.allowed hs) (statement_step funs.allowed hs) (block_step funs.allowed hs) (catch_step funs.allowed hs) (declaration_step funs.allowed hs) (entry_step funs.allowed hs) (variable_step funs.allowed hs) (Expr-F.Assign operator at target.0 value.0))) (plain_is funs _ _ (assign_value operator at (reading funs.allowed hs target.0) (reading funs.allowed hs value.0) target.1 value.1))
-  expr_layer (Expr-F.Conditional at z x y) = subst (ReadingIs funs) (sym (fold-roll-Expr (Doing Part) (Doing Step) Reading (Doing Step) Seen Doer Braces Seen Doer Seen (Ty → Doing TypedVariable) (argument_step funs.allowed hs) (body_step funs.allowed hs) (expression_step funs.allowed hs) (first_step funs.allowed hs) (lambda_step funs.allowed hs) (statement_step funs.allowed hs) (block_step funs.allowed hs) (catch_step funs.allowed hs) (declaration_step funs.allowed hs) (entry_step funs.allowed hs) (variable_step funs.allowed hs) (Expr-F.Conditional at z.0 x.0 y.0))) (plain_is funs _ _ (three_parts funs (choice_of at) z.1.value x.1.value y.1.value (λ s z x y w e hz hx hy. choice_part funs (in_sight s.scopes) at z x y w e hz hx hy)))
-  expr_layer (Expr-F.Elvis at left right) = subst (ReadingIs funs) (sym (fold-roll-Expr (Doing Part) (Doing Step) Reading (Doing Step) Seen Doer Braces Seen Doer Seen (Ty → Doing TypedVariable) (argument_step funs.allowed hs) (body_step funs.allowed hs) (expression_step funs.allowed hs) (first_step funs.allowed hs) (lambda_step funs.allowed hs) (statement_step funs.allowed hs) (block_step funs.allowed hs) (catch_step funs.allowed hs) (declaration_step funs.allowed hs) (entry_step funs.allowed hs) (variable_step funs.allowed hs) (Expr-F.Elvis at left.0 right.0))) (plain_is funs _ _ (two_parts funs (elvis_of at) left.1.value right.1.value (λ s x y z e hx hy. elvis_part funs (in_sight s.scopes) at x y z e hx hy)))
-  expr_layer (Expr-F.Binary operator at left right) = subst (ReadingIs funs) (sym (fold-roll-Expr (Doing Part) (Doing Step) Reading (Doing Step) Seen Doer Braces Seen Doer Seen (Ty → Doing TypedVariable) (argument_step funs.allowed hs) (body_step funs.allowed hs) (expression_step funs.allowed hs) (first_step funs.allowed hs) (lambda_step funs.allowed hs) (statement_step funs.allowed hs) (block_step funs.allowed hs) (catch_step funs.allowed hs) (declaration_step funs.allowed hs) (entry_step funs.allowed hs) (variable_step funs.allowed hs) (Expr-F.Binary operator at left.0 right.0))) (plain_is funs _ _ (two_parts funs (binary_of operator at) left.1.value right.1.value (λ s x y z e hx hy. binary_is funs (in_sight s.scopes) operator at x y z e hx hy)))
-  expr_layer (Expr-F.Instanceof at operand of) = subst (ReadingIs funs) (sym (fold-roll-Expr (Doing Part) (Doing Step) Reading (Doing Step) Seen Doer Braces Seen Doer Seen (Ty → Doing TypedVariable) (argument_step funs.allowed hs) (body_step funs.allowed hs) (expression_step funs.allowed hs) (first_step funs.allowed hs) (lambda_step funs.allowed hs) (statement_step funs.allowed hs) (block_step funs.allowed hs) (catch_step funs.allowed hs) (declaration_step funs.allowed hs) (entry_step funs.allowed hs) (variable_step funs.allowed hs) (Expr-F.Instanceof at operand.0 of))) (plain_is funs _ _ (instance_value at of (reading funs.allowed hs operand.0) operand.1))
-  expr_layer (Expr-F.Unary operator at operand) = subst (ReadingIs funs) (sym (fold-roll-Expr (Doing Part) (Doing Step) Reading (Doing Step) Seen Doer Braces Seen Doer Seen (Ty → Doing TypedVariable) (argument_step funs.allowed hs) (body_step funs.allowed hs) (expression_step funs.allowed hs) (first_step funs.allowed hs) (lambda_step funs.allowed hs) (statement_step funs.allowed hs) (block_step funs.allowed hs) (catch_step funs.allowed hs) (declaration_step funs.allowed hs) (entry_step funs.allowed hs) (variable_step funs.allowed hs) (Expr-F.Unary operator at operand.0))) (unary_is_plain operator at (reading funs.allowed hs operand.0) operand.1)
-  expr_layer (Expr-F.Prefix step at target) = subst (ReadingIs funs) (sym (fold-roll-Expr (Doing Part) (Doing Step) Reading (Doing Step) Seen Doer Braces Seen Doer Seen (Ty → Doing TypedVariable) (argument_step funs.allowed hs) (body_step funs.allowed hs) (expression_step funs.allowed hs) (first_step funs.allowed hs) (lambda_step funs.allowed hs) (statement_step funs.allowed hs) (block_step funs.allowed hs) (catch_step funs.allowed hs) (declaration_step funs.allowed hs) (entry_step funs.allowed hs) (variable_step funs.allowed hs) (Expr-F.Prefix step at target.0))) (plain_is funs _ _ (step_value at step gv.New (reading funs.allowed hs target.0) target.1))
-  expr_layer (Expr-F.Postfix step at target) = subst (ReadingIs funs) (sym (fold-roll-Expr (Doing Part) (Doing Step) Reading (Doing Step) Seen Doer Braces Seen Doer Seen (Ty → Doing TypedVariable) (argument_step funs.allowed hs) (body_step funs.allowed hs) (expression_step funs.allowed hs) (first_step funs.allowed hs) (lambda_step funs.allowed hs) (statement_step funs.allowed hs) (block_step funs.allowed hs) (catch_step funs.allowed hs) (declaration_step funs.allowed hs) (entry_step funs.allowed hs) (variable_step funs.allowed hs) (Expr-F.Postfix step at target.0))) (plain_is funs _ _ (step_value at step gv.Old (reading funs.allowed hs target.0) target.1))
-  expr_layer (Expr-F.Cast at of operand) = subst (ReadingIs funs) (sym (fold-roll-Expr (Doing Part) (Doing Step) Reading (Doing Step) Seen Doer Braces Seen Doer Seen (Ty → Doing TypedVariable) (argument_step funs.allowed hs) (body_step funs.allowed hs) (expression_step funs.allowed hs) (first_step funs.allowed hs) (lambda_step funs.allowed hs) (statement_step funs.allowed hs) (block_step funs.allowed hs) (catch_step funs.allowed hs) (declaration_step funs.allowed hs) (entry_step funs.allowed hs) (variable_step funs.allowed hs) (Expr-F.Cast at of operand.0))) (plain_is funs _ _ (cast_value at of (reading funs.allowed hs operand.0) operand.1))
-  expr_layer (Expr-F.Bracketed at inner) = subst (ReadingIs funs) (sym (fold-roll-Expr (Doing Part) (Doing Step) Reading (Doing Step) Seen Doer Braces Seen Doer Seen (Ty → Doing TypedVariable) (argument_step funs.allowed hs) (body_step funs.allowed hs) (expression_step funs.allowed hs) (first_step funs.allowed hs) (lambda_step funs.allowed hs) (statement_step funs.allowed hs) (block_step funs.allowed hs) (catch_step funs.allowed hs) (declaration_step funs.allowed hs) (entry_step funs.allowed hs) (variable_step funs.allowed hs) (Expr-F.Bracketed at inner.0))) (plain_is funs _ _ (bracketed_value at (reading funs.allowed hs inner.0) inner.1))
-  expr_layer (Expr-F.Integer at spelling) = subst (ReadingIs funs) (sym (fold-roll-Expr (Doing Part) (Doing Step) Reading (Doing Step) Seen Doer Braces Seen Doer Seen (Ty → Doing TypedVariable) (argument_step funs.allowed hs) (body_step funs.allowed hs) (expression_step funs.allowed hs) (first_step funs.allowed hs) (lambda_step funs.allowed hs) (statement_step funs.allowed hs) (block_step funs.allowed hs) (catch_step funs.allowed hs) (declaration_step funs.allowed hs) (entry_step funs.allowed hs) (variable_step funs.allowed hs) (Expr-F.Integer at spelling))) (record {
+  expr_layer (Expr-F.Assign operator at target value) = subst (ReadingIs funs) (sym (fold-roll-Expr (Doing Part) (Doing Step) Reading (Doing Step) Seen Doer Braces (Doing Caught) Doer Seen (Ty → Doing TypedVariable) (argument_step funs.allowed hs) (body_step funs.allowed hs) (expression_step funs.allowed hs) (first_step funs.allowed hs) (lambda_step funs.allowed hs) (statement_step funs.allowed hs) (block_step funs.allowed hs) (catch_step funs.allowed hs) (declaration_step funs.allowed hs) (entry_step funs.allowed hs) (variable_step funs.allowed hs) (Expr-F.Assign operator at target.0 value.0))) (plain_is funs _ _ (assign_value operator at (reading funs.allowed hs target.0) (reading funs.allowed hs value.0) target.1 value.1))
+  expr_layer (Expr-F.Conditional at z x y) = subst (ReadingIs funs) (sym (fold-roll-Expr (Doing Part) (Doing Step) Reading (Doing Step) Seen Doer Braces (Doing Caught) Doer Seen (Ty → Doing TypedVariable) (argument_step funs.allowed hs) (body_step funs.allowed hs) (expression_step funs.allowed hs) (first_step funs.allowed hs) (lambda_step funs.allowed hs) (statement_step funs.allowed hs) (block_step funs.allowed hs) (catch_step funs.allowed hs) (declaration_step funs.allowed hs) (entry_step funs.allowed hs) (variable_step funs.allowed hs) (Expr-F.Conditional at z.0 x.0 y.0))) (plain_is funs _ _ (three_parts funs (choice_of at) z.1.value x.1.value y.1.value (λ s z x y w e hz hx hy. choice_part funs (in_sight s.scopes) at z x y w e hz hx hy)))
+  expr_layer (Expr-F.Elvis at left right) = subst (ReadingIs funs) (sym (fold-roll-Expr (Doing Part) (Doing Step) Reading (Doing Step) Seen Doer Braces (Doing Caught) Doer Seen (Ty → Doing TypedVariable) (argument_step funs.allowed hs) (body_step funs.allowed hs) (expression_step funs.allowed hs) (first_step funs.allowed hs) (lambda_step funs.allowed hs) (statement_step funs.allowed hs) (block_step funs.allowed hs) (catch_step funs.allowed hs) (declaration_step funs.allowed hs) (entry_step funs.allowed hs) (variable_step funs.allowed hs) (Expr-F.Elvis at left.0 right.0))) (plain_is funs _ _ (two_parts funs (elvis_of at) left.1.value right.1.value (λ s x y z e hx hy. elvis_part funs (in_sight s.scopes) at x y z e hx hy)))
+  expr_layer (Expr-F.Binary operator at left right) = subst (ReadingIs funs) (sym (fold-roll-Expr (Doing Part) (Doing Step) Reading (Doing Step) Seen Doer Braces (Doing Caught) Doer Seen (Ty → Doing TypedVariable) (argument_step funs.allowed hs) (body_step funs.allowed hs) (expression_step funs.allowed hs) (first_step funs.allowed hs) (lambda_step funs.allowed hs) (statement_step funs.allowed hs) (block_step funs.allowed hs) (catch_step funs.allowed hs) (declaration_step funs.allowed hs) (entry_step funs.allowed hs) (variable_step funs.allowed hs) (Expr-F.Binary operator at left.0 right.0))) (plain_is funs _ _ (two_parts funs (binary_of operator at) left.1.value right.1.value (λ s x y z e hx hy. binary_is funs (in_sight s.scopes) operator at x y z e hx hy)))
+  expr_layer (Expr-F.Instanceof at operand of) = subst (ReadingIs funs) (sym (fold-roll-Expr (Doing Part) (Doing Step) Reading (Doing Step) Seen Doer Braces (Doing Caught) Doer Seen (Ty → Doing TypedVariable) (argument_step funs.allowed hs) (body_step funs.allowed hs) (expression_step funs.allowed hs) (first_step funs.allowed hs) (lambda_step funs.allowed hs) (statement_step funs.allowed hs) (block_step funs.allowed hs) (catch_step funs.allowed hs) (declaration_step funs.allowed hs) (entry_step funs.allowed hs) (variable_step funs.allowed hs) (Expr-F.Instanceof at operand.0 of))) (plain_is funs _ _ (instance_value at of (reading funs.allowed hs operand.0) operand.1))
+  expr_layer (Expr-F.Unary operator at operand) = subst (ReadingIs funs) (sym (fold-roll-Expr (Doing Part) (Doing Step) Reading (Doing Step) Seen Doer Braces (Doing Caught) Doer Seen (Ty → Doing TypedVariable) (argument_step funs.allowed hs) (body_step funs.allowed hs) (expression_step funs.allowed hs) (first_step funs.allowed hs) (lambda_step funs.allowed hs) (statement_step funs.allowed hs) (block_step funs.allowed hs) (catch_step funs.allowed hs) (declaration_step funs.allowed hs) (entry_step funs.allowed hs) (variable_step funs.allowed hs) (Expr-F.Unary operator at operand.0))) (unary_is_plain operator at (reading funs.allowed hs operand.0) operand.1)
+  expr_layer (Expr-F.Prefix step at target) = subst (ReadingIs funs) (sym (fold-roll-Expr (Doing Part) (Doing Step) Reading (Doing Step) Seen Doer Braces (Doing Caught) Doer Seen (Ty → Doing TypedVariable) (argument_step funs.allowed hs) (body_step funs.allowed hs) (expression_step funs.allowed hs) (first_step funs.allowed hs) (lambda_step funs.allowed hs) (statement_step funs.allowed hs) (block_step funs.allowed hs) (catch_step funs.allowed hs) (declaration_step funs.allowed hs) (entry_step funs.allowed hs) (variable_step funs.allowed hs) (Expr-F.Prefix step at target.0))) (plain_is funs _ _ (step_value at step gv.New (reading funs.allowed hs target.0) target.1))
+  expr_layer (Expr-F.Postfix step at target) = subst (ReadingIs funs) (sym (fold-roll-Expr (Doing Part) (Doing Step) Reading (Doing Step) Seen Doer Braces (Doing Caught) Doer Seen (Ty → Doing TypedVariable) (argument_step funs.allowed hs) (body_step funs.allowed hs) (expression_step funs.allowed hs) (first_step funs.allowed hs) (lambda_step funs.allowed hs) (statement_step funs.allowed hs) (block_step funs.allowed hs) (catch_step funs.allowed hs) (declaration_step funs.allowed hs) (entry_step funs.allowed hs) (variable_step funs.allowed hs) (Expr-F.Postfix step at target.0))) (plain_is funs _ _ (step_value at step gv.Old (reading funs.allowed hs target.0) target.1))
+  expr_layer (Expr-F.Cast at of operand) = subst (ReadingIs funs) (sym (fold-roll-Expr (Doing Part) (Doing Step) Reading (Doing Step) Seen Doer Braces (Doing Caught) Doer Seen (Ty → Doing TypedVariable) (argument_step funs.allowed hs) (body_step funs.allowed hs) (expression_step funs.allowed hs) (first_step funs.allowed hs) (lambda_step funs.allowed hs) (statement_step funs.allowed hs) (block_step funs.allowed hs) (catch_step funs.allowed hs) (declaration_step funs.allowed hs) (entry_step funs.allowed hs) (variable_step funs.allowed hs) (Expr-F.Cast at of operand.0))) (plain_is funs _ _ (cast_value at of (reading funs.allowed hs operand.0) operand.1))
+  expr_layer (Expr-F.Bracketed at inner) = subst (ReadingIs funs) (sym (fold-roll-Expr (Doing Part) (Doing Step) Reading (Doing Step) Seen Doer Braces (Doing Caught) Doer Seen (Ty → Doing TypedVariable) (argument_step funs.allowed hs) (body_step funs.allowed hs) (expression_step funs.allowed hs) (first_step funs.allowed hs) (lambda_step funs.allowed hs) (statement_step funs.allowed hs) (block_step funs.allowed hs) (catch_step funs.allowed hs) (declaration_step funs.allowed hs) (entry_step funs.allowed hs) (variable_step funs.allowed hs) (Expr-F.Bracketed at inner.0))) (plain_is funs _ _ (bracketed_value at (reading funs.allowed hs inner.0) inner.1))
+  expr_layer (Expr-F.Integer at spelling) = subst (ReadingIs funs) (sym (fold-roll-Expr (Doing Part) (Doing Step) Reading (Doing Step) Seen Doer Braces (Doing Caught) Doer Seen (Ty → Doing TypedVariable) (argument_step funs.allowed hs) (body_step funs.allowed hs) (expression_step funs.allowed hs) (first_step funs.allowed hs) (lambda_step funs.allowed hs) (statement_step funs.allowed hs) (block_step funs.allowed hs) (catch_step funs.allowed hs) (declaration_step funs.allowed hs) (entry_step funs.allowed hs) (variable_step funs.allowed hs) (Expr-F.Integer at spelling))) (record {
     names = tt;
     value = by_one_rule funs (integer at spelling) (λ s x e. integer_is funs (in_sight s.scopes) at spelling x e);
     negated = λ minus. by_one_rule funs (negated_integer minus at spelling) (λ s x e. negated_is funs (in_sight s.scopes) minus at spelling x e);
     place = fixed_place funs (by_one_rule funs (integer at spelling) (λ s x e. integer_is funs (in_sight s.scopes) at spelling x e));
   })
-  expr_layer (Expr-F.Text at spelling) = subst (ReadingIs funs) (sym (fold-roll-Expr (Doing Part) (Doing Step) Reading (Doing Step) Seen Doer Braces Seen Doer Seen (Ty → Doing TypedVariable) (argument_step funs.allowed hs) (body_step funs.allowed hs) (expression_step funs.allowed hs) (first_step funs.allowed hs) (lambda_step funs.allowed hs) (statement_step funs.allowed hs) (block_step funs.allowed hs) (catch_step funs.allowed hs) (declaration_step funs.allowed hs) (entry_step funs.allowed hs) (variable_step funs.allowed hs) (Expr-F.Text at spelling))) (plain_is funs _ _ (by_one_rule funs (text at spelling) (λ s x e. text_part funs (in_sight s.scopes) at spelling x e)))
-  expr_layer (Expr-F.Constant c at) = subst (ReadingIs funs) (sym (fold-roll-Expr (Doing Part) (Doing Step) Reading (Doing Step) Seen Doer Braces Seen Doer Seen (Ty → Doing TypedVariable) (argument_step funs.allowed hs) (body_step funs.allowed hs) (expression_step funs.allowed hs) (first_step funs.allowed hs) (lambda_step funs.allowed hs) (statement_step funs.allowed hs) (block_step funs.allowed hs) (catch_step funs.allowed hs) (declaration_step funs.allowed hs) (entry_step funs.allowed hs) (variable_step funs.allowed hs) (Expr-F.Constant c at))) (plain_is funs _ _ (by_one_rule funs (constant at c) (λ s x e. constant_part funs (in_sight s.scopes) at c x e)))
-  expr_layer (Expr-F.List at items) = subst (ReadingIs funs) (sym (fold-roll-Expr (Doing Part) (Doing Step) Reading (Doing Step) Seen Doer Braces Seen Doer Seen (Ty → Doing TypedVariable) (argument_step funs.allowed hs) (body_step funs.allowed hs) (expression_step funs.allowed hs) (first_step funs.allowed hs) (lambda_step funs.allowed hs) (statement_step funs.allowed hs) (block_step funs.allowed hs) (catch_step funs.allowed hs) (declaration_step funs.allowed hs) (entry_step funs.allowed hs) (variable_step funs.allowed hs) (Expr-F.List at (map (λ e. e.0) items)))) (plain_is funs _ _ (ends_unbuilt' at (seen_values items)))
-  expr_layer (Expr-F.Map at entries) = subst (ReadingIs funs) (sym (fold-roll-Expr (Doing Part) (Doing Step) Reading (Doing Step) Seen Doer Braces Seen Doer Seen (Ty → Doing TypedVariable) (argument_step funs.allowed hs) (body_step funs.allowed hs) (expression_step funs.allowed hs) (first_step funs.allowed hs) (lambda_step funs.allowed hs) (statement_step funs.allowed hs) (block_step funs.allowed hs) (catch_step funs.allowed hs) (declaration_step funs.allowed hs) (entry_step funs.allowed hs) (variable_step funs.allowed hs) (Expr-F.Map at (map (λ e. e.0) entries)))) (plain_is funs _ _ (ends_unbuilt' at (seen_entries entries)))
-  expr_layer (Expr-F.Name at spelling) = subst (ReadingIs funs) (sym (fold-roll-Expr (Doing Part) (Doing Step) Reading (Doing Step) Seen Doer Braces Seen Doer Seen (Ty → Doing TypedVariable) (argument_step funs.allowed hs) (body_step funs.allowed hs) (expression_step funs.allowed hs) (first_step funs.allowed hs) (lambda_step funs.allowed hs) (statement_step funs.allowed hs) (block_step funs.allowed hs) (catch_step funs.allowed hs) (declaration_step funs.allowed hs) (entry_step funs.allowed hs) (variable_step funs.allowed hs) (Expr-F.Name at spelling))) (record {
+  expr_layer (Expr-F.Text at spelling) = subst (ReadingIs funs) (sym (fold-roll-Expr (Doing Part) (Doing Step) Reading (Doing Step) Seen Doer Braces (Doing Caught) Doer Seen (Ty → Doing TypedVariable) (argument_step funs.allowed hs) (body_step funs.allowed hs) (expression_step funs.allowed hs) (first_step funs.allowed hs) (lambda_step funs.allowed hs) (statement_step funs.allowed hs) (block_step funs.allowed hs) (catch_step funs.allowed hs) (declaration_step funs.allowed hs) (entry_step funs.allowed hs) (variable_step funs.allowed hs) (Expr-F.Text at spelling))) (plain_is funs _ _ (by_one_rule funs (text at spelling) (λ s x e. text_part funs (in_sight s.scopes) at spelling x e)))
+  expr_layer (Expr-F.Constant c at) = subst (ReadingIs funs) (sym (fold-roll-Expr (Doing Part) (Doing Step) Reading (Doing Step) Seen Doer Braces (Doing Caught) Doer Seen (Ty → Doing TypedVariable) (argument_step funs.allowed hs) (body_step funs.allowed hs) (expression_step funs.allowed hs) (first_step funs.allowed hs) (lambda_step funs.allowed hs) (statement_step funs.allowed hs) (block_step funs.allowed hs) (catch_step funs.allowed hs) (declaration_step funs.allowed hs) (entry_step funs.allowed hs) (variable_step funs.allowed hs) (Expr-F.Constant c at))) (plain_is funs _ _ (by_one_rule funs (constant at c) (λ s x e. constant_part funs (in_sight s.scopes) at c x e)))
+  expr_layer (Expr-F.List at items) = subst (ReadingIs funs) (sym (fold-roll-Expr (Doing Part) (Doing Step) Reading (Doing Step) Seen Doer Braces (Doing Caught) Doer Seen (Ty → Doing TypedVariable) (argument_step funs.allowed hs) (body_step funs.allowed hs) (expression_step funs.allowed hs) (first_step funs.allowed hs) (lambda_step funs.allowed hs) (statement_step funs.allowed hs) (block_step funs.allowed hs) (catch_step funs.allowed hs) (declaration_step funs.allowed hs) (entry_step funs.allowed hs) (variable_step funs.allowed hs) (Expr-F.List at (map (λ e. e.0) items)))) (plain_is funs _ _ (ends_unbuilt' at (seen_values items)))
+  expr_layer (Expr-F.Map at entries) = subst (ReadingIs funs) (sym (fold-roll-Expr (Doing Part) (Doing Step) Reading (Doing Step) Seen Doer Braces (Doing Caught) Doer Seen (Ty → Doing TypedVariable) (argument_step funs.allowed hs) (body_step funs.allowed hs) (expression_step funs.allowed hs) (first_step funs.allowed hs) (lambda_step funs.allowed hs) (statement_step funs.allowed hs) (block_step funs.allowed hs) (catch_step funs.allowed hs) (declaration_step funs.allowed hs) (entry_step funs.allowed hs) (variable_step funs.allowed hs) (Expr-F.Map at (map (λ e. e.0) entries)))) (plain_is funs _ _ (ends_unbuilt' at (seen_entries entries)))
+  expr_layer (Expr-F.Name at spelling) = subst (ReadingIs funs) (sym (fold-roll-Expr (Doing Part) (Doing Step) Reading (Doing Step) Seen Doer Braces (Doing Caught) Doer Seen (Ty → Doing TypedVariable) (argument_step funs.allowed hs) (body_step funs.allowed hs) (expression_step funs.allowed hs) (first_step funs.allowed hs) (lambda_step funs.allowed hs) (statement_step funs.allowed hs) (block_step funs.allowed hs) (catch_step funs.allowed hs) (declaration_step funs.allowed hs) (entry_step funs.allowed hs) (variable_step funs.allowed hs) (Expr-F.Name at spelling))) (record {
     names = tt;
     value = name_value at spelling;
     negated = λ minus. minus_part funs minus (name_value at spelling);
     place = looks funs (written at spelling) (λ s x d e. written_place funs at spelling s x d e);
   })
-  expr_layer (Expr-F.Call at spelling given) = subst (ReadingIs funs) (sym (fold-roll-Expr (Doing Part) (Doing Step) Reading (Doing Step) Seen Doer Braces Seen Doer Seen (Ty → Doing TypedVariable) (argument_step funs.allowed hs) (body_step funs.allowed hs) (expression_step funs.allowed hs) (first_step funs.allowed hs) (lambda_step funs.allowed hs) (statement_step funs.allowed hs) (block_step funs.allowed hs) (catch_step funs.allowed hs) (declaration_step funs.allowed hs) (entry_step funs.allowed hs) (variable_step funs.allowed hs) (Expr-F.Call at spelling (map (λ e. e.0) given)))) (plain_is funs _ _ (call_value at spelling given))
-  expr_layer (Expr-F.New at of given) = subst (ReadingIs funs) (sym (fold-roll-Expr (Doing Part) (Doing Step) Reading (Doing Step) Seen Doer Braces Seen Doer Seen (Ty → Doing TypedVariable) (argument_step funs.allowed hs) (body_step funs.allowed hs) (expression_step funs.allowed hs) (first_step funs.allowed hs) (lambda_step funs.allowed hs) (statement_step funs.allowed hs) (block_step funs.allowed hs) (catch_step funs.allowed hs) (declaration_step funs.allowed hs) (entry_step funs.allowed hs) (variable_step funs.allowed hs) (Expr-F.New at of (map (λ e. e.0) given)))) (plain_is funs _ _ (new_value at of given))
-  expr_layer (Expr-F.NewArray at of sizes) = subst (ReadingIs funs) (sym (fold-roll-Expr (Doing Part) (Doing Step) Reading (Doing Step) Seen Doer Braces Seen Doer Seen (Ty → Doing TypedVariable) (argument_step funs.allowed hs) (body_step funs.allowed hs) (expression_step funs.allowed hs) (first_step funs.allowed hs) (lambda_step funs.allowed hs) (statement_step funs.allowed hs) (block_step funs.allowed hs) (catch_step funs.allowed hs) (declaration_step funs.allowed hs) (entry_step funs.allowed hs) (variable_step funs.allowed hs) (Expr-F.NewArray at of (map (λ e. e.0) sizes)))) (plain_is funs _ _ (typed_unbuilt of at (seen_values sizes)))
-  expr_layer (Expr-F.NewItems at of items) = subst (ReadingIs funs) (sym (fold-roll-Expr (Doing Part) (Doing Step) Reading (Doing Step) Seen Doer Braces Seen Doer Seen (Ty → Doing TypedVariable) (argument_step funs.allowed hs) (body_step funs.allowed hs) (expression_step funs.allowed hs) (first_step funs.allowed hs) (lambda_step funs.allowed hs) (statement_step funs.allowed hs) (block_step funs.allowed hs) (catch_step funs.allowed hs) (declaration_step funs.allowed hs) (entry_step funs.allowed hs) (variable_step funs.allowed hs) (Expr-F.NewItems at of (map (λ e. e.0) items)))) (plain_is funs _ _ (typed_unbuilt of at (seen_values items)))
-  expr_layer (Expr-F.Type of) = subst (ReadingIs funs) (sym (fold-roll-Expr (Doing Part) (Doing Step) Reading (Doing Step) Seen Doer Braces Seen Doer Seen (Ty → Doing TypedVariable) (argument_step funs.allowed hs) (body_step funs.allowed hs) (expression_step funs.allowed hs) (first_step funs.allowed hs) (lambda_step funs.allowed hs) (statement_step funs.allowed hs) (block_step funs.allowed hs) (catch_step funs.allowed hs) (declaration_step funs.allowed hs) (entry_step funs.allowed hs) (variable_step funs.allowed hs) (Expr-F.Type of))) (type_name_is funs of.at _ _ (type_unbuilt of of.at) (type_value of))
-  expr_layer (Expr-F.Member access at receiver spelling) = subst (ReadingIs funs) (sym (fold-roll-Expr (Doing Part) (Doing Step) Reading (Doing Step) Seen Doer Braces Seen Doer Seen (Ty → Doing TypedVariable) (argument_step funs.allowed hs) (body_step funs.allowed hs) (expression_step funs.allowed hs) (first_step funs.allowed hs) (lambda_step funs.allowed hs) (statement_step funs.allowed hs) (block_step funs.allowed hs) (catch_step funs.allowed hs) (declaration_step funs.allowed hs) (entry_step funs.allowed hs) (variable_step funs.allowed hs) (Expr-F.Member access at receiver.0 spelling))) (placed_is funs _ _ _ (read_value access at (reading funs.allowed hs receiver.0) (reading funs.allowed hs receiver.0).names spelling receiver.1 receiver.1.names) (ends_unbuilt at (looked receiver.1.value)))
-  expr_layer (Expr-F.Method access at receiver spelling given) = subst (ReadingIs funs) (sym (fold-roll-Expr (Doing Part) (Doing Step) Reading (Doing Step) Seen Doer Braces Seen Doer Seen (Ty → Doing TypedVariable) (argument_step funs.allowed hs) (body_step funs.allowed hs) (expression_step funs.allowed hs) (first_step funs.allowed hs) (lambda_step funs.allowed hs) (statement_step funs.allowed hs) (block_step funs.allowed hs) (catch_step funs.allowed hs) (declaration_step funs.allowed hs) (entry_step funs.allowed hs) (variable_step funs.allowed hs) (Expr-F.Method access at receiver.0 spelling (map (λ e. e.0) given)))) (plain_is funs _ _ (method_value access at (reading funs.allowed hs receiver.0) (reading funs.allowed hs receiver.0).names spelling given receiver.1 receiver.1.names))
-  expr_layer (Expr-F.Element access at receiver spelling) = subst (ReadingIs funs) (sym (fold-roll-Expr (Doing Part) (Doing Step) Reading (Doing Step) Seen Doer Braces Seen Doer Seen (Ty → Doing TypedVariable) (argument_step funs.allowed hs) (body_step funs.allowed hs) (expression_step funs.allowed hs) (first_step funs.allowed hs) (lambda_step funs.allowed hs) (statement_step funs.allowed hs) (block_step funs.allowed hs) (catch_step funs.allowed hs) (declaration_step funs.allowed hs) (entry_step funs.allowed hs) (variable_step funs.allowed hs) (Expr-F.Element access at receiver.0 spelling))) (plain_is funs _ _ (ends_unbuilt at (looked receiver.1.value)))
-  expr_layer (Expr-F.Index at receiver index) = subst (ReadingIs funs) (sym (fold-roll-Expr (Doing Part) (Doing Step) Reading (Doing Step) Seen Doer Braces Seen Doer Seen (Ty → Doing TypedVariable) (argument_step funs.allowed hs) (body_step funs.allowed hs) (expression_step funs.allowed hs) (first_step funs.allowed hs) (lambda_step funs.allowed hs) (statement_step funs.allowed hs) (block_step funs.allowed hs) (catch_step funs.allowed hs) (declaration_step funs.allowed hs) (entry_step funs.allowed hs) (variable_step funs.allowed hs) (Expr-F.Index at receiver.0 index.0))) (plain_is funs _ _ (record { by = λ s next r d e. let a = receiver.1.value.by s _ r d e in let b = index.1.value.by s _ r d a.goes in never at r b.goes }))
+  expr_layer (Expr-F.Call at spelling given) = subst (ReadingIs funs) (sym (fold-roll-Expr (Doing Part) (Doing Step) Reading (Doing Step) Seen Doer Braces (Doing Caught) Doer Seen (Ty → Doing TypedVariable) (argument_step funs.allowed hs) (body_step funs.allowed hs) (expression_step funs.allowed hs) (first_step funs.allowed hs) (lambda_step funs.allowed hs) (statement_step funs.allowed hs) (block_step funs.allowed hs) (catch_step funs.allowed hs) (declaration_step funs.allowed hs) (entry_step funs.allowed hs) (variable_step funs.allowed hs) (Expr-F.Call at spelling (map (λ e. e.0) given)))) (plain_is funs _ _ (call_value at spelling given))
+  expr_layer (Expr-F.New at of given) = subst (ReadingIs funs) (sym (fold-roll-Expr (Doing Part) (Doing Step) Reading (Doing Step) Seen Doer Braces (Doing Caught) Doer Seen (Ty → Doing TypedVariable) (argument_step funs.allowed hs) (body_step funs.allowed hs) (expression_step funs.allowed hs) (first_step funs.allowed hs) (lambda_step funs.allowed hs) (statement_step funs.allowed hs) (block_step funs.allowed hs) (catch_step funs.allowed hs) (declaration_step funs.allowed hs) (entry_step funs.allowed hs) (variable_step funs.allowed hs) (Expr-F.New at of (map (λ e. e.0) given)))) (plain_is funs _ _ (new_value at of given))
+  expr_layer (Expr-F.NewArray at of sizes) = subst (ReadingIs funs) (sym (fold-roll-Expr (Doing Part) (Doing Step) Reading (Doing Step) Seen Doer Braces (Doing Caught) Doer Seen (Ty → Doing TypedVariable) (argument_step funs.allowed hs) (body_step funs.allowed hs) (expression_step funs.allowed hs) (first_step funs.allowed hs) (lambda_step funs.allowed hs) (statement_step funs.allowed hs) (block_step funs.allowed hs) (catch_step funs.allowed hs) (declaration_step funs.allowed hs) (entry_step funs.allowed hs) (variable_step funs.allowed hs) (Expr-F.NewArray at of (map (λ e. e.0) sizes)))) (plain_is funs _ _ (typed_unbuilt of at (seen_values sizes)))
+  expr_layer (Expr-F.NewItems at of items) = subst (ReadingIs funs) (sym (fold-roll-Expr (Doing Part) (Doing Step) Reading (Doing Step) Seen Doer Braces (Doing Caught) Doer Seen (Ty → Doing TypedVariable) (argument_step funs.allowed hs) (body_step funs.allowed hs) (expression_step funs.allowed hs) (first_step funs.allowed hs) (lambda_step funs.allowed hs) (statement_step funs.allowed hs) (block_step funs.allowed hs) (catch_step funs.allowed hs) (declaration_step funs.allowed hs) (entry_step funs.allowed hs) (variable_step funs.allowed hs) (Expr-F.NewItems at of (map (λ e. e.0) items)))) (plain_is funs _ _ (typed_unbuilt of at (seen_values items)))
+  expr_layer (Expr-F.Type of) = subst (ReadingIs funs) (sym (fold-roll-Expr (Doing Part) (Doing Step) Reading (Doing Step) Seen Doer Braces (Doing Caught) Doer Seen (Ty → Doing TypedVariable) (argument_step funs.allowed hs) (body_step funs.allowed hs) (expression_step funs.allowed hs) (first_step funs.allowed hs) (lambda_step funs.allowed hs) (statement_step funs.allowed hs) (block_step funs.allowed hs) (catch_step funs.allowed hs) (declaration_step funs.allowed hs) (entry_step funs.allowed hs) (variable_step funs.allowed hs) (Expr-F.Type of))) (type_name_is funs of.at _ _ (type_unbuilt of of.at) (type_value of))
+  expr_layer (Expr-F.Member access at receiver spelling) = subst (ReadingIs funs) (sym (fold-roll-Expr (Doing Part) (Doing Step) Reading (Doing Step) Seen Doer Braces (Doing Caught) Doer Seen (Ty → Doing TypedVariable) (argument_step funs.allowed hs) (body_step funs.allowed hs) (expression_step funs.allowed hs) (first_step funs.allowed hs) (lambda_step funs.allowed hs) (statement_step funs.allowed hs) (block_step funs.allowed hs) (catch_step funs.allowed hs) (declaration_step funs.allowed hs) (entry_step funs.allowed hs) (variable_step funs.allowed hs) (Expr-F.Member access at receiver.0 spelling))) (placed_is funs _ _ _ (read_value access at (reading funs.allowed hs receiver.0) (reading funs.allowed hs receiver.0).names spelling receiver.1 receiver.1.names) (ends_unbuilt at (looked receiver.1.value)))
+  expr_layer (Expr-F.Method access at receiver spelling given) = subst (ReadingIs funs) (sym (fold-roll-Expr (Doing Part) (Doing Step) Reading (Doing Step) Seen Doer Braces (Doing Caught) Doer Seen (Ty → Doing TypedVariable) (argument_step funs.allowed hs) (body_step funs.allowed hs) (expression_step funs.allowed hs) (first_step funs.allowed hs) (lambda_step funs.allowed hs) (statement_step funs.allowed hs) (block_step funs.allowed hs) (catch_step funs.allowed hs) (declaration_step funs.allowed hs) (entry_step funs.allowed hs) (variable_step funs.allowed hs) (Expr-F.Method access at receiver.0 spelling (map (λ e. e.0) given)))) (plain_is funs _ _ (method_value access at (reading funs.allowed hs receiver.0) (reading funs.allowed hs receiver.0).names spelling given receiver.1 receiver.1.names))
+  expr_layer (Expr-F.Element access at receiver spelling) = subst (ReadingIs funs) (sym (fold-roll-Expr (Doing Part) (Doing Step) Reading (Doing Step) Seen Doer Braces (Doing Caught) Doer Seen (Ty → Doing TypedVariable) (argument_step funs.allowed hs) (body_step funs.allowed hs) (expression_step funs.allowed hs) (first_step funs.allowed hs) (lambda_step funs.allowed hs) (statement_step funs.allowed hs) (block_step funs.allowed hs) (catch_step funs.allowed hs) (declaration_step funs.allowed hs) (entry_step funs.allowed hs) (variable_step funs.allowed hs) (Expr-F.Element access at receiver.0 spelling))) (plain_is funs _ _ (ends_unbuilt at (looked receiver.1.value)))
+  expr_layer (Expr-F.Index at receiver index) = subst (ReadingIs funs) (sym (fold-roll-Expr (Doing Part) (Doing Step) Reading (Doing Step) Seen Doer Braces (Doing Caught) Doer Seen (Ty → Doing TypedVariable) (argument_step funs.allowed hs) (body_step funs.allowed hs) (expression_step funs.allowed hs) (first_step funs.allowed hs) (lambda_step funs.allowed hs) (statement_step funs.allowed hs) (block_step funs.allowed hs) (catch_step funs.allowed hs) (declaration_step funs.allowed hs) (entry_step funs.allowed hs) (variable_step funs.allowed hs) (Expr-F.Index at receiver.0 index.0))) (plain_is funs _ _ (record { by = λ s next r d e. let a = receiver.1.value.by s _ r d e in let b = index.1.value.by s _ r d a.goes in never at r b.goes }))
 
   -- ---- what is not built is looked through
 
@@ -446,68 +447,68 @@ module _ (funs : Script) (hs : List Header) (heads : Heads funs hs) where
   }
 
   argument_layer : (y : WithArgument) → OfArgument (roll-Argument (bareArgument y))
-  argument_layer (Argument-F.Value value) = subst (Value (PartAt funs)) (sym (fold-roll-Argument (Doing Part) (Doing Step) Reading (Doing Step) Seen Doer Braces Seen Doer Seen (Ty → Doing TypedVariable) (argument_step funs.allowed hs) (body_step funs.allowed hs) (expression_step funs.allowed hs) (first_step funs.allowed hs) (lambda_step funs.allowed hs) (statement_step funs.allowed hs) (block_step funs.allowed hs) (catch_step funs.allowed hs) (declaration_step funs.allowed hs) (entry_step funs.allowed hs) (variable_step funs.allowed hs) (Argument-F.Value value.0))) (value.1.value)
-  argument_layer (Argument-F.Lambda at ps body) = subst (Value (PartAt funs)) (sym (fold-roll-Argument (Doing Part) (Doing Step) Reading (Doing Step) Seen Doer Braces Seen Doer Seen (Ty → Doing TypedVariable) (argument_step funs.allowed hs) (body_step funs.allowed hs) (expression_step funs.allowed hs) (first_step funs.allowed hs) (lambda_step funs.allowed hs) (statement_step funs.allowed hs) (block_step funs.allowed hs) (catch_step funs.allowed hs) (declaration_step funs.allowed hs) (entry_step funs.allowed hs) (variable_step funs.allowed hs) (Argument-F.Lambda at ps body.0))) (lambda_value at ps body.1)
-  argument_layer (Argument-F.Reference of spelling) = subst (Value (PartAt funs)) (sym (fold-roll-Argument (Doing Part) (Doing Step) Reading (Doing Step) Seen Doer Braces Seen Doer Seen (Ty → Doing TypedVariable) (argument_step funs.allowed hs) (body_step funs.allowed hs) (expression_step funs.allowed hs) (first_step funs.allowed hs) (lambda_step funs.allowed hs) (statement_step funs.allowed hs) (block_step funs.allowed hs) (catch_step funs.allowed hs) (declaration_step funs.allowed hs) (entry_step funs.allowed hs) (variable_step funs.allowed hs) (Argument-F.Reference of spelling))) (type_unbuilt of of.at)
-  argument_layer (Argument-F.NewReference of) = subst (Value (PartAt funs)) (sym (fold-roll-Argument (Doing Part) (Doing Step) Reading (Doing Step) Seen Doer Braces Seen Doer Seen (Ty → Doing TypedVariable) (argument_step funs.allowed hs) (body_step funs.allowed hs) (expression_step funs.allowed hs) (first_step funs.allowed hs) (lambda_step funs.allowed hs) (statement_step funs.allowed hs) (block_step funs.allowed hs) (catch_step funs.allowed hs) (declaration_step funs.allowed hs) (entry_step funs.allowed hs) (variable_step funs.allowed hs) (Argument-F.NewReference of))) (type_unbuilt of of.at)
-  argument_layer (Argument-F.ThisReference at spelling) = subst (Value (PartAt funs)) (sym (fold-roll-Argument (Doing Part) (Doing Step) Reading (Doing Step) Seen Doer Braces Seen Doer Seen (Ty → Doing TypedVariable) (argument_step funs.allowed hs) (body_step funs.allowed hs) (expression_step funs.allowed hs) (first_step funs.allowed hs) (lambda_step funs.allowed hs) (statement_step funs.allowed hs) (block_step funs.allowed hs) (catch_step funs.allowed hs) (declaration_step funs.allowed hs) (entry_step funs.allowed hs) (variable_step funs.allowed hs) (Argument-F.ThisReference at spelling))) (is_unbuilt at)
+  argument_layer (Argument-F.Value value) = subst (Value (PartAt funs)) (sym (fold-roll-Argument (Doing Part) (Doing Step) Reading (Doing Step) Seen Doer Braces (Doing Caught) Doer Seen (Ty → Doing TypedVariable) (argument_step funs.allowed hs) (body_step funs.allowed hs) (expression_step funs.allowed hs) (first_step funs.allowed hs) (lambda_step funs.allowed hs) (statement_step funs.allowed hs) (block_step funs.allowed hs) (catch_step funs.allowed hs) (declaration_step funs.allowed hs) (entry_step funs.allowed hs) (variable_step funs.allowed hs) (Argument-F.Value value.0))) (value.1.value)
+  argument_layer (Argument-F.Lambda at ps body) = subst (Value (PartAt funs)) (sym (fold-roll-Argument (Doing Part) (Doing Step) Reading (Doing Step) Seen Doer Braces (Doing Caught) Doer Seen (Ty → Doing TypedVariable) (argument_step funs.allowed hs) (body_step funs.allowed hs) (expression_step funs.allowed hs) (first_step funs.allowed hs) (lambda_step funs.allowed hs) (statement_step funs.allowed hs) (block_step funs.allowed hs) (catch_step funs.allowed hs) (declaration_step funs.allowed hs) (entry_step funs.allowed hs) (variable_step funs.allowed hs) (Argument-F.Lambda at ps body.0))) (lambda_value at ps body.1)
+  argument_layer (Argument-F.Reference of spelling) = subst (Value (PartAt funs)) (sym (fold-roll-Argument (Doing Part) (Doing Step) Reading (Doing Step) Seen Doer Braces (Doing Caught) Doer Seen (Ty → Doing TypedVariable) (argument_step funs.allowed hs) (body_step funs.allowed hs) (expression_step funs.allowed hs) (first_step funs.allowed hs) (lambda_step funs.allowed hs) (statement_step funs.allowed hs) (block_step funs.allowed hs) (catch_step funs.allowed hs) (declaration_step funs.allowed hs) (entry_step funs.allowed hs) (variable_step funs.allowed hs) (Argument-F.Reference of spelling))) (type_unbuilt of of.at)
+  argument_layer (Argument-F.NewReference of) = subst (Value (PartAt funs)) (sym (fold-roll-Argument (Doing Part) (Doing Step) Reading (Doing Step) Seen Doer Braces (Doing Caught) Doer Seen (Ty → Doing TypedVariable) (argument_step funs.allowed hs) (body_step funs.allowed hs) (expression_step funs.allowed hs) (first_step funs.allowed hs) (lambda_step funs.allowed hs) (statement_step funs.allowed hs) (block_step funs.allowed hs) (catch_step funs.allowed hs) (declaration_step funs.allowed hs) (entry_step funs.allowed hs) (variable_step funs.allowed hs) (Argument-F.NewReference of))) (type_unbuilt of of.at)
+  argument_layer (Argument-F.ThisReference at spelling) = subst (Value (PartAt funs)) (sym (fold-roll-Argument (Doing Part) (Doing Step) Reading (Doing Step) Seen Doer Braces (Doing Caught) Doer Seen (Ty → Doing TypedVariable) (argument_step funs.allowed hs) (body_step funs.allowed hs) (expression_step funs.allowed hs) (first_step funs.allowed hs) (lambda_step funs.allowed hs) (statement_step funs.allowed hs) (block_step funs.allowed hs) (catch_step funs.allowed hs) (declaration_step funs.allowed hs) (entry_step funs.allowed hs) (variable_step funs.allowed hs) (Argument-F.ThisReference at spelling))) (is_unbuilt at)
 
   body_layer : (y : WithBody) → OfBody (roll-Body (bareBody y))
-  body_layer (Body-F.«Body::Block» block) = subst (Bodies funs) (sym (fold-roll-Body (Doing Part) (Doing Step) Reading (Doing Step) Seen Doer Braces Seen Doer Seen (Ty → Doing TypedVariable) (argument_step funs.allowed hs) (body_step funs.allowed hs) (expression_step funs.allowed hs) (first_step funs.allowed hs) (lambda_step funs.allowed hs) (statement_step funs.allowed hs) (block_step funs.allowed hs) (catch_step funs.allowed hs) (declaration_step funs.allowed hs) (entry_step funs.allowed hs) (variable_step funs.allowed hs) (Body-F.«Body::Block» block.0))) (block_body funs (braces funs.allowed hs block.0).at block.1)
-  body_layer (Body-F.Statement statement) = subst (Bodies funs) (sym (fold-roll-Body (Doing Part) (Doing Step) Reading (Doing Step) Seen Doer Braces Seen Doer Seen (Ty → Doing TypedVariable) (argument_step funs.allowed hs) (body_step funs.allowed hs) (expression_step funs.allowed hs) (first_step funs.allowed hs) (lambda_step funs.allowed hs) (statement_step funs.allowed hs) (block_step funs.allowed hs) (catch_step funs.allowed hs) (declaration_step funs.allowed hs) (entry_step funs.allowed hs) (variable_step funs.allowed hs) (Body-F.Statement statement.0))) (scoped_is funs (of_step funs) (λ x. x.escapes) (λ a h. h) (statement.1 false))
+  body_layer (Body-F.«Body::Block» block) = subst (Bodies funs) (sym (fold-roll-Body (Doing Part) (Doing Step) Reading (Doing Step) Seen Doer Braces (Doing Caught) Doer Seen (Ty → Doing TypedVariable) (argument_step funs.allowed hs) (body_step funs.allowed hs) (expression_step funs.allowed hs) (first_step funs.allowed hs) (lambda_step funs.allowed hs) (statement_step funs.allowed hs) (block_step funs.allowed hs) (catch_step funs.allowed hs) (declaration_step funs.allowed hs) (entry_step funs.allowed hs) (variable_step funs.allowed hs) (Body-F.«Body::Block» block.0))) (block_body funs (braces funs.allowed hs block.0).at block.1)
+  body_layer (Body-F.Statement statement) = subst (Bodies funs) (sym (fold-roll-Body (Doing Part) (Doing Step) Reading (Doing Step) Seen Doer Braces (Doing Caught) Doer Seen (Ty → Doing TypedVariable) (argument_step funs.allowed hs) (body_step funs.allowed hs) (expression_step funs.allowed hs) (first_step funs.allowed hs) (lambda_step funs.allowed hs) (statement_step funs.allowed hs) (block_step funs.allowed hs) (catch_step funs.allowed hs) (declaration_step funs.allowed hs) (entry_step funs.allowed hs) (variable_step funs.allowed hs) (Body-F.Statement statement.0))) (scoped_is funs (of_step funs) (λ x. x.escapes) (λ a h. h) (statement.1 false))
 
   first_layer : (y : WithFirst) → OfFirst (roll-First (bareFirst y))
-  first_layer (First-F.«First::Declare» d) = subst (Steps funs (of_first funs)) (sym (fold-roll-First (Doing Part) (Doing Step) Reading (Doing Step) Seen Doer Braces Seen Doer Seen (Ty → Doing TypedVariable) (argument_step funs.allowed hs) (body_step funs.allowed hs) (expression_step funs.allowed hs) (first_step funs.allowed hs) (lambda_step funs.allowed hs) (statement_step funs.allowed hs) (block_step funs.allowed hs) (catch_step funs.allowed hs) (declaration_step funs.allowed hs) (entry_step funs.allowed hs) (variable_step funs.allowed hs) (First-F.«First::Declare» d.0))) (d.1 false)
-  first_layer (First-F.«First::Expression» value) = subst (Steps funs (of_first funs)) (sym (fold-roll-First (Doing Part) (Doing Step) Reading (Doing Step) Seen Doer Braces Seen Doer Seen (Ty → Doing TypedVariable) (argument_step funs.allowed hs) (body_step funs.allowed hs) (expression_step funs.allowed hs) (first_step funs.allowed hs) (lambda_step funs.allowed hs) (statement_step funs.allowed hs) (block_step funs.allowed hs) (catch_step funs.allowed hs) (declaration_step funs.allowed hs) (entry_step funs.allowed hs) (variable_step funs.allowed hs) (First-F.«First::Expression» value.0))) (firsts_of funs (deed_value (reading funs.allowed hs value.0) value.1))
+  first_layer (First-F.«First::Declare» d) = subst (Steps funs (of_first funs)) (sym (fold-roll-First (Doing Part) (Doing Step) Reading (Doing Step) Seen Doer Braces (Doing Caught) Doer Seen (Ty → Doing TypedVariable) (argument_step funs.allowed hs) (body_step funs.allowed hs) (expression_step funs.allowed hs) (first_step funs.allowed hs) (lambda_step funs.allowed hs) (statement_step funs.allowed hs) (block_step funs.allowed hs) (catch_step funs.allowed hs) (declaration_step funs.allowed hs) (entry_step funs.allowed hs) (variable_step funs.allowed hs) (First-F.«First::Declare» d.0))) (d.1 false)
+  first_layer (First-F.«First::Expression» value) = subst (Steps funs (of_first funs)) (sym (fold-roll-First (Doing Part) (Doing Step) Reading (Doing Step) Seen Doer Braces (Doing Caught) Doer Seen (Ty → Doing TypedVariable) (argument_step funs.allowed hs) (body_step funs.allowed hs) (expression_step funs.allowed hs) (first_step funs.allowed hs) (lambda_step funs.allowed hs) (statement_step funs.allowed hs) (block_step funs.allowed hs) (catch_step funs.allowed hs) (declaration_step funs.allowed hs) (entry_step funs.allowed hs) (variable_step funs.allowed hs) (First-F.«First::Expression» value.0))) (firsts_of funs (deed_value (reading funs.allowed hs value.0) value.1))
 
   inner_layer : (y : WithLambdaBody) → OfLambdaBody (roll-LambdaBody (bareLambdaBody y))
-  inner_layer (LambdaBody-F.«LambdaBody::Block» block) = subst Looked (sym (fold-roll-LambdaBody (Doing Part) (Doing Step) Reading (Doing Step) Seen Doer Braces Seen Doer Seen (Ty → Doing TypedVariable) (argument_step funs.allowed hs) (body_step funs.allowed hs) (expression_step funs.allowed hs) (first_step funs.allowed hs) (lambda_step funs.allowed hs) (statement_step funs.allowed hs) (block_step funs.allowed hs) (catch_step funs.allowed hs) (declaration_step funs.allowed hs) (entry_step funs.allowed hs) (variable_step funs.allowed hs) (LambdaBody-F.«LambdaBody::Block» block.0))) (seen_looked (steps_looked block.1))
-  inner_layer (LambdaBody-F.«LambdaBody::Expression» value) = subst Looked (sym (fold-roll-LambdaBody (Doing Part) (Doing Step) Reading (Doing Step) Seen Doer Braces Seen Doer Seen (Ty → Doing TypedVariable) (argument_step funs.allowed hs) (body_step funs.allowed hs) (expression_step funs.allowed hs) (first_step funs.allowed hs) (lambda_step funs.allowed hs) (statement_step funs.allowed hs) (block_step funs.allowed hs) (catch_step funs.allowed hs) (declaration_step funs.allowed hs) (entry_step funs.allowed hs) (variable_step funs.allowed hs) (LambdaBody-F.«LambdaBody::Expression» value.0))) (seen_looked (looked value.1.value))
+  inner_layer (LambdaBody-F.«LambdaBody::Block» block) = subst Looked (sym (fold-roll-LambdaBody (Doing Part) (Doing Step) Reading (Doing Step) Seen Doer Braces (Doing Caught) Doer Seen (Ty → Doing TypedVariable) (argument_step funs.allowed hs) (body_step funs.allowed hs) (expression_step funs.allowed hs) (first_step funs.allowed hs) (lambda_step funs.allowed hs) (statement_step funs.allowed hs) (block_step funs.allowed hs) (catch_step funs.allowed hs) (declaration_step funs.allowed hs) (entry_step funs.allowed hs) (variable_step funs.allowed hs) (LambdaBody-F.«LambdaBody::Block» block.0))) (seen_looked (steps_looked block.1))
+  inner_layer (LambdaBody-F.«LambdaBody::Expression» value) = subst Looked (sym (fold-roll-LambdaBody (Doing Part) (Doing Step) Reading (Doing Step) Seen Doer Braces (Doing Caught) Doer Seen (Ty → Doing TypedVariable) (argument_step funs.allowed hs) (body_step funs.allowed hs) (expression_step funs.allowed hs) (first_step funs.allowed hs) (lambda_step funs.allowed hs) (statement_step funs.allowed hs) (block_step funs.allowed hs) (catch_step funs.allowed hs) (declaration_step funs.allowed hs) (entry_step funs.allowed hs) (variable_step funs.allowed hs) (LambdaBody-F.«LambdaBody::Expression» value.0))) (seen_looked (looked value.1.value))
 
   statement_layer : (y : WithStatement) → OfStatement (roll-Statement (bareStatement y))
-  statement_layer (Statement-F.If at condition chosen None) = subst (λ (d : Doer). (last : Bool) → Steps funs (of_step funs) (d.typed last)) (sym (fold-roll-Statement (Doing Part) (Doing Step) Reading (Doing Step) Seen Doer Braces Seen Doer Seen (Ty → Doing TypedVariable) (argument_step funs.allowed hs) (body_step funs.allowed hs) (expression_step funs.allowed hs) (first_step funs.allowed hs) (lambda_step funs.allowed hs) (statement_step funs.allowed hs) (block_step funs.allowed hs) (catch_step funs.allowed hs) (declaration_step funs.allowed hs) (entry_step funs.allowed hs) (variable_step funs.allowed hs) (Statement-F.If at condition.0 chosen.0 None))) (λ last. steps_of funs (if_step funs at (reading funs.allowed hs condition.0) condition.1 chosen.1 (perhaps_none funs)))
-  statement_layer (Statement-F.If at condition chosen (Some other)) = subst (λ (d : Doer). (last : Bool) → Steps funs (of_step funs) (d.typed last)) (sym (fold-roll-Statement (Doing Part) (Doing Step) Reading (Doing Step) Seen Doer Braces Seen Doer Seen (Ty → Doing TypedVariable) (argument_step funs.allowed hs) (body_step funs.allowed hs) (expression_step funs.allowed hs) (first_step funs.allowed hs) (lambda_step funs.allowed hs) (statement_step funs.allowed hs) (block_step funs.allowed hs) (catch_step funs.allowed hs) (declaration_step funs.allowed hs) (entry_step funs.allowed hs) (variable_step funs.allowed hs) (Statement-F.If at condition.0 chosen.0 (Some other.0)))) (λ last. steps_of funs (if_step funs at (reading funs.allowed hs condition.0) condition.1 chosen.1 (perhaps_some funs other.1)))
-  statement_layer (Statement-F.While at condition None) = subst (λ (d : Doer). (last : Bool) → Steps funs (of_step funs) (d.typed last)) (sym (fold-roll-Statement (Doing Part) (Doing Step) Reading (Doing Step) Seen Doer Braces Seen Doer Seen (Ty → Doing TypedVariable) (argument_step funs.allowed hs) (body_step funs.allowed hs) (expression_step funs.allowed hs) (first_step funs.allowed hs) (lambda_step funs.allowed hs) (statement_step funs.allowed hs) (block_step funs.allowed hs) (catch_step funs.allowed hs) (declaration_step funs.allowed hs) (entry_step funs.allowed hs) (variable_step funs.allowed hs) (Statement-F.While at condition.0 None))) (λ last. steps_of funs (while_step funs at (condition_is funs (reading funs.allowed hs condition.0) condition.1) (perhaps_none funs)))
-  statement_layer (Statement-F.While at condition (Some b)) = subst (λ (d : Doer). (last : Bool) → Steps funs (of_step funs) (d.typed last)) (sym (fold-roll-Statement (Doing Part) (Doing Step) Reading (Doing Step) Seen Doer Braces Seen Doer Seen (Ty → Doing TypedVariable) (argument_step funs.allowed hs) (body_step funs.allowed hs) (expression_step funs.allowed hs) (first_step funs.allowed hs) (lambda_step funs.allowed hs) (statement_step funs.allowed hs) (block_step funs.allowed hs) (catch_step funs.allowed hs) (declaration_step funs.allowed hs) (entry_step funs.allowed hs) (variable_step funs.allowed hs) (Statement-F.While at condition.0 (Some b.0)))) (λ last. steps_of funs (while_step funs at (condition_is funs (reading funs.allowed hs condition.0) condition.1) (perhaps_some funs b.1)))
-  statement_layer (Statement-F.For at None None None None) = subst (λ (d : Doer). (last : Bool) → Steps funs (of_step funs) (d.typed last)) (sym (fold-roll-Statement (Doing Part) (Doing Step) Reading (Doing Step) Seen Doer Braces Seen Doer Seen (Ty → Doing TypedVariable) (argument_step funs.allowed hs) (body_step funs.allowed hs) (expression_step funs.allowed hs) (first_step funs.allowed hs) (lambda_step funs.allowed hs) (statement_step funs.allowed hs) (block_step funs.allowed hs) (catch_step funs.allowed hs) (declaration_step funs.allowed hs) (entry_step funs.allowed hs) (variable_step funs.allowed hs) (Statement-F.For at None None None None))) (λ last. steps_of funs (for_step funs at (no_condition funs) (no_update funs) (perhaps_none funs)))
-  statement_layer (Statement-F.For at None None None (Some b)) = subst (λ (d : Doer). (last : Bool) → Steps funs (of_step funs) (d.typed last)) (sym (fold-roll-Statement (Doing Part) (Doing Step) Reading (Doing Step) Seen Doer Braces Seen Doer Seen (Ty → Doing TypedVariable) (argument_step funs.allowed hs) (body_step funs.allowed hs) (expression_step funs.allowed hs) (first_step funs.allowed hs) (lambda_step funs.allowed hs) (statement_step funs.allowed hs) (block_step funs.allowed hs) (catch_step funs.allowed hs) (declaration_step funs.allowed hs) (entry_step funs.allowed hs) (variable_step funs.allowed hs) (Statement-F.For at None None None (Some b.0)))) (λ last. steps_of funs (for_step funs at (no_condition funs) (no_update funs) (perhaps_some funs b.1)))
-  statement_layer (Statement-F.For at None None (Some u) None) = subst (λ (d : Doer). (last : Bool) → Steps funs (of_step funs) (d.typed last)) (sym (fold-roll-Statement (Doing Part) (Doing Step) Reading (Doing Step) Seen Doer Braces Seen Doer Seen (Ty → Doing TypedVariable) (argument_step funs.allowed hs) (body_step funs.allowed hs) (expression_step funs.allowed hs) (first_step funs.allowed hs) (lambda_step funs.allowed hs) (statement_step funs.allowed hs) (block_step funs.allowed hs) (catch_step funs.allowed hs) (declaration_step funs.allowed hs) (entry_step funs.allowed hs) (variable_step funs.allowed hs) (Statement-F.For at None None (Some u.0) None))) (λ last. steps_of funs (for_step funs at (no_condition funs) (update_is funs (reading funs.allowed hs u.0) u.1) (perhaps_none funs)))
-  statement_layer (Statement-F.For at None None (Some u) (Some b)) = subst (λ (d : Doer). (last : Bool) → Steps funs (of_step funs) (d.typed last)) (sym (fold-roll-Statement (Doing Part) (Doing Step) Reading (Doing Step) Seen Doer Braces Seen Doer Seen (Ty → Doing TypedVariable) (argument_step funs.allowed hs) (body_step funs.allowed hs) (expression_step funs.allowed hs) (first_step funs.allowed hs) (lambda_step funs.allowed hs) (statement_step funs.allowed hs) (block_step funs.allowed hs) (catch_step funs.allowed hs) (declaration_step funs.allowed hs) (entry_step funs.allowed hs) (variable_step funs.allowed hs) (Statement-F.For at None None (Some u.0) (Some b.0)))) (λ last. steps_of funs (for_step funs at (no_condition funs) (update_is funs (reading funs.allowed hs u.0) u.1) (perhaps_some funs b.1)))
-  statement_layer (Statement-F.For at None (Some c) None None) = subst (λ (d : Doer). (last : Bool) → Steps funs (of_step funs) (d.typed last)) (sym (fold-roll-Statement (Doing Part) (Doing Step) Reading (Doing Step) Seen Doer Braces Seen Doer Seen (Ty → Doing TypedVariable) (argument_step funs.allowed hs) (body_step funs.allowed hs) (expression_step funs.allowed hs) (first_step funs.allowed hs) (lambda_step funs.allowed hs) (statement_step funs.allowed hs) (block_step funs.allowed hs) (catch_step funs.allowed hs) (declaration_step funs.allowed hs) (entry_step funs.allowed hs) (variable_step funs.allowed hs) (Statement-F.For at None (Some c.0) None None))) (λ last. steps_of funs (for_step funs at (condition_is funs (reading funs.allowed hs c.0) c.1) (no_update funs) (perhaps_none funs)))
-  statement_layer (Statement-F.For at None (Some c) None (Some b)) = subst (λ (d : Doer). (last : Bool) → Steps funs (of_step funs) (d.typed last)) (sym (fold-roll-Statement (Doing Part) (Doing Step) Reading (Doing Step) Seen Doer Braces Seen Doer Seen (Ty → Doing TypedVariable) (argument_step funs.allowed hs) (body_step funs.allowed hs) (expression_step funs.allowed hs) (first_step funs.allowed hs) (lambda_step funs.allowed hs) (statement_step funs.allowed hs) (block_step funs.allowed hs) (catch_step funs.allowed hs) (declaration_step funs.allowed hs) (entry_step funs.allowed hs) (variable_step funs.allowed hs) (Statement-F.For at None (Some c.0) None (Some b.0)))) (λ last. steps_of funs (for_step funs at (condition_is funs (reading funs.allowed hs c.0) c.1) (no_update funs) (perhaps_some funs b.1)))
-  statement_layer (Statement-F.For at None (Some c) (Some u) None) = subst (λ (d : Doer). (last : Bool) → Steps funs (of_step funs) (d.typed last)) (sym (fold-roll-Statement (Doing Part) (Doing Step) Reading (Doing Step) Seen Doer Braces Seen Doer Seen (Ty → Doing TypedVariable) (argument_step funs.allowed hs) (body_step funs.allowed hs) (expression_step funs.allowed hs) (first_step funs.allowed hs) (lambda_step funs.allowed hs) (statement_step funs.allowed hs) (block_step funs.allowed hs) (catch_step funs.allowed hs) (declaration_step funs.allowed hs) (entry_step funs.allowed hs) (variable_step funs.allowed hs) (Statement-F.For at None (Some c.0) (Some u.0) None))) (λ last. steps_of funs (for_step funs at (condition_is funs (reading funs.allowed hs c.0) c.1) (update_is funs (reading funs.allowed hs u.0) u.1) (perhaps_none funs)))
-  statement_layer (Statement-F.For at None (Some c) (Some u) (Some b)) = subst (λ (d : Doer). (last : Bool) → Steps funs (of_step funs) (d.typed last)) (sym (fold-roll-Statement (Doing Part) (Doing Step) Reading (Doing Step) Seen Doer Braces Seen Doer Seen (Ty → Doing TypedVariable) (argument_step funs.allowed hs) (body_step funs.allowed hs) (expression_step funs.allowed hs) (first_step funs.allowed hs) (lambda_step funs.allowed hs) (statement_step funs.allowed hs) (block_step funs.allowed hs) (catch_step funs.allowed hs) (declaration_step funs.allowed hs) (entry_step funs.allowed hs) (variable_step funs.allowed hs) (Statement-F.For at None (Some c.0) (Some u.0) (Some b.0)))) (λ last. steps_of funs (for_step funs at (condition_is funs (reading funs.allowed hs c.0) c.1) (update_is funs (reading funs.allowed hs u.0) u.1) (perhaps_some funs b.1)))
-  statement_layer (Statement-F.For at (Some f) None None None) = subst (λ (d : Doer). (last : Bool) → Steps funs (of_step funs) (d.typed last)) (sym (fold-roll-Statement (Doing Part) (Doing Step) Reading (Doing Step) Seen Doer Braces Seen Doer Seen (Ty → Doing TypedVariable) (argument_step funs.allowed hs) (body_step funs.allowed hs) (expression_step funs.allowed hs) (first_step funs.allowed hs) (lambda_step funs.allowed hs) (statement_step funs.allowed hs) (block_step funs.allowed hs) (catch_step funs.allowed hs) (declaration_step funs.allowed hs) (entry_step funs.allowed hs) (variable_step funs.allowed hs) (Statement-F.For at (Some f.0) None None None))) (λ last. steps_of funs (for_first_step funs at f.1 (no_condition funs) (no_update funs) (perhaps_none funs)))
-  statement_layer (Statement-F.For at (Some f) None None (Some b)) = subst (λ (d : Doer). (last : Bool) → Steps funs (of_step funs) (d.typed last)) (sym (fold-roll-Statement (Doing Part) (Doing Step) Reading (Doing Step) Seen Doer Braces Seen Doer Seen (Ty → Doing TypedVariable) (argument_step funs.allowed hs) (body_step funs.allowed hs) (expression_step funs.allowed hs) (first_step funs.allowed hs) (lambda_step funs.allowed hs) (statement_step funs.allowed hs) (block_step funs.allowed hs) (catch_step funs.allowed hs) (declaration_step funs.allowed hs) (entry_step funs.allowed hs) (variable_step funs.allowed hs) (Statement-F.For at (Some f.0) None None (Some b.0)))) (λ last. steps_of funs (for_first_step funs at f.1 (no_condition funs) (no_update funs) (perhaps_some funs b.1)))
-  statement_layer (Statement-F.For at (Some f) None (Some u) None) = subst (λ (d : Doer). (last : Bool) → Steps funs (of_step funs) (d.typed last)) (sym (fold-roll-Statement (Doing Part) (Doing Step) Reading (Doing Step) Seen Doer Braces Seen Doer Seen (Ty → Doing TypedVariable) (argument_step funs.allowed hs) (body_step funs.allowed hs) (expression_step funs.allowed hs) (first_step funs.allowed hs) (lambda_step funs.allowed hs) (statement_step funs.allowed hs) (block_step funs.allowed hs) (catch_step funs.allowed hs) (declaration_step funs.allowed hs) (entry_step funs.allowed hs) (variable_step funs.allowed hs) (Statement-F.For at (Some f.0) None (Some u.0) None))) (λ last. steps_of funs (for_first_step funs at f.1 (no_condition funs) (update_is funs (reading funs.allowed hs u.0) u.1) (perhaps_none funs)))
-  statement_layer (Statement-F.For at (Some f) None (Some u) (Some b)) = subst (λ (d : Doer). (last : Bool) → Steps funs (of_step funs) (d.typed last)) (sym (fold-roll-Statement (Doing Part) (Doing Step) Reading (Doing Step) Seen Doer Braces Seen Doer Seen (Ty → Doing TypedVariable) (argument_step funs.allowed hs) (body_step funs.allowed hs) (expression_step funs.allowed hs) (first_step funs.allowed hs) (lambda_step funs.allowed hs) (statement_step funs.allowed hs) (block_step funs.allowed hs) (catch_step funs.allowed hs) (declaration_step funs.allowed hs) (entry_step funs.allowed hs) (variable_step funs.allowed hs) (Statement-F.For at (Some f.0) None (Some u.0) (Some b.0)))) (λ last. steps_of funs (for_first_step funs at f.1 (no_condition funs) (update_is funs (reading funs.allowed hs u.0) u.1) (perhaps_some funs b.1)))
-  statement_layer (Statement-F.For at (Some f) (Some c) None None) = subst (λ (d : Doer). (last : Bool) → Steps funs (of_step funs) (d.typed last)) (sym (fold-roll-Statement (Doing Part) (Doing Step) Reading (Doing Step) Seen Doer Braces Seen Doer Seen (Ty → Doing TypedVariable) (argument_step funs.allowed hs) (body_step funs.allowed hs) (expression_step funs.allowed hs) (first_step funs.allowed hs) (lambda_step funs.allowed hs) (statement_step funs.allowed hs) (block_step funs.allowed hs) (catch_step funs.allowed hs) (declaration_step funs.allowed hs) (entry_step funs.allowed hs) (variable_step funs.allowed hs) (Statement-F.For at (Some f.0) (Some c.0) None None))) (λ last. steps_of funs (for_first_step funs at f.1 (condition_is funs (reading funs.allowed hs c.0) c.1) (no_update funs) (perhaps_none funs)))
-  statement_layer (Statement-F.For at (Some f) (Some c) None (Some b)) = subst (λ (d : Doer). (last : Bool) → Steps funs (of_step funs) (d.typed last)) (sym (fold-roll-Statement (Doing Part) (Doing Step) Reading (Doing Step) Seen Doer Braces Seen Doer Seen (Ty → Doing TypedVariable) (argument_step funs.allowed hs) (body_step funs.allowed hs) (expression_step funs.allowed hs) (first_step funs.allowed hs) (lambda_step funs.allowed hs) (statement_step funs.allowed hs) (block_step funs.allowed hs) (catch_step funs.allowed hs) (declaration_step funs.allowed hs) (entry_step funs.allowed hs) (variable_step funs.allowed hs) (Statement-F.For at (Some f.0) (Some c.0) None (Some b.0)))) (λ last. steps_of funs (for_first_step funs at f.1 (condition_is funs (reading funs.allowed hs c.0) c.1) (no_update funs) (perhaps_some funs b.1)))
-  statement_layer (Statement-F.For at (Some f) (Some c) (Some u) None) = subst (λ (d : Doer). (last : Bool) → Steps funs (of_step funs) (d.typed last)) (sym (fold-roll-Statement (Doing Part) (Doing Step) Reading (Doing Step) Seen Doer Braces Seen Doer Seen (Ty → Doing TypedVariable) (argument_step funs.allowed hs) (body_step funs.allowed hs) (expression_step funs.allowed hs) (first_step funs.allowed hs) (lambda_step funs.allowed hs) (statement_step funs.allowed hs) (block_step funs.allowed hs) (catch_step funs.allowed hs) (declaration_step funs.allowed hs) (entry_step funs.allowed hs) (variable_step funs.allowed hs) (Statement-F.For at (Some f.0) (Some c.0) (Some u.0) None))) (λ last. steps_of funs (for_first_step funs at f.1 (condition_is funs (reading funs.allowed hs c.0) c.1) (update_is funs (reading funs.allowed hs u.0) u.1) (perhaps_none funs)))
-  statement_layer (Statement-F.For at (Some f) (Some c) (Some u) (Some b)) = subst (λ (d : Doer). (last : Bool) → Steps funs (of_step funs) (d.typed last)) (sym (fold-roll-Statement (Doing Part) (Doing Step) Reading (Doing Step) Seen Doer Braces Seen Doer Seen (Ty → Doing TypedVariable) (argument_step funs.allowed hs) (body_step funs.allowed hs) (expression_step funs.allowed hs) (first_step funs.allowed hs) (lambda_step funs.allowed hs) (statement_step funs.allowed hs) (block_step funs.allowed hs) (catch_step funs.allowed hs) (declaration_step funs.allowed hs) (entry_step funs.allowed hs) (variable_step funs.allowed hs) (Statement-F.For at (Some f.0) (Some c.0) (Some u.0) (Some b.0)))) (λ last. steps_of funs (for_first_step funs at f.1 (condition_is funs (reading funs.allowed hs c.0) c.1) (update_is funs (reading funs.allowed hs u.0) u.1) (perhaps_some funs b.1)))
-  statement_layer (Statement-F.ForEach at of name over b) = subst (λ (d : Doer). (last : Bool) → Steps funs (of_step funs) (d.typed last)) (sym (fold-roll-Statement (Doing Part) (Doing Step) Reading (Doing Step) Seen Doer Braces Seen Doer Seen (Ty → Doing TypedVariable) (argument_step funs.allowed hs) (body_step funs.allowed hs) (expression_step funs.allowed hs) (first_step funs.allowed hs) (lambda_step funs.allowed hs) (statement_step funs.allowed hs) (block_step funs.allowed hs) (catch_step funs.allowed hs) (declaration_step funs.allowed hs) (entry_step funs.allowed hs) (variable_step funs.allowed hs) (Statement-F.ForEach at of name over.0 b.0))) (λ last. steps_of funs (each_value at (by_rule (type_of of)) name.spelling (reading funs.allowed hs over.0) (rule_looked (type_of of)) over.1 b.1))
-  statement_layer (Statement-F.ForIn at name over b) = subst (λ (d : Doer). (last : Bool) → Steps funs (of_step funs) (d.typed last)) (sym (fold-roll-Statement (Doing Part) (Doing Step) Reading (Doing Step) Seen Doer Braces Seen Doer Seen (Ty → Doing TypedVariable) (argument_step funs.allowed hs) (body_step funs.allowed hs) (expression_step funs.allowed hs) (first_step funs.allowed hs) (lambda_step funs.allowed hs) (statement_step funs.allowed hs) (block_step funs.allowed hs) (catch_step funs.allowed hs) (declaration_step funs.allowed hs) (entry_step funs.allowed hs) (variable_step funs.allowed hs) (Statement-F.ForIn at name over.0 b.0))) (λ last. steps_of funs (each_value at (pure t.Def) name.spelling (reading funs.allowed hs over.0) (pure_looked t.Def) over.1 b.1))
-  statement_layer (Statement-F.Try at block catches) = subst (λ (d : Doer). (last : Bool) → Steps funs (of_step funs) (d.typed last)) (sym (fold-roll-Statement (Doing Part) (Doing Step) Reading (Doing Step) Seen Doer Braces Seen Doer Seen (Ty → Doing TypedVariable) (argument_step funs.allowed hs) (body_step funs.allowed hs) (expression_step funs.allowed hs) (first_step funs.allowed hs) (lambda_step funs.allowed hs) (statement_step funs.allowed hs) (block_step funs.allowed hs) (catch_step funs.allowed hs) (declaration_step funs.allowed hs) (entry_step funs.allowed hs) (variable_step funs.allowed hs) (Statement-F.Try at block.0 (map (λ e. e.0) catches)))) (λ last. steps_of funs (try_value at block catches))
-  statement_layer (Statement-F.Do at block condition) = subst (λ (d : Doer). (last : Bool) → Steps funs (of_step funs) (d.typed last)) (sym (fold-roll-Statement (Doing Part) (Doing Step) Reading (Doing Step) Seen Doer Braces Seen Doer Seen (Ty → Doing TypedVariable) (argument_step funs.allowed hs) (body_step funs.allowed hs) (expression_step funs.allowed hs) (first_step funs.allowed hs) (lambda_step funs.allowed hs) (statement_step funs.allowed hs) (block_step funs.allowed hs) (catch_step funs.allowed hs) (declaration_step funs.allowed hs) (entry_step funs.allowed hs) (variable_step funs.allowed hs) (Statement-F.Do at block.0 condition.0))) (λ last. steps_of funs (do_step funs at (braces funs.allowed hs block.0).at block.1 (condition_is funs (reading funs.allowed hs condition.0) condition.1)))
-  statement_layer (Statement-F.«Statement::Declare» d) = subst (λ (d : Doer). (last : Bool) → Steps funs (of_step funs) (d.typed last)) (sym (fold-roll-Statement (Doing Part) (Doing Step) Reading (Doing Step) Seen Doer Braces Seen Doer Seen (Ty → Doing TypedVariable) (argument_step funs.allowed hs) (body_step funs.allowed hs) (expression_step funs.allowed hs) (first_step funs.allowed hs) (lambda_step funs.allowed hs) (statement_step funs.allowed hs) (block_step funs.allowed hs) (catch_step funs.allowed hs) (declaration_step funs.allowed hs) (entry_step funs.allowed hs) (variable_step funs.allowed hs) (Statement-F.«Statement::Declare» d.0))) (λ last. first_is_step funs (d.1 false))
-  statement_layer (Statement-F.Continue at) = subst (λ (d : Doer). (last : Bool) → Steps funs (of_step funs) (d.typed last)) (sym (fold-roll-Statement (Doing Part) (Doing Step) Reading (Doing Step) Seen Doer Braces Seen Doer Seen (Ty → Doing TypedVariable) (argument_step funs.allowed hs) (body_step funs.allowed hs) (expression_step funs.allowed hs) (first_step funs.allowed hs) (lambda_step funs.allowed hs) (statement_step funs.allowed hs) (block_step funs.allowed hs) (catch_step funs.allowed hs) (declaration_step funs.allowed hs) (entry_step funs.allowed hs) (variable_step funs.allowed hs) (Statement-F.Continue at))) (λ last. steps_of funs (looks funs (continue_of at) (λ s x d e. continue_step funs s at x e)))
-  statement_layer (Statement-F.Break at) = subst (λ (d : Doer). (last : Bool) → Steps funs (of_step funs) (d.typed last)) (sym (fold-roll-Statement (Doing Part) (Doing Step) Reading (Doing Step) Seen Doer Braces Seen Doer Seen (Ty → Doing TypedVariable) (argument_step funs.allowed hs) (body_step funs.allowed hs) (expression_step funs.allowed hs) (first_step funs.allowed hs) (lambda_step funs.allowed hs) (statement_step funs.allowed hs) (block_step funs.allowed hs) (catch_step funs.allowed hs) (declaration_step funs.allowed hs) (entry_step funs.allowed hs) (variable_step funs.allowed hs) (Statement-F.Break at))) (λ last. steps_of funs (looks funs (break_of at) (λ s x d e. break_step funs s at x e)))
-  statement_layer (Statement-F.Return at None) = subst (λ (d : Doer). (last : Bool) → Steps funs (of_step funs) (d.typed last)) (sym (fold-roll-Statement (Doing Part) (Doing Step) Reading (Doing Step) Seen Doer Braces Seen Doer Seen (Ty → Doing TypedVariable) (argument_step funs.allowed hs) (body_step funs.allowed hs) (expression_step funs.allowed hs) (first_step funs.allowed hs) (lambda_step funs.allowed hs) (statement_step funs.allowed hs) (block_step funs.allowed hs) (catch_step funs.allowed hs) (declaration_step funs.allowed hs) (entry_step funs.allowed hs) (variable_step funs.allowed hs) (Statement-F.Return at None))) (λ last. steps_of funs (looks funs (nothing_returned at) (λ s x d e. nothing_step funs s at x e)))
-  statement_layer (Statement-F.Return at (Some v)) = subst (λ (d : Doer). (last : Bool) → Steps funs (of_step funs) (d.typed last)) (sym (fold-roll-Statement (Doing Part) (Doing Step) Reading (Doing Step) Seen Doer Braces Seen Doer Seen (Ty → Doing TypedVariable) (argument_step funs.allowed hs) (body_step funs.allowed hs) (expression_step funs.allowed hs) (first_step funs.allowed hs) (lambda_step funs.allowed hs) (statement_step funs.allowed hs) (block_step funs.allowed hs) (catch_step funs.allowed hs) (declaration_step funs.allowed hs) (entry_step funs.allowed hs) (variable_step funs.allowed hs) (Statement-F.Return at (Some v.0)))) (λ last. steps_of funs (return_value at v.1))
-  statement_layer (Statement-F.Throw at value) = subst (λ (d : Doer). (last : Bool) → Steps funs (of_step funs) (d.typed last)) (sym (fold-roll-Statement (Doing Part) (Doing Step) Reading (Doing Step) Seen Doer Braces Seen Doer Seen (Ty → Doing TypedVariable) (argument_step funs.allowed hs) (body_step funs.allowed hs) (expression_step funs.allowed hs) (first_step funs.allowed hs) (lambda_step funs.allowed hs) (statement_step funs.allowed hs) (block_step funs.allowed hs) (catch_step funs.allowed hs) (declaration_step funs.allowed hs) (entry_step funs.allowed hs) (variable_step funs.allowed hs) (Statement-F.Throw at value.0))) (λ last. steps_of funs (throw_value at (reading funs.allowed hs value.0) value.1))
-  statement_layer (Statement-F.«Statement::Expression» at value) = subst (λ (d : Doer). (last : Bool) → Steps funs (of_step funs) (d.typed last)) (sym (fold-roll-Statement (Doing Part) (Doing Step) Reading (Doing Step) Seen Doer Braces Seen Doer Seen (Ty → Doing TypedVariable) (argument_step funs.allowed hs) (body_step funs.allowed hs) (expression_step funs.allowed hs) (first_step funs.allowed hs) (lambda_step funs.allowed hs) (statement_step funs.allowed hs) (block_step funs.allowed hs) (catch_step funs.allowed hs) (declaration_step funs.allowed hs) (entry_step funs.allowed hs) (variable_step funs.allowed hs) (Statement-F.«Statement::Expression» at value.0))) (λ last. steps_of funs (expression_value at last (reading funs.allowed hs value.0) value.1))
+  statement_layer (Statement-F.If at condition chosen None) = subst (λ (d : Doer). (last : Bool) → Steps funs (of_step funs) (d.typed last)) (sym (fold-roll-Statement (Doing Part) (Doing Step) Reading (Doing Step) Seen Doer Braces (Doing Caught) Doer Seen (Ty → Doing TypedVariable) (argument_step funs.allowed hs) (body_step funs.allowed hs) (expression_step funs.allowed hs) (first_step funs.allowed hs) (lambda_step funs.allowed hs) (statement_step funs.allowed hs) (block_step funs.allowed hs) (catch_step funs.allowed hs) (declaration_step funs.allowed hs) (entry_step funs.allowed hs) (variable_step funs.allowed hs) (Statement-F.If at condition.0 chosen.0 None))) (λ last. steps_of funs (if_step funs at (reading funs.allowed hs condition.0) condition.1 chosen.1 (perhaps_none funs)))
+  statement_layer (Statement-F.If at condition chosen (Some other)) = subst (λ (d : Doer). (last : Bool) → Steps funs (of_step funs) (d.typed last)) (sym (fold-roll-Statement (Doing Part) (Doing Step) Reading (Doing Step) Seen Doer Braces (Doing Caught) Doer Seen (Ty → Doing TypedVariable) (argument_step funs.allowed hs) (body_step funs.allowed hs) (expression_step funs.allowed hs) (first_step funs.allowed hs) (lambda_step funs.allowed hs) (statement_step funs.allowed hs) (block_step funs.allowed hs) (catch_step funs.allowed hs) (declaration_step funs.allowed hs) (entry_step funs.allowed hs) (variable_step funs.allowed hs) (Statement-F.If at condition.0 chosen.0 (Some other.0)))) (λ last. steps_of funs (if_step funs at (reading funs.allowed hs condition.0) condition.1 chosen.1 (perhaps_some funs other.1)))
+  statement_layer (Statement-F.While at condition None) = subst (λ (d : Doer). (last : Bool) → Steps funs (of_step funs) (d.typed last)) (sym (fold-roll-Statement (Doing Part) (Doing Step) Reading (Doing Step) Seen Doer Braces (Doing Caught) Doer Seen (Ty → Doing TypedVariable) (argument_step funs.allowed hs) (body_step funs.allowed hs) (expression_step funs.allowed hs) (first_step funs.allowed hs) (lambda_step funs.allowed hs) (statement_step funs.allowed hs) (block_step funs.allowed hs) (catch_step funs.allowed hs) (declaration_step funs.allowed hs) (entry_step funs.allowed hs) (variable_step funs.allowed hs) (Statement-F.While at condition.0 None))) (λ last. steps_of funs (while_step funs at (condition_is funs (reading funs.allowed hs condition.0) condition.1) (perhaps_none funs)))
+  statement_layer (Statement-F.While at condition (Some b)) = subst (λ (d : Doer). (last : Bool) → Steps funs (of_step funs) (d.typed last)) (sym (fold-roll-Statement (Doing Part) (Doing Step) Reading (Doing Step) Seen Doer Braces (Doing Caught) Doer Seen (Ty → Doing TypedVariable) (argument_step funs.allowed hs) (body_step funs.allowed hs) (expression_step funs.allowed hs) (first_step funs.allowed hs) (lambda_step funs.allowed hs) (statement_step funs.allowed hs) (block_step funs.allowed hs) (catch_step funs.allowed hs) (declaration_step funs.allowed hs) (entry_step funs.allowed hs) (variable_step funs.allowed hs) (Statement-F.While at condition.0 (Some b.0)))) (λ last. steps_of funs (while_step funs at (condition_is funs (reading funs.allowed hs condition.0) condition.1) (perhaps_some funs b.1)))
+  statement_layer (Statement-F.For at None None None None) = subst (λ (d : Doer). (last : Bool) → Steps funs (of_step funs) (d.typed last)) (sym (fold-roll-Statement (Doing Part) (Doing Step) Reading (Doing Step) Seen Doer Braces (Doing Caught) Doer Seen (Ty → Doing TypedVariable) (argument_step funs.allowed hs) (body_step funs.allowed hs) (expression_step funs.allowed hs) (first_step funs.allowed hs) (lambda_step funs.allowed hs) (statement_step funs.allowed hs) (block_step funs.allowed hs) (catch_step funs.allowed hs) (declaration_step funs.allowed hs) (entry_step funs.allowed hs) (variable_step funs.allowed hs) (Statement-F.For at None None None None))) (λ last. steps_of funs (for_step funs at (no_condition funs) (no_update funs) (perhaps_none funs)))
+  statement_layer (Statement-F.For at None None None (Some b)) = subst (λ (d : Doer). (last : Bool) → Steps funs (of_step funs) (d.typed last)) (sym (fold-roll-Statement (Doing Part) (Doing Step) Reading (Doing Step) Seen Doer Braces (Doing Caught) Doer Seen (Ty → Doing TypedVariable) (argument_step funs.allowed hs) (body_step funs.allowed hs) (expression_step funs.allowed hs) (first_step funs.allowed hs) (lambda_step funs.allowed hs) (statement_step funs.allowed hs) (block_step funs.allowed hs) (catch_step funs.allowed hs) (declaration_step funs.allowed hs) (entry_step funs.allowed hs) (variable_step funs.allowed hs) (Statement-F.For at None None None (Some b.0)))) (λ last. steps_of funs (for_step funs at (no_condition funs) (no_update funs) (perhaps_some funs b.1)))
+  statement_layer (Statement-F.For at None None (Some u) None) = subst (λ (d : Doer). (last : Bool) → Steps funs (of_step funs) (d.typed last)) (sym (fold-roll-Statement (Doing Part) (Doing Step) Reading (Doing Step) Seen Doer Braces (Doing Caught) Doer Seen (Ty → Doing TypedVariable) (argument_step funs.allowed hs) (body_step funs.allowed hs) (expression_step funs.allowed hs) (first_step funs.allowed hs) (lambda_step funs.allowed hs) (statement_step funs.allowed hs) (block_step funs.allowed hs) (catch_step funs.allowed hs) (declaration_step funs.allowed hs) (entry_step funs.allowed hs) (variable_step funs.allowed hs) (Statement-F.For at None None (Some u.0) None))) (λ last. steps_of funs (for_step funs at (no_condition funs) (update_is funs (reading funs.allowed hs u.0) u.1) (perhaps_none funs)))
+  statement_layer (Statement-F.For at None None (Some u) (Some b)) = subst (λ (d : Doer). (last : Bool) → Steps funs (of_step funs) (d.typed last)) (sym (fold-roll-Statement (Doing Part) (Doing Step) Reading (Doing Step) Seen Doer Braces (Doing Caught) Doer Seen (Ty → Doing TypedVariable) (argument_step funs.allowed hs) (body_step funs.allowed hs) (expression_step funs.allowed hs) (first_step funs.allowed hs) (lambda_step funs.allowed hs) (statement_step funs.allowed hs) (block_step funs.allowed hs) (catch_step funs.allowed hs) (declaration_step funs.allowed hs) (entry_step funs.allowed hs) (variable_step funs.allowed hs) (Statement-F.For at None None (Some u.0) (Some b.0)))) (λ last. steps_of funs (for_step funs at (no_condition funs) (update_is funs (reading funs.allowed hs u.0) u.1) (perhaps_some funs b.1)))
+  statement_layer (Statement-F.For at None (Some c) None None) = subst (λ (d : Doer). (last : Bool) → Steps funs (of_step funs) (d.typed last)) (sym (fold-roll-Statement (Doing Part) (Doing Step) Reading (Doing Step) Seen Doer Braces (Doing Caught) Doer Seen (Ty → Doing TypedVariable) (argument_step funs.allowed hs) (body_step funs.allowed hs) (expression_step funs.allowed hs) (first_step funs.allowed hs) (lambda_step funs.allowed hs) (statement_step funs.allowed hs) (block_step funs.allowed hs) (catch_step funs.allowed hs) (declaration_step funs.allowed hs) (entry_step funs.allowed hs) (variable_step funs.allowed hs) (Statement-F.For at None (Some c.0) None None))) (λ last. steps_of funs (for_step funs at (condition_is funs (reading funs.allowed hs c.0) c.1) (no_update funs) (perhaps_none funs)))
+  statement_layer (Statement-F.For at None (Some c) None (Some b)) = subst (λ (d : Doer). (last : Bool) → Steps funs (of_step funs) (d.typed last)) (sym (fold-roll-Statement (Doing Part) (Doing Step) Reading (Doing Step) Seen Doer Braces (Doing Caught) Doer Seen (Ty → Doing TypedVariable) (argument_step funs.allowed hs) (body_step funs.allowed hs) (expression_step funs.allowed hs) (first_step funs.allowed hs) (lambda_step funs.allowed hs) (statement_step funs.allowed hs) (block_step funs.allowed hs) (catch_step funs.allowed hs) (declaration_step funs.allowed hs) (entry_step funs.allowed hs) (variable_step funs.allowed hs) (Statement-F.For at None (Some c.0) None (Some b.0)))) (λ last. steps_of funs (for_step funs at (condition_is funs (reading funs.allowed hs c.0) c.1) (no_update funs) (perhaps_some funs b.1)))
+  statement_layer (Statement-F.For at None (Some c) (Some u) None) = subst (λ (d : Doer). (last : Bool) → Steps funs (of_step funs) (d.typed last)) (sym (fold-roll-Statement (Doing Part) (Doing Step) Reading (Doing Step) Seen Doer Braces (Doing Caught) Doer Seen (Ty → Doing TypedVariable) (argument_step funs.allowed hs) (body_step funs.allowed hs) (expression_step funs.allowed hs) (first_step funs.allowed hs) (lambda_step funs.allowed hs) (statement_step funs.allowed hs) (block_step funs.allowed hs) (catch_step funs.allowed hs) (declaration_step funs.allowed hs) (entry_step funs.allowed hs) (variable_step funs.allowed hs) (Statement-F.For at None (Some c.0) (Some u.0) None))) (λ last. steps_of funs (for_step funs at (condition_is funs (reading funs.allowed hs c.0) c.1) (update_is funs (reading funs.allowed hs u.0) u.1) (perhaps_none funs)))
+  statement_layer (Statement-F.For at None (Some c) (Some u) (Some b)) = subst (λ (d : Doer). (last : Bool) → Steps funs (of_step funs) (d.typed last)) (sym (fold-roll-Statement (Doing Part) (Doing Step) Reading (Doing Step) Seen Doer Braces (Doing Caught) Doer Seen (Ty → Doing TypedVariable) (argument_step funs.allowed hs) (body_step funs.allowed hs) (expression_step funs.allowed hs) (first_step funs.allowed hs) (lambda_step funs.allowed hs) (statement_step funs.allowed hs) (block_step funs.allowed hs) (catch_step funs.allowed hs) (declaration_step funs.allowed hs) (entry_step funs.allowed hs) (variable_step funs.allowed hs) (Statement-F.For at None (Some c.0) (Some u.0) (Some b.0)))) (λ last. steps_of funs (for_step funs at (condition_is funs (reading funs.allowed hs c.0) c.1) (update_is funs (reading funs.allowed hs u.0) u.1) (perhaps_some funs b.1)))
+  statement_layer (Statement-F.For at (Some f) None None None) = subst (λ (d : Doer). (last : Bool) → Steps funs (of_step funs) (d.typed last)) (sym (fold-roll-Statement (Doing Part) (Doing Step) Reading (Doing Step) Seen Doer Braces (Doing Caught) Doer Seen (Ty → Doing TypedVariable) (argument_step funs.allowed hs) (body_step funs.allowed hs) (expression_step funs.allowed hs) (first_step funs.allowed hs) (lambda_step funs.allowed hs) (statement_step funs.allowed hs) (block_step funs.allowed hs) (catch_step funs.allowed hs) (declaration_step funs.allowed hs) (entry_step funs.allowed hs) (variable_step funs.allowed hs) (Statement-F.For at (Some f.0) None None None))) (λ last. steps_of funs (for_first_step funs at f.1 (no_condition funs) (no_update funs) (perhaps_none funs)))
+  statement_layer (Statement-F.For at (Some f) None None (Some b)) = subst (λ (d : Doer). (last : Bool) → Steps funs (of_step funs) (d.typed last)) (sym (fold-roll-Statement (Doing Part) (Doing Step) Reading (Doing Step) Seen Doer Braces (Doing Caught) Doer Seen (Ty → Doing TypedVariable) (argument_step funs.allowed hs) (body_step funs.allowed hs) (expression_step funs.allowed hs) (first_step funs.allowed hs) (lambda_step funs.allowed hs) (statement_step funs.allowed hs) (block_step funs.allowed hs) (catch_step funs.allowed hs) (declaration_step funs.allowed hs) (entry_step funs.allowed hs) (variable_step funs.allowed hs) (Statement-F.For at (Some f.0) None None (Some b.0)))) (λ last. steps_of funs (for_first_step funs at f.1 (no_condition funs) (no_update funs) (perhaps_some funs b.1)))
+  statement_layer (Statement-F.For at (Some f) None (Some u) None) = subst (λ (d : Doer). (last : Bool) → Steps funs (of_step funs) (d.typed last)) (sym (fold-roll-Statement (Doing Part) (Doing Step) Reading (Doing Step) Seen Doer Braces (Doing Caught) Doer Seen (Ty → Doing TypedVariable) (argument_step funs.allowed hs) (body_step funs.allowed hs) (expression_step funs.allowed hs) (first_step funs.allowed hs) (lambda_step funs.allowed hs) (statement_step funs.allowed hs) (block_step funs.allowed hs) (catch_step funs.allowed hs) (declaration_step funs.allowed hs) (entry_step funs.allowed hs) (variable_step funs.allowed hs) (Statement-F.For at (Some f.0) None (Some u.0) None))) (λ last. steps_of funs (for_first_step funs at f.1 (no_condition funs) (update_is funs (reading funs.allowed hs u.0) u.1) (perhaps_none funs)))
+  statement_layer (Statement-F.For at (Some f) None (Some u) (Some b)) = subst (λ (d : Doer). (last : Bool) → Steps funs (of_step funs) (d.typed last)) (sym (fold-roll-Statement (Doing Part) (Doing Step) Reading (Doing Step) Seen Doer Braces (Doing Caught) Doer Seen (Ty → Doing TypedVariable) (argument_step funs.allowed hs) (body_step funs.allowed hs) (expression_step funs.allowed hs) (first_step funs.allowed hs) (lambda_step funs.allowed hs) (statement_step funs.allowed hs) (block_step funs.allowed hs) (catch_step funs.allowed hs) (declaration_step funs.allowed hs) (entry_step funs.allowed hs) (variable_step funs.allowed hs) (Statement-F.For at (Some f.0) None (Some u.0) (Some b.0)))) (λ last. steps_of funs (for_first_step funs at f.1 (no_condition funs) (update_is funs (reading funs.allowed hs u.0) u.1) (perhaps_some funs b.1)))
+  statement_layer (Statement-F.For at (Some f) (Some c) None None) = subst (λ (d : Doer). (last : Bool) → Steps funs (of_step funs) (d.typed last)) (sym (fold-roll-Statement (Doing Part) (Doing Step) Reading (Doing Step) Seen Doer Braces (Doing Caught) Doer Seen (Ty → Doing TypedVariable) (argument_step funs.allowed hs) (body_step funs.allowed hs) (expression_step funs.allowed hs) (first_step funs.allowed hs) (lambda_step funs.allowed hs) (statement_step funs.allowed hs) (block_step funs.allowed hs) (catch_step funs.allowed hs) (declaration_step funs.allowed hs) (entry_step funs.allowed hs) (variable_step funs.allowed hs) (Statement-F.For at (Some f.0) (Some c.0) None None))) (λ last. steps_of funs (for_first_step funs at f.1 (condition_is funs (reading funs.allowed hs c.0) c.1) (no_update funs) (perhaps_none funs)))
+  statement_layer (Statement-F.For at (Some f) (Some c) None (Some b)) = subst (λ (d : Doer). (last : Bool) → Steps funs (of_step funs) (d.typed last)) (sym (fold-roll-Statement (Doing Part) (Doing Step) Reading (Doing Step) Seen Doer Braces (Doing Caught) Doer Seen (Ty → Doing TypedVariable) (argument_step funs.allowed hs) (body_step funs.allowed hs) (expression_step funs.allowed hs) (first_step funs.allowed hs) (lambda_step funs.allowed hs) (statement_step funs.allowed hs) (block_step funs.allowed hs) (catch_step funs.allowed hs) (declaration_step funs.allowed hs) (entry_step funs.allowed hs) (variable_step funs.allowed hs) (Statement-F.For at (Some f.0) (Some c.0) None (Some b.0)))) (λ last. steps_of funs (for_first_step funs at f.1 (condition_is funs (reading funs.allowed hs c.0) c.1) (no_update funs) (perhaps_some funs b.1)))
+  statement_layer (Statement-F.For at (Some f) (Some c) (Some u) None) = subst (λ (d : Doer). (last : Bool) → Steps funs (of_step funs) (d.typed last)) (sym (fold-roll-Statement (Doing Part) (Doing Step) Reading (Doing Step) Seen Doer Braces (Doing Caught) Doer Seen (Ty → Doing TypedVariable) (argument_step funs.allowed hs) (body_step funs.allowed hs) (expression_step funs.allowed hs) (first_step funs.allowed hs) (lambda_step funs.allowed hs) (statement_step funs.allowed hs) (block_step funs.allowed hs) (catch_step funs.allowed hs) (declaration_step funs.allowed hs) (entry_step funs.allowed hs) (variable_step funs.allowed hs) (Statement-F.For at (Some f.0) (Some c.0) (Some u.0) None))) (λ last. steps_of funs (for_first_step funs at f.1 (condition_is funs (reading funs.allowed hs c.0) c.1) (update_is funs (reading funs.allowed hs u.0) u.1) (perhaps_none funs)))
+  statement_layer (Statement-F.For at (Some f) (Some c) (Some u) (Some b)) = subst (λ (d : Doer). (last : Bool) → Steps funs (of_step funs) (d.typed last)) (sym (fold-roll-Statement (Doing Part) (Doing Step) Reading (Doing Step) Seen Doer Braces (Doing Caught) Doer Seen (Ty → Doing TypedVariable) (argument_step funs.allowed hs) (body_step funs.allowed hs) (expression_step funs.allowed hs) (first_step funs.allowed hs) (lambda_step funs.allowed hs) (statement_step funs.allowed hs) (block_step funs.allowed hs) (catch_step funs.allowed hs) (declaration_step funs.allowed hs) (entry_step funs.allowed hs) (variable_step funs.allowed hs) (Statement-F.For at (Some f.0) (Some c.0) (Some u.0) (Some b.0)))) (λ last. steps_of funs (for_first_step funs at f.1 (condition_is funs (reading funs.allowed hs c.0) c.1) (update_is funs (reading funs.allowed hs u.0) u.1) (perhaps_some funs b.1)))
+  statement_layer (Statement-F.ForEach at of name over b) = subst (λ (d : Doer). (last : Bool) → Steps funs (of_step funs) (d.typed last)) (sym (fold-roll-Statement (Doing Part) (Doing Step) Reading (Doing Step) Seen Doer Braces (Doing Caught) Doer Seen (Ty → Doing TypedVariable) (argument_step funs.allowed hs) (body_step funs.allowed hs) (expression_step funs.allowed hs) (first_step funs.allowed hs) (lambda_step funs.allowed hs) (statement_step funs.allowed hs) (block_step funs.allowed hs) (catch_step funs.allowed hs) (declaration_step funs.allowed hs) (entry_step funs.allowed hs) (variable_step funs.allowed hs) (Statement-F.ForEach at of name over.0 b.0))) (λ last. steps_of funs (each_value at (by_rule (type_of of)) name.spelling (reading funs.allowed hs over.0) (rule_looked (type_of of)) over.1 b.1))
+  statement_layer (Statement-F.ForIn at name over b) = subst (λ (d : Doer). (last : Bool) → Steps funs (of_step funs) (d.typed last)) (sym (fold-roll-Statement (Doing Part) (Doing Step) Reading (Doing Step) Seen Doer Braces (Doing Caught) Doer Seen (Ty → Doing TypedVariable) (argument_step funs.allowed hs) (body_step funs.allowed hs) (expression_step funs.allowed hs) (first_step funs.allowed hs) (lambda_step funs.allowed hs) (statement_step funs.allowed hs) (block_step funs.allowed hs) (catch_step funs.allowed hs) (declaration_step funs.allowed hs) (entry_step funs.allowed hs) (variable_step funs.allowed hs) (Statement-F.ForIn at name over.0 b.0))) (λ last. steps_of funs (each_value at (pure t.Def) name.spelling (reading funs.allowed hs over.0) (pure_looked t.Def) over.1 b.1))
+  statement_layer (Statement-F.Try at block catches) = subst (λ (d : Doer). (last : Bool) → Steps funs (of_step funs) (d.typed last)) (sym (fold-roll-Statement (Doing Part) (Doing Step) Reading (Doing Step) Seen Doer Braces (Doing Caught) Doer Seen (Ty → Doing TypedVariable) (argument_step funs.allowed hs) (body_step funs.allowed hs) (expression_step funs.allowed hs) (first_step funs.allowed hs) (lambda_step funs.allowed hs) (statement_step funs.allowed hs) (block_step funs.allowed hs) (catch_step funs.allowed hs) (declaration_step funs.allowed hs) (entry_step funs.allowed hs) (variable_step funs.allowed hs) (Statement-F.Try at block.0 (map (λ e. e.0) catches)))) (λ last. steps_of funs (try_value at block catches))
+  statement_layer (Statement-F.Do at block condition) = subst (λ (d : Doer). (last : Bool) → Steps funs (of_step funs) (d.typed last)) (sym (fold-roll-Statement (Doing Part) (Doing Step) Reading (Doing Step) Seen Doer Braces (Doing Caught) Doer Seen (Ty → Doing TypedVariable) (argument_step funs.allowed hs) (body_step funs.allowed hs) (expression_step funs.allowed hs) (first_step funs.allowed hs) (lambda_step funs.allowed hs) (statement_step funs.allowed hs) (block_step funs.allowed hs) (catch_step funs.allowed hs) (declaration_step funs.allowed hs) (entry_step funs.allowed hs) (variable_step funs.allowed hs) (Statement-F.Do at block.0 condition.0))) (λ last. steps_of funs (do_step funs at (braces funs.allowed hs block.0).at block.1 (condition_is funs (reading funs.allowed hs condition.0) condition.1)))
+  statement_layer (Statement-F.«Statement::Declare» d) = subst (λ (d : Doer). (last : Bool) → Steps funs (of_step funs) (d.typed last)) (sym (fold-roll-Statement (Doing Part) (Doing Step) Reading (Doing Step) Seen Doer Braces (Doing Caught) Doer Seen (Ty → Doing TypedVariable) (argument_step funs.allowed hs) (body_step funs.allowed hs) (expression_step funs.allowed hs) (first_step funs.allowed hs) (lambda_step funs.allowed hs) (statement_step funs.allowed hs) (block_step funs.allowed hs) (catch_step funs.allowed hs) (declaration_step funs.allowed hs) (entry_step funs.allowed hs) (variable_step funs.allowed hs) (Statement-F.«Statement::Declare» d.0))) (λ last. first_is_step funs (d.1 false))
+  statement_layer (Statement-F.Continue at) = subst (λ (d : Doer). (last : Bool) → Steps funs (of_step funs) (d.typed last)) (sym (fold-roll-Statement (Doing Part) (Doing Step) Reading (Doing Step) Seen Doer Braces (Doing Caught) Doer Seen (Ty → Doing TypedVariable) (argument_step funs.allowed hs) (body_step funs.allowed hs) (expression_step funs.allowed hs) (first_step funs.allowed hs) (lambda_step funs.allowed hs) (statement_step funs.allowed hs) (block_step funs.allowed hs) (catch_step funs.allowed hs) (declaration_step funs.allowed hs) (entry_step funs.allowed hs) (variable_step funs.allowed hs) (Statement-F.Continue at))) (λ last. steps_of funs (looks funs (continue_of at) (λ s x d e. continue_step funs s at x e)))
+  statement_layer (Statement-F.Break at) = subst (λ (d : Doer). (last : Bool) → Steps funs (of_step funs) (d.typed last)) (sym (fold-roll-Statement (Doing Part) (Doing Step) Reading (Doing Step) Seen Doer Braces (Doing Caught) Doer Seen (Ty → Doing TypedVariable) (argument_step funs.allowed hs) (body_step funs.allowed hs) (expression_step funs.allowed hs) (first_step funs.allowed hs) (lambda_step funs.allowed hs) (statement_step funs.allowed hs) (block_step funs.allowed hs) (catch_step funs.allowed hs) (declaration_step funs.allowed hs) (entry_step funs.allowed hs) (variable_step funs.allowed hs) (Statement-F.Break at))) (λ last. steps_of funs (looks funs (break_of at) (λ s x d e. break_step funs s at x e)))
+  statement_layer (Statement-F.Return at None) = subst (λ (d : Doer). (last : Bool) → Steps funs (of_step funs) (d.typed last)) (sym (fold-roll-Statement (Doing Part) (Doing Step) Reading (Doing Step) Seen Doer Braces (Doing Caught) Doer Seen (Ty → Doing TypedVariable) (argument_step funs.allowed hs) (body_step funs.allowed hs) (expression_step funs.allowed hs) (first_step funs.allowed hs) (lambda_step funs.allowed hs) (statement_step funs.allowed hs) (block_step funs.allowed hs) (catch_step funs.allowed hs) (declaration_step funs.allowed hs) (entry_step funs.allowed hs) (variable_step funs.allowed hs) (Statement-F.Return at None))) (λ last. steps_of funs (looks funs (nothing_returned at) (λ s x d e. nothing_step funs s at x e)))
+  statement_layer (Statement-F.Return at (Some v)) = subst (λ (d : Doer). (last : Bool) → Steps funs (of_step funs) (d.typed last)) (sym (fold-roll-Statement (Doing Part) (Doing Step) Reading (Doing Step) Seen Doer Braces (Doing Caught) Doer Seen (Ty → Doing TypedVariable) (argument_step funs.allowed hs) (body_step funs.allowed hs) (expression_step funs.allowed hs) (first_step funs.allowed hs) (lambda_step funs.allowed hs) (statement_step funs.allowed hs) (block_step funs.allowed hs) (catch_step funs.allowed hs) (declaration_step funs.allowed hs) (entry_step funs.allowed hs) (variable_step funs.allowed hs) (Statement-F.Return at (Some v.0)))) (λ last. steps_of funs (return_value at v.1))
+  statement_layer (Statement-F.Throw at value) = subst (λ (d : Doer). (last : Bool) → Steps funs (of_step funs) (d.typed last)) (sym (fold-roll-Statement (Doing Part) (Doing Step) Reading (Doing Step) Seen Doer Braces (Doing Caught) Doer Seen (Ty → Doing TypedVariable) (argument_step funs.allowed hs) (body_step funs.allowed hs) (expression_step funs.allowed hs) (first_step funs.allowed hs) (lambda_step funs.allowed hs) (statement_step funs.allowed hs) (block_step funs.allowed hs) (catch_step funs.allowed hs) (declaration_step funs.allowed hs) (entry_step funs.allowed hs) (variable_step funs.allowed hs) (Statement-F.Throw at value.0))) (λ last. steps_of funs (throw_value at (reading funs.allowed hs value.0) value.1))
+  statement_layer (Statement-F.«Statement::Expression» at value) = subst (λ (d : Doer). (last : Bool) → Steps funs (of_step funs) (d.typed last)) (sym (fold-roll-Statement (Doing Part) (Doing Step) Reading (Doing Step) Seen Doer Braces (Doing Caught) Doer Seen (Ty → Doing TypedVariable) (argument_step funs.allowed hs) (body_step funs.allowed hs) (expression_step funs.allowed hs) (first_step funs.allowed hs) (lambda_step funs.allowed hs) (statement_step funs.allowed hs) (block_step funs.allowed hs) (catch_step funs.allowed hs) (declaration_step funs.allowed hs) (entry_step funs.allowed hs) (variable_step funs.allowed hs) (Statement-F.«Statement::Expression» at value.0))) (λ last. steps_of funs (expression_value at last (reading funs.allowed hs value.0) value.1))
 
   block_layer : (y : WithBlock) → OfBlock (roll-Block (bareBlock y))
-  block_layer y = subst (λ (b : Braces). Steps funs (row funs) b.steps) (sym (fold-roll-Block (Doing Part) (Doing Step) Reading (Doing Step) Seen Doer Braces Seen Doer Seen (Ty → Doing TypedVariable) (argument_step funs.allowed hs) (body_step funs.allowed hs) (expression_step funs.allowed hs) (first_step funs.allowed hs) (lambda_step funs.allowed hs) (statement_step funs.allowed hs) (block_step funs.allowed hs) (catch_step funs.allowed hs) (declaration_step funs.allowed hs) (entry_step funs.allowed hs) (variable_step funs.allowed hs) (bareBlock y))) (block_steps funs _ (row_steps y.statements))
+  block_layer y = subst (λ (b : Braces). Steps funs (row funs) b.steps) (sym (fold-roll-Block (Doing Part) (Doing Step) Reading (Doing Step) Seen Doer Braces (Doing Caught) Doer Seen (Ty → Doing TypedVariable) (argument_step funs.allowed hs) (body_step funs.allowed hs) (expression_step funs.allowed hs) (first_step funs.allowed hs) (lambda_step funs.allowed hs) (statement_step funs.allowed hs) (block_step funs.allowed hs) (catch_step funs.allowed hs) (declaration_step funs.allowed hs) (entry_step funs.allowed hs) (variable_step funs.allowed hs) (bareBlock y))) (block_steps funs _ (row_steps y.statements))
 
   catch_layer : (y : WithCatch) → OfCatch (roll-Catch (bareCatch y))
-  catch_layer y = subst Looked (sym (fold-roll-Catch (Doing Part) (Doing Step) Reading (Doing Step) Seen Doer Braces Seen Doer Seen (Ty → Doing TypedVariable) (argument_step funs.allowed hs) (body_step funs.allowed hs) (expression_step funs.allowed hs) (first_step funs.allowed hs) (lambda_step funs.allowed hs) (statement_step funs.allowed hs) (block_step funs.allowed hs) (catch_step funs.allowed hs) (declaration_step funs.allowed hs) (entry_step funs.allowed hs) (variable_step funs.allowed hs) (bareCatch y))) (catch_looked y.of y.name.spelling y.block)
+  catch_layer y = subst Looked (sym (fold-roll-Catch (Doing Part) (Doing Step) Reading (Doing Step) Seen Doer Braces (Doing Caught) Doer Seen (Ty → Doing TypedVariable) (argument_step funs.allowed hs) (body_step funs.allowed hs) (expression_step funs.allowed hs) (first_step funs.allowed hs) (lambda_step funs.allowed hs) (statement_step funs.allowed hs) (block_step funs.allowed hs) (catch_step funs.allowed hs) (declaration_step funs.allowed hs) (entry_step funs.allowed hs) (variable_step funs.allowed hs) (bareCatch y))) (catch_looked y.of y.name.spelling y.block)
 
   declaration_layer : (y : WithDeclaration) → OfDeclaration (roll-Declaration (bareDeclaration y))
-  declaration_layer y = subst (λ (d : Doer). (last : Bool) → Steps funs (of_first funs) (d.typed last)) (sym (fold-roll-Declaration (Doing Part) (Doing Step) Reading (Doing Step) Seen Doer Braces Seen Doer Seen (Ty → Doing TypedVariable) (argument_step funs.allowed hs) (body_step funs.allowed hs) (expression_step funs.allowed hs) (first_step funs.allowed hs) (lambda_step funs.allowed hs) (statement_step funs.allowed hs) (block_step funs.allowed hs) (catch_step funs.allowed hs) (declaration_step funs.allowed hs) (entry_step funs.allowed hs) (variable_step funs.allowed hs) (bareDeclaration y))) (λ last. declaration_agrees funs y.of.at y.of _ (λ of p. all_variables of p y.variables))
+  declaration_layer y = subst (λ (d : Doer). (last : Bool) → Steps funs (of_first funs) (d.typed last)) (sym (fold-roll-Declaration (Doing Part) (Doing Step) Reading (Doing Step) Seen Doer Braces (Doing Caught) Doer Seen (Ty → Doing TypedVariable) (argument_step funs.allowed hs) (body_step funs.allowed hs) (expression_step funs.allowed hs) (first_step funs.allowed hs) (lambda_step funs.allowed hs) (statement_step funs.allowed hs) (block_step funs.allowed hs) (catch_step funs.allowed hs) (declaration_step funs.allowed hs) (entry_step funs.allowed hs) (variable_step funs.allowed hs) (bareDeclaration y))) (λ last. declaration_agrees funs y.of.at y.of _ (λ of p. all_variables of p y.variables))
 
   entry_layer : (y : WithEntry) → OfEntry (roll-Entry (bareEntry y))
-  entry_layer y = subst Looked (sym (fold-roll-Entry (Doing Part) (Doing Step) Reading (Doing Step) Seen Doer Braces Seen Doer Seen (Ty → Doing TypedVariable) (argument_step funs.allowed hs) (body_step funs.allowed hs) (expression_step funs.allowed hs) (first_step funs.allowed hs) (lambda_step funs.allowed hs) (statement_step funs.allowed hs) (block_step funs.allowed hs) (catch_step funs.allowed hs) (declaration_step funs.allowed hs) (entry_step funs.allowed hs) (variable_step funs.allowed hs) (bareEntry y))) (followed (seen_looked (looked y.key.1.value)) (seen_looked (looked y.value.1.value)))
+  entry_layer y = subst Looked (sym (fold-roll-Entry (Doing Part) (Doing Step) Reading (Doing Step) Seen Doer Braces (Doing Caught) Doer Seen (Ty → Doing TypedVariable) (argument_step funs.allowed hs) (body_step funs.allowed hs) (expression_step funs.allowed hs) (first_step funs.allowed hs) (lambda_step funs.allowed hs) (statement_step funs.allowed hs) (block_step funs.allowed hs) (catch_step funs.allowed hs) (declaration_step funs.allowed hs) (entry_step funs.allowed hs) (variable_step funs.allowed hs) (bareEntry y))) (followed (seen_looked (looked y.key.1.value)) (seen_looked (looked y.value.1.value)))
 
   abbrev option_of : Option ((x : Argument) × OfArgument x) → Option (Doing Part)
   option_of None = None
@@ -522,8 +523,8 @@ module _ (funs : Script) (hs : List Header) (heads : Heads funs hs) where
   variable_first name (Some v) of p = initial_some funs of p v.1
 
   varied : (name : Spelled) (v : Option ((x : Argument) × OfArgument x)) → OfVariable (roll-Variable (record { name = name; value = bare_of v }))
-  varied name None = subst (λ (v : Ty → Doing TypedVariable). (of : Ty) → IsBuilt of → Steps funs (one_variable funs) (v of)) (sym (fold-roll-Variable (Doing Part) (Doing Step) Reading (Doing Step) Seen Doer Braces Seen Doer Seen (Ty → Doing TypedVariable) (argument_step funs.allowed hs) (body_step funs.allowed hs) (expression_step funs.allowed hs) (first_step funs.allowed hs) (lambda_step funs.allowed hs) (statement_step funs.allowed hs) (block_step funs.allowed hs) (catch_step funs.allowed hs) (declaration_step funs.allowed hs) (entry_step funs.allowed hs) (variable_step funs.allowed hs) (record { name = name; value = None }))) (λ of p. variable_is funs name of p (variable_first name None of p))
-  varied name (Some v) = subst (λ (v : Ty → Doing TypedVariable). (of : Ty) → IsBuilt of → Steps funs (one_variable funs) (v of)) (sym (fold-roll-Variable (Doing Part) (Doing Step) Reading (Doing Step) Seen Doer Braces Seen Doer Seen (Ty → Doing TypedVariable) (argument_step funs.allowed hs) (body_step funs.allowed hs) (expression_step funs.allowed hs) (first_step funs.allowed hs) (lambda_step funs.allowed hs) (statement_step funs.allowed hs) (block_step funs.allowed hs) (catch_step funs.allowed hs) (declaration_step funs.allowed hs) (entry_step funs.allowed hs) (variable_step funs.allowed hs) (record { name = name; value = Some v.0 }))) (λ of p. variable_is funs name of p (variable_first name (Some v) of p))
+  varied name None = subst (λ (v : Ty → Doing TypedVariable). (of : Ty) → IsBuilt of → Steps funs (one_variable funs) (v of)) (sym (fold-roll-Variable (Doing Part) (Doing Step) Reading (Doing Step) Seen Doer Braces (Doing Caught) Doer Seen (Ty → Doing TypedVariable) (argument_step funs.allowed hs) (body_step funs.allowed hs) (expression_step funs.allowed hs) (first_step funs.allowed hs) (lambda_step funs.allowed hs) (statement_step funs.allowed hs) (block_step funs.allowed hs) (catch_step funs.allowed hs) (declaration_step funs.allowed hs) (entry_step funs.allowed hs) (variable_step funs.allowed hs) (record { name = name; value = None }))) (λ of p. variable_is funs name of p (variable_first name None of p))
+  varied name (Some v) = subst (λ (v : Ty → Doing TypedVariable). (of : Ty) → IsBuilt of → Steps funs (one_variable funs) (v of)) (sym (fold-roll-Variable (Doing Part) (Doing Step) Reading (Doing Step) Seen Doer Braces (Doing Caught) Doer Seen (Ty → Doing TypedVariable) (argument_step funs.allowed hs) (body_step funs.allowed hs) (expression_step funs.allowed hs) (first_step funs.allowed hs) (lambda_step funs.allowed hs) (statement_step funs.allowed hs) (block_step funs.allowed hs) (catch_step funs.allowed hs) (declaration_step funs.allowed hs) (entry_step funs.allowed hs) (variable_step funs.allowed hs) (record { name = name; value = Some v.0 }))) (λ of p. variable_is funs name of p (variable_first name (Some v) of p))
 
   bared : (name : Spelled) (v : Option ((x : Argument) × OfArgument x)) → OfVariable (roll-Variable (bareVariable (record { name = name; value = v })))
   bared name None = varied name None

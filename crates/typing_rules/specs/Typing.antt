@@ -28,11 +28,12 @@ use Rattle.typing_rules.specs.declared.part.Part.{Part}
 use Rattle.typing_rules.specs.declared.part.Place.{Place}
 use Rattle.typing_rules.specs.declared.part.Place.TheVariants as place
 use Rattle.typing_rules.specs.declared.part.Step.{Step}
+use Rattle.typing_rules.specs.declared.part.Caught.{Caught}
 use Rattle.typing_rules.specs.declared.state.State.{State}
 use Rattle.typing_rules.specs.Outcomes.{Out, refuse, bind}
-use Rattle.typing_rules.specs.State.{closed, noted}
-use Rattle.typing_rules.specs.Doing.{Answer, Doing, ◌>>=◌, ◌>>◌, pure, by_rule, looking, setting, stating, known}
-use Rattle.typing_rules.specs.Rules.Types.{type_of}
+use Rattle.typing_rules.specs.State.{closed, declared, noted}
+use Rattle.typing_rules.specs.Doing.{Answer, Doing, ◌>>=◌, ◌>>◌, pure, by_rule, looking, changing, setting, stating, known}
+use Rattle.typing_rules.specs.Rules.Types.{type_of, caught_class}
 use Rattle.typing_rules.specs.Rules.Nodes.{bracketed}
 use Rattle.typing_rules.specs.Rules.Literals.{integer, negated_integer, constant, text}
 use Rattle.typing_rules.specs.Rules.Casts.{cast_to, asked}
@@ -42,7 +43,7 @@ use Rattle.allowlist.specs.Allow.{AllowList}
 use Rattle.pl_tree.specs.declared.operator.Access.{Access}
 use Rattle.typing_rules.specs.Rules.Calls.{call_of}
 use Rattle.typing_rules.specs.Rules.Members.{read_of, field_of, method_of, static_of, new_of}
-use Rattle.typing_rules.specs.Rules.Statements.{reached, deed, expression_of, variable_of, declaration_of, test, loop_test, if_of, loop_of, do_of, break_of, continue_of, return_of, nothing_returned, throw_of, block_of}
+use Rattle.typing_rules.specs.Rules.Statements.{reached, deed, expression_of, variable_of, declaration_of, test, loop_test, if_of, loop_of, do_of, break_of, continue_of, return_of, nothing_returned, throw_of, block_of, caught, try_of}
 use Rattle.typing_rules.specs.Rules.Functions.{headers, function_start, main_start, finished, main}
 
 -- An expression: its first token, the type that it is where it is none, its value, its value directly behind a minus that stands at a place,
@@ -158,7 +159,12 @@ lambda_parameters (p ∷ ps) = do of ← by_rule (parameter_type p.of); setting 
 abbrev pub lambda : ℕ → List Parameter → Seen → Doing Part
 lambda at ps body = do setting alone; lambda_parameters ps; body; unbuilt at
 
--- loops over elements are not built, nor is `try`
+-- the catches of a `try`, the first first
+abbrev pub handlers : List (Doing Caught) → Doing (List Caught)
+handlers [] = pure []
+handlers (m ∷ rest) = do x ← m; xs ← handlers rest; pure (x ∷ xs)
+
+-- loops over elements are not built
 abbrev pub for_each : ℕ → Doing Ty → List ℕ → Reading → Doing Step → Doing Step
 for_each at type name over body = do of ← type; x ← over.value; setting (noted name of); y ← looping body; unbuilt at
 
@@ -171,7 +177,7 @@ module _ (allow : AllowList) (hs : List Header) where
   call at name given = do xs ← parts given; by_rule (call_of hs at name xs)
 
   abbrev pub Open : (Type 0 → Type 0 → Type 0 → Type 0 → Type 0 → Type 0 → Type 0 → Type 0 → Type 0 → Type 0 → Type 0 → Type 0) → Type 0
-  Open F = F (Doing Part) (Doing Step) Reading (Doing Step) Seen Doer Braces Seen Doer Seen (Ty → Doing TypedVariable)
+  Open F = F (Doing Part) (Doing Step) Reading (Doing Step) Seen Doer Braces (Doing Caught) Doer Seen (Ty → Doing TypedVariable)
 
   -- a member of a value, or of the class that a type names
   abbrev pub read : Access → ℕ → Reading → Option (Doing Ty) → List ℕ → Doing Part
@@ -255,7 +261,7 @@ module _ (allow : AllowList) (hs : List Header) where
   }
   statement_step (Statement-F.ForEach at of name over body) = record { at = at; typed = λ last. for_each at (by_rule (type_of of)) name.spelling over body }
   statement_step (Statement-F.ForIn at name over body) = record { at = at; typed = λ last. for_each at (pure t.Def) name.spelling over body }
-  statement_step (Statement-F.Try at block catches) = record { at = at; typed = λ last. (do seen (scoped block.steps); all_seen catches; unbuilt at) }
+  statement_step (Statement-F.Try at block catches) = record { at = at; typed = λ last. (do ys ← scoped block.steps; cs ← handlers catches; pure (try_of at (block_of block.at ys) cs)) }
   statement_step (Statement-F.Do at block condition) = record {
     at = at;
     typed = λ last.
@@ -271,8 +277,10 @@ module _ (allow : AllowList) (hs : List Header) where
   abbrev pub block_step : Open Block-F → Braces
   block_step block = record { at = block.at; steps = statements false false block.statements }
 
-  abbrev pub catch_step : Open Catch-F → Seen
-  catch_step handler = do of ← by_rule (type_of handler.of); scoped (do setting (noted handler.name.spelling of); seen handler.block.steps)
+  -- the type of a catch, and then its name, which is in sight in its block
+  abbrev pub catch_step : Open Catch-F → Doing Caught
+  catch_step handler =
+      do class ← by_rule (caught_class handler.of); scoped (do changing (declared handler.name.at handler.name.spelling (t.Class class)); ys ← handler.block.steps; pure (caught handler.at class handler.name.spelling (block_of handler.block.at ys)))
 
   abbrev pub declaration_step : Open Declaration-F → Doer
   declaration_step d = record { at = d.of.at; typed = λ last. (do of ← by_rule (type_of d.of); vs ← variables of d.variables; pure (declaration_of d.of.at vs)) }
@@ -284,23 +292,23 @@ module _ (allow : AllowList) (hs : List Header) where
   variable_step v of = do x ← initial of v.value; stating (variable_of v.name of x)
 
   abbrev pub reading : Expr → Reading
-  reading = fold-Expr (Doing Part) (Doing Step) Reading (Doing Step) Seen Doer Braces Seen Doer Seen (Ty → Doing TypedVariable)
+  reading = fold-Expr (Doing Part) (Doing Step) Reading (Doing Step) Seen Doer Braces (Doing Caught) Doer Seen (Ty → Doing TypedVariable)
       argument_step body_step expression_step first_step lambda_step statement_step block_step catch_step declaration_step entry_step variable_step
 
   abbrev pub argument : Argument → Doing Part
-  argument = fold-Argument (Doing Part) (Doing Step) Reading (Doing Step) Seen Doer Braces Seen Doer Seen (Ty → Doing TypedVariable)
+  argument = fold-Argument (Doing Part) (Doing Step) Reading (Doing Step) Seen Doer Braces (Doing Caught) Doer Seen (Ty → Doing TypedVariable)
       argument_step body_step expression_step first_step lambda_step statement_step block_step catch_step declaration_step entry_step variable_step
 
   abbrev pub body : Body → Doing Step
-  body = fold-Body (Doing Part) (Doing Step) Reading (Doing Step) Seen Doer Braces Seen Doer Seen (Ty → Doing TypedVariable)
+  body = fold-Body (Doing Part) (Doing Step) Reading (Doing Step) Seen Doer Braces (Doing Caught) Doer Seen (Ty → Doing TypedVariable)
       argument_step body_step expression_step first_step lambda_step statement_step block_step catch_step declaration_step entry_step variable_step
 
   abbrev pub doer : Statement → Doer
-  doer = fold-Statement (Doing Part) (Doing Step) Reading (Doing Step) Seen Doer Braces Seen Doer Seen (Ty → Doing TypedVariable)
+  doer = fold-Statement (Doing Part) (Doing Step) Reading (Doing Step) Seen Doer Braces (Doing Caught) Doer Seen (Ty → Doing TypedVariable)
       argument_step body_step expression_step first_step lambda_step statement_step block_step catch_step declaration_step entry_step variable_step
 
   abbrev pub braces : Block → Braces
-  braces = fold-Block (Doing Part) (Doing Step) Reading (Doing Step) Seen Doer Braces Seen Doer Seen (Ty → Doing TypedVariable)
+  braces = fold-Block (Doing Part) (Doing Step) Reading (Doing Step) Seen Doer Braces (Doing Caught) Doer Seen (Ty → Doing TypedVariable)
       argument_step body_step expression_step first_step lambda_step statement_step block_step catch_step declaration_step entry_step variable_step
 
 -- a body from its first step

@@ -13,6 +13,6 @@ mod state;
 mod texts;
 
 pub use header::{ContextTypes, Header};
-pub use part::{Form, Part, Place, Step};
+pub use part::{Caught, Form, Part, Place, Step};
 pub use scopes::{Entry, Scopes, Standing};
 pub use state::State;

@@ -3,10 +3,11 @@
 ghost use Rattle.std.specs.Prelude.{◌≡◌};
 ghost use Rattle.typing_rules.specs.Rules.Nodes as spec;
 ghost use Rattle.typing_rules.specs.Rules.Places as places;
+ghost use Rattle.typing_rules.specs.Rules.Statements as statements;
 
 use pl_types::Ty;
 use plain_data::{Subtree, Text};
-use typed_tree::{Typed, TypedStatement};
+use typed_tree::{Typed, TypedCatch, TypedStatement};
 
 /// What an expression is to the rules of the node around it.
 #[derive(Clone, Copy)]
@@ -134,5 +135,44 @@ impl Step {
             statement,
         } = self;
         statement
+    }
+}
+
+/// A catch that is typed, where it stands: the class whose instances it takes, the name that they have in its block, and the block.
+pub struct Caught {
+    pub at: u32,
+    pub class: u32,
+    pub name: Text,
+    pub body: Step,
+}
+
+impl Drop for Caught {
+    fn drop(self) {
+        let Caught {
+            at: _,
+            class: _,
+            name: _name,
+            body: _body,
+        } = self;
+    }
+}
+
+impl Caught {
+    /// The catch.
+    pub fn into_catch(self) -> TypedCatch
+        ensures { result ≡ statements.catch_of self }
+    {
+        let Caught {
+            at,
+            class,
+            name,
+            body,
+        } = self;
+        TypedCatch {
+            at,
+            class,
+            name,
+            body: body.into_statement(),
+        }
     }
 }

@@ -19,6 +19,7 @@ use Rattle.pl_tree.specs.declared.tree.Argument.TheFolds.{fold_out-Block, fold_o
 use Rattle.typed_tree.specs.declared.statement.TypedVariable.{TypedVariable}
 use Rattle.allowlist.specs.Allow.{AllowList}
 use Rattle.typing_rules.specs.declared.header.Header.{Header}
+use Rattle.typing_rules.specs.declared.part.Caught.{Caught}
 use Rattle.typing_rules.specs.declared.part.Part.{Part}
 use Rattle.typing_rules.specs.declared.part.Step.{Step}
 use Rattle.typing_rules.specs.Doing.{Doing, and_then}
@@ -122,7 +123,7 @@ module _ (allow : AllowList) (hs : List Header) (js : List Job) (c : Config) whe
   pub block_goes : (e : Block) → run allow hs (j.Block_ e ∷ js) c ≡ run allow hs (j.Statements (out-Block e).statements 0 false false ∷ j.DoStatement (sa.Close (length c.state.scopes)) ∷ j.DoStatement (sa.Block (out-Block e).at (length c.steps)) ∷ js) c
   unfolding run
   block_goes e =
-      ap (λ (x : Braces). x.steps c.state (λ ys s. (run allow hs js) (record c { steps = rules.block_of x.at ys ∷ c.steps; state = closed (length c.state.scopes) s }))) (fold_out-Block (Doing Part) (Doing Step) Reading (Doing Step) Seen Doer Braces Seen Doer Seen (Ty → Doing TypedVariable) (argument_step allow hs) (body_step allow hs) (expression_step allow hs) (first_step allow hs) (lambda_step allow hs) (statement_step allow hs) (block_step allow hs) (catch_step allow hs) (declaration_step allow hs) (entry_step allow hs) (variable_step allow hs) e)
+      ap (λ (x : Braces). x.steps c.state (λ ys s. (run allow hs js) (record c { steps = rules.block_of x.at ys ∷ c.steps; state = closed (length c.state.scopes) s }))) (fold_out-Block (Doing Part) (Doing Step) Reading (Doing Step) Seen Doer Braces (Doing Caught) Doer Seen (Ty → Doing TypedVariable) (argument_step allow hs) (body_step allow hs) (expression_step allow hs) (first_step allow hs) (lambda_step allow hs) (statement_step allow hs) (block_step allow hs) (catch_step allow hs) (declaration_step allow hs) (entry_step allow hs) (variable_step allow hs) e)
       ∙ sym (λ i. statements false false (map (doer allow hs) (out-Block e).statements) c.state (λ ys s. and_then (above_piled ys c.steps (λ zs rest. Ok (record c { steps = rules.block_of (out-Block e).at zs ∷ rest; state = closed (length c.state.scopes) s })) i) (run allow hs js)))
 
   pub deed_goes : (e : Expr) → run allow hs (j.Deed e ∷ js) c ≡ run allow hs (j.Value e ∷ j.DoStatement (sa.First (reading allow hs e).first) ∷ js) c
@@ -136,7 +137,7 @@ module _ (allow : AllowList) (hs : List Header) (js : List Job) (c : Config) whe
   pub declaration_goes : (e : Declaration) → run allow hs (j.Declaration_ e ∷ js) c ≡ run allow hs (j.Variables (out-Declaration e).of (out-Declaration e).variables 0 ∷ j.DoStatement (sa.Declaration (out-Declaration e).of.at (length c.variables)) ∷ js) c
   unfolding run
   declaration_goes e =
-      ap (λ (x : Doer). x.typed false c.state (step_to c (run allow hs js))) (fold_out-Declaration (Doing Part) (Doing Step) Reading (Doing Step) Seen Doer Braces Seen Doer Seen (Ty → Doing TypedVariable) (argument_step allow hs) (body_step allow hs) (expression_step allow hs) (first_step allow hs) (lambda_step allow hs) (statement_step allow hs) (block_step allow hs) (catch_step allow hs) (declaration_step allow hs) (entry_step allow hs) (variable_step allow hs) e)
+      ap (λ (x : Doer). x.typed false c.state (step_to c (run allow hs js))) (fold_out-Declaration (Doing Part) (Doing Step) Reading (Doing Step) Seen Doer Braces (Doing Caught) Doer Seen (Ty → Doing TypedVariable) (argument_step allow hs) (body_step allow hs) (expression_step allow hs) (first_step allow hs) (lambda_step allow hs) (statement_step allow hs) (block_step allow hs) (catch_step allow hs) (declaration_step allow hs) (entry_step allow hs) (variable_step allow hs) e)
       ∙ sym (λ i. and_then (type_of (out-Declaration e).of) (λ t. typing.variables t (map (variable allow hs) (out-Declaration e).variables) c.state (λ xs s. and_then (above_piled xs c.variables (λ vs rest. Ok (record c { variables = rest; steps = rules.declaration_of (out-Declaration e).of.at vs ∷ c.steps; state = s })) i) (run allow hs js))))
 
   pub variables_go : (of : TypeName) (all : List Variable) (i : ℕ) (one : Variable) → slice_get all i ≡ Some one → run allow hs (j.Variables of all i ∷ js) c ≡ run allow hs (j.Variable_ of one ∷ j.Variables of all (i + 1) ∷ js) c
@@ -152,11 +153,11 @@ module _ (allow : AllowList) (hs : List Header) (js : List Job) (c : Config) whe
   variable_rolled : (of : TypeName) (name : Spelled) (v : Option Argument) → run allow hs (j.Variable_ of (roll-Variable (record { name = name; value = v })) ∷ js) c ≡ run allow hs (j.TypeOf of ∷ j.Initial of v ∷ j.Declare name of ∷ js) c
   unfolding run
   variable_rolled of name None =
-      ap (λ (x : Ty → Doing TypedVariable). and_then (type_of of) (λ t. x t c.state (variable_to c (run allow hs js)))) (fold-roll-Variable (Doing Part) (Doing Step) Reading (Doing Step) Seen Doer Braces Seen Doer Seen (Ty → Doing TypedVariable) (argument_step allow hs) (body_step allow hs) (expression_step allow hs) (first_step allow hs) (lambda_step allow hs) (statement_step allow hs) (block_step allow hs) (catch_step allow hs) (declaration_step allow hs) (entry_step allow hs) (variable_step allow hs) (record { name = name; value = None }))
+      ap (λ (x : Ty → Doing TypedVariable). and_then (type_of of) (λ t. x t c.state (variable_to c (run allow hs js)))) (fold-roll-Variable (Doing Part) (Doing Step) Reading (Doing Step) Seen Doer Braces (Doing Caught) Doer Seen (Ty → Doing TypedVariable) (argument_step allow hs) (body_step allow hs) (expression_step allow hs) (first_step allow hs) (lambda_step allow hs) (statement_step allow hs) (block_step allow hs) (catch_step allow hs) (declaration_step allow hs) (entry_step allow hs) (variable_step allow hs) (record { name = name; value = None }))
       ∙ (λ i. and_then (type_of of) (λ t. behind (rules.variable_of name t None c.state) (λ p. record c { variables = p.0 ∷ c.variables; state = p.1 }) (run allow hs js) i))
       ∙ again (type_of of) (λ q. and_then (bind q (λ to. bind (rules.variable_of name to None c.state) (λ p. Ok (record c { variables = p.0 ∷ c.variables; state = p.1 })))) (run allow hs js))
   variable_rolled of name (Some e) =
-      ap (λ (x : Ty → Doing TypedVariable). and_then (type_of of) (λ t. x t c.state (variable_to c (run allow hs js)))) (fold-roll-Variable (Doing Part) (Doing Step) Reading (Doing Step) Seen Doer Braces Seen Doer Seen (Ty → Doing TypedVariable) (argument_step allow hs) (body_step allow hs) (expression_step allow hs) (first_step allow hs) (lambda_step allow hs) (statement_step allow hs) (block_step allow hs) (catch_step allow hs) (declaration_step allow hs) (entry_step allow hs) (variable_step allow hs) (record { name = name; value = Some e }))
+      ap (λ (x : Ty → Doing TypedVariable). and_then (type_of of) (λ t. x t c.state (variable_to c (run allow hs js)))) (fold-roll-Variable (Doing Part) (Doing Step) Reading (Doing Step) Seen Doer Braces (Doing Caught) Doer Seen (Ty → Doing TypedVariable) (argument_step allow hs) (body_step allow hs) (expression_step allow hs) (first_step allow hs) (lambda_step allow hs) (statement_step allow hs) (block_step allow hs) (catch_step allow hs) (declaration_step allow hs) (entry_step allow hs) (variable_step allow hs) (record { name = name; value = Some e }))
       ∙ (λ i. and_then (type_of of) (λ t. argument allow hs e c.state (λ x s. and_then (casts.cast_to t x) (λ y. behind (rules.variable_of name t (Some y) s) (λ p. record c { variables = p.0 ∷ c.variables; state = p.1 }) (run allow hs js) i))))
       ∙ (λ i. and_then (type_of of) (λ t. argument allow hs e c.state (λ x s. behind_with (casts.cast_to t x) (λ y. Some y) (λ z. record c { tests = z ∷ c.tests; state = s }) (λ d. and_then (one d.tests (λ value rest. bind (Ok t) (λ to. bind (rules.variable_of name to value d.state) (λ p. Ok (record d { tests = rest; variables = p.0 ∷ d.variables; state = p.1 }))))) (run allow hs js)) i)))
       ∙ again (type_of of) (λ q. argument allow hs e c.state (λ x s. and_then (bind (bind q (λ to. bind (casts.cast_to to x) (λ y. Ok (Some y)))) (λ z. Ok (record c { tests = z ∷ c.tests; state = s }))) (λ d. and_then (one d.tests (λ value rest. bind q (λ to. bind (rules.variable_of name to value d.state) (λ p. Ok (record d { tests = rest; variables = p.0 ∷ d.variables; state = p.1 }))))) (run allow hs js))))
@@ -189,7 +190,7 @@ module _ (allow : AllowList) (hs : List Header) (js : List Job) (c : Config) whe
   pub entries_go : (all : List Entry) (i at : ℕ) (one : Entry) → slice_get all i ≡ Some one → run allow hs (j.UnbuiltEntries all i at ∷ js) c ≡ run allow hs (j.Value (out-Entry one).key ∷ j.Value (out-Entry one).value ∷ j.UnbuiltEntries all (i + 1) at ∷ js) c
   unfolding run
   entries_go all i at one is = ap (λ (t : List Entry). all_seen (map (entry allow hs) t) c.state (refused_at at)) (drop_one i all one is)
-      ∙ ap (λ (x : Seen). x c.state (λ u s. all_seen (map (entry allow hs) (drop (i + 1) all)) s (refused_at at))) (fold_out-Entry (Doing Part) (Doing Step) Reading (Doing Step) Seen Doer Braces Seen Doer Seen (Ty → Doing TypedVariable) (argument_step allow hs) (body_step allow hs) (expression_step allow hs) (first_step allow hs) (lambda_step allow hs) (statement_step allow hs) (block_step allow hs) (catch_step allow hs) (declaration_step allow hs) (entry_step allow hs) (variable_step allow hs) one)
+      ∙ ap (λ (x : Seen). x c.state (λ u s. all_seen (map (entry allow hs) (drop (i + 1) all)) s (refused_at at))) (fold_out-Entry (Doing Part) (Doing Step) Reading (Doing Step) Seen Doer Braces (Doing Caught) Doer Seen (Ty → Doing TypedVariable) (argument_step allow hs) (body_step allow hs) (expression_step allow hs) (first_step allow hs) (lambda_step allow hs) (statement_step allow hs) (block_step allow hs) (catch_step allow hs) (declaration_step allow hs) (entry_step allow hs) (variable_step allow hs) one)
 
   pub entries_end : (all : List Entry) (i at : ℕ) → slice_get all i ≡ None → run allow hs (j.UnbuiltEntries all i at ∷ js) c ≡ run allow hs (j.Do (a.Unbuilt at) ∷ js) c
   unfolding run
@@ -198,7 +199,7 @@ module _ (allow : AllowList) (hs : List Header) (js : List Job) (c : Config) whe
   pub catches_go : (all : List Catch) (i at : ℕ) (one : Catch) → slice_get all i ≡ Some one → run allow hs (j.UnbuiltCatches all i at ∷ js) c ≡ run allow hs (j.Catch_ one ∷ j.UnbuiltCatches all (i + 1) at ∷ js) c
   unfolding run
   catches_go all i at one is = ap (λ (t : List Catch). all_seen (map (handler allow hs) t) c.state (refused_at at)) (drop_one i all one is)
-      ∙ ap (λ (x : Seen). x c.state (λ u s. all_seen (map (handler allow hs) (drop (i + 1) all)) s (refused_at at))) (fold_out-Catch (Doing Part) (Doing Step) Reading (Doing Step) Seen Doer Braces Seen Doer Seen (Ty → Doing TypedVariable) (argument_step allow hs) (body_step allow hs) (expression_step allow hs) (first_step allow hs) (lambda_step allow hs) (statement_step allow hs) (block_step allow hs) (catch_step allow hs) (declaration_step allow hs) (entry_step allow hs) (variable_step allow hs) one)
+      ∙ ap (λ (x : Seen). x c.state (λ u s. all_seen (map (handler allow hs) (drop (i + 1) all)) s (refused_at at))) (fold_out-Catch (Doing Part) (Doing Step) Reading (Doing Step) Seen Doer Braces (Doing Caught) Doer Seen (Ty → Doing TypedVariable) (argument_step allow hs) (body_step allow hs) (expression_step allow hs) (first_step allow hs) (lambda_step allow hs) (statement_step allow hs) (block_step allow hs) (catch_step allow hs) (declaration_step allow hs) (entry_step allow hs) (variable_step allow hs) one)
 
   pub catches_end : (all : List Catch) (i at : ℕ) → slice_get all i ≡ None → run allow hs (j.UnbuiltCatches all i at ∷ js) c ≡ run allow hs (j.Do (a.Unbuilt at) ∷ js) c
   unfolding run
@@ -206,4 +207,4 @@ module _ (allow : AllowList) (hs : List Header) (js : List Job) (c : Config) whe
 
   pub catch_goes : (e : Catch) → run allow hs (j.Catch_ e ∷ js) c ≡ run allow hs (j.Noted (out-Catch e).name.spelling (out-Catch e).of ∷ j.Statements (out-Block (out-Catch e).block).statements 0 false false ∷ j.DoStatement (sa.Close (length c.state.scopes)) ∷ js) c
   unfolding run
-  catch_goes e = ap (λ (x : Braces). and_then (type_of (out-Catch e).of) (λ of. x.steps (noted (out-Catch e).name.spelling of c.state) (λ ys s. (run allow hs js) (record c { steps = piled ys c.steps; state = closed (length c.state.scopes) s })))) (fold_out-Block (Doing Part) (Doing Step) Reading (Doing Step) Seen Doer Braces Seen Doer Seen (Ty → Doing TypedVariable) (argument_step allow hs) (body_step allow hs) (expression_step allow hs) (first_step allow hs) (lambda_step allow hs) (statement_step allow hs) (block_step allow hs) (catch_step allow hs) (declaration_step allow hs) (entry_step allow hs) (variable_step allow hs) (out-Catch e).block)
+  catch_goes e = ap (λ (x : Braces). and_then (type_of (out-Catch e).of) (λ of. x.steps (noted (out-Catch e).name.spelling of c.state) (λ ys s. (run allow hs js) (record c { steps = piled ys c.steps; state = closed (length c.state.scopes) s })))) (fold_out-Block (Doing Part) (Doing Step) Reading (Doing Step) Seen Doer Braces (Doing Caught) Doer Seen (Ty → Doing TypedVariable) (argument_step allow hs) (body_step allow hs) (expression_step allow hs) (first_step allow hs) (lambda_step allow hs) (statement_step allow hs) (block_step allow hs) (catch_step allow hs) (declaration_step allow hs) (entry_step allow hs) (variable_step allow hs) (out-Catch e).block)

@@ -12,6 +12,7 @@ use Rattle.pl_tree.specs.declared.tree.Argument.TheFolds.{fold-roll-Argument, fo
 use Rattle.typed_tree.specs.declared.statement.TypedVariable.{TypedVariable}
 use Rattle.allowlist.specs.Allow.{AllowList}
 use Rattle.typing_rules.specs.declared.header.Header.{Header}
+use Rattle.typing_rules.specs.declared.part.Caught.{Caught}
 use Rattle.typing_rules.specs.declared.part.Part.{Part}
 use Rattle.typing_rules.specs.declared.part.Step.{Step}
 use Rattle.typing_rules.specs.Doing.{Doing}
@@ -27,36 +28,36 @@ use Rattle.typing_tasks.proofs.Behind.{behind}
 module _ (allow : AllowList) (hs : List Header) (js : List Job) (c : Config) where
   pub argument_rolled : (y : Open Argument-F) → run allow hs (j.Given (roll-Argument y) ∷ js) c ≡ run allow hs (argument_plan y ++ js) c
   unfolding run
-  argument_rolled (Argument-F.Value value) = ap (λ (x : Doing Part). x c.state (part_to c (run allow hs js))) (fold-roll-Argument (Doing Part) (Doing Step) Reading (Doing Step) Seen Doer Braces Seen Doer Seen (Ty → Doing TypedVariable) (argument_step allow hs) (body_step allow hs) (expression_step allow hs) (first_step allow hs) (lambda_step allow hs) (statement_step allow hs) (block_step allow hs) (catch_step allow hs) (declaration_step allow hs) (entry_step allow hs) (variable_step allow hs) (Argument-F.Value value))
-  argument_rolled (Argument-F.Lambda at parameters body) = ap (λ (x : Doing Part). x c.state (part_to c (run allow hs js))) (fold-roll-Argument (Doing Part) (Doing Step) Reading (Doing Step) Seen Doer Braces Seen Doer Seen (Ty → Doing TypedVariable) (argument_step allow hs) (body_step allow hs) (expression_step allow hs) (first_step allow hs) (lambda_step allow hs) (statement_step allow hs) (block_step allow hs) (catch_step allow hs) (declaration_step allow hs) (entry_step allow hs) (variable_step allow hs) (Argument-F.Lambda at parameters body))
-  argument_rolled (Argument-F.Reference of spelling) = ap (λ (x : Doing Part). x c.state (part_to c (run allow hs js))) (fold-roll-Argument (Doing Part) (Doing Step) Reading (Doing Step) Seen Doer Braces Seen Doer Seen (Ty → Doing TypedVariable) (argument_step allow hs) (body_step allow hs) (expression_step allow hs) (first_step allow hs) (lambda_step allow hs) (statement_step allow hs) (block_step allow hs) (catch_step allow hs) (declaration_step allow hs) (entry_step allow hs) (variable_step allow hs) (Argument-F.Reference of spelling))
-  argument_rolled (Argument-F.NewReference of) = ap (λ (x : Doing Part). x c.state (part_to c (run allow hs js))) (fold-roll-Argument (Doing Part) (Doing Step) Reading (Doing Step) Seen Doer Braces Seen Doer Seen (Ty → Doing TypedVariable) (argument_step allow hs) (body_step allow hs) (expression_step allow hs) (first_step allow hs) (lambda_step allow hs) (statement_step allow hs) (block_step allow hs) (catch_step allow hs) (declaration_step allow hs) (entry_step allow hs) (variable_step allow hs) (Argument-F.NewReference of))
-  argument_rolled (Argument-F.ThisReference at spelling) = ap (λ (x : Doing Part). x c.state (part_to c (run allow hs js))) (fold-roll-Argument (Doing Part) (Doing Step) Reading (Doing Step) Seen Doer Braces Seen Doer Seen (Ty → Doing TypedVariable) (argument_step allow hs) (body_step allow hs) (expression_step allow hs) (first_step allow hs) (lambda_step allow hs) (statement_step allow hs) (block_step allow hs) (catch_step allow hs) (declaration_step allow hs) (entry_step allow hs) (variable_step allow hs) (Argument-F.ThisReference at spelling))
+  argument_rolled (Argument-F.Value value) = ap (λ (x : Doing Part). x c.state (part_to c (run allow hs js))) (fold-roll-Argument (Doing Part) (Doing Step) Reading (Doing Step) Seen Doer Braces (Doing Caught) Doer Seen (Ty → Doing TypedVariable) (argument_step allow hs) (body_step allow hs) (expression_step allow hs) (first_step allow hs) (lambda_step allow hs) (statement_step allow hs) (block_step allow hs) (catch_step allow hs) (declaration_step allow hs) (entry_step allow hs) (variable_step allow hs) (Argument-F.Value value))
+  argument_rolled (Argument-F.Lambda at parameters body) = ap (λ (x : Doing Part). x c.state (part_to c (run allow hs js))) (fold-roll-Argument (Doing Part) (Doing Step) Reading (Doing Step) Seen Doer Braces (Doing Caught) Doer Seen (Ty → Doing TypedVariable) (argument_step allow hs) (body_step allow hs) (expression_step allow hs) (first_step allow hs) (lambda_step allow hs) (statement_step allow hs) (block_step allow hs) (catch_step allow hs) (declaration_step allow hs) (entry_step allow hs) (variable_step allow hs) (Argument-F.Lambda at parameters body))
+  argument_rolled (Argument-F.Reference of spelling) = ap (λ (x : Doing Part). x c.state (part_to c (run allow hs js))) (fold-roll-Argument (Doing Part) (Doing Step) Reading (Doing Step) Seen Doer Braces (Doing Caught) Doer Seen (Ty → Doing TypedVariable) (argument_step allow hs) (body_step allow hs) (expression_step allow hs) (first_step allow hs) (lambda_step allow hs) (statement_step allow hs) (block_step allow hs) (catch_step allow hs) (declaration_step allow hs) (entry_step allow hs) (variable_step allow hs) (Argument-F.Reference of spelling))
+  argument_rolled (Argument-F.NewReference of) = ap (λ (x : Doing Part). x c.state (part_to c (run allow hs js))) (fold-roll-Argument (Doing Part) (Doing Step) Reading (Doing Step) Seen Doer Braces (Doing Caught) Doer Seen (Ty → Doing TypedVariable) (argument_step allow hs) (body_step allow hs) (expression_step allow hs) (first_step allow hs) (lambda_step allow hs) (statement_step allow hs) (block_step allow hs) (catch_step allow hs) (declaration_step allow hs) (entry_step allow hs) (variable_step allow hs) (Argument-F.NewReference of))
+  argument_rolled (Argument-F.ThisReference at spelling) = ap (λ (x : Doing Part). x c.state (part_to c (run allow hs js))) (fold-roll-Argument (Doing Part) (Doing Step) Reading (Doing Step) Seen Doer Braces (Doing Caught) Doer Seen (Ty → Doing TypedVariable) (argument_step allow hs) (body_step allow hs) (expression_step allow hs) (first_step allow hs) (lambda_step allow hs) (statement_step allow hs) (block_step allow hs) (catch_step allow hs) (declaration_step allow hs) (entry_step allow hs) (variable_step allow hs) (Argument-F.ThisReference at spelling))
 
   pub argument_planned : (e : Argument) → run allow hs (j.Given e ∷ js) c ≡ run allow hs (argument_plan (out-Argument e) ++ js) c
   argument_planned e = ap (λ (x : Argument). run allow hs (j.Given x ∷ js) c) (sym (roll-out-Argument e)) ∙ argument_rolled (out-Argument e)
 
   pub inner_rolled : (at : ℕ) (y : Open LambdaBody-F) → run allow hs (j.UnbuiltInner (roll-LambdaBody y) at ∷ js) c ≡ run allow hs (inner_plan at y ++ js) c
   unfolding run
-  inner_rolled at (LambdaBody-F.«LambdaBody::Block» block) = ap (λ (x : Seen). x c.state (refused_at at)) (fold-roll-LambdaBody (Doing Part) (Doing Step) Reading (Doing Step) Seen Doer Braces Seen Doer Seen (Ty → Doing TypedVariable) (argument_step allow hs) (body_step allow hs) (expression_step allow hs) (first_step allow hs) (lambda_step allow hs) (statement_step allow hs) (block_step allow hs) (catch_step allow hs) (declaration_step allow hs) (entry_step allow hs) (variable_step allow hs) (LambdaBody-F.«LambdaBody::Block» block))
-      ∙ ap (λ (x : Braces). x.steps c.state (λ ys s. refused_at at ys s)) (fold_out-Block (Doing Part) (Doing Step) Reading (Doing Step) Seen Doer Braces Seen Doer Seen (Ty → Doing TypedVariable) (argument_step allow hs) (body_step allow hs) (expression_step allow hs) (first_step allow hs) (lambda_step allow hs) (statement_step allow hs) (block_step allow hs) (catch_step allow hs) (declaration_step allow hs) (entry_step allow hs) (variable_step allow hs) block)
-  inner_rolled at (LambdaBody-F.«LambdaBody::Expression» value) = ap (λ (x : Seen). x c.state (refused_at at)) (fold-roll-LambdaBody (Doing Part) (Doing Step) Reading (Doing Step) Seen Doer Braces Seen Doer Seen (Ty → Doing TypedVariable) (argument_step allow hs) (body_step allow hs) (expression_step allow hs) (first_step allow hs) (lambda_step allow hs) (statement_step allow hs) (block_step allow hs) (catch_step allow hs) (declaration_step allow hs) (entry_step allow hs) (variable_step allow hs) (LambdaBody-F.«LambdaBody::Expression» value))
+  inner_rolled at (LambdaBody-F.«LambdaBody::Block» block) = ap (λ (x : Seen). x c.state (refused_at at)) (fold-roll-LambdaBody (Doing Part) (Doing Step) Reading (Doing Step) Seen Doer Braces (Doing Caught) Doer Seen (Ty → Doing TypedVariable) (argument_step allow hs) (body_step allow hs) (expression_step allow hs) (first_step allow hs) (lambda_step allow hs) (statement_step allow hs) (block_step allow hs) (catch_step allow hs) (declaration_step allow hs) (entry_step allow hs) (variable_step allow hs) (LambdaBody-F.«LambdaBody::Block» block))
+      ∙ ap (λ (x : Braces). x.steps c.state (λ ys s. refused_at at ys s)) (fold_out-Block (Doing Part) (Doing Step) Reading (Doing Step) Seen Doer Braces (Doing Caught) Doer Seen (Ty → Doing TypedVariable) (argument_step allow hs) (body_step allow hs) (expression_step allow hs) (first_step allow hs) (lambda_step allow hs) (statement_step allow hs) (block_step allow hs) (catch_step allow hs) (declaration_step allow hs) (entry_step allow hs) (variable_step allow hs) block)
+  inner_rolled at (LambdaBody-F.«LambdaBody::Expression» value) = ap (λ (x : Seen). x c.state (refused_at at)) (fold-roll-LambdaBody (Doing Part) (Doing Step) Reading (Doing Step) Seen Doer Braces (Doing Caught) Doer Seen (Ty → Doing TypedVariable) (argument_step allow hs) (body_step allow hs) (expression_step allow hs) (first_step allow hs) (lambda_step allow hs) (statement_step allow hs) (block_step allow hs) (catch_step allow hs) (declaration_step allow hs) (entry_step allow hs) (variable_step allow hs) (LambdaBody-F.«LambdaBody::Expression» value))
 
   pub inner_planned : (at : ℕ) (e : LambdaBody) → run allow hs (j.UnbuiltInner e at ∷ js) c ≡ run allow hs (inner_plan at (out-LambdaBody e) ++ js) c
   inner_planned at e = ap (λ (x : LambdaBody). run allow hs (j.UnbuiltInner x at ∷ js) c) (sym (roll-out-LambdaBody e)) ∙ inner_rolled at (out-LambdaBody e)
 
   pub body_rolled : (y : Open Body-F) → run allow hs (j.Body_ (roll-Body y) ∷ js) c ≡ run allow hs (body_plan y ++ js) c
   unfolding run
-  body_rolled (Body-F.«Body::Block» block) = ap (λ (x : Doing Step). x c.state (step_to c (run allow hs js))) (fold-roll-Body (Doing Part) (Doing Step) Reading (Doing Step) Seen Doer Braces Seen Doer Seen (Ty → Doing TypedVariable) (argument_step allow hs) (body_step allow hs) (expression_step allow hs) (first_step allow hs) (lambda_step allow hs) (statement_step allow hs) (block_step allow hs) (catch_step allow hs) (declaration_step allow hs) (entry_step allow hs) (variable_step allow hs) (Body-F.«Body::Block» block))
-  body_rolled (Body-F.Statement statement) = ap (λ (x : Doing Step). x c.state (step_to c (run allow hs js))) (fold-roll-Body (Doing Part) (Doing Step) Reading (Doing Step) Seen Doer Braces Seen Doer Seen (Ty → Doing TypedVariable) (argument_step allow hs) (body_step allow hs) (expression_step allow hs) (first_step allow hs) (lambda_step allow hs) (statement_step allow hs) (block_step allow hs) (catch_step allow hs) (declaration_step allow hs) (entry_step allow hs) (variable_step allow hs) (Body-F.Statement statement))
+  body_rolled (Body-F.«Body::Block» block) = ap (λ (x : Doing Step). x c.state (step_to c (run allow hs js))) (fold-roll-Body (Doing Part) (Doing Step) Reading (Doing Step) Seen Doer Braces (Doing Caught) Doer Seen (Ty → Doing TypedVariable) (argument_step allow hs) (body_step allow hs) (expression_step allow hs) (first_step allow hs) (lambda_step allow hs) (statement_step allow hs) (block_step allow hs) (catch_step allow hs) (declaration_step allow hs) (entry_step allow hs) (variable_step allow hs) (Body-F.«Body::Block» block))
+  body_rolled (Body-F.Statement statement) = ap (λ (x : Doing Step). x c.state (step_to c (run allow hs js))) (fold-roll-Body (Doing Part) (Doing Step) Reading (Doing Step) Seen Doer Braces (Doing Caught) Doer Seen (Ty → Doing TypedVariable) (argument_step allow hs) (body_step allow hs) (expression_step allow hs) (first_step allow hs) (lambda_step allow hs) (statement_step allow hs) (block_step allow hs) (catch_step allow hs) (declaration_step allow hs) (entry_step allow hs) (variable_step allow hs) (Body-F.Statement statement))
 
   pub body_planned : (e : Body) → run allow hs (j.Body_ e ∷ js) c ≡ run allow hs (body_plan (out-Body e) ++ js) c
   body_planned e = ap (λ (x : Body). run allow hs (j.Body_ x ∷ js) c) (sym (roll-out-Body e)) ∙ body_rolled (out-Body e)
 
   pub first_rolled : (y : Open First-F) → run allow hs (j.First_ (roll-First y) ∷ js) c ≡ run allow hs (first_plan y ++ js) c
   unfolding run
-  first_rolled (First-F.«First::Declare» declaration) = ap (λ (x : Doing Step). x c.state (step_to c (run allow hs js))) (fold-roll-First (Doing Part) (Doing Step) Reading (Doing Step) Seen Doer Braces Seen Doer Seen (Ty → Doing TypedVariable) (argument_step allow hs) (body_step allow hs) (expression_step allow hs) (first_step allow hs) (lambda_step allow hs) (statement_step allow hs) (block_step allow hs) (catch_step allow hs) (declaration_step allow hs) (entry_step allow hs) (variable_step allow hs) (First-F.«First::Declare» declaration))
-  first_rolled (First-F.«First::Expression» value) = ap (λ (x : Doing Step). x c.state (step_to c (run allow hs js))) (fold-roll-First (Doing Part) (Doing Step) Reading (Doing Step) Seen Doer Braces Seen Doer Seen (Ty → Doing TypedVariable) (argument_step allow hs) (body_step allow hs) (expression_step allow hs) (first_step allow hs) (lambda_step allow hs) (statement_step allow hs) (block_step allow hs) (catch_step allow hs) (declaration_step allow hs) (entry_step allow hs) (variable_step allow hs) (First-F.«First::Expression» value))
+  first_rolled (First-F.«First::Declare» declaration) = ap (λ (x : Doing Step). x c.state (step_to c (run allow hs js))) (fold-roll-First (Doing Part) (Doing Step) Reading (Doing Step) Seen Doer Braces (Doing Caught) Doer Seen (Ty → Doing TypedVariable) (argument_step allow hs) (body_step allow hs) (expression_step allow hs) (first_step allow hs) (lambda_step allow hs) (statement_step allow hs) (block_step allow hs) (catch_step allow hs) (declaration_step allow hs) (entry_step allow hs) (variable_step allow hs) (First-F.«First::Declare» declaration))
+  first_rolled (First-F.«First::Expression» value) = ap (λ (x : Doing Step). x c.state (step_to c (run allow hs js))) (fold-roll-First (Doing Part) (Doing Step) Reading (Doing Step) Seen Doer Braces (Doing Caught) Doer Seen (Ty → Doing TypedVariable) (argument_step allow hs) (body_step allow hs) (expression_step allow hs) (first_step allow hs) (lambda_step allow hs) (statement_step allow hs) (block_step allow hs) (catch_step allow hs) (declaration_step allow hs) (entry_step allow hs) (variable_step allow hs) (First-F.«First::Expression» value))
 
   pub first_planned : (e : First) → run allow hs (j.First_ e ∷ js) c ≡ run allow hs (first_plan (out-First e) ++ js) c
   first_planned e = ap (λ (x : First). run allow hs (j.First_ x ∷ js) c) (sym (roll-out-First e)) ∙ first_rolled (out-First e)

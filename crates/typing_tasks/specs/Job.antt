@@ -71,6 +71,11 @@ pub data Job : Type 0 where
   CastInitial : TypeName → Job
   Declare : Spelled → TypeName → Job
   DoStatement : StatementAct → Job
+  -- the catches of a `try` whose block is typed
+  Try : ℕ → List Catch → Job
+  Catches : List Catch → ℕ → Job
+  Catch_ : Catch → Job
+  Caught : ℕ → ℕ → List ℕ → Job
   -- what is not built
   Noted : List ℕ → TypeName → Job
   NotedDef : List ℕ → Job
@@ -78,5 +83,3 @@ pub data Job : Type 0 where
   UnbuiltInner : LambdaBody → ℕ → Job
   UnbuiltValues : List Expr → ℕ → ℕ → Job
   UnbuiltEntries : List Entry → ℕ → ℕ → Job
-  UnbuiltCatches : List Catch → ℕ → ℕ → Job
-  Catch_ : Catch → Job

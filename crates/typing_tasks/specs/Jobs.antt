@@ -10,6 +10,8 @@ use Rattle.typing_tasks.specs.declared.task.LoopTask.{LoopTask}
 use Rattle.typing_tasks.specs.declared.task.LoopTask.TheVariants as l
 use Rattle.typing_tasks.specs.declared.task.DeclarationTask.{DeclarationTask}
 use Rattle.typing_tasks.specs.declared.task.DeclarationTask.TheVariants as d
+use Rattle.typing_tasks.specs.declared.task.CatchTask.{CatchTask}
+use Rattle.typing_tasks.specs.declared.task.CatchTask.TheVariants as k
 use Rattle.typing_tasks.specs.declared.task.UnbuiltTask.{UnbuiltTask}
 use Rattle.typing_tasks.specs.declared.task.UnbuiltTask.TheVariants as u
 use Rattle.typing_tasks.specs.declared.task.Task.{Task}
@@ -82,8 +84,12 @@ unbuilt_job (u.Parameters all i) = j.Parameters all.now i
 unbuilt_job (u.Inner x at) = j.UnbuiltInner x.now at
 unbuilt_job (u.Values all i at) = j.UnbuiltValues all.now i at
 unbuilt_job (u.Entries all i at) = j.UnbuiltEntries all.now i at
-unbuilt_job (u.Catches all i at) = j.UnbuiltCatches all.now i at
-unbuilt_job (u.Catch x) = j.Catch_ x.now
+
+abbrev pub catch_job : CatchTask → Job
+catch_job (k.Try at all) = j.Try at all.now
+catch_job (k.All all i) = j.Catches all.now i
+catch_job (k.One x) = j.Catch_ x.now
+catch_job (k.Caught at class name) = j.Caught at class name.now
 
 abbrev pub job : Task → Job
 job (t.Expression x) = expression_job x
@@ -93,6 +99,7 @@ job (t.Statement x) = statement_job x
 job (t.Loop x) = loop_job x
 job (t.Declaration x) = declaration_job x
 job (t.DoStatement act) = j.DoStatement act
+job (t.Catch x) = catch_job x
 job (t.Unbuilt x) = unbuilt_job x
 
 -- the next task is taken

@@ -3,7 +3,7 @@ use Rattle.std.specs.Prelude.{ℕ, false, List, [], ◌∷◌, length, reverse, 
 use Rattle.pl_types.specs.declared.rules.TheConstants.{OUT_OF_PROFILE}
 use Rattle.pl_tree.specs.declared.tree.Argument.{Argument}
 use Rattle.pl_tree.specs.declared.tree.Body.{Body}
-use Rattle.pl_tree.specs.declared.tree.Catch.{Catch, out-Catch}
+use Rattle.pl_tree.specs.declared.tree.Catch.{Catch}
 use Rattle.pl_tree.specs.declared.tree.Expr.{Expr}
 use Rattle.pl_tree.specs.declared.tree.First.{First}
 use Rattle.pl_tree.specs.declared.tree.TypeName.{TypeName}
@@ -14,6 +14,7 @@ use Rattle.typing_rules.specs.declared.header.Header.{Header}
 use Rattle.typing_rules.specs.declared.part.Part.{Part}
 use Rattle.typing_rules.specs.declared.part.Place.{Place}
 use Rattle.typing_rules.specs.declared.part.Step.{Step}
+use Rattle.typing_rules.specs.declared.part.Caught.{Caught}
 use Rattle.typing_rules.specs.declared.state.State.{State}
 use Rattle.pl_types.specs.declared.ty.Ty.TheVariants as ty
 use Rattle.typing_rules.specs.Outcomes.{Out, refuse, refusal}
@@ -22,7 +23,7 @@ use Rattle.typing_rules.specs.Doing.{Answer, Doing, ◌>>=◌, ◌>>◌, pure, a
 use Rattle.typing_rules.specs.Rules.Types.{type_of}
 use Rattle.typing_rules.specs.Rules.Statements.{loop_of, block_of, reached}
 use Rattle.typing_rules.specs.Typing as typing
-use Rattle.typing_rules.specs.Typing.{Reading, Seen, reading, argument, body, doer, braces, seen, all_seen, scoped, looping, perhaps, parts, call, statements, initial, returned, loop_condition, loop_step, loop_update, lambda_parameters}
+use Rattle.typing_rules.specs.Typing.{Reading, Seen, reading, argument, body, doer, braces, seen, all_seen, scoped, looping, perhaps, parts, handlers, call, statements, initial, returned, loop_condition, loop_step, loop_update, lambda_parameters}
 use Rattle.typing_acts.specs.declared.config.Config.{Config}
 use Rattle.typing_acts.specs.Piles.{one}
 use Rattle.typing_acts.specs.Expressions as expressions
@@ -69,6 +70,7 @@ does_statement (s.IfAlone at) c = deeds.if_alone at c
 does_statement (s.IfElse at) c = deeds.if_else at c
 does_statement (s.Loop at has_first has_body) c = deeds.whole_loop at has_first has_body c
 does_statement (s.DoLoop at) c = deeds.do_loop at c
+does_statement (s.Try at height) c = deeds.whole_try at height c
 does_statement (s.Close height) c = Ok (bodies.close height c)
 does_statement (s.Looped is) c = Ok (bodies.looped is c)
 
@@ -104,6 +106,12 @@ steps_to c k ys s = k (record c { steps = piled ys c.steps; state = s })
 abbrev pub block_to : Config → (Config → Answer) → ℕ → List Step → State → Answer
 block_to c k at ys s = k (record c { steps = block_of at ys ∷ c.steps; state = s })
 
+abbrev pub catch_to : Config → (Config → Answer) → Caught → State → Answer
+catch_to c k x s = k (record c { catches = x ∷ c.catches; state = s })
+
+abbrev pub catches_to : Config → (Config → Answer) → List Caught → State → Answer
+catches_to c k xs s = k (record c { catches = piled xs c.catches; state = s })
+
 -- nothing is given
 abbrev pub nothing_to : Config → (Config → Answer) → Unit {0} → State → Answer
 nothing_to c k u s = k (record c { state = s })
@@ -134,11 +142,6 @@ module _ (allow : AllowList) (hs : List Header) where
   abbrev pub first_part : Option First → Config → (Config → Answer) → Answer
   first_part None c k = k c
   first_part (Some f) c k = first allow hs f c.state (step_to c k)
-
-  -- a handler: its name is in sight in its block
-  abbrev pub caught : Catch → Config → (Config → Answer) → Answer
-  caught e c k = and_then (type_of (out-Catch e).of) (λ of.
-      scoped (do setting (noted (out-Catch e).name.spelling of); (braces allow hs (out-Catch e).block).steps) c.state (steps_to c k))
 
 abbrev pub mean : AllowList → List Header → Job → Config → (Config → Answer) → Answer
 mean allow hs (j.Value e) c k = (reading allow hs e).value c.state (part_to c k)
@@ -198,8 +201,10 @@ mean allow hs (j.Parameters all i) c k = lambda_parameters (drop i all) c.state 
 mean allow hs (j.UnbuiltInner e at) c k = inner allow hs e c.state (refused_at at)
 mean allow hs (j.UnbuiltValues all i at) c k = all_seen (map (λ (e : Reading). seen e.value) (map (reading allow hs) (drop i all))) c.state (refused_at at)
 mean allow hs (j.UnbuiltEntries all i at) c k = all_seen (map (entry allow hs) (drop i all)) c.state (refused_at at)
-mean allow hs (j.UnbuiltCatches all i at) c k = all_seen (map (handler allow hs) (drop i all)) c.state (refused_at at)
-mean allow hs (j.Catch_ e) c k = caught allow hs e c k
+mean allow hs (j.Try at all) c k = handlers (map (handler allow hs) all) c.state (catches_to c (λ d. and_then (deeds.whole_try at (length c.catches) d) k))
+mean allow hs (j.Catches all i) c k = handlers (map (handler allow hs) (drop i all)) c.state (catches_to c k)
+mean allow hs (j.Catch_ e) c k = handler allow hs e c.state (catch_to c k)
+mean allow hs (j.Caught at class name) c k = and_then (deeds.catch at class name c) k
 
 abbrev pub ended : Config → Answer
 ended c = Ok (reverse c.steps, c.state)

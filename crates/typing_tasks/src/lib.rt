@@ -4,6 +4,6 @@
 mod task;
 
 pub use task::{
-    Act, DeclarationTask, ExpressionTask, LoopTask, StatementAct, StatementTask, Task, Tasks,
+    Act, CatchTask, DeclarationTask, ExpressionTask, LoopTask, StatementAct, StatementTask, Task, Tasks,
     UnbuiltTask, WordTask,
 };

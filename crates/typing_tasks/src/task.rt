@@ -55,6 +55,8 @@ pub enum StatementAct {
     /// Whether a first step and a body are there.
     Loop(u32, bool, bool),
     DoLoop(u32),
+    /// A `try` with the catches above a height.
+    Try(u32, usize),
     /// Names declared since there were so many are forgotten.
     Close(usize),
     Looped(bool),
@@ -174,8 +176,18 @@ pub enum UnbuiltTask<'a> {
     Inner(&'a LambdaBody, u32),
     Values(&'a Items<Subtree<Expr>>, usize, u32),
     Entries(&'a Items<Entry>, usize, u32),
-    Catches(&'a Items<Catch>, usize, u32),
-    Catch(&'a Catch),
+}
+
+/// The catches of a `try`, or a part of one.
+#[derive(Clone, Copy)]
+pub enum CatchTask<'a> {
+    /// Those of a `try` whose block is typed.
+    Try(u32, &'a Items<Catch>),
+    /// Those from one on.
+    All(&'a Items<Catch>, usize),
+    One(&'a Catch),
+    /// One of a class and with a name, whose block is typed.
+    Caught(u32, u32, &'a Text),
 }
 
 /// A part that is to be typed, or what is done once parts are.
@@ -188,6 +200,7 @@ pub enum Task<'a> {
     Loop(LoopTask<'a>),
     Declaration(DeclarationTask<'a>),
     DoStatement(StatementAct),
+    Catch(CatchTask<'a>),
     Unbuilt(UnbuiltTask<'a>),
 }
 

@@ -11,7 +11,6 @@ use Rattle.allowlist.specs.declared.member.MemberKind.TheVariants as kind
 use Rattle.allowlist.specs.declared.member.MemberType.{MemberType}
 use Rattle.allowlist.specs.Allow.{AllowList, own_member, member_of}
 use Rattle.allowlist.specs.Index.{member_at}
-use Rattle.member_acts.specs.Members.{is_built}
 use Rattle.member_names.specs.Names.{text_of}
 use Rattle.typed_tree.specs.declared.operation.Member.{Member}
 use Rattle.typed_tree.specs.declared.operation.Operation.TheVariants as o
@@ -50,7 +49,7 @@ is_kind _ _ = false
 abbrev pub wanted_as : MemberKind → ℕ → ℕ → Out ℕ
 wanted_as kind at number =
     if is_kind kind (member_at number).kind
-    then (if is_built number && is_open_member (member_at number) then Ok number else refuse OUT_OF_PROFILE at)
+    then (if is_open_member (member_at number) then Ok number else refuse OUT_OF_PROFILE at)
     else refuse UNKNOWN_MEMBER at
 
 -- what is found counts where it is of the kind that is wanted; a member that is farther above is not looked at

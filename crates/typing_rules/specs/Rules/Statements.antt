@@ -1,6 +1,6 @@
 -- Statements.
 use Rattle.std.specs.Prelude.{ℕ, Bool, true, false, not, ◌&&◌, ◌||◌, List, length, map, ◌-◌, slice_get, Option, Some, None, Ok, if◌then◌else◌}
-use Rattle.std.specs.List.{list_any}
+use Rattle.std.specs.List.{list_all, list_any}
 use Rattle.pl_types.specs.declared.classes.TheConstants.{EXCEPTION}
 use Rattle.pl_types.specs.declared.ty.Ty.{Ty}
 use Rattle.pl_types.specs.declared.ty.Ty.TheVariants as t
@@ -8,6 +8,7 @@ use Rattle.pl_types.specs.declared.rules.TheConstants.{NOT_A_STATEMENT, UNREACHA
 use Rattle.pl_tree.specs.declared.tree.Spelled.{Spelled}
 use Rattle.typed_tree.specs.declared.typed.Typed.{Typed}
 use Rattle.typed_tree.specs.declared.statement.TypedStatement.{TypedStatement, roll-TypedStatement}
+use Rattle.typed_tree.specs.declared.statement.TypedCatch.{TypedCatch, roll-TypedCatch}
 use Rattle.typed_tree.specs.declared.statement.TypedVariable.{TypedVariable}
 use Rattle.typed_tree.specs.declared.statement.StatementNode.{StatementNode}
 use Rattle.typed_tree.specs.declared.statement.StatementNode.TheVariants as node
@@ -15,6 +16,7 @@ use Rattle.typing_rules.specs.declared.part.Part.{Part}
 use Rattle.typing_rules.specs.declared.part.Form.{Form}
 use Rattle.typing_rules.specs.declared.part.Form.TheVariants as f
 use Rattle.typing_rules.specs.declared.part.Step.{Step}
+use Rattle.typing_rules.specs.declared.part.Caught.{Caught}
 use Rattle.typing_rules.specs.declared.state.State.{State}
 use Rattle.typing_rules.specs.Outcomes.{Out, refuse, bind}
 use Rattle.typing_rules.specs.State.{declared}
@@ -128,3 +130,20 @@ statements_of ys = map (λ (y : Step). y.statement) ys
 -- a block escapes where its last statement does
 abbrev pub block_of : ℕ → List Step → Step
 block_of at ys = step (last_escapes ys) (list_any breaks ys) at (node.Block (statements_of ys))
+
+-- a catch whose block is typed
+abbrev pub caught : ℕ → ℕ → List ℕ → Step → Caught
+caught at class name y = record { at = at; class = class; name = name; body = y }
+
+abbrev pub catch_of : Caught → TypedCatch
+catch_of x = roll-TypedCatch (record { at = x.at; class = x.class; name = x.name; body = x.body.statement })
+
+abbrev pub caught_escapes : Caught → Bool
+caught_escapes x = x.body.escapes
+
+abbrev pub caught_breaks : Caught → Bool
+caught_breaks x = x.body.breaks
+
+-- a `try` escapes where all its blocks do
+abbrev pub try_of : ℕ → Step → List Caught → Step
+try_of at y catches = step (y.escapes && list_all caught_escapes catches) (y.breaks || list_any caught_breaks catches) at (node.Try y.statement (map catch_of catches))

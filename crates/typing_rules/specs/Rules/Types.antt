@@ -1,11 +1,11 @@
 -- Types as they are written. Built are the primitive types, def, and the classes Object, Comparable, CharSequence, String, StringBuilder
 -- and those of exceptions.
-use Rattle.std.specs.Prelude.{ℕ, ◌==◌, nat_le, Bool, true, false, ◌&&◌, ◌||◌, List, [], ◌∷◌, codes, bytes_eq, if◌then◌else◌, Ok}
-use Rattle.pl_types.specs.declared.classes.TheConstants.{CHAR_SEQUENCE, STRING, STRING_BUILDER, EXCEPTION, STRING_INDEX_OUT_OF_BOUNDS_EXCEPTION}
+use Rattle.std.specs.Prelude.{ℕ, ◌==◌, nat_le, nat_lt, Bool, true, false, ◌&&◌, ◌||◌, List, [], ◌∷◌, codes, bytes_eq, if◌then◌else◌, Ok}
+use Rattle.pl_types.specs.declared.classes.TheConstants.{CHAR_SEQUENCE, STRING, STRING_BUILDER, EXCEPTION, STRING_INDEX_OUT_OF_BOUNDS_EXCEPTION, PRELUDE}
 use Rattle.pl_types.specs.declared.ty.Ty.{Ty, out-Ty}
 use Rattle.pl_types.specs.declared.ty.Ty.TheOpen.{Ty-F}
 use Rattle.pl_types.specs.declared.ty.Ty.TheVariants as t
-use Rattle.pl_types.specs.declared.rules.TheConstants.{UNKNOWN_TYPE, OUT_OF_PROFILE}
+use Rattle.pl_types.specs.declared.rules.TheConstants.{UNKNOWN_TYPE, BAD_CAST, OUT_OF_PROFILE}
 use Rattle.pl_tree.specs.declared.tree.TypeName.{TypeName}
 use Rattle.pl_tree.specs.declared.tree.TypeBase.{TypeBase}
 use Rattle.pl_tree.specs.declared.tree.TypeBase.TheVariants as b
@@ -55,3 +55,14 @@ names_void of = void_base of.base && is_empty of.brackets
 -- the result of a function may be the name `void`
 abbrev pub result_of : TypeName → Out Ty
 result_of of = if names_void of then Ok t.Void else type_of of
+
+-- ---- the class of a catch: any that scripts may name, also one that no exception is of
+
+abbrev pub caught_base : ℕ → TypeBase → Out ℕ
+caught_base at b.Def = refuse BAD_CAST at
+caught_base at (b.Primitive p) = refuse BAD_CAST at
+caught_base at (b.Class c) = if nat_lt c PRELUDE then Ok c else refuse OUT_OF_PROFILE at
+caught_base at (b.Name name) = refuse UNKNOWN_TYPE at
+
+abbrev pub caught_class : TypeName → Out ℕ
+caught_class of = bind (caught_base of.at of.base) (λ c. if is_empty of.brackets then Ok c else refuse BAD_CAST of.at)

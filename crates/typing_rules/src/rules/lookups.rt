@@ -96,7 +96,7 @@ fn wanted_as(allow: &Allow, kind: MemberKind, at: u32, number: u32) -> Result<u3
     if !is_kind(kind, member.kind) {
         return Err(refuse(rules::UNKNOWN_MEMBER, at));
     }
-    if !(member_acts::is_built(number) && is_open_member(member)) {
+    if !is_open_member(member) {
         return Err(refuse(rules::OUT_OF_PROFILE, at));
     }
     Ok(number)

@@ -1,11 +1,11 @@
 //! Statements.
 
-ghost use Rattle.std.specs.Prelude.{◌≡◌, ◌&&◌, not, ◌||◌, IfOk};
-ghost use Rattle.std.specs.List.{list_any};
+ghost use Rattle.std.specs.Prelude.{◌≡◌, ◌&&◌, not, ◌||◌, map, IfOk};
+ghost use Rattle.std.specs.List.{list_all, list_any};
 ghost use Rattle.typing_rules.specs.Outcomes.{Keeps, KeepsBoth};
 ghost use Rattle.typing_rules.specs.Rules.Statements as spec;
 
-use crate::part::{Form, Part, Step};
+use crate::part::{Caught, Form, Part, Step};
 use crate::refuse::refuse;
 use crate::rules::casts::cast_to;
 use crate::rules::nodes::{boolean, is_void};
@@ -13,9 +13,9 @@ use crate::rules::places::copy;
 use crate::state::State;
 use pl_tree::Spelled;
 use pl_types::{Fail, Ty, classes, rules};
-use plain_data::{Items, Subtree};
+use plain_data::{Items, Subtree, Text};
 use std::alloc::{AllocError, Global};
-use typed_tree::{StatementNode, Typed, TypedStatement, TypedVariable};
+use typed_tree::{StatementNode, Typed, TypedCatch, TypedStatement, TypedVariable};
 
 fn step(
     alloc: Global,
@@ -353,4 +353,66 @@ pub fn block_of(alloc: Global, at: u32, steps: Vec<Step>) -> Result<Step, AllocE
     let breaks = one_breaks(&steps);
     let statements = statements_of(alloc, steps)?;
     step(alloc, escapes, breaks, at, StatementNode::Block(statements))
+}
+
+/// A catch whose block is typed.
+pub fn caught(
+    alloc: Global,
+    at: u32,
+    class: u32,
+    name: &Text,
+    body: Step,
+) -> Result<Caught, AllocError>
+    ensures { IfOk result (λ x. x ≡ spec.caught at class name.now body) }
+{
+    let name = copy(alloc, name)?;
+    Ok(Caught {
+        at,
+        class,
+        name,
+        body,
+    })
+}
+
+fn all_escape(catches: &[Caught]) -> bool
+    ensures { result ≡ list_all spec.caught_escapes catches.now }
+{
+    catches.iter().all(|one| one.body.escapes)
+}
+
+fn one_caught_breaks(catches: &[Caught]) -> bool
+    ensures { result ≡ list_any spec.caught_breaks catches.now }
+{
+    catches.iter().any(|one| one.body.breaks)
+}
+
+/// The catches of some that are typed.
+fn catches_of(alloc: Global, mut catches: Vec<Caught>) -> Result<Items<TypedCatch>, AllocError>
+    ensures { IfOk result (λ all. all ≡ map spec.catch_of catches.items) }
+{
+    let mut all = Items::new(alloc);
+    catches.reverse();
+    while let Some(one) = catches.pop() {
+        all.push(one.into_catch())?;
+    }
+    Ok(all)
+}
+
+/// A `try`, whose block and whose catches are typed.
+pub fn try_of(
+    alloc: Global,
+    at: u32,
+    body: Step,
+    catches: Vec<Caught>,
+) -> Result<Step, AllocError>
+    ensures { IfOk result (λ y. y ≡ spec.try_of at body catches.items) }
+{
+    let escapes = body.escapes && all_escape(&catches);
+    let breaks = body.breaks || one_caught_breaks(&catches);
+    let catches = catches_of(alloc, catches)?;
+    let node = StatementNode::Try {
+        body: body.into_statement(),
+        catches,
+    };
+    step(alloc, escapes, breaks, at, node)
 }

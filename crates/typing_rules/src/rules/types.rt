@@ -84,3 +84,38 @@ pub fn result_of(of: &TypeName) -> Result<Ty, Fail>
     }
     type_of(of)
 }
+
+fn caught_base(at: u32, base: &TypeBase) -> Result<u32, Fail>
+    ensures { Keeps (spec.caught_base at base.now) result }
+{
+    match base {
+        TypeBase::Def => Err(refuse(rules::BAD_CAST, at)),
+        TypeBase::Primitive(_) => Err(refuse(rules::BAD_CAST, at)),
+        TypeBase::Class(class) => listed_class(at, *class),
+        TypeBase::Name(_) => Err(refuse(rules::UNKNOWN_TYPE, at)),
+    }
+}
+
+fn listed_class(at: u32, class: u32) -> Result<u32, Fail>
+    ensures { Keeps (spec.caught_base at (base.Class class)) result }
+{
+    if class < classes::PRELUDE {
+        Ok(class)
+    } else {
+        Err(refuse(rules::OUT_OF_PROFILE, at))
+    }
+}
+
+/// The class whose instances a catch takes: any that scripts may name, also one that no exception is of.
+///
+/// UnknownType (6): a name that means no class. BadCast (9): def, a primitive type or an array. OutOfProfile (19): a class that no
+/// script may name.
+pub fn caught_class(of: &TypeName) -> Result<u32, Fail>
+    ensures { Keeps (spec.caught_class of.now) result }
+{
+    let class = caught_base(of.at, &of.base)?;
+    if !of.brackets.is_empty() {
+        return Err(refuse(rules::BAD_CAST, of.at));
+    }
+    Ok(class)
+}
