@@ -15,9 +15,9 @@ use Rattle.typed_tree.specs.declared.operation.Target.TheVariants as target
 use Rattle.typed_tree.specs.declared.operation.Change.{Change}
 use Rattle.typed_tree.specs.declared.operation.Gives.{Gives}
 use Rattle.run_world.specs.World.{Limits, Counted, Counts, Passes, take_turn, enter}
-use Rattle.program_meaning.specs.Tree.{Name, Expr, Literal, Quoted, Local, Apply, Guarded, Logic, Conditional, Elvis, Assign, Modify, Lambda, Reference, NewReference, Exprs, None', One, Maybe, Missing, Given as Present, Stmt, Do, If, While, DoWhile, ForEach, Try, Block, Break, Continue, Return, Throw, Stmts, Finish, Then, Declare, Fun, Program}
-use Rattle.program_meaning.specs.Operating.{operates, casts}
-use Rattle.program_meaning.specs.Meaning.{State, Env, Place, Out, Done, Thrown, Over, More, Flow, Normal, Broke, Continued, Returned, bind, leave, entry, found, operated, choose, unless_null, goes_next, goes_again, back, lookup, Meaning, entered, called, of_member, applied, logic, modified, expr_of, exprs_of, value_if, turned, done_turn, stmt_of, value_or, stmts_of, layer, meaning}
+use Rattle.program_meaning.specs.Tree.{Name, Expr, Literal, Quoted, Local, Apply, Guarded, Logic, Conditional, Elvis, Assign, Modify, Lambda, Reference, NewReference, Exprs, None', One, Maybe, Missing, Given as Present, Stmt, Do, If, While, DoWhile, ForEach, Try, Block, Break, Continue, Return, Throw, Stmts, Finish, Then, Declare, Catches, NoCatch, Catch, Fun, Program}
+use Rattle.program_meaning.specs.Operating.{casts}
+use Rattle.program_meaning.specs.Meaning.{State, Env, Place, Out, Done, Thrown, Over, More, Flow, Normal, Broke, Continued, Returned, bind, leave, entry, found, operated, choose, goes_next, goes_again, is_of_class, back, lookup, Meaning, entered, called, of_member, applied, logic, modified, expr_of, exprs_of, value_if, turned, done_turn, caught, handled, stmt_of, value_or, stmts_of, layer, meaning}
 use Rattle.program_meaning.specs.Laws.{Stays, Extends}
 
 -- the same as a record, so that what stands on either side is found
@@ -84,9 +84,9 @@ again Broke s e x = same
 again Continued s e x = x
 again (Returned value) s e x = same
 
-elvis_grows : (null : Bool) {a b c d : Out Value} → Up a b → Up c d → Up (if null then c else a) (if null then d else b)
-elvis_grows true x y = y
-elvis_grows false x y = x
+either_grows : {A : Type 0} (test : Bool) {a b c d : Out A} → Up a b → Up c d → Up (if test then c else a) (if test then d else b)
+either_grows true x y = y
+either_grows false x y = x
 
 record Grows (m other : Meaning) : Type 0 where
   expr : (t : Expr) (d : Place) (s : State) (e : Env) → Up (m.expr d s e t) (other.expr d s e t)
@@ -159,10 +159,10 @@ module _ (funs : Program) (limits : Limits) where
     expr_grows (Apply at of o parts) d s e = then' (ih.exprs parts d s e) (λ values s e. applies o d s e of values)
     expr_grows (Guarded at of o None') d s e = same
     expr_grows (Guarded at of o (One a others)) d s e =
-        then' (ih.expr a d s e) (λ value s e. elvis_grows (is_null value) (then' (ih.exprs others d s e) (λ values s e. applies o d s e of (value ∷ values))) same)
+        then' (ih.expr a d s e) (λ value s e. either_grows (is_null value) (then' (ih.exprs others d s e) (λ values s e. applies o d s e of (value ∷ values))) same)
     expr_grows (Logic at of o left right) d s e = then' (ih.expr left d s e) (λ value s e. logic_grows o d s e value right)
     expr_grows (Conditional at of c a b) d s e = then' (ih.expr c d s e) (λ value s e. chosen value (ih.expr a d s e) (ih.expr b d s e))
-    expr_grows (Elvis at of left right) d s e = then' (ih.expr left d s e) (λ value s e. elvis_grows (is_null value) same (ih.expr right d s e))
+    expr_grows (Elvis at of left right) d s e = then' (ih.expr left d s e) (λ value s e. either_grows (is_null value) same (ih.expr right d s e))
     expr_grows (Assign at of to parts value) d s e = assigns at of to parts value d s e
     expr_grows (Modify at of to parts change right given) d s e = changes at of to parts change right given d s e
     expr_grows (Lambda at of interface function) d s e = same
@@ -191,6 +191,17 @@ module _ (funs : Program) (limits : Limits) where
         then' (ih.stmts body d (record { world = w; turns = suc s.turns }) e) (λ flow s e.
         again flow s e (then' (value_grows test (v.Bool true) d s e) (λ value s e. chosen value (ih.stmt (DoWhile body test) d s e) same)))
 
+    catches_grow : (t : Catches) (d : Place) (id : ℕ) (s : State) (e : Env) → Up (caught funs limits m d t id s e) (caught funs limits m' d t id s e)
+    catches_grow NoCatch d id s e = same
+    catches_grow (Catch class x body rest) d id s e =
+        either_grows (is_of_class class (slice_get s.world.store.objects id)) (catches_grow rest d id s e) (leaving (ih.stmts body d s (record { name = x; value = v.Ref id } ∷ e)))
+
+    handles : (t : Catches) (d : Place) (o other : Out Flow) → Stays o other → Stays (handled funs limits m d t o) (handled funs limits m' d t other)
+    handles t d (Done flow s e) other x = ap (λ o. handled funs limits m' d t o) x
+    handles t d (Thrown id s e) other x = subst (λ o. Stays (caught funs limits m d t id s e) (handled funs limits m' d t o)) (sym x) (catches_grow t d id s e).by
+    handles t d (Over limit w) other x = ap (λ o. handled funs limits m' d t o) x
+    handles t d More other x = tt
+
     stmt_grows : (t : Stmt) (d : Place) (s : State) (e : Env) → Up (stmt_of funs limits m d s e t) (stmt_of funs limits m' d s e t)
     stmt_grows (Do a) d s e = then' (ih.expr a d s e) (λ value s e. same)
     stmt_grows (If c a b) d s e = then' (ih.expr c d s e) (λ value s e. chosen value (ih.stmts a d s e) (ih.stmts b d s e))
@@ -198,7 +209,7 @@ module _ (funs : Program) (limits : Limits) where
         then' (value_grows test (v.Bool true) d s e) (λ value s e. chosen value (turns_grow (take_turn limits s.turns s.world) d s e test update body) same)
     stmt_grows (DoWhile body test) d s e = dones_grow (take_turn limits s.turns s.world) d s e body test
     stmt_grows (ForEach x of element over body) d s e = same
-    stmt_grows (Try body catches) d s e = same
+    stmt_grows (Try body catches) d s e = record { by = handles catches d _ _ (ih.stmts body d s e).by }
     stmt_grows (Block body) d s e = ih.stmts body d s e
     stmt_grows Break d s e = same
     stmt_grows Continue d s e = same

@@ -1,5 +1,5 @@
 -- The arguments of a member's call, as the member takes them.
-use Rattle.std.specs.Prelude.{ℕ, true, false, Option, Some, None, List, [], ◌∷◌, if◌then◌else◌}
+use Rattle.std.specs.Prelude.{Option, Some, None, List, [], ◌∷◌, if◌then◌else◌}
 use Rattle.pl_types.specs.declared.ty.Ty.{Ty, out-Ty}
 use Rattle.pl_types.specs.declared.ty.Ty.TheOpen.{Ty-F}
 use Rattle.allowlist.specs.declared.member.MemberKind.{MemberKind}
