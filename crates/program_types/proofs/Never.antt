@@ -5,6 +5,7 @@ use Rattle.std.specs.Prelude.{◌-◌, slice_get, nat_lt, if◌then◌else◌}
 use Rattle.std.proofs.lemmas.Bool.{ltb-true}
 use Rattle.std.proofs.lemmas.Option.{get_or_from_slice_get}
 use Rattle.pl_types.specs.declared.ty.Ty.{Ty, out-Ty}
+use Rattle.pl_types.specs.declared.ty.Ty.TheVariants as t
 use Rattle.allowlist.specs.declared.member.MemberKind.{MemberKind}
 use Rattle.allowlist.specs.declared.member.MemberKind.TheVariants as kind
 use Rattle.allowlist.specs.declared.member.MemberType.{MemberType}
@@ -30,14 +31,14 @@ use Rattle.number_ops.specs.Relations.{thrown}
 use Rattle.run_world.specs.World.{World, Limits, Loop, Depth, Ticks, acts_in, Counted, Counts, Passes, pay_tick, take_turn, goes_deeper, enter, reach, reaches, pay_member}
 use Rattle.member_acts.specs.Members.{is_built, does}
 use Rattle.member_acts.specs.Types.{asked_by_member}
-use Rattle.program_meaning.specs.Tree.{Name, Expr, Literal, Quoted, Local, Apply, Guarded, Logic, Conditional, Elvis, Assign, Modify, Lambda, Reference, NewReference, Exprs, None', One, Maybe, Missing, Given as Present, Stmt, Do, If, While, DoWhile, ForEach, Try, Block, Break, Continue, Return, Throw, Stmts, Finish, Then, Declare, Variable, Fun, type_of}
+use Rattle.program_meaning.specs.Tree.{Name, Expr, Literal, Quoted, Local, Apply, Guarded, Logic, Conditional, Elvis, Assign, Modify, Lambda, Reference, NewReference, Exprs, None', One, Maybe, Missing, Given as Present, Stmt, Do, If, While, DoWhile, ForEach, Try, Block, Break, Continue, Return, Throw, Stmts, Finish, Then, Declare, Catches, NoCatch, Catch, Variable, Fun, type_of}
 use Rattle.program_meaning.specs.Operating.{Operated, Meaningless, Gives as Gives_it, Acts}
 use Rattle.program_meaning.specs.Members.{Sending, Unsent, OnNull, Sends, Reads, sent}
-use Rattle.program_meaning.specs.Meaning.{State, Env, Place, Out, Done, Thrown, Over, More, Flow, Normal, Broke, Continued, Returned, bind, leave, found, effect, operated, choose, given_by, goes_next, goes_again, back, Meaning, entered, called, acted, paid, member_called, member_applied, of_member, applied, logic, modified, expr_of, exprs_of, value_if, turned, done_turn, stmt_of, value_or, stmts_of, layer, meaning}
+use Rattle.program_meaning.specs.Meaning.{State, Env, Place, Out, Done, Thrown, Over, More, Flow, Normal, Broke, Continued, Returned, bind, leave, found, effect, operated, choose, given_by, goes_next, goes_again, is_of_class, back, Meaning, entered, called, acted, paid, member_called, member_applied, of_member, applied, logic, modified, expr_of, exprs_of, value_if, turned, done_turn, caught, handled, stmt_of, value_or, stmts_of, layer, meaning}
 use Rattle.program_types.specs.Types.{Has, HaveAll}
-use Rattle.program_types.specs.Agreeing.{Scope, IsVariable, boolean, types_of, Known, Calls, MemberAgrees, Applies, Changes, ExprAgrees, ExprsAgree, TestAgrees, UpdateAgrees, BeginAgrees, ReturnAgrees, StmtAgrees, StmtsAgree, scope_of, FunAgrees, WellFormed}
-use Rattle.program_types.specs.Enough.{expr_size, exprs_size, maybe_size, stmt_size, stmts_size}
-use Rattle.program_types.proofs.Values.{has_flag, nothing_has, is_flag, text_has, constant_has, default_has}
+use Rattle.program_types.specs.Agreeing.{Scope, IsVariable, boolean, types_of, Known, Calls, MemberAgrees, Applies, Changes, ExprAgrees, ExprsAgree, TestAgrees, UpdateAgrees, BeginAgrees, ReturnAgrees, StmtAgrees, StmtsAgree, CatchesAgree, scope_of, FunAgrees, WellFormed}
+use Rattle.program_types.specs.Enough.{expr_size, exprs_size, maybe_size, stmt_size, stmts_size, catches_size}
+use Rattle.program_types.proofs.Values.{has_flag, nothing_has, is_flag, text_has, class_has, constant_has, default_has}
 use Rattle.program_types.proofs.Effects.{EffectHas, OperatedHas, null_throws}
 use Rattle.program_types.proofs.Members.{SendingSuits, sent_suits, Comes, member_comes, null_has}
 use Rattle.program_types.proofs.Operations.{takes_fit, casts_fit, begins_fit}
@@ -429,6 +430,25 @@ module _ (funs : Known) (limits : Limits) (same : limits.allowed ≡ funs.allowe
     returns_end Missing of looped d s e g a b c = done (subst (λ of. Has of v.Null) (sym a) (nothing_has v.Null)) b (omega arith)
     returns_end (Present x) of looped d s e g a b c = then' (of_type x of d s e g a.0 a.1 b c) (λ value s e h b k. done h b (omega arith))
 
+    -- a catch goes on with the names, their types and the ticks that what was thrown has left
+    caught_ends : (x : Catches) (id : ℕ) (d : Place) (s : State) (e : Env) (g : Scope) (of : Ty) (looped : Bool) → CatchesAgree funs of looped g x → Bound g e
+        → cost s.world.ticks + catches_size x ≤ n → Ends (FlowHas of looped) g s.world.ticks (caught funs.functions limits m d x id s e)
+    caught_ends NoCatch id d s e g of looped a b c = record { by = (b, omega arith) }
+    caught_ends (Catch class x body rest) id d s e g of looped a b c =
+        let y : Variable = record { name = x; of = t.Class class } in
+        let ran = ih.stmts body d s (record { name = x; value = v.Ref id } ∷ e) (y ∷ g) of looped a.1 (refl, class_has class (v.Ref id), b) (omega (arith, c)) in
+        unless (is_of_class class (slice_get s.world.store.objects id))
+        (caught_ends rest id d s e g of looped a.2 b (omega (arith, c)))
+        (record { by = leaving (FlowHas of looped) g s.world.ticks y _ ran.by })
+
+    handled_ends : (x : Catches) (d : Place) (g : Scope) (of : Ty) (looped : Bool) (k : ℕ) (o : Out Flow) → CatchesAgree funs of looped g x → cost k + catches_size x ≤ n
+        → Fine (FlowHas of looped) g k o → Fine (FlowHas of looped) g k (handled funs.functions limits m d x o)
+    handled_ends x d g of looped k (Done flow s e) a c h = h
+    handled_ends x d g of looped k (Thrown id s e) a c h =
+        fewer_ticks (FlowHas of looped) g _ s.world.ticks k h.1 (caught_ends x id d s e g of looped a h.0 (lesser s.world.ticks k _ n h.1 c)).by
+    handled_ends x d g of looped k (Over limit w) a c h = tt
+    handled_ends x d g of looped k More a c h = absurd h
+
     stmt_ends : (x : Stmt) (d : Place) (s : State) (e : Env) (g : Scope) (of : Ty) (looped : Bool) → StmtAgrees funs of looped g x → Bound g e → cost s.world.ticks + stmt_size x ≤ suc n
         → Ends (FlowHas of looped) g s.world.ticks (stmt_of funs.functions limits m d s e x)
     stmt_ends (Do x) d s e g of looped a b c = then' (ih.expr x d s e g a b (omega (arith, c))) (λ value s e h b k. done tt b (omega arith))
@@ -444,7 +464,8 @@ module _ (funs : Known) (limits : Limits) (same : limits.allowed ≡ funs.allowe
         (done tt b (omega arith)))
     stmt_ends (DoWhile body test) d s e g of looped a b c = done_ends (take_turn limits s.turns s.world) body test d s e g of looped (turn_costs limits s.turns s.world) a b c
     stmt_ends (ForEach x to element over body) d s e g of looped a b c = absurd a
-    stmt_ends (Try body catches) d s e g of looped a b c = absurd a
+    stmt_ends (Try body catches) d s e g of looped a b c =
+        record { by = handled_ends catches d g of looped s.world.ticks _ a.1 (omega (arith, c)) (ih.stmts body d s e g of looped a.0 b (omega (arith, c))).by }
     stmt_ends (Block body) d s e g of looped a b c = ih.stmts body d s e g of looped a b (omega (arith, c))
     stmt_ends Break d s e g of looped a b c = done a b (omega arith)
     stmt_ends Continue d s e g of looped a b c = done a b (omega arith)

@@ -1,6 +1,6 @@
 -- Values of their types.
 use Rattle.std.proofs.Common.{◌≡◌, Bool, true, false, not, refl, sym, subst}
-use Rattle.std.specs.Prelude.{ℤ, pos}
+use Rattle.std.specs.Prelude.{ℕ, ℤ, pos}
 use Rattle.std.specs.Ordering.{int_eq}
 use Rattle.pl_types.specs.declared.primitive.Primitive.{Primitive}
 use Rattle.pl_types.specs.declared.primitive.Primitive.TheVariants as prim
@@ -86,6 +86,11 @@ default_has_layer (Ty-F.Array of) = tt
 
 pub default_has : (of : Ty) → Has of (default_of of)
 default_has of = default_has_layer (out-Ty of)
+
+-- of references nothing is asked
+pub class_has : (class : ℕ) (value : Value) → Has (t.Class class) value
+unfolding out-Ty denote.Hole.Carrier.out
+class_has class value = tt
 
 any_text : (value : Value) → Has string value
 unfolding out-Ty denote.Hole.Carrier.out
