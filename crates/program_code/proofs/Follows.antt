@@ -95,7 +95,7 @@ module _ (code : List FunCode) (limits : Limits) where
     pub by : Follows c h g land good n o
 
   -- what a family of places does, a place that leads to one of them does
-  through : {A : Type 0} (c : Ctx code) (h : Handlers) (g : Scope) (land : A → State → List Word → Next) (good : A → Type 0) (n : Next) (P : List Word → Type 0) (n' : List Word → Next) (o : Out A)
+  pub through : {A : Type 0} (c : Ctx code) (h : Handlers) (g : Scope) (land : A → State → List Word → Next) (good : A → Type 0) (n : Next) (P : List Word → Type 0) (n' : List Word → Next) (o : Out A)
       → ((r : End (Option Word)) → ((l : List Word) → P l → Leads (n' l) r) → Leads n r) → ((l : List Word) → P l → Follows c h g land good (n' l) o) → Follows c h g land good n o
   through c h g land good n P n' (Done a s e) f d = λ r k. f r (λ l p. d l p r k)
   through c h g land good n P n' (Thrown id s e) f d = λ r k. f r (λ l p. d l p r k)

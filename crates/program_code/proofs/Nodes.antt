@@ -7,4 +7,5 @@ pub mod Calls
 pub mod Members
 pub mod Applies
 pub mod Statements
+pub mod Tries
 pub mod Loops

@@ -13,6 +13,7 @@ use Rattle.program_code.proofs.Nodes.Exprs.{literal_runs, quoted_runs, local_run
 use Rattle.program_code.proofs.Nodes.Assigns.{assign_runs, modify_runs}
 use Rattle.program_code.proofs.Nodes.Applies.{apply_runs, guarded_runs}
 use Rattle.program_code.proofs.Nodes.Statements.{do_runs, if_runs, block_runs, break_runs, continue_runs, return_runs, throw_runs, finish_runs, then_runs, declare_runs}
+use Rattle.program_code.proofs.Nodes.Tries.{try_runs}
 use Rattle.program_code.proofs.Nodes.Loops.{while_runs, do_while_runs}
 
 module _ (funs : Program) (code : List FunCode) (limits : Limits) (made : Compiled funs code) (reads : ReadsBack) (texts : TextsName) where
@@ -42,7 +43,7 @@ module _ (funs : Program) (code : List FunCode) (limits : Limits) (made : Compil
     stmt_runs (While test update body) = while_runs funs code limits m ih test update body
     stmt_runs (DoWhile body test) = do_while_runs funs code limits m ih body test
     stmt_runs (ForEach x of element over body) = λ c h g n j p s e l stands under f. record { by = tt }
-    stmt_runs (Try body catches) = λ c h g n j p s e l stands under f. record { by = tt }
+    stmt_runs (Try body catches) = try_runs funs code limits m ih body catches
     stmt_runs (Block body) = block_runs funs code limits m ih body
     stmt_runs Break = break_runs funs code limits m ih
     stmt_runs Continue = continue_runs funs code limits m ih

@@ -10,7 +10,7 @@ use Rattle.pl_code.specs.declared.code.FunCode.{FunCode}
 use Rattle.pl_code.specs.declared.code.Instruction.TheVariants as i
 use Rattle.number_ops.specs.Relations.{thrown}
 use Rattle.run_world.specs.World.{Limits, End, acts_in}
-use Rattle.program_meaning.specs.Tree.{Name, Expr, Maybe, Missing, Given, Stmt, Do, If, While, DoWhile, ForEach, Try, Block, Break, Continue, Return, Throw, Stmts, Finish, Then, Declare, Program, type_of}
+use Rattle.program_meaning.specs.Tree.{Name, Expr, Maybe, Missing, Given, Stmt, Do, If, While, DoWhile, ForEach, Try, Block, Break, Continue, Return, Throw, Stmts, Finish, Then, Declare, Catches, NoCatch, Catch, Program, type_of}
 use Rattle.program_meaning.specs.Meaning.{State, Env, Out, Done, Flow, Normal, Broke, Continued, Returned, Meaning, bind, effect, goes_next, value_or, stmt_of, stmts_of}
 use Rattle.code_meaning.specs.declared.word.Word.{Word}
 use Rattle.code_meaning.specs.declared.word.Word.TheVariants.{R}
@@ -18,7 +18,7 @@ use Rattle.code_meaning.specs.Words.{unboxed}
 use Rattle.code_meaning.specs.Machine.{Handlers, Next, pushed}
 use Rattle.program_code.specs.Lying.{Lying, Bare, Whole, Absent, lying_of, low}
 use Rattle.program_code.specs.Parts.{pops}
-use Rattle.program_code.specs.Stands.{Entry, Scope, At, AllAt, end_all, end_expr, falls, all_fall, continues, any_continues, end_skip, end_value, end_stmt, end_stmts, next_stmt, next_stmts, Jumps, HasLocal, SkipAt, ValueAt}
+use Rattle.program_code.specs.Stands.{Entry, Scope, At, AllAt, end_all, end_expr, falls, all_fall, continues, any_continues, end_skip, end_value, end_stmt, end_stmts, next_stmt, next_stmts, next_catches, Jumps, HasLocal, SkipAt, ValueAt}
 use Rattle.program_code.proofs.Locals.{Under, Fits, under_more, local_within, declares}
 use Rattle.program_code.proofs.Follows.{Ctx, Leads, at, place, does_next, Sim, and_then, done, step_to, lands_on, leaving, tested}
 use Rattle.program_code.proofs.Refines.{Any, Good, land_value, land_flow, StmtRuns, StmtsRun, Refines}
@@ -60,7 +60,7 @@ mutual
   next_grows n m (While test update body) less = nexts_grow n m body less
   next_grows n m (DoWhile body test) less = nexts_grow n m body less
   next_grows n m (ForEach x of element over body) less = less
-  next_grows n m (Try body catches) less = less
+  next_grows n m (Try body catches) less = catches_grow n (next_stmts m body) catches (nexts_grow n m body less)
   next_grows n m (Block body) less = nexts_grow n m body less
   next_grows n m Break less = less
   next_grows n m Continue less = less
@@ -71,6 +71,10 @@ mutual
   nexts_grow n m Finish less = less
   nexts_grow n m (Then t rest) less = nexts_grow n (next_stmt m t) rest (next_grows n m t less)
   nexts_grow n m (Declare x of value rest) less = nexts_grow n (suc m) rest (omega (arith, less))
+
+  catches_grow : (n m : ℕ) (t : Catches) → n ≤ m → n ≤ next_catches m t
+  catches_grow n m NoCatch less = less
+  catches_grow n m (Catch class x body rest) less = catches_grow n (next_stmts (suc m) body) rest (nexts_grow n (suc m) body (omega (arith, less)))
 
 module _ (funs : Program) (code : List FunCode) (limits : Limits) (c : Ctx code) (h : Handlers) (g : Scope) where
   -- a value is dropped
@@ -87,8 +91,8 @@ module _ (funs : Program) (code : List FunCode) (limits : Limits) (m : Meaning) 
       and_then code limits (ih.expr a c h g p s e l [] stands.0 f) (λ value s e l f _.
       pops_run funs code limits c h g (lying_of (type_of a)) value _ s l [] stands.1 (done code limits f refl))
 
-  -- over the second branch
-  over : (c : Ctx code) (h : Handlers) (falling : Bool) (j : Jumps) (q to : ℕ) (continuing : Bool) → SkipAt c.body h falling q to → (flow : Flow) (s : State) (l : List Word) (r : End (Option Word)) → Good falling continuing flow
+  -- over what follows
+  pub over : (c : Ctx code) (h : Handlers) (falling : Bool) (j : Jumps) (q to : ℕ) (continuing : Bool) → SkipAt c.body h falling q to → (flow : Flow) (s : State) (l : List Word) (r : End (Option Word)) → Good falling continuing flow
       → Leads code limits (land_flow funs code limits c j to flow s l) r → Leads code limits (land_flow funs code limits c j q flow s l) r
   over c h true j q to continuing a Normal s l r good k = does_next code limits c h _ _ l [] s r a k
   over c h false j q to continuing a Normal s l r good k = cc
@@ -173,7 +177,7 @@ module _ (funs : Program) (code : List FunCode) (limits : Limits) (m : Meaning) 
       lands_on code limits (λ value s l r _ k. subst (λ k'. Leads code limits (at code limits c (end_expr p a) l (pushed (low k' value) []) s) r) (sym stands.1) k) (λ value y. y) (ih.expr a c h g p s e l [] stands.0 f)
 
   -- a new variable
-  store_new : (x : Name) (of : Ty) (n : ℕ) (k : Lying) (value : Value) (c : Ctx code) (h : Handlers) (g : Scope) (q : ℕ) (s : State) (e : Env) (l : List Word) → k ≡ lying_of of → k ≢ Absent → HasLocal c.body n of → Under n g → At c.body h q (i.Numbered numbered.Store n) → Fits c.body g e l
+  pub store_new : (x : Name) (of : Ty) (n : ℕ) (k : Lying) (value : Value) (c : Ctx code) (h : Handlers) (g : Scope) (q : ℕ) (s : State) (e : Env) (l : List Word) → k ≡ lying_of of → k ≢ Absent → HasLocal c.body n of → Under n g → At c.body h q (i.Numbered numbered.Store n) → Fits c.body g e l
       → {A : Type 0} {land : A → State → List Word → Next} {good : A → Type 0} {o : Out A}
       → ((l : List Word) → Fits c.body (record { name = x; of = of; local = n } ∷ g) (record { name = x; value = value } ∷ e) l → Sim code limits c h g land good (at code limits c (suc q) l [] s) o)
       → Sim code limits c h g land good (at code limits c q l (pushed (low k value) []) s) o
