@@ -1,9 +1,10 @@
 -- The lines of a part's code have rows, all from its first to its end.
-use Rattle.std.proofs.Common.{◌≡◌, ℕ, suc, ◌<◌, ◌≤◌, Bool, true, false, ◌&&◌, ltb, pos, List, [], ◌∷◌, Some, refl, subst, arith}
+use Rattle.std.proofs.Common.{◌≡◌, ℕ, suc, ◌<◌, ◌≤◌, Bool, true, false, ◌&&◌, ltb, pos, List, [], ◌∷◌, ◌++◌, Some, refl, subst, arith}
 use Rattle.std.specs.Prelude.{slice_get}
 use Rattle.std.specs.List.{list_all}
 use Rattle.std.proofs.lemmas.Bool.{ltb-true, ltb-false}
 use Rattle.pl_types.specs.declared.ty.Ty.{Ty}
+use Rattle.pl_types.specs.declared.ty.Ty.TheVariants as t
 use Rattle.pl_code.specs.declared.kinds.Plain.TheVariants as plain
 use Rattle.pl_code.specs.declared.kinds.Numbered.TheVariants as numbered
 use Rattle.pl_code.specs.declared.code.FunCode.{FunCode}
@@ -15,13 +16,13 @@ use Rattle.typed_tree.specs.declared.operation.Logical.TheVariants.{And, Or}
 use Rattle.typed_tree.specs.declared.operation.Target.TheVariants as target
 use Rattle.allowlist.specs.Allow.{AllowList}
 use Rattle.member_names.specs.Names.{TextsName}
-use Rattle.program_meaning.specs.Tree.{Expr, Literal, Quoted, Local, Apply, Guarded, Logic, Conditional, Elvis, Assign, Modify, Lambda, Reference, NewReference, Exprs, None', One, Maybe, Missing, Given, Stmt, Do, If, While, DoWhile, ForEach, Try, Block, Break, Continue, Return, Throw, Stmts, Finish, Then, Declare, Program, type_of}
+use Rattle.program_meaning.specs.Tree.{Expr, Literal, Quoted, Local, Apply, Guarded, Logic, Conditional, Elvis, Assign, Modify, Lambda, Reference, NewReference, Exprs, None', One, Maybe, Missing, Given, Stmt, Do, If, While, DoWhile, ForEach, Try, Block, Break, Continue, Return, Throw, Stmts, Finish, Then, Declare, Catches, NoCatch, Catch, Program, type_of}
 use Rattle.program_meaning.specs.Falls.{all_fall}
 use Rattle.program_code.specs.Lying.{Lying, lying_of}
 use Rattle.program_code.specs.Parts.{constant_code, text_code, default_code, operator_code, operation_code, cast_code, member_code, without_null, kept_before, kept_behind, pops}
-use Rattle.program_code.specs.Stands.{Scope, At, AllAt, end_all, end_expr, end_exprs, change_first, change_last, elvis_right, settled, settles, ExprAt, ExprsAt, goes_on, end_skip, end_dropped, end_update, end_test, end_last, end_value, end_returned, end_stmt, end_stmts, next_stmt, next_stmts, Jumps, SkipAt, DroppedAt, UpdateAt, TestAt, LastAt, ValueAt, ReturnedAt, StmtAt, StmtsAt}
+use Rattle.program_code.specs.Stands.{Scope, At, AllAt, end_all, end_expr, end_exprs, change_first, change_last, elvis_right, settled, settles, ExprAt, ExprsAt, goes_on, end_skip, end_dropped, end_update, end_test, end_last, end_value, end_returned, end_stmt, end_stmts, end_catches, end_tried, end_caught, jumps_over, handlers_of, next_stmt, next_stmts, Jumps, SkipAt, DroppedAt, UpdateAt, TestAt, LastAt, ValueAt, ReturnedAt, StmtAt, StmtsAt, CatchesAt}
 use Rattle.program_types.specs.Agreeing as agreeing
-use Rattle.program_types.specs.Agreeing.{known, types_of, ExprAgrees, ExprsAgree, TestAgrees, UpdateAgrees, BeginAgrees, ReturnAgrees, StmtAgrees, StmtsAgree}
+use Rattle.program_types.specs.Agreeing.{known, types_of, ExprAgrees, ExprsAgree, TestAgrees, UpdateAgrees, BeginAgrees, ReturnAgrees, StmtAgrees, StmtsAgree, CatchesAgree}
 use Rattle.verified_runs.specs.Rows.{has_row}
 use Rattle.program_runs.proofs.Parts.{AllRows, constant_row, operator_rows, operation_rows, guard_rows, null_rows, cast_rows, default_rows, pops_rows, before_rows, behind_rows}
 
@@ -178,51 +179,68 @@ module _ (allow : AllowList) (f : FunCode) where
     returned k g names p Missing of ok s = nothing p
     returned k g names p (Given a) of ok s = expr_covered g names p a ok.0 s.0
 
-    -- ---- statements
+  -- ---- statements
 
+  module _ (texts : TextsName) (funs : Program) where
     mutual
-      stmt_covered : (k : Lying) (of : Ty) (looped : Bool) (g : Scope) (names : agreeing.Scope) (n : ℕ) (j : Jumps) (p : ℕ) (t : Stmt) → StmtAgrees (known allow funs) of looped names t → StmtAt funs f h k g n j p t → Covered p (end_stmt p t)
-      stmt_covered k of looped g names n j p (Do a) ok s = dropped g names p a ok s
-      stmt_covered k of looped g names n j p (If c a b) ok s =
+      stmt_covered : (h : Handlers) (k : Lying) (of : Ty) (looped : Bool) (g : Scope) (names : agreeing.Scope) (n : ℕ) (j : Jumps) (p : ℕ) (t : Stmt) → StmtAgrees (known allow funs) of looped names t → StmtAt funs f h k g n j p t → Covered p (end_stmt p t)
+      stmt_covered h k of looped g names n j p (Do a) ok s = dropped texts funs h g names p a ok s
+      stmt_covered h k of looped g names n j p (If c a b) ok s =
           let q = end_expr p c in
           let r = end_stmts (suc q) a in
           let e = end_skip (all_fall a) r in
-          join p q (end_stmts e b) (expr_covered g names p c ok.0 s.0)
+          join p q (end_stmts e b) (expr_covered texts funs h g names p c ok.0 s.0)
           (join q (suc q) (end_stmts e b) (one h q (i.Numbered numbered.IfZero e) s.2 refl)
-          (join (suc q) r (end_stmts e b) (stmts_covered k of looped g names n j (suc q) a ok.2 s.3)
-          (join r e (end_stmts e b) (skipped (all_fall a) r (end_stmt p (If c a b)) s.4) (stmts_covered k of looped g names (next_stmts n a) j e b ok.3 s.5))))
-      stmt_covered k of looped g names n j p (While test update body) ok s =
+          (join (suc q) r (end_stmts e b) (stmts_covered h k of looped g names n j (suc q) a ok.2 s.3)
+          (join r e (end_stmts e b) (skipped texts funs h (all_fall a) r (end_stmt p (If c a b)) s.4) (stmts_covered h k of looped g names (next_stmts n a) j e b ok.3 s.5))))
+      stmt_covered h k of looped g names n j p (While test update body) ok s =
           let r = end_stmts (suc p) body in
           let u = end_update (goes_on body) r update in
           let e = end_test u test in
           join p (suc p) (suc e) (one h p (i.Numbered numbered.Goto u) s.0 refl)
-          (join (suc p) r (suc e) (stmts_covered k of true g names n (record { out = end_stmt p (While test update body); on = r }) (suc p) body ok.2 s.1)
-          (join r u (suc e) (updated g names (goes_on body) r update ok.1 s.2)
-          (join u e (suc e) (tested g names u test ok.0 s.3) (one h e (i.Numbered numbered.Loop (suc p)) s.4 refl))))
-      stmt_covered k of looped g names n j p (DoWhile body test) ok s =
+          (join (suc p) r (suc e) (stmts_covered h k of true g names n (record { out = end_stmt p (While test update body); on = r }) (suc p) body ok.2 s.1)
+          (join r u (suc e) (updated texts funs h g names (goes_on body) r update ok.1 s.2)
+          (join u e (suc e) (tested texts funs h g names u test ok.0 s.3) (one h e (i.Numbered numbered.Loop (suc p)) s.4 refl))))
+      stmt_covered h k of looped g names n j p (DoWhile body test) ok s =
           let r = end_stmts (suc p) body in
           let e = end_last (goes_on body) r test in
           join p (suc p) (suc (suc e)) (one h p (i.Numbered numbered.Goto e) s.0 refl)
-          (join (suc p) r (suc (suc e)) (stmts_covered k of true g names n (record { out = end_stmt p (DoWhile body test); on = r }) (suc p) body ok.0 s.1)
-          (join r e (suc (suc e)) (tested_last g names (goes_on body) r test (end_stmt p (DoWhile body test)) ok.1 s.2)
+          (join (suc p) r (suc (suc e)) (stmts_covered h k of true g names n (record { out = end_stmt p (DoWhile body test); on = r }) (suc p) body ok.0 s.1)
+          (join r e (suc (suc e)) (tested_last texts funs h g names (goes_on body) r test (end_stmt p (DoWhile body test)) ok.1 s.2)
           (join e (suc e) (suc (suc e)) (one h e (i.Int (pos 1)) s.3 refl) (one h (suc e) (i.Numbered numbered.Loop (suc p)) s.4 refl))))
-      stmt_covered k of looped g names n j p (ForEach x element cast over body) ok s = nothing p
-      stmt_covered k of looped g names n j p (Try body catches) ok s = nothing p
-      stmt_covered k of looped g names n j p (Block body) ok s = stmts_covered k of looped g names n j p body ok s
-      stmt_covered k of looped g names n j p Break ok s = one h p (i.Numbered numbered.Goto j.out) s refl
-      stmt_covered k of looped g names n j p Continue ok s = one h p (i.Numbered numbered.Goto j.on) s refl
-      stmt_covered k of looped g names n j p (Return value) ok s =
-          join p (end_returned p value) (suc (end_returned p value)) (returned k g names p value of ok s.0) (one h (end_returned p value) (i.Plain plain.Ret) s.1 refl)
-      stmt_covered k of looped g names n j p (Throw value) ok s =
+      stmt_covered h k of looped g names n j p (ForEach x element cast over body) ok s = nothing p
+      stmt_covered h k of looped g names n j p (Try body catches) ok s =
+          let r = end_stmts p body in
+          let q = end_tried p body in
+          let to = end_catches q catches in
+          let inner = handlers_of q catches ++ h in
+          join p r to (stmts_covered inner k of looped g names n j p body ok.0 s.0)
+          (join r q to (skipped texts funs inner (all_fall body) r to s.1) (catches_covered h k of looped g names (next_stmts n body) j to q catches ok.1 s.2))
+      stmt_covered h k of looped g names n j p (Block body) ok s = stmts_covered h k of looped g names n j p body ok s
+      stmt_covered h k of looped g names n j p Break ok s = one h p (i.Numbered numbered.Goto j.out) s refl
+      stmt_covered h k of looped g names n j p Continue ok s = one h p (i.Numbered numbered.Goto j.on) s refl
+      stmt_covered h k of looped g names n j p (Return value) ok s =
+          join p (end_returned p value) (suc (end_returned p value)) (returned texts funs h k g names p value of ok s.0) (one h (end_returned p value) (i.Plain plain.Ret) s.1 refl)
+      stmt_covered h k of looped g names n j p (Throw value) ok s =
           let q = end_expr p value in
-          join p q (suc q) (expr_covered g names p value ok.0 s.0) (one h q (i.Plain plain.Throw) s.2 refl)
+          join p q (suc q) (expr_covered texts funs h g names p value ok.0 s.0) (one h q (i.Plain plain.Throw) s.2 refl)
 
-      pub stmts_covered : (k : Lying) (of : Ty) (looped : Bool) (g : Scope) (names : agreeing.Scope) (n : ℕ) (j : Jumps) (p : ℕ) (ts : Stmts) → StmtsAgree (known allow funs) of looped names ts → StmtsAt funs f h k g n j p ts → Covered p (end_stmts p ts)
-      stmts_covered k of looped g names n j p Finish ok s = nothing p
-      stmts_covered k of looped g names n j p (Then t rest) ok s =
-          join p (end_stmt p t) (end_stmts (end_stmt p t) rest) (stmt_covered k of looped g names n j p t ok.0 s.0) (stmts_covered k of looped g names (next_stmt n t) j (end_stmt p t) rest ok.1 s.1)
-      stmts_covered k of looped g names n j p (Declare x at value rest) ok s =
+      pub stmts_covered : (h : Handlers) (k : Lying) (of : Ty) (looped : Bool) (g : Scope) (names : agreeing.Scope) (n : ℕ) (j : Jumps) (p : ℕ) (ts : Stmts) → StmtsAgree (known allow funs) of looped names ts → StmtsAt funs f h k g n j p ts → Covered p (end_stmts p ts)
+      stmts_covered h k of looped g names n j p Finish ok s = nothing p
+      stmts_covered h k of looped g names n j p (Then t rest) ok s =
+          join p (end_stmt p t) (end_stmts (end_stmt p t) rest) (stmt_covered h k of looped g names n j p t ok.0 s.0) (stmts_covered h k of looped g names (next_stmt n t) j (end_stmt p t) rest ok.1 s.1)
+      stmts_covered h k of looped g names n j p (Declare x at value rest) ok s =
           let q = end_value p value at in
-          join p q (end_stmts (suc q) rest) (valued g names p value at ok.0 s.0)
+          join p q (end_stmts (suc q) rest) (valued texts funs h g names p value at ok.0 s.0)
           (join q (suc q) (end_stmts (suc q) rest) (one h q (i.Numbered numbered.Store n) s.3 refl)
-          (stmts_covered k of looped (record { name = x; of = at; local = n } ∷ g) (record { name = x; of = at } ∷ names) (suc n) j (suc q) rest ok.2 s.4))
+          (stmts_covered h k of looped (record { name = x; of = at; local = n } ∷ g) (record { name = x; of = at } ∷ names) (suc n) j (suc q) rest ok.2 s.4))
+
+      catches_covered : (h : Handlers) (k : Lying) (of : Ty) (looped : Bool) (g : Scope) (names : agreeing.Scope) (n : ℕ) (j : Jumps) (to p : ℕ) (catches : Catches) → CatchesAgree (known allow funs) of looped names catches → CatchesAt funs f h k g n j to p catches → Covered p (end_catches p catches)
+      catches_covered h k of looped g names n j to p NoCatch ok s = nothing p
+      catches_covered h k of looped g names n j to p (Catch class x body others) ok s =
+          let r = end_stmts (suc p) body in
+          let q = end_caught p body others in
+          let e = end_catches q others in
+          join p (suc p) e (one h p (i.Numbered numbered.Store n) s.1 refl)
+          (join (suc p) r e (stmts_covered h k of looped (record { name = x; of = t.Class class; local = n } ∷ g) (record { name = x; of = t.Class class } ∷ names) (suc n) j (suc p) body ok.1 s.2)
+          (join r q e (skipped texts funs h (jumps_over body others) r to s.3) (catches_covered h k of looped g names (next_stmts (suc n) body) j to q others ok.2 s.4)))

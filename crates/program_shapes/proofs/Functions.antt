@@ -1,10 +1,11 @@
 -- Functions: the kinds at their lines are their shapes.
-use Rattle.std.proofs.Common.{◌≡◌, ℕ, suc, ◌+◌, ◌<◌, Bool, true, false, not, ◌||◌, ltb, List, [], ◌∷◌, ◌++◌, length, Some, refl, sym, ap, ◌∙◌, subst, arith, append_assoc, length-append, zero}
+use Rattle.std.proofs.Common.{◌≡◌, ℕ, suc, ◌+◌, ◌<◌, Bool, true, false, not, ◌||◌, ◌&&◌, ltb, leb, is_some, List, [], ◌∷◌, ◌++◌, length, Some, None, refl, sym, ap, ◌∙◌, subst, arith, append_assoc, length-append, zero}
 use Rattle.std.specs.Prelude.{slice_get}
-use Rattle.std.proofs.lemmas.Bool.{eq-eqb, lt-ltb, or_left, false≢true}
+use Rattle.std.proofs.lemmas.Bool.{eq-eqb, lt-ltb, lt-leb, le-leb, or_left, false≢true}
 use Rattle.std.proofs.lemmas.Option.{slice_get_within}
 use Rattle.pl_types.specs.declared.ty.Ty.{Ty}
 use Rattle.pl_code.specs.declared.kinds.Slot.{Slot}
+use Rattle.pl_code.specs.declared.kinds.Slot.TheVariants.{R}
 use Rattle.pl_code.specs.declared.code.FunCode.{FunCode}
 use Rattle.pl_code.specs.declared.code.Trap.{Trap}
 use Rattle.pl_code.specs.declared.code.Instruction.{Instruction}
@@ -12,14 +13,16 @@ use Rattle.allowlist.specs.Allow.{AllowList}
 use Rattle.code_shapes.specs.declared.flow.Flow.{Flow}
 use Rattle.code_shapes.specs.declared.flow.Flow.TheVariants as flow
 use Rattle.code_shapes.specs.Effects.{result_kinds, effect_of, flow_of}
+use Rattle.code_shapes.specs.Types.{catalogue_class}
+use Rattle.code_shapes.specs.Faults.{is_bad_trap_target, is_bad_trap_class, is_bad_trap_order}
 use Rattle.verifier.specs.Meets.{goes_to, turns_to, left_in}
-use Rattle.verifier.specs.Faults.{falls, has_shape}
+use Rattle.verifier.specs.Faults.{falls, has_shape, fault_of, trap_fault}
 use Rattle.verifier.specs.Shaped.{Leads, begins, catches, turns, passes, LineStands, IsWellShaped}
 use Rattle.program_meaning.specs.Falls.{all_fall}
 use Rattle.program_meaning.specs.Tree.{Variable, Fun, Program}
 use Rattle.program_code.specs.Lying.{lying_of, kind_of, result_of}
 use Rattle.program_code.specs.Parts.{default_code}
-use Rattle.program_code.specs.Stands.{Scope, end_stmts, scope_of, no_jumps, kinds_of, EndAt, end_end, FunAt, Compiled}
+use Rattle.program_code.specs.Stands.{Scope, end_stmts, traps_stmts, scope_of, no_jumps, kinds_of, EndAt, end_end, FunAt, Compiled}
 use Rattle.member_names.specs.Names.{TextsName}
 use Rattle.program_types.specs.Agreeing.{known, StmtsAgree, HaveValues, FunAgrees, WellFormed}
 use Rattle.program_types.specs.Agreeing.{scope_of as names_of}
@@ -30,11 +33,12 @@ use Rattle.program_shapes.proofs.Runs.{Good, Fine, fine_none, fine_one, join, sp
 use Rattle.program_shapes.proofs.Parts.{push, stmts_kinds, end_kinds_of, stmts_ends}
 use Rattle.program_shapes.proofs.Steps.{default_straight}
 use Rattle.program_shapes.proofs.Scopes.{names, HaveLocals}
+use Rattle.program_shapes.proofs.Traps.{own_traps, TrapFits, TrapsFit, trap_fits, stmts_traps}
 use Rattle.program_shapes.proofs.Stmts.{stmts_fit}
 
 -- ---- what is good at each line is a shape
 
-module _ (allow : AllowList) (functions : List FunCode) (f : FunCode) (shapes : List (List Slot)) (many : length shapes ≡ length f.lines) (none : f.traps ≡ []) (good : Fine allow functions f shapes 0 (length f.lines)) (start : Has shapes 0 []) where
+module _ (allow : AllowList) (functions : List FunCode) (f : FunCode) (shapes : List (List Slot)) (many : length shapes ≡ length f.lines) (traps : TrapsFit shapes f.traps) (good : Fine allow functions f shapes 0 (length f.lines)) (start : Has shapes 0 []) where
   same_kinds : {line : ℕ} {j k : List Slot} → Has shapes line j → Has shapes line k → j ≡ k
   same_kinds {line} {j} {k} a b = let e = sym a.is ∙ b.is in cc
 
@@ -58,12 +62,30 @@ module _ (allow : AllowList) (functions : List FunCode) (f : FunCode) (shapes : 
       let same : g.left ≡ left = cc in
       subst (λ left. Has shapes to left) same (g.goes to (subst (λ i. goes_to (flow_of i) line to ≡ true) one t))
 
-  no_trap : (k : ℕ) (t : Trap) → slice_get f.traps k ≡ Some t → ⊥
-  no_trap k t is = let e = sym (ap (λ traps. slice_get traps k) none) ∙ is in cc
+  trap_at : (k : ℕ) (t : Trap) → slice_get f.traps k ≡ Some t → TrapFits shapes t
+  trap_at k t is = trap_fits shapes f.traps k t traps is
+
+  -- its numbers are in range, its class is known, and it goes forward
+  no_fault : (t : Trap) → TrapFits shapes t → trap_fault (length f.lines) t ≡ None
+  unfolding trap_fault is_bad_trap_target is_bad_trap_class is_bad_trap_order
+  no_fault t fits =
+      let forward = fits.forward in
+      let before = fits.before in
+      let less = slice_get_within shapes t.at (R ∷ []) fits.has.is in
+      let n = length f.lines in
+      let from : leb n t.from ≡ false = lt-leb n t.from (omega (arith, many, forward, before, less)) in
+      let to : leb n t.to ≡ false = lt-leb n t.to (omega (arith, many, before, less)) in
+      let at : leb n t.at ≡ false = lt-leb n t.at (omega (arith, many, less)) in
+      let target : (leb n t.from || leb n t.to || leb n t.at) ≡ false = ap (λ b. b || leb n t.to || leb n t.at) from ∙ ap (λ b. b || leb n t.at) to ∙ at in
+      let class : not (is_some (catalogue_class t.class)) ≡ false = ap not fits.class in
+      let order : not (ltb t.from t.to && leb t.to t.at) ≡ false = ap (λ b. not (b && leb t.to t.at)) (lt-ltb t.from t.to forward) ∙ ap not (le-leb t.to t.at before) in
+      ap (λ b. fault_of b (not (is_some (catalogue_class t.class))) (not (ltb t.from t.to && leb t.to t.at)) false) target
+      ∙ ap (λ b. fault_of false b (not (ltb t.from t.to && leb t.to t.at)) false) class
+      ∙ ap (λ b. fault_of false false b false) order
 
   led_has : (line : ℕ) (kinds : List Slot) → Leads allow functions f shapes line kinds → Has shapes line kinds
   led_has line kinds begins = start
-  led_has line kinds (catches k t is) = absurd (no_trap k t is)
+  led_has line kinds (catches k t is) = (trap_at k t is).has
   led_has line kinds (turns from i to is t) = turned_at from i to is t
   led_has line kinds (passes from i before left to is has leaves t) = passed_at from i before left to is has leaves t
 
@@ -96,7 +118,7 @@ module _ (allow : AllowList) (functions : List FunCode) (f : FunCode) (shapes : 
   pub well_shaped : IsWellShaped allow functions f
   well_shaped = record {
     some = let less = slice_get_within shapes 0 [] start.is in omega (arith, many, less);
-    traps = λ k t is. absurd (no_trap k t is);
+    traps = λ k t is. no_fault t (trap_at k t is);
     lines = record { shapes = shapes; many = many; shaped = record { each = stands_so } };
   }
 
@@ -160,12 +182,15 @@ module _ (texts : TextsName) (allow : AllowList) (funs : Program) (functions : L
       let c = cut bodies (whole shapes) in
       let last = ending allow functions f shapes many of fa.result b q fa.ends c.1 in
       let locals = params_kept f fun.params 0 [] [] fa.params refl agrees.present tt in
+      let own = traps_stmts 0 fun.body in
+      let agree = subst (λ names. StmtsAgree (known allow funs) of false names fun.body) (sym (names_params fun.params 0 [])) agrees.body in
       let body =
-      stmts_fit texts allow funs functions formed made f shapes many [] (lying_of of) of fa.result fun.body false g (length fun.params) no_jumps 0 locals
-      (subst (λ names. StmtsAgree (known allow funs) of false names fun.body) (sym (names_params fun.params 0 [])) agrees.body) reached fa.stands c.0 (λ e. absurd (false≢true e)) last.has in
+      stmts_fit texts allow funs functions formed made f shapes many (lying_of of) of fa.result fun.body [] false g (length fun.params) no_jumps 0 locals agree reached fa.stands (own_traps f own fa.traps) c.0
+      (λ e. absurd (false≢true e)) last.has in
+      let traps = subst (TrapsFit shapes) (sym fa.traps) (stmts_traps allow functions f shapes (known allow funs) of fun.body false (names g) 0 agree c.0) in
       let ran = body.runs begins in
       let fine : Fine allow functions f shapes 0 (length f.lines) = subst (Fine allow functions f shapes 0) (sym fa.lines) (join allow functions f shapes ran.fine (last.runs ran.falls)) in
-      well_shaped allow functions f shapes many fa.traps fine body.has
+      well_shaped allow functions f shapes many traps fine body.has
 
 there : (xs : List Fun) (k : ℕ) → k < length xs → (x : Fun) × (slice_get xs k ≡ Some x)
 there [] k h = absurd (omega arith)

@@ -6,5 +6,6 @@ mod Steps
 mod Members
 mod Scopes
 mod Exprs
+mod Traps
 mod Stmts
 mod Functions

@@ -1,5 +1,5 @@
 -- A type that code may name has a text that the verifier knows.
-use Rattle.std.proofs.Common.{◌≡◌, ℕ, suc, ◌+◌, ◌<◌, Bool, true, false, not, cond, List, [], ◌∷◌, ◌++◌, codes, get_or, map, sym, refl, ap, ◌∙◌, subst, arith, take}
+use Rattle.std.proofs.Common.{◌≡◌, ℕ, suc, ◌+◌, ◌<◌, Bool, true, false, not, cond, is_some, List, [], ◌∷◌, ◌++◌, codes, get_or, map, sym, refl, ap, ◌∙◌, subst, arith, take}
 use Rattle.std.specs.List.{range_with_len, position_or_len, before_first}
 use Rattle.std.proofs.lemmas.Bool.{ltb-true, false≢true}
 use Rattle.std.proofs.lemmas.List.FromFn.{get_or-map-range_with_len}
@@ -7,6 +7,7 @@ use Rattle.pl_types.specs.declared.classes.TheConstants.{STRING}
 use Rattle.pl_types.specs.declared.primitive.Primitive.{Primitive}
 use Rattle.pl_types.specs.declared.primitive.Primitive.TheVariants as prim
 use Rattle.pl_types.specs.declared.ty.Ty.{Ty, out-Ty}
+use Rattle.pl_types.specs.declared.ty.Ty.TheVariants as t
 use Rattle.pl_types.specs.declared.ty.Ty.TheFolds.{fold-roll-Ty, ind-Ty, map-Ty}
 use Rattle.pl_types.specs.declared.ty.Ty.TheOpen.{Ty-F}
 use Rattle.pl_types.specs.declared.ty.Ty.TheViews.{roll-Ty, roll-out-Ty}
@@ -101,3 +102,19 @@ layer_listed (Ty-F.Array of) h = tt
 
 pub listed_has_values : (t : Ty) → IsNamed t → IsListedLayer (out-Ty t)
 listed_has_values t named = layer_listed (out-Ty t) (sym (listed_at (out-Ty t)) ∙ ap is_listed (roll-out-Ty t) ∙ named.listed)
+
+-- ---- classes that are caught
+
+class_below : (class : ℕ) → IsNamed (t.Class class) → class < 55
+class_below class named = ltb-true class 55 (sym (listed_at (Ty-F.Class class)) ∙ ap is_listed (rolls-Class class) ∙ named.listed)
+
+each_in_catalogue : map (λ class. is_some (catalogue_class (full_name class))) (range_with_len 0 55) ≡ map (λ class. true) (range_with_len 0 55)
+unfolding catalogue_class class_of_full full_name class_row class_table
+each_in_catalogue = refl
+
+pub named_in_catalogue : (class : ℕ) → IsNamed (t.Class class) → is_some (catalogue_class (full_name class)) ≡ true
+named_in_catalogue class named =
+    let h = class_below class named in
+    sym (get_or-map-range_with_len (λ c. is_some (catalogue_class (full_name c))) 0 55 class class false h (omega arith))
+    ∙ ap (λ xs. get_or xs class false) each_in_catalogue
+    ∙ get_or-map-range_with_len (λ c. true) 0 55 class class false h (omega arith)

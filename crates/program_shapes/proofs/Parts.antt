@@ -10,10 +10,10 @@ use Rattle.typed_tree.specs.declared.operation.Change.{Change}
 use Rattle.typed_tree.specs.declared.operation.Gives.{Gives}
 use Rattle.typed_tree.specs.declared.operation.Gives.TheVariants as gives
 use Rattle.program_meaning.specs.Falls.{all_fall}
-use Rattle.program_meaning.specs.Tree.{Expr, Literal, Quoted, Local, Apply, Guarded, Logic, Conditional, Elvis, Assign, Modify, Lambda, Reference, NewReference, Exprs, None', One, Maybe, Missing, Given, Stmt, Do, If, While, DoWhile, ForEach, Try, Block, Break, Continue, Return, Throw, Stmts, Finish, Then, Declare, type_of}
+use Rattle.program_meaning.specs.Tree.{Expr, Literal, Quoted, Local, Apply, Guarded, Logic, Conditional, Elvis, Assign, Modify, Lambda, Reference, NewReference, Exprs, None', One, Maybe, Missing, Given, Stmt, Do, If, While, DoWhile, ForEach, Try, Block, Break, Continue, Return, Throw, Stmts, Finish, Then, Declare, Catches, NoCatch, Catch, type_of}
 use Rattle.program_code.specs.Lying.{lying_of, result_of}
 use Rattle.program_code.specs.Parts.{default_code, operator_code, cast_code, operation_code, member_code, without_null, pops, kept_before, kept_behind}
-use Rattle.program_code.specs.Stands.{change_first, end_expr, end_exprs, goes_on, end_skip, end_dropped, end_update, end_test, end_last, end_value, end_returned, end_stmt, end_stmts}
+use Rattle.program_code.specs.Stands.{change_first, end_expr, end_exprs, goes_on, end_skip, end_dropped, end_update, end_test, end_last, end_value, end_returned, jumps_over, end_stmt, end_stmts, end_catches}
 use Rattle.program_types.specs.Agreeing.{types_of}
 use Rattle.program_shapes.proofs.Lines.{Ends, joined, behind, ended}
 use Rattle.program_shapes.proofs.Runs.{spans, run, spans_end}
@@ -114,7 +114,7 @@ module _ (allow : AllowList) (functions : List FunCode) (f : FunCode) where
     stmt_kinds (While test update body) = [] ∷ (stmts_kinds body ++ (update_kinds (goes_on body) update ++ (test_kinds test ++ ((I ∷ []) ∷ []))))
     stmt_kinds (DoWhile body test) = [] ∷ (stmts_kinds body ++ (last_kinds (goes_on body) test ++ ([] ∷ (I ∷ []) ∷ [])))
     stmt_kinds (ForEach x of element over body) = []
-    stmt_kinds (Try body catches) = []
+    stmt_kinds (Try body catches) = stmts_kinds body ++ (skip_kinds (all_fall body) ++ catches_kinds catches)
     stmt_kinds (Block body) = stmts_kinds body
     stmt_kinds Break = [] ∷ []
     stmt_kinds Continue = [] ∷ []
@@ -125,6 +125,11 @@ module _ (allow : AllowList) (functions : List FunCode) (f : FunCode) where
     stmts_kinds Finish = []
     stmts_kinds (Then t rest) = stmt_kinds t ++ stmts_kinds rest
     stmts_kinds (Declare x of value rest) = value_kinds value of ++ (push of [] ∷ stmts_kinds rest)
+
+    -- what was thrown lies where a catch begins
+    pub catches_kinds : Catches → List (List Slot)
+    catches_kinds NoCatch = []
+    catches_kinds (Catch class x body rest) = (R ∷ []) ∷ (stmts_kinds body ++ (skip_kinds (jumps_over body rest) ++ catches_kinds rest))
 
   -- a function that ends without a return
   abbrev pub end_kinds_of : Bool → Ty → List (List Slot)
@@ -206,7 +211,7 @@ module _ (allow : AllowList) (functions : List FunCode) (f : FunCode) where
     stmt_ends p (While test update body) = behind [] (joined (stmts_ends _ body) (joined (update_ends (goes_on body) _ update) (joined (test_ends _ test) (one (I ∷ [])))))
     stmt_ends p (DoWhile body test) = behind [] (joined (stmts_ends _ body) (joined (last_ends (goes_on body) _ test) (behind [] (one (I ∷ [])))))
     stmt_ends p (ForEach x of element over body) = ended
-    stmt_ends p (Try body catches) = ended
+    stmt_ends p (Try body catches) = joined (stmts_ends p body) (joined (skip_ends (all_fall body) _) (catches_ends _ catches))
     stmt_ends p (Block body) = stmts_ends p body
     stmt_ends p Break = one []
     stmt_ends p Continue = one []
@@ -217,3 +222,7 @@ module _ (allow : AllowList) (functions : List FunCode) (f : FunCode) where
     stmts_ends p Finish = ended
     stmts_ends p (Then t rest) = joined (stmt_ends p t) (stmts_ends _ rest)
     stmts_ends p (Declare x of value rest) = joined (value_ends p value of) (behind (push of []) (stmts_ends _ rest))
+
+    pub catches_ends : (p : ℕ) (catches : Catches) → Ends p (catches_kinds catches) (end_catches p catches)
+    catches_ends p NoCatch = ended
+    catches_ends p (Catch class x body rest) = behind (R ∷ []) (joined (stmts_ends (suc p) body) (joined (skip_ends (jumps_over body rest) _) (catches_ends _ rest)))

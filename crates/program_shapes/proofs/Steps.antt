@@ -89,6 +89,14 @@ string_reference : IsReference string
 unfolding out-Ty denote.Hole.Carrier.out
 string_reference = tt
 
+class_reference : (class : ℕ) → IsReference (t.Class class)
+unfolding out-Ty denote.Hole.Carrier.out
+class_reference class = tt
+
+pub class_values : (class : ℕ) → HasValues (t.Class class)
+unfolding out-Ty denote.Hole.Carrier.out
+class_values class = tt
+
 -- a text
 pub push_text : (of : Ty) (s : List Slot) → of ≡ string → push of s ≡ R ∷ s
 push_text of s x = ap (λ of. push of s) x ∙ push_reference string s string_reference
@@ -471,6 +479,11 @@ module _ (allow : AllowList) (functions : List FunCode) (f : FunCode) where
     member = refl;
     leaves = ap (λ o. left_in (option_map stores o) (push of s)) has.is ∙ ap (left_by (stores (kind_of of))) (push_value of s h) ∙ stored (kind_of of) s;
   }
+
+  -- what was thrown goes into the local of a class
+  pub catch_passes : (n class : ℕ) → HasLocal f n (t.Class class) → Passes allow functions f (i.Numbered numbered.Store n) (R ∷ []) []
+  catch_passes n class has =
+      subst (λ s. Passes allow functions f (i.Numbered numbered.Store n) s []) (push_reference (t.Class class) [] (class_reference class)) (store_passes n (t.Class class) [] has (class_values class))
 
   -- ---- calls
 
