@@ -3,16 +3,15 @@ ghost use Rattle.std.specs.Prelude.{◌≡◌, [], Some, IfOk};
 ghost use Rattle.code_meaning.specs.Machine.{start};
 ghost use Rattle.code_machine.specs.Activations.{Turned, Leaves, turn_of};
 
-use crate::calls::push_starts;
-use crate::configuration::{Configuration, End, Frame, Limits, Step, World};
+use crate::configuration::{Configuration, End, Limits, Step, World};
+use crate::frames::Frames;
 use crate::rules::Rules;
 use crate::running::{Ran, run_on};
-use crate::stack::Stack;
 use allowlist::Allow;
 use code_meaning::Word;
 use object_heap::Heap;
-use object_values::{Elements, Owner};
-use pl_code::Code;
+use object_values::Elements;
+use pl_code::{Code, Slot};
 use std::alloc::AllocError;
 use std::marker::Model;
 use task_core::Turn;
@@ -71,24 +70,12 @@ impl<'c> Activation<'c> {
     ) -> Result<Activation<'c>, AllocError>
         ensures { IfOk result (λ a. a ≡ record { code = code.now.functions; limits = limits; allow = allow.now; now = Some (start code.now.functions args (record { store = heap; ticks = limits.ticks; reached = [] })); steps = 0 }) }
     {
-        let mut locals = args;
-        let last = match code.functions.get(0) {
-            Some(main) => {
-                push_starts(&mut locals, main.locals.as_slice())?;
-                Step::Goes
-            }
-            None => Step::Ends(End::Stuck),
+        let (slots, last) = match code.functions.get(0) {
+            Some(main) => (main.locals.as_slice(), Step::Goes),
+            None => (&[] as &[Slot], Step::Ends(End::Stuck)),
         };
         let alloc = heap.alloc();
-        let below = Stack::with_capacity(alloc, FRAMES.min(limits.depth) as usize)?;
-        let top = Frame {
-            text: Owner::Script,
-            fun: 0,
-            line: 0,
-            locals,
-            stack: Stack::new(alloc),
-            turns: 0,
-        };
+        let frames = Frames::start(alloc, args, slots, FRAMES.min(limits.depth) as usize)?;
         let world = World {
             heap,
             ticks: limits.ticks,
@@ -98,7 +85,7 @@ impl<'c> Activation<'c> {
             code,
             allow,
             limits,
-            run: Configuration { top, below, world },
+            run: Configuration { frames, world },
             last,
             steps: 0,
         })
@@ -135,8 +122,7 @@ impl<'c> Activation<'c> {
             steps,
         } = self;
         let Configuration {
-            top: _top,
-            below: _below,
+            frames: _frames,
             world,
         } = run;
         let World {

@@ -5,6 +5,7 @@ mod activation;
 mod boxes;
 mod calls;
 mod configuration;
+mod frames;
 mod jumps;
 mod laws;
 mod members;

@@ -7,12 +7,12 @@ ghost use Rattle.number_ops.specs.Outcomes.{effect, null_error};
 ghost use Rattle.run_world.specs.World.{acts_in, pay_member};
 ghost use Rattle.code_meaning.specs.Members.{count_of, given_as, received};
 ghost use Rattle.code_meaning.specs.Machine as spec;
-ghost use Rattle.code_machine.specs.Seen.{Comes, frame_of, with_stack, frames_of, world_of};
+ghost use Rattle.code_machine.specs.Seen.{Comes, with_stack, world_of};
 ghost use Rattle.code_machine.specs.Rows.{beside};
 ghost use Rattle.code_machine.specs.Members.{receiving_of};
 
-use crate::calls::take_words;
 use crate::configuration::{Configuration, End, Step};
+use crate::frames::Frames;
 use crate::paying::pay_member;
 use crate::receiving::{Receiving, received};
 use crate::rules::Rules;
@@ -30,7 +30,7 @@ use std::alloc::{AllocError, Global};
 
 /// Calls the method that a text names.
 pub fn invoke(run: &mut Configuration, code: &Code, limits: &Rules<'_>, method: &MethodName) -> Step
-    ensures { Comes (spec.member_act code.now.functions limits.now (method_of limits.now.allowed method.now) (frame_of run.old.top) (frames_of run.old.below) (world_of run.old.world)) result run.new }
+    ensures { Comes (spec.member_act code.now.functions limits.now (method_of limits.now.allowed method.now) run.old.frames.top run.old.frames.below (world_of run.old.world)) result run.new }
 {
     match method_of(limits.allow(), method) {
         Some(number) => member(run, code, limits, number),
@@ -45,7 +45,7 @@ pub fn make(
     limits: &Rules<'_>,
     constructor: &ConstructorName,
 ) -> Step
-    ensures { Comes (spec.member_act code.now.functions limits.now (constructor_of limits.now.allowed constructor.now) (frame_of run.old.top) (frames_of run.old.below) (world_of run.old.world)) result run.new }
+    ensures { Comes (spec.member_act code.now.functions limits.now (constructor_of limits.now.allowed constructor.now) run.old.frames.top run.old.frames.below (world_of run.old.world)) result run.new }
 {
     match constructor_of(limits.allow(), constructor) {
         Some(number) => member(run, code, limits, number),
@@ -55,7 +55,7 @@ pub fn make(
 
 /// Reads the field that a text names.
 pub fn read(run: &mut Configuration, code: &Code, limits: &Rules<'_>, field: &FieldName) -> Step
-    ensures { Comes (spec.member_act code.now.functions limits.now (field_of limits.now.allowed field.now) (frame_of run.old.top) (frames_of run.old.below) (world_of run.old.world)) result run.new }
+    ensures { Comes (spec.member_act code.now.functions limits.now (field_of limits.now.allowed field.now) run.old.frames.top run.old.frames.below (world_of run.old.world)) result run.new }
 {
     match field_of(limits.allow(), field) {
         Some(number) => member(run, code, limits, number),
@@ -66,7 +66,7 @@ pub fn read(run: &mut Configuration, code: &Code, limits: &Rules<'_>, field: &Fi
 // The member of this number.
 fn member(run: &mut Configuration, code: &Code, limits: &Rules<'_>, number: u32) -> Step
     requires { number < 228 }
-    ensures { Comes (spec.member_act code.now.functions limits.now (Some number) (frame_of run.old.top) (frames_of run.old.below) (world_of run.old.world)) result run.new }
+    ensures { Comes (spec.member_act code.now.functions limits.now (Some number) run.old.frames.top run.old.frames.below (world_of run.old.world)) result run.new }
 {
     let called = limits.allow().member_type(number);
     call_member(run, code, limits, number, called)
@@ -79,9 +79,9 @@ fn call_member(
     number: u32,
     called: &MemberType,
 ) -> Step
-    ensures { Comes (spec.on_words (spec.take_words (count_of called.now) run.old.top.stack []) (λ words stack. spec.on_received code.now.functions limits.now (received called.now words) number called.now (frame_of run.old.top) (frames_of run.old.below) (world_of run.old.world) stack)) result run.new }
+    ensures { Comes (spec.on_words (spec.take_words (count_of called.now) run.old.frames.top.stack []) (λ words stack. spec.on_received code.now.functions limits.now (received called.now words) number called.now run.old.frames.top run.old.frames.below (world_of run.old.world) stack)) result run.new }
 {
-    match words_of(run.world.heap.alloc(), &mut run.top.stack, called) {
+    match words_of(run.world.heap.alloc(), &mut run.frames, called) {
         Ok(Some(words)) => call_with(run, code, limits, number, called, words),
         Ok(None) => Step::Ends(End::Stuck),
         Err(_) => Step::NoMemory,
@@ -91,18 +91,39 @@ fn call_member(
 // The words that a call takes off the stack, the deepest on the top.
 fn words_of(
     alloc: Global,
-    stack: &mut Stack<Word>,
+    frames: &mut Frames,
     called: &MemberType,
 ) -> Result<Option<Stack<Word>>, AllocError>
-    ensures { IfOk result (λ words. beside stack.new words ≡ spec.take_words (count_of called.now) stack.old []) }
+    ensures words { IfOk result (λ words. beside frames.new.top.stack words ≡ spec.take_words (count_of called.now) frames.old.top.stack []) }
+    ensures top { IfOk result (λ words. frames.new.top ≡ with_stack frames.old.top frames.new.top.stack) }
+    ensures below { IfOk result (λ words. frames.new.below ≡ frames.old.below) }
 {
     match count_of(called) {
         Some(count) => {
             let taken = Stack::with_capacity(alloc, count)?;
-            take_words(stack, count, taken)
+            take_words(frames, count, taken)
         }
         None => Err(AllocError),
     }
+}
+
+// So many words off the stack, the deepest on the top.
+fn take_words(
+    frames: &mut Frames,
+    count: usize,
+    mut taken: Stack<Word>,
+) -> Result<Option<Stack<Word>>, AllocError>
+    ensures words { IfOk result (λ words. beside frames.new.top.stack words ≡ spec.take_words count frames.old.top.stack taken) }
+    ensures top { IfOk result (λ words. frames.new.top ≡ with_stack frames.old.top frames.new.top.stack) }
+    ensures below { IfOk result (λ words. frames.new.below ≡ frames.old.below) }
+{
+    'words: for place in 0..count {
+        match frames.pop() {
+            Some(word) => taken.push(word)?,
+            None => return Ok(None),
+        }
+    }
+    Ok(Some(taken))
 }
 
 // How many words a call takes, as far as there are so many.
@@ -126,7 +147,7 @@ fn call_with(
     called: &MemberType,
     words: Stack<Word>,
 ) -> Step
-    ensures { (stack : List Word) → Comes (spec.on_received code.now.functions limits.now (received called.now words) number called.now (with_stack (frame_of run.old.top) stack) (frames_of run.old.below) (world_of run.old.world) run.old.top.stack) result run.new }
+    ensures { (stack : List Word) → Comes (spec.on_received code.now.functions limits.now (received called.now words) number called.now (with_stack run.old.frames.top stack) run.old.frames.below (world_of run.old.world) run.old.frames.top.stack) result run.new }
 {
     match received(run.world.heap.alloc(), called, words) {
         Ok(receiving) => call_on(run, code, limits, number, called, receiving),
@@ -143,7 +164,7 @@ fn call_on(
     called: &MemberType,
     receiving: Receiving,
 ) -> Step
-    ensures { (stack : List Word) → Comes (spec.on_received code.now.functions limits.now (receiving_of receiving) number called.now (with_stack (frame_of run.old.top) stack) (frames_of run.old.below) (world_of run.old.world) run.old.top.stack) result run.new }
+    ensures { (stack : List Word) → Comes (spec.on_received code.now.functions limits.now (receiving_of receiving) number called.now (with_stack run.old.frames.top stack) run.old.frames.below (world_of run.old.world) run.old.frames.top.stack) result run.new }
 {
     match &receiving {
         Receiving::Unfit => Step::Ends(End::Stuck),
@@ -161,7 +182,7 @@ fn call_on(
 }
 
 fn on_null(run: &mut Configuration, code: &Code, limits: &Rules<'_>, called: &MemberType) -> Step
-    ensures { (stack : List Word) → Comes (spec.on_outcome code.now.functions limits.now (acts_in (world_of run.old.world) (effect run.old.world.heap null_error)) (given_as called.now.result) (with_stack (frame_of run.old.top) stack) (frames_of run.old.below) (world_of run.old.world) run.old.top.stack) result run.new }
+    ensures { (stack : List Word) → Comes (spec.on_outcome code.now.functions limits.now (acts_in (world_of run.old.world) (effect run.old.world.heap null_error)) (given_as called.now.result) (with_stack run.old.frames.top stack) run.old.frames.below (world_of run.old.world) run.old.frames.top.stack) result run.new }
 {
     let answer = throw(&mut run.world.heap, NULL_POINTER_EXCEPTION, None);
     answered_as(run, code, limits, &called.result, answer)
@@ -175,7 +196,7 @@ fn pay_and_act(
     called: &MemberType,
     arguments: &[Value],
 ) -> Step
-    ensures { (stack : List Word) → Comes (spec.on_paid code.now.functions limits.now (pay_member number (world_of run.old.world)) number arguments.now called.now (with_stack (frame_of run.old.top) stack) (frames_of run.old.below) run.old.top.stack) result run.new }
+    ensures { (stack : List Word) → Comes (spec.on_paid code.now.functions limits.now (pay_member number (world_of run.old.world)) number arguments.now called.now (with_stack run.old.frames.top stack) run.old.frames.below run.old.frames.top.stack) result run.new }
 {
     match pay_member(&mut run.world, number) {
         Ok(None) => act(run, code, limits, number, called, arguments),
@@ -193,7 +214,7 @@ fn act(
     called: &MemberType,
     arguments: &[Value],
 ) -> Step
-    ensures { (stack : List Word) → Comes (spec.on_act code.now.functions limits.now (does number arguments.now run.old.world.heap) called.now (with_stack (frame_of run.old.top) stack) (frames_of run.old.below) (world_of run.old.world) run.old.top.stack) result run.new }
+    ensures { (stack : List Word) → Comes (spec.on_act code.now.functions limits.now (does number arguments.now run.old.world.heap) called.now (with_stack run.old.frames.top stack) run.old.frames.below (world_of run.old.world) run.old.frames.top.stack) result run.new }
 {
     match member_acts::call(number, &mut run.world.heap, arguments) {
         Some(answer) => answered_as(run, code, limits, &called.result, answer),
