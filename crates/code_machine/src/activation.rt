@@ -5,9 +5,11 @@ ghost use Rattle.code_machine.specs.Activations.{Turned, Leaves, turn_of};
 
 use crate::configuration::{Configuration, End, Limits, Step, World};
 use crate::frames::Frames;
+use crate::reserve::Reserve;
 use crate::rules::Rules;
 use crate::running::{Ran, run_on};
-use allowlist::Allow;
+use crate::stack::Stack;
+use allowlist::{Allow, MEMBER_COUNT};
 use code_meaning::Word;
 use object_heap::Heap;
 use object_values::Elements;
@@ -15,9 +17,6 @@ use pl_code::{Code, Slot};
 use std::alloc::AllocError;
 use std::marker::Model;
 use task_core::Turn;
-
-// Memory for so many frames is taken at the start.
-const FRAMES: u32 = 256;
 
 /// A run of code.
 #[derive(Drop)]
@@ -61,6 +60,9 @@ impl<'c> Model for Activation<'c> {
 impl<'c> Activation<'c> {
     /// A run of function 0 of this code on these arguments, which calls the members of this list and no others. Where there is no
     /// such function the run is stuck.
+    ///
+    /// Memory is taken here for the words and the frames of calls as deep as the limit, for a call of a member, and for the list of
+    /// members that were called: see [`Reserve`].
     pub fn start(
         code: &'c Code,
         allow: &'c Allow,
@@ -75,17 +77,26 @@ impl<'c> Activation<'c> {
             None => (&[] as &[Slot], Step::Ends(End::Stuck)),
         };
         let alloc = heap.alloc();
-        let frames = Frames::start(alloc, args, slots, FRAMES.min(limits.depth) as usize)?;
+        let reserve = Reserve::of(code, allow, limits.depth);
+        let frames = Frames::start(alloc, args, slots, reserve.frames, reserve.words)?;
+        let words = Stack::with_capacity(alloc, reserve.arguments)?;
+        let values = Vec::with_capacity(alloc, reserve.arguments)?;
+        let reached = Vec::with_capacity(alloc, MEMBER_COUNT as usize)?;
         let world = World {
             heap,
             ticks: limits.ticks,
-            reached: Elements::new(alloc),
+            reached: Elements::from_vec(reached),
         };
         Ok(Activation {
             code,
             allow,
             limits,
-            run: Configuration { frames, world },
+            run: Configuration {
+                frames,
+                world,
+                words,
+                values,
+            },
             last,
             steps: 0,
         })
@@ -124,6 +135,8 @@ impl<'c> Activation<'c> {
         let Configuration {
             frames: _frames,
             world,
+            words: _words,
+            values: _values,
         } = run;
         let World {
             heap,

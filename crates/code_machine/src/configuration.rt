@@ -4,9 +4,10 @@ ghost use Rattle.code_meaning.specs.Machine.{to_line};
 ghost use Rattle.code_machine.specs.Seen.{Comes, end_in, goes, world_of};
 
 use crate::frames::Frames;
+use crate::stack::Stack;
 use code_meaning::Word;
 use object_heap::{Heap, Which};
-use object_values::Elements;
+use object_values::{Elements, Value};
 
 /// What a run may take.
 #[derive(Clone, Copy, Debug, PartialEq, Eq)]
@@ -35,6 +36,10 @@ pub struct Configuration {
     /// The newest frame, and those below it, which wait for what it gives.
     pub frames: Frames,
     pub world: World,
+    /// The words that a call of a member takes off the operands, the deepest on the top. Each call fills it anew.
+    pub words: Stack<Word>,
+    /// What a call of a member is called with. Each call fills it anew.
+    pub values: Vec<Value>,
 }
 
 /// How a run ends.

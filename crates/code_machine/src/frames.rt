@@ -1,6 +1,7 @@
 //! Frames that lie one on the other in one vector of words, for which memory is taken once.
 ghost use Rattle.std.specs.Prelude.{◌++◌, map, nat_le, ◌≡◌, ◌≤◌, ◌<◌, suc, [], ◌∷◌, length, slice_get, slice_set, MatchOption, OnOk, OnErr, IsOk, IfOk};
 ghost use Rattle.std.specs.Option.{option_copied};
+ghost use Rattle.std.specs.Vec.{vec_capacity};
 ghost use Rattle.code_meaning.specs.Machine.{depth_of, take_words};
 ghost use Rattle.code_meaning.specs.Words.{start_of};
 ghost use Rattle.code_machine.specs.Frames.{Enters, Leaves, at_line, with_turns};
@@ -53,18 +54,23 @@ impl Model for Frames {
 
 impl Frames {
     /// A first frame, of the script's function 0, with these locals, and behind them the others. There is memory for so many frames
-    /// below another.
+    /// below another, and for so many words.
     #[tactic(auto, using(crate::proofs::Places::all_locals, crate::proofs::Places::no_words))]
     pub fn start(
         alloc: Global,
         args: Elements<Word>,
         slots: &[Slot],
         depth: usize,
+        words: usize,
     ) -> Result<Frames, AllocError>
         ensures top { IfOk result (λ frames. frames.top ≡ record { text = Script; fun = 0; line = 0; locals = args ++ map start_of slots.now; stack = []; turns = 0; due = [] }) }
         ensures below { IfOk result (λ frames. frames.below ≡ []) }
+        ensures words { IfOk result (λ frames. words ≤ frames.words) }
+        ensures depth { IfOk result (λ frames. depth ≤ frames.depth) }
     {
+        let room = words;
         let mut words = args.into_vec();
+        words.reserve(room)?;
         push_starts(&mut words, slots)?;
         let top = Held {
             text: Owner::Script,
@@ -248,6 +254,7 @@ impl Frames {
 fn push_starts(words: &mut Vec<Word>, slots: &[Slot]) -> Result<(), AllocError>
     ensures ok { OnOk result (words.new.items ≡ words.old.items ++ map start_of slots.now) }
     ensures grows { length words.old.items ≤ length words.new.items }
+    ensures room { vec_capacity words.old ≤ vec_capacity words.new }
 {
     for slot in slots {
         words.push(start_of(*slot))?;

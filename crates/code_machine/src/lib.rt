@@ -13,6 +13,7 @@ mod operators;
 mod paying;
 mod receiving;
 mod references;
+mod reserve;
 mod rules;
 mod running;
 mod stack;

@@ -1,5 +1,5 @@
 //! Members: calls, what is made by constructors, and fields.
-ghost use Rattle.std.specs.Prelude.{◌≡◌, ◌<◌, List, [], Some, IfOk, IfSome};
+ghost use Rattle.std.specs.Prelude.{◌≡◌, ◌<◌, List, [], Some, IfOk};
 ghost use Rattle.member_acts.specs.Members.{does};
 ghost use Rattle.code_shapes.specs.Members.{method_of, constructor_of, field_of};
 ghost use Rattle.code_meaning.specs.declared.word.Word.{Word};
@@ -9,7 +9,7 @@ ghost use Rattle.code_meaning.specs.Members.{count_of, given_as, received};
 ghost use Rattle.code_meaning.specs.Machine as spec;
 ghost use Rattle.code_machine.specs.Seen.{Comes, with_stack, world_of};
 ghost use Rattle.code_machine.specs.Rows.{beside};
-ghost use Rattle.code_machine.specs.Members.{receiving_of};
+ghost use Rattle.code_machine.specs.Members.{filled, receiving_of};
 
 use crate::configuration::{Configuration, End, Step};
 use crate::frames::Frames;
@@ -23,10 +23,9 @@ use code_meaning::Word;
 use code_shapes::{constructor_of, field_of, method_of};
 use listing_parts::{ConstructorName, FieldName, MethodName};
 use object_heap::throw;
-use object_values::Value;
 use pl_code::Code;
 use pl_types::classes::NULL_POINTER_EXCEPTION;
-use std::alloc::{AllocError, Global};
+use std::alloc::AllocError;
 
 /// Calls the method that a text names.
 pub fn invoke(run: &mut Configuration, code: &Code, limits: &Rules<'_>, method: &MethodName) -> Step
@@ -81,60 +80,56 @@ fn call_member(
 ) -> Step
     ensures { Comes (spec.on_words (spec.take_words (count_of called.now) run.old.frames.top.stack []) (λ words stack. spec.on_received code.now.functions limits.now (received called.now words) number called.now run.old.frames.top run.old.frames.below (world_of run.old.world) stack)) result run.new }
 {
-    match words_of(run.world.heap.alloc(), &mut run.frames, called) {
-        Ok(Some(words)) => call_with(run, code, limits, number, called, words),
-        Ok(None) => Step::Ends(End::Stuck),
+    match words_of(&mut run.frames, &mut run.words, called) {
+        Ok(true) => call_with(run, code, limits, number, called),
+        Ok(false) => Step::Ends(End::Stuck),
         Err(_) => Step::NoMemory,
     }
 }
 
-// The words that a call takes off the stack, the deepest on the top.
+// The words that a call takes off the stack, the deepest on the top. It is false where there are too few.
 fn words_of(
-    alloc: Global,
     frames: &mut Frames,
+    taken: &mut Stack<Word>,
     called: &MemberType,
-) -> Result<Option<Stack<Word>>, AllocError>
-    ensures words { IfOk result (λ words. beside frames.new.top.stack words ≡ spec.take_words (count_of called.now) frames.old.top.stack []) }
-    ensures top { IfOk result (λ words. frames.new.top ≡ with_stack frames.old.top frames.new.top.stack) }
-    ensures below { IfOk result (λ words. frames.new.below ≡ frames.old.below) }
+) -> Result<bool, AllocError>
+    ensures words { IfOk result (λ enough. beside frames.new.top.stack (filled enough taken.new) ≡ spec.take_words (count_of called.now) frames.old.top.stack []) }
+    ensures top { IfOk result (λ enough. frames.new.top ≡ with_stack frames.old.top frames.new.top.stack) }
+    ensures below { IfOk result (λ enough. frames.new.below ≡ frames.old.below) }
 {
-    match count_of(called) {
-        Some(count) => {
-            let taken = Stack::with_capacity(alloc, count)?;
-            take_words(frames, count, taken)
-        }
-        None => Err(AllocError),
-    }
+    taken.clear();
+    take_words(frames, count_of(called), taken)
 }
 
 // So many words off the stack, the deepest on the top.
 fn take_words(
     frames: &mut Frames,
     count: usize,
-    mut taken: Stack<Word>,
-) -> Result<Option<Stack<Word>>, AllocError>
-    ensures words { IfOk result (λ words. beside frames.new.top.stack words ≡ spec.take_words count frames.old.top.stack taken) }
-    ensures top { IfOk result (λ words. frames.new.top ≡ with_stack frames.old.top frames.new.top.stack) }
-    ensures below { IfOk result (λ words. frames.new.below ≡ frames.old.below) }
+    taken: &mut Stack<Word>,
+) -> Result<bool, AllocError>
+    ensures words { IfOk result (λ enough. beside frames.new.top.stack (filled enough taken.new) ≡ spec.take_words count frames.old.top.stack taken.old) }
+    ensures top { IfOk result (λ enough. frames.new.top ≡ with_stack frames.old.top frames.new.top.stack) }
+    ensures below { IfOk result (λ enough. frames.new.below ≡ frames.old.below) }
 {
     'words: for place in 0..count {
         match frames.pop() {
             Some(word) => taken.push(word)?,
-            None => return Ok(None),
+            None => return Ok(false),
         }
     }
-    Ok(Some(taken))
+    Ok(true)
 }
 
-// How many words a call takes, as far as there are so many.
-fn count_of(called: &MemberType) -> Option<usize>
-    ensures { IfSome result (λ count. count ≡ count_of called.now) }
+/// How many words a call takes.
+pub fn count_of(called: &MemberType) -> usize
+    ensures { result ≡ count_of called.now }
 {
+    let params = called.params.as_slice().len();
     match called.kind {
-        MemberKind::Instance => called.params.len().checked_add(1),
-        MemberKind::Static => Some(called.params.len()),
-        MemberKind::Constructor => Some(called.params.len()),
-        MemberKind::Field => Some(0),
+        MemberKind::Instance => params + 1,
+        MemberKind::Static => params,
+        MemberKind::Constructor => params,
+        MemberKind::Field => 0,
     }
 }
 
@@ -145,11 +140,10 @@ fn call_with(
     limits: &Rules<'_>,
     number: u32,
     called: &MemberType,
-    words: Stack<Word>,
 ) -> Step
-    ensures { (stack : List Word) → Comes (spec.on_received code.now.functions limits.now (received called.now words) number called.now (with_stack run.old.frames.top stack) run.old.frames.below (world_of run.old.world) run.old.frames.top.stack) result run.new }
+    ensures { (stack : List Word) → Comes (spec.on_received code.now.functions limits.now (received called.now run.old.words) number called.now (with_stack run.old.frames.top stack) run.old.frames.below (world_of run.old.world) run.old.frames.top.stack) result run.new }
 {
-    match received(run.world.heap.alloc(), called, words) {
+    match received(called, &mut run.words, &mut run.values) {
         Ok(receiving) => call_on(run, code, limits, number, called, receiving),
         Err(_) => Step::NoMemory,
     }
@@ -164,20 +158,16 @@ fn call_on(
     called: &MemberType,
     receiving: Receiving,
 ) -> Step
-    ensures { (stack : List Word) → Comes (spec.on_received code.now.functions limits.now (receiving_of receiving) number called.now (with_stack run.old.frames.top stack) run.old.frames.below (world_of run.old.world) run.old.frames.top.stack) result run.new }
+    ensures { (stack : List Word) → Comes (spec.on_received code.now.functions limits.now (receiving_of receiving run.old.values.items) number called.now (with_stack run.old.frames.top stack) run.old.frames.below (world_of run.old.world) run.old.frames.top.stack) result run.new }
 {
-    match &receiving {
+    match receiving {
         Receiving::Unfit => Step::Ends(End::Stuck),
         Receiving::OnNull => on_null(run, code, limits, called),
-        Receiving::Receives(arguments) => pay_and_act(
-            run,
-            code,
-            limits,
-            number,
-            called,
-            arguments.as_slice(),
-        ),
-        Receiving::Reads => act(run, code, limits, number, called, &[]),
+        Receiving::Receives => pay_and_act(run, code, limits, number, called),
+        Receiving::Reads => {
+            run.values.clear();
+            act(run, code, limits, number, called)
+        }
     }
 }
 
@@ -194,12 +184,11 @@ fn pay_and_act(
     limits: &Rules<'_>,
     number: u32,
     called: &MemberType,
-    arguments: &[Value],
 ) -> Step
-    ensures { (stack : List Word) → Comes (spec.on_paid code.now.functions limits.now (pay_member number (world_of run.old.world)) number arguments.now called.now (with_stack run.old.frames.top stack) run.old.frames.below run.old.frames.top.stack) result run.new }
+    ensures { (stack : List Word) → Comes (spec.on_paid code.now.functions limits.now (pay_member number (world_of run.old.world)) number run.old.values.items called.now (with_stack run.old.frames.top stack) run.old.frames.below run.old.frames.top.stack) result run.new }
 {
     match pay_member(&mut run.world, number) {
-        Ok(None) => act(run, code, limits, number, called, arguments),
+        Ok(None) => act(run, code, limits, number, called),
         Ok(Some(which)) => Step::Ends(End::Limit(which)),
         Err(_) => Step::NoMemory,
     }
@@ -212,11 +201,10 @@ fn act(
     limits: &Rules<'_>,
     number: u32,
     called: &MemberType,
-    arguments: &[Value],
 ) -> Step
-    ensures { (stack : List Word) → Comes (spec.on_act code.now.functions limits.now (does number arguments.now run.old.world.heap) called.now (with_stack run.old.frames.top stack) run.old.frames.below (world_of run.old.world) run.old.frames.top.stack) result run.new }
+    ensures { (stack : List Word) → Comes (spec.on_act code.now.functions limits.now (does number run.old.values.items run.old.world.heap) called.now (with_stack run.old.frames.top stack) run.old.frames.below (world_of run.old.world) run.old.frames.top.stack) result run.new }
 {
-    match member_acts::call(number, &mut run.world.heap, arguments) {
+    match member_acts::call(number, &mut run.world.heap, run.values.as_slice()) {
         Some(answer) => answered_as(run, code, limits, &called.result, answer),
         None => Step::Ends(End::Stuck),
     }

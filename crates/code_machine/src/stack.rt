@@ -52,6 +52,13 @@ impl<T> Stack<T> {
 }
 
 impl<T: Drop> Stack<T> {
+    /// Drops all elements. The memory stays.
+    pub fn clear(&mut self)
+        ensures { self.new ≡ [] }
+    {
+        self.items.clear();
+    }
+
     /// Puts an element on the top. Where memory is wanting the stack stays as it was.
     pub fn push(&mut self, element: T) -> Result<(), AllocError>
         ensures ok { OnOk result (self.new ≡ element ∷ self.old) }
