@@ -7,3 +7,6 @@ pub mod Rows
 pub mod Reaching
 pub mod Given
 pub mod Landing
+pub mod Taking
+pub mod Places
+pub mod Entering

@@ -1,12 +1,16 @@
 -- Rows that do not fit what lies on the stack.
-use Rattle.std.proofs.Common.{◌≡◌, ℤ, List, [], ◌∷◌, None, refl, ap, ◌∙◌}
+use Rattle.std.proofs.Common.{◌≡◌, ℤ, List, [], ◌∷◌, None, refl, ap, sym, ◌∙◌}
 use Rattle.object_values.specs.declared.value.Value.{Value}
 use Rattle.arithmetic.specs.declared.operator.Op.{Op}
 use Rattle.code_meaning.specs.declared.word.Word.{Word}
 use Rattle.code_meaning.specs.declared.word.Word.TheVariants.{I, J, R}
 use Rattle.code_meaning.specs.Words.{NoRow, one_int, two_ints, one_long, two_longs, long_and_int}
-use Rattle.code_meaning.specs.Machine.{Next, Stuck, on_top, on_int, on_long, on_reference}
-use Rattle.code_machine.specs.Seen.{int_of, long_of}
+use Rattle.code_meaning.specs.Machine.{Frame, Next, Stuck, on_top, on_int, on_long, on_reference}
+use Rattle.code_machine.specs.declared.configuration.Configuration.{Configuration}
+use Rattle.code_machine.specs.declared.configuration.Step.{Step}
+use Rattle.code_machine.specs.Frames.{Laid, with_stack}
+use Rattle.code_machine.specs.Seen.{int_of, long_of, Comes}
+use Rattle.code_machine.proofs.Calling.{as_well}
 use Rattle.code_machine.specs.Rows.{on_pair, on_references}
 
 pub no_int : (stack : List Word) (row : ℤ → List Word → Next) → int_of stack ≡ None → on_top stack (λ word rest. on_int word (λ a. row a rest)) ≡ Stuck
@@ -82,3 +86,29 @@ pub of_pair : (stack rest left : List Word) (upper lower : Word) → stack ≡ u
     → on_pair stack next ≡ on_references lower upper (λ a b. next a b left)
 of_pair stack rest left upper lower e h next =
     ap (λ s. on_pair s next) e ∙ ap (λ s. on_reference upper (λ b. on_top s (λ lower stack. on_reference lower (λ a. next a b stack)))) h
+
+-- ---- words taken off the newest frame
+
+pub restored : (old new : Laid) → new.top ≡ with_stack old.top new.top.stack → with_stack new.top old.top.stack ≡ old.top
+restored old new e = ap (λ (f : Frame). with_stack f old.top.stack) e
+
+pub from_top : (old new : Laid) (word : Word) → old.top.stack ≡ word ∷ new.top.stack → new.top ≡ with_stack old.top new.top.stack → new.below ≡ old.below
+    → (next : Word → Frame → List Frame → List Word → Next) (said : Step) (c : Configuration) → Comes (next word (with_stack new.top old.top.stack) new.below new.top.stack) said c
+    → Comes (on_top old.top.stack (λ word stack. next word old.top old.below stack)) said c
+from_top old new word e top below next said c h =
+    as_well _ _ said c
+    (ap (λ s. on_top s (λ word stack. next word old.top old.below stack)) e ∙ ap (λ f. next word f old.below new.top.stack) (sym (restored old new top))
+    ∙ ap (λ fs. next word (with_stack new.top old.top.stack) fs new.top.stack) (sym below))
+    h
+
+pub from_pair : (old middle new : Laid) (upper lower : Word) → old.top.stack ≡ upper ∷ middle.top.stack → middle.top.stack ≡ lower ∷ new.top.stack
+    → middle.top ≡ with_stack old.top middle.top.stack → new.top ≡ with_stack middle.top new.top.stack → middle.below ≡ old.below → new.below ≡ middle.below
+    → (next : Value → Value → Frame → List Frame → List Word → Next) (said : Step) (c : Configuration)
+    → Comes (on_references lower upper (λ a b. next a b (with_stack new.top old.top.stack) new.below new.top.stack)) said c
+    → Comes (on_pair old.top.stack (λ a b stack. next a b old.top old.below stack)) said c
+from_pair old middle new upper lower e h over top between below next said c is =
+    as_well _ _ said c
+    (of_pair old.top.stack middle.top.stack new.top.stack upper lower e h (λ a b stack. next a b old.top old.below stack)
+    ∙ ap (λ f. on_references lower upper (λ a b. next a b f old.below new.top.stack)) (sym (ap (λ (f : Frame). with_stack f old.top.stack) (top ∙ ap (λ (f : Frame). with_stack f new.top.stack) over)))
+    ∙ ap (λ fs. on_references lower upper (λ a b. next a b (with_stack new.top old.top.stack) fs new.top.stack)) (sym (below ∙ between)))
+    is

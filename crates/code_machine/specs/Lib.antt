@@ -1,3 +1,4 @@
+pub mod Frames
 pub mod Seen
 pub mod Rows
 pub mod Members

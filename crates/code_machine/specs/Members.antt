@@ -6,11 +6,17 @@ use Rattle.code_meaning.specs.Members.{Receiving, Unfit, OnNull, Receives, Reads
 use Rattle.code_machine.specs.declared.receiving.Receiving as held
 use Rattle.code_machine.specs.declared.receiving.Receiving.TheVariants as receiving
 
-abbrev pub receiving_of : held.Receiving → Receiving
-receiving_of receiving.Unfit = Unfit
-receiving_of receiving.OnNull = OnNull
-receiving_of (receiving.Receives arguments) = Receives arguments
-receiving_of receiving.Reads = Reads
+-- the arguments stand beside it
+abbrev pub receiving_of : held.Receiving → List Value → Receiving
+receiving_of receiving.Unfit arguments = Unfit
+receiving_of receiving.OnNull arguments = OnNull
+receiving_of receiving.Receives arguments = Receives arguments
+receiving_of receiving.Reads arguments = Reads
+
+-- what a buffer was filled with, if there was enough
+abbrev pub filled : {X : Type 0} → Bool → List X → Option (List X)
+filled true xs = Some xs
+filled false xs = None
 
 -- arguments behind values that are there
 abbrev pub behind : List Value → Option (List Value) → Option (List Value)

@@ -1,13 +1,13 @@
 -- The machine's parts as the configurations of which the meaning of code speaks.
-use Rattle.std.specs.Prelude.{◌≡◌, ℤ, Bool, true, false, List, [], ◌∷◌, Option, Some, None}
+use Rattle.std.specs.Prelude.{◌≡◌, ℤ, Bool, true, false, List, ◌∷◌, Option, Some, None}
 use Rattle.allowlist.specs.Allow.{AllowList}
 use Rattle.object_heap.specs.declared.outcome.Which.{Which}
 use Rattle.object_heap.specs.declared.outcome.Which.TheVariants as which
 use Rattle.run_world.specs.World.{World, Limit, Loop, Depth, Ticks, Room, Limits, Result, Uncaught, Limited}
 use Rattle.code_meaning.specs.declared.word.Word.{Word}
 use Rattle.code_meaning.specs.declared.word.Word.TheVariants.{I, J}
-use Rattle.code_meaning.specs.Machine.{Frame, Config, Next, Goes, Ends, Stuck}
-use Rattle.code_machine.specs.declared.configuration.Frame as held_frame
+use Rattle.code_meaning.specs.Machine.{Config, Next, Goes, Ends, Stuck}
+pub use Rattle.code_machine.specs.Frames.{with_stack}
 use Rattle.code_machine.specs.declared.configuration.World as held_world
 use Rattle.code_machine.specs.declared.configuration.Limits as held_limits
 use Rattle.code_machine.specs.declared.configuration.Configuration.{Configuration}
@@ -16,22 +16,11 @@ use Rattle.code_machine.specs.declared.configuration.End.TheVariants as end
 use Rattle.code_machine.specs.declared.configuration.Step.{Step}
 use Rattle.code_machine.specs.declared.configuration.Step.TheVariants as step
 
--- No cast is due yet where a frame returns.
-abbrev pub frame_of : held_frame.Frame → Frame
-frame_of f = record { text = f.text; fun = f.fun; line = f.line; locals = f.locals; stack = f.stack; turns = f.turns; due = [] }
-
-abbrev pub with_stack : Frame → List Word → Frame
-with_stack f stack = record { text = f.text; fun = f.fun; line = f.line; locals = f.locals; stack = stack; turns = f.turns; due = f.due }
-
-abbrev pub frames_of : List held_frame.Frame → List Frame
-frames_of [] = []
-frames_of (f ∷ fs) = frame_of f ∷ frames_of fs
-
 abbrev pub world_of : held_world.World → World
 world_of w = record { store = w.heap; ticks = w.ticks; reached = w.reached }
 
 abbrev pub configuration_of : Configuration → Config
-configuration_of c = record { top = frame_of c.top; below = frames_of c.below; world = world_of c.world }
+configuration_of c = record { top = c.frames.top; below = c.frames.below; world = world_of c.world }
 
 abbrev pub limits_of : held_limits.Limits → AllowList → Limits
 limits_of l allow = record { loop = l.loops; depth = l.depth; allowed = allow }

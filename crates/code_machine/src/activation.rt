@@ -3,22 +3,20 @@ ghost use Rattle.std.specs.Prelude.{◌≡◌, [], Some, IfOk};
 ghost use Rattle.code_meaning.specs.Machine.{start};
 ghost use Rattle.code_machine.specs.Activations.{Turned, Leaves, turn_of};
 
-use crate::calls::push_starts;
-use crate::configuration::{Configuration, End, Frame, Limits, Step, World};
+use crate::configuration::{Configuration, End, Limits, Step, World};
+use crate::frames::Frames;
+use crate::reserve::Reserve;
 use crate::rules::Rules;
 use crate::running::{Ran, run_on};
 use crate::stack::Stack;
-use allowlist::Allow;
+use allowlist::{Allow, MEMBER_COUNT};
 use code_meaning::Word;
 use object_heap::Heap;
-use object_values::{Elements, Owner};
-use pl_code::Code;
+use object_values::Elements;
+use pl_code::{Code, Slot};
 use std::alloc::AllocError;
 use std::marker::Model;
 use task_core::Turn;
-
-// Memory for so many frames is taken at the start.
-const FRAMES: u32 = 256;
 
 /// A run of code.
 #[derive(Drop)]
@@ -62,6 +60,9 @@ impl<'c> Model for Activation<'c> {
 impl<'c> Activation<'c> {
     /// A run of function 0 of this code on these arguments, which calls the members of this list and no others. Where there is no
     /// such function the run is stuck.
+    ///
+    /// Memory is taken here for the words and the frames of calls as deep as the limit, for a call of a member, and for the list of
+    /// members that were called: see [`Reserve`].
     pub fn start(
         code: &'c Code,
         allow: &'c Allow,
@@ -71,34 +72,31 @@ impl<'c> Activation<'c> {
     ) -> Result<Activation<'c>, AllocError>
         ensures { IfOk result (λ a. a ≡ record { code = code.now.functions; limits = limits; allow = allow.now; now = Some (start code.now.functions args (record { store = heap; ticks = limits.ticks; reached = [] })); steps = 0 }) }
     {
-        let mut locals = args;
-        let last = match code.functions.get(0) {
-            Some(main) => {
-                push_starts(&mut locals, main.locals.as_slice())?;
-                Step::Goes
-            }
-            None => Step::Ends(End::Stuck),
+        let (slots, last) = match code.functions.get(0) {
+            Some(main) => (main.locals.as_slice(), Step::Goes),
+            None => (&[] as &[Slot], Step::Ends(End::Stuck)),
         };
         let alloc = heap.alloc();
-        let below = Stack::with_capacity(alloc, FRAMES.min(limits.depth) as usize)?;
-        let top = Frame {
-            text: Owner::Script,
-            fun: 0,
-            line: 0,
-            locals,
-            stack: Stack::new(alloc),
-            turns: 0,
-        };
+        let reserve = Reserve::of(code, allow, limits.depth);
+        let frames = Frames::start(alloc, args, slots, reserve.frames, reserve.words)?;
+        let words = Stack::with_capacity(alloc, reserve.arguments)?;
+        let values = Vec::with_capacity(alloc, reserve.arguments)?;
+        let reached = Vec::with_capacity(alloc, MEMBER_COUNT as usize)?;
         let world = World {
             heap,
             ticks: limits.ticks,
-            reached: Elements::new(alloc),
+            reached: Elements::from_vec(reached),
         };
         Ok(Activation {
             code,
             allow,
             limits,
-            run: Configuration { top, below, world },
+            run: Configuration {
+                frames,
+                world,
+                words,
+                values,
+            },
             last,
             steps: 0,
         })
@@ -135,9 +133,10 @@ impl<'c> Activation<'c> {
             steps,
         } = self;
         let Configuration {
-            top: _top,
-            below: _below,
+            frames: _frames,
             world,
+            words: _words,
+            values: _values,
         } = run;
         let World {
             heap,

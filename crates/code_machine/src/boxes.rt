@@ -9,7 +9,7 @@ ghost use Rattle.code_meaning.specs.Words as words;
 ghost use Rattle.code_meaning.specs.declared.word.Word.{Word};
 ghost use Rattle.code_meaning.specs.declared.word.Word.TheVariants.{R};
 ghost use Rattle.code_meaning.specs.Machine.{on_top, on_value, on_reference, on_outcome, to_line, is_written};
-ghost use Rattle.code_machine.specs.Seen.{Comes, frame_of, with_stack, frames_of, world_of};
+ghost use Rattle.code_machine.specs.Seen.{Comes, with_stack, world_of};
 
 use crate::configuration::{Configuration, End, Step};
 use crate::rules::Rules;
@@ -24,9 +24,9 @@ use pl_types::{Primitive, Ty};
 
 /// Makes a value of the number on the stack.
 pub fn box_number(run: &mut Configuration, primitive: Primitive) -> Step
-    ensures { Comes (on_top run.old.top.stack (λ word stack. on_value (words.boxed primitive word) (λ value. to_line (frame_of run.old.top) (frames_of run.old.below) (world_of run.old.world) (suc run.old.top.line) (R value ∷ stack)))) result run.new }
+    ensures { Comes (on_top run.old.frames.top.stack (λ word stack. on_value (words.boxed primitive word) (λ value. to_line run.old.frames.top run.old.frames.below (world_of run.old.world) (suc run.old.frames.top.line) (R value ∷ stack)))) result run.new }
 {
-    match run.top.stack.pop() {
+    match run.frames.pop() {
         Some(word) => match boxed(primitive, &word) {
             Some(value) => run.push(Word::R(value)),
             None => Step::Ends(End::Stuck),
@@ -76,9 +76,9 @@ pub fn unbox(
     primitive: Primitive,
     way: Way,
 ) -> Step
-    ensures { Comes (on_top run.old.top.stack (λ word stack. on_reference word (λ value. on_outcome code.now.functions limits.now (acts_in (world_of run.old.world) (effect run.old.world.heap (cast_at_run_time run.old.world.heap.objects value (ty.Prim primitive) (is_written way)))) words.unboxed (frame_of run.old.top) (frames_of run.old.below) (world_of run.old.world) stack))) result run.new }
+    ensures { Comes (on_top run.old.frames.top.stack (λ word stack. on_reference word (λ value. on_outcome code.now.functions limits.now (acts_in (world_of run.old.world) (effect run.old.world.heap (cast_at_run_time run.old.world.heap.objects value (ty.Prim primitive) (is_written way)))) words.unboxed run.old.frames.top run.old.frames.below (world_of run.old.world) stack))) result run.new }
 {
-    match run.top.stack.pop() {
+    match run.frames.pop() {
         Some(word) => unbox_word(run, code, limits, &word, primitive, way),
         None => Step::Ends(End::Stuck),
     }
@@ -93,7 +93,7 @@ fn unbox_word(
     primitive: Primitive,
     way: Way,
 ) -> Step
-    ensures { (stack : List Word) → Comes (on_reference word.now (λ value. on_outcome code.now.functions limits.now (acts_in (world_of run.old.world) (effect run.old.world.heap (cast_at_run_time run.old.world.heap.objects value (ty.Prim primitive) (is_written way)))) words.unboxed (with_stack (frame_of run.old.top) stack) (frames_of run.old.below) (world_of run.old.world) run.old.top.stack)) result run.new }
+    ensures { (stack : List Word) → Comes (on_reference word.now (λ value. on_outcome code.now.functions limits.now (acts_in (world_of run.old.world) (effect run.old.world.heap (cast_at_run_time run.old.world.heap.objects value (ty.Prim primitive) (is_written way)))) words.unboxed (with_stack run.old.frames.top stack) run.old.frames.below (world_of run.old.world) run.old.frames.top.stack)) result run.new }
 {
     match word {
         Word::R(value) => {

@@ -1,12 +1,13 @@
 //! Where a run stands.
 ghost use Rattle.std.specs.Prelude.{◌≡◌, suc, ◌∷◌};
 ghost use Rattle.code_meaning.specs.Machine.{to_line};
-ghost use Rattle.code_machine.specs.Seen.{Comes, end_in, goes, frame_of, frames_of, world_of};
+ghost use Rattle.code_machine.specs.Seen.{Comes, end_in, goes, world_of};
 
+use crate::frames::Frames;
 use crate::stack::Stack;
 use code_meaning::Word;
 use object_heap::{Heap, Which};
-use object_values::{Elements, Owner};
+use object_values::{Elements, Value};
 
 /// What a run may take.
 #[derive(Clone, Copy, Debug, PartialEq, Eq)]
@@ -17,23 +18,6 @@ pub struct Limits {
     pub depth: u32,
     /// Calls and turns that are paid.
     pub ticks: u64,
-}
-
-/// A function that is being run.
-#[derive(Drop)]
-pub struct Frame {
-    /// Whose function it is.
-    pub text: Owner,
-    /// The number of the function.
-    pub fun: u32,
-    /// The line that is next or, of a frame that has called, the line of the call. Lines count from 0.
-    pub line: usize,
-    /// The parameters and then the other locals.
-    pub locals: Elements<Word>,
-    /// The operands.
-    pub stack: Stack<Word>,
-    /// How many turns its loops have had.
-    pub turns: u64,
 }
 
 /// What a run changes.
@@ -49,11 +33,13 @@ pub struct World {
 /// A run between two instructions.
 #[derive(Drop)]
 pub struct Configuration {
-    /// The newest frame.
-    pub top: Frame,
-    /// The frames below it, which wait for what it gives.
-    pub below: Stack<Frame>,
+    /// The newest frame, and those below it, which wait for what it gives.
+    pub frames: Frames,
     pub world: World,
+    /// The words that a call of a member takes off the operands, the deepest on the top. Each call fills it anew.
+    pub words: Stack<Word>,
+    /// What a call of a member is called with. Each call fills it anew.
+    pub values: Vec<Value>,
 }
 
 /// How a run ends.
@@ -124,11 +110,11 @@ impl Step {
 impl Configuration {
     // On to the next line. No code has so many lines that there is no number for it.
     pub(crate) fn goes_on(&mut self) -> Step
-        ensures { Comes (to_line (frame_of self.old.top) (frames_of self.old.below) (world_of self.old.world) (suc self.old.top.line) self.old.top.stack) result self.new }
+        ensures { Comes (to_line self.old.frames.top self.old.frames.below (world_of self.old.world) (suc self.old.frames.top.line) self.old.frames.top.stack) result self.new }
     {
-        match self.top.line.checked_add(1) {
+        match self.frames.line().checked_add(1) {
             Some(line) => {
-                self.top.line = line;
+                self.frames.set_line(line);
                 Step::Goes
             }
             None => Step::NoMemory,
@@ -137,9 +123,9 @@ impl Configuration {
 
     // Puts a word on the stack, and on to the next line.
     pub(crate) fn push(&mut self, word: Word) -> Step
-        ensures { Comes (to_line (frame_of self.old.top) (frames_of self.old.below) (world_of self.old.world) (suc self.old.top.line) (word ∷ self.old.top.stack)) result self.new }
+        ensures { Comes (to_line self.old.frames.top self.old.frames.below (world_of self.old.world) (suc self.old.frames.top.line) (word ∷ self.old.frames.top.stack)) result self.new }
     {
-        match self.top.stack.push(word) {
+        match self.frames.push(word) {
             Ok(()) => self.goes_on(),
             Err(_) => Step::NoMemory,
         }
@@ -147,9 +133,9 @@ impl Configuration {
 
     // To a line.
     pub(crate) fn goes_to(&mut self, line: u32) -> Step
-        ensures { Comes (to_line (frame_of self.old.top) (frames_of self.old.below) (world_of self.old.world) line self.old.top.stack) result self.new }
+        ensures { Comes (to_line self.old.frames.top self.old.frames.below (world_of self.old.world) line self.old.frames.top.stack) result self.new }
     {
-        self.top.line = line as usize;
+        self.frames.set_line(line as usize);
         Step::Goes
     }
 }

@@ -2,7 +2,7 @@
 ghost use Rattle.std.specs.Prelude.{◌≡◌, [], ◌∷◌, suc, slice_get, slice_set};
 ghost use Rattle.code_meaning.specs.Machine.{numbered_act, on_local, on_top, on_turn, to_line, Goes};
 ghost use Rattle.run_world.specs.World.{take_turn};
-ghost use Rattle.code_machine.specs.Seen.{Comes, frame_of, frames_of, world_of};
+ghost use Rattle.code_machine.specs.Seen.{Comes, world_of};
 
 use crate::calls::call;
 use crate::configuration::{Configuration, End, Step};
@@ -21,24 +21,24 @@ pub fn numbered(
     kind: Numbered,
     number: u32,
 ) -> Step
-    ensures { Comes (numbered_act code.now.functions limits.now kind number (frame_of run.old.top) (frames_of run.old.below) (world_of run.old.world)) result run.new }
+    ensures { Comes (numbered_act code.now.functions limits.now kind number run.old.frames.top run.old.frames.below (world_of run.old.world)) result run.new }
 {
     match kind {
         Numbered::Load => load(run, number),
         Numbered::Store => store(run, number),
         Numbered::Goto => run.goes_to(number),
-        Numbered::IfZero => match pop_int(&mut run.top.stack) {
+        Numbered::IfZero => match pop_int(&mut run.frames) {
             Some(0) => run.goes_to(number),
             Some(_) => run.goes_on(),
             None => Step::Ends(End::Stuck),
         },
-        Numbered::IfNotZero => match pop_int(&mut run.top.stack) {
+        Numbered::IfNotZero => match pop_int(&mut run.frames) {
             Some(0) => run.goes_on(),
             Some(_) => run.goes_to(number),
             None => Step::Ends(End::Stuck),
         },
         Numbered::IfNull => jump_if_null(run, number),
-        Numbered::Loop => match pop_int(&mut run.top.stack) {
+        Numbered::Loop => match pop_int(&mut run.frames) {
             Some(0) => run.goes_on(),
             Some(_) => turn(run, code, limits, number),
             None => Step::Ends(End::Stuck),
@@ -50,9 +50,9 @@ pub fn numbered(
 
 // The local of this number goes on the stack. A copy of a text takes memory.
 fn load(run: &mut Configuration, number: u32) -> Step
-    ensures { Comes (on_local (slice_get run.old.top.locals number) (λ word. to_line (frame_of run.old.top) (frames_of run.old.below) (world_of run.old.world) (suc run.old.top.line) (word ∷ run.old.top.stack))) result run.new }
+    ensures { Comes (on_local (slice_get run.old.frames.top.locals number) (λ word. to_line run.old.frames.top run.old.frames.below (world_of run.old.world) (suc run.old.frames.top.line) (word ∷ run.old.frames.top.stack))) result run.new }
 {
-    match run.top.locals.as_slice().get(number as usize) {
+    match run.frames.local(number as usize) {
         Some(word) => match word.share() {
             Ok(word) => run.push(word),
             Err(_) => Step::NoMemory,
@@ -62,11 +62,11 @@ fn load(run: &mut Configuration, number: u32) -> Step
 }
 
 fn store(run: &mut Configuration, number: u32) -> Step
-    ensures { Comes (on_top run.old.top.stack (λ word stack. Goes (record { top = record { text = run.old.top.text; fun = run.old.top.fun; line = suc run.old.top.line; locals = slice_set run.old.top.locals number word; stack = stack; turns = run.old.top.turns; due = [] }; below = frames_of run.old.below; world = world_of run.old.world }))) result run.new }
+    ensures { Comes (on_top run.old.frames.top.stack (λ word stack. Goes (record { top = record { text = run.old.frames.top.text; fun = run.old.frames.top.fun; line = suc run.old.frames.top.line; locals = slice_set run.old.frames.top.locals number word; stack = stack; turns = run.old.frames.top.turns; due = run.old.frames.top.due }; below = run.old.frames.below; world = world_of run.old.world }))) result run.new }
 {
-    match run.top.stack.pop() {
+    match run.frames.pop() {
         Some(word) => {
-            run.top.locals.put(number as usize, word);
+            run.frames.store(number as usize, word);
             run.goes_on()
         }
         None => Step::Ends(End::Stuck),
@@ -76,16 +76,17 @@ fn store(run: &mut Configuration, number: u32) -> Step
 // A turn of a loop, which goes back to a line: the limit of turns is tried before the ticks.
 #[tactic(auto, unfolding(run_world::specs::World::take_turn, run_world::specs::World::pay_tick))]
 fn turn(run: &mut Configuration, code: &Code, limits: &Rules<'_>, line: u32) -> Step
-    ensures { Comes (on_turn code.now.functions limits.now (take_turn limits.now run.old.top.turns (world_of run.old.world)) line (frame_of run.old.top) (frames_of run.old.below) (world_of run.old.world) run.old.top.stack) result run.new }
+    ensures { Comes (on_turn code.now.functions limits.now (take_turn limits.now run.old.frames.top.turns (world_of run.old.world)) line run.old.frames.top run.old.frames.below (world_of run.old.world) run.old.frames.top.stack) result run.new }
 {
-    if run.top.turns >= limits.loops() {
+    let turns = run.frames.turns();
+    if turns >= limits.loops() {
         return Step::Ends(End::Limit(Which::Loop));
     }
     if run.world.ticks == 0 {
         return Step::Ends(End::Limit(Which::Ticks));
     }
     run.world.ticks -= 1;
-    run.top.turns += 1;
-    run.top.line = line as usize;
+    run.frames.set_turns(turns + 1);
+    run.frames.set_line(line as usize);
     Step::Goes
 }

@@ -1,5 +1,5 @@
 //! Members: calls, what is made by constructors, and fields.
-ghost use Rattle.std.specs.Prelude.{◌≡◌, ◌<◌, List, [], Some, IfOk, IfSome};
+ghost use Rattle.std.specs.Prelude.{◌≡◌, ◌<◌, List, [], Some, IfOk};
 ghost use Rattle.member_acts.specs.Members.{does};
 ghost use Rattle.code_shapes.specs.Members.{method_of, constructor_of, field_of};
 ghost use Rattle.code_meaning.specs.declared.word.Word.{Word};
@@ -7,12 +7,12 @@ ghost use Rattle.number_ops.specs.Outcomes.{effect, null_error};
 ghost use Rattle.run_world.specs.World.{acts_in, pay_member};
 ghost use Rattle.code_meaning.specs.Members.{count_of, given_as, received};
 ghost use Rattle.code_meaning.specs.Machine as spec;
-ghost use Rattle.code_machine.specs.Seen.{Comes, frame_of, with_stack, frames_of, world_of};
+ghost use Rattle.code_machine.specs.Seen.{Comes, with_stack, world_of};
 ghost use Rattle.code_machine.specs.Rows.{beside};
-ghost use Rattle.code_machine.specs.Members.{receiving_of};
+ghost use Rattle.code_machine.specs.Members.{filled, receiving_of};
 
-use crate::calls::take_words;
 use crate::configuration::{Configuration, End, Step};
+use crate::frames::Frames;
 use crate::paying::pay_member;
 use crate::receiving::{Receiving, received};
 use crate::rules::Rules;
@@ -23,14 +23,13 @@ use code_meaning::Word;
 use code_shapes::{constructor_of, field_of, method_of};
 use listing_parts::{ConstructorName, FieldName, MethodName};
 use object_heap::throw;
-use object_values::Value;
 use pl_code::Code;
 use pl_types::classes::NULL_POINTER_EXCEPTION;
-use std::alloc::{AllocError, Global};
+use std::alloc::AllocError;
 
 /// Calls the method that a text names.
 pub fn invoke(run: &mut Configuration, code: &Code, limits: &Rules<'_>, method: &MethodName) -> Step
-    ensures { Comes (spec.member_act code.now.functions limits.now (method_of limits.now.allowed method.now) (frame_of run.old.top) (frames_of run.old.below) (world_of run.old.world)) result run.new }
+    ensures { Comes (spec.member_act code.now.functions limits.now (method_of limits.now.allowed method.now) run.old.frames.top run.old.frames.below (world_of run.old.world)) result run.new }
 {
     match method_of(limits.allow(), method) {
         Some(number) => member(run, code, limits, number),
@@ -45,7 +44,7 @@ pub fn make(
     limits: &Rules<'_>,
     constructor: &ConstructorName,
 ) -> Step
-    ensures { Comes (spec.member_act code.now.functions limits.now (constructor_of limits.now.allowed constructor.now) (frame_of run.old.top) (frames_of run.old.below) (world_of run.old.world)) result run.new }
+    ensures { Comes (spec.member_act code.now.functions limits.now (constructor_of limits.now.allowed constructor.now) run.old.frames.top run.old.frames.below (world_of run.old.world)) result run.new }
 {
     match constructor_of(limits.allow(), constructor) {
         Some(number) => member(run, code, limits, number),
@@ -55,7 +54,7 @@ pub fn make(
 
 /// Reads the field that a text names.
 pub fn read(run: &mut Configuration, code: &Code, limits: &Rules<'_>, field: &FieldName) -> Step
-    ensures { Comes (spec.member_act code.now.functions limits.now (field_of limits.now.allowed field.now) (frame_of run.old.top) (frames_of run.old.below) (world_of run.old.world)) result run.new }
+    ensures { Comes (spec.member_act code.now.functions limits.now (field_of limits.now.allowed field.now) run.old.frames.top run.old.frames.below (world_of run.old.world)) result run.new }
 {
     match field_of(limits.allow(), field) {
         Some(number) => member(run, code, limits, number),
@@ -66,7 +65,7 @@ pub fn read(run: &mut Configuration, code: &Code, limits: &Rules<'_>, field: &Fi
 // The member of this number.
 fn member(run: &mut Configuration, code: &Code, limits: &Rules<'_>, number: u32) -> Step
     requires { number < 228 }
-    ensures { Comes (spec.member_act code.now.functions limits.now (Some number) (frame_of run.old.top) (frames_of run.old.below) (world_of run.old.world)) result run.new }
+    ensures { Comes (spec.member_act code.now.functions limits.now (Some number) run.old.frames.top run.old.frames.below (world_of run.old.world)) result run.new }
 {
     let called = limits.allow().member_type(number);
     call_member(run, code, limits, number, called)
@@ -79,41 +78,58 @@ fn call_member(
     number: u32,
     called: &MemberType,
 ) -> Step
-    ensures { Comes (spec.on_words (spec.take_words (count_of called.now) run.old.top.stack []) (λ words stack. spec.on_received code.now.functions limits.now (received called.now words) number called.now (frame_of run.old.top) (frames_of run.old.below) (world_of run.old.world) stack)) result run.new }
+    ensures { Comes (spec.on_words (spec.take_words (count_of called.now) run.old.frames.top.stack []) (λ words stack. spec.on_received code.now.functions limits.now (received called.now words) number called.now run.old.frames.top run.old.frames.below (world_of run.old.world) stack)) result run.new }
 {
-    match words_of(run.world.heap.alloc(), &mut run.top.stack, called) {
-        Ok(Some(words)) => call_with(run, code, limits, number, called, words),
-        Ok(None) => Step::Ends(End::Stuck),
+    match words_of(&mut run.frames, &mut run.words, called) {
+        Ok(true) => call_with(run, code, limits, number, called),
+        Ok(false) => Step::Ends(End::Stuck),
         Err(_) => Step::NoMemory,
     }
 }
 
-// The words that a call takes off the stack, the deepest on the top.
+// The words that a call takes off the stack, the deepest on the top. It is false where there are too few.
 fn words_of(
-    alloc: Global,
-    stack: &mut Stack<Word>,
+    frames: &mut Frames,
+    taken: &mut Stack<Word>,
     called: &MemberType,
-) -> Result<Option<Stack<Word>>, AllocError>
-    ensures { IfOk result (λ words. beside stack.new words ≡ spec.take_words (count_of called.now) stack.old []) }
+) -> Result<bool, AllocError>
+    ensures words { IfOk result (λ enough. beside frames.new.top.stack (filled enough taken.new) ≡ spec.take_words (count_of called.now) frames.old.top.stack []) }
+    ensures top { IfOk result (λ enough. frames.new.top ≡ with_stack frames.old.top frames.new.top.stack) }
+    ensures below { IfOk result (λ enough. frames.new.below ≡ frames.old.below) }
 {
-    match count_of(called) {
-        Some(count) => {
-            let taken = Stack::with_capacity(alloc, count)?;
-            take_words(stack, count, taken)
-        }
-        None => Err(AllocError),
-    }
+    taken.clear();
+    take_words(frames, count_of(called), taken)
 }
 
-// How many words a call takes, as far as there are so many.
-fn count_of(called: &MemberType) -> Option<usize>
-    ensures { IfSome result (λ count. count ≡ count_of called.now) }
+// So many words off the stack, the deepest on the top.
+fn take_words(
+    frames: &mut Frames,
+    count: usize,
+    taken: &mut Stack<Word>,
+) -> Result<bool, AllocError>
+    ensures words { IfOk result (λ enough. beside frames.new.top.stack (filled enough taken.new) ≡ spec.take_words count frames.old.top.stack taken.old) }
+    ensures top { IfOk result (λ enough. frames.new.top ≡ with_stack frames.old.top frames.new.top.stack) }
+    ensures below { IfOk result (λ enough. frames.new.below ≡ frames.old.below) }
 {
+    'words: for place in 0..count {
+        match frames.pop() {
+            Some(word) => taken.push(word)?,
+            None => return Ok(false),
+        }
+    }
+    Ok(true)
+}
+
+/// How many words a call takes.
+pub fn count_of(called: &MemberType) -> usize
+    ensures { result ≡ count_of called.now }
+{
+    let params = called.params.as_slice().len();
     match called.kind {
-        MemberKind::Instance => called.params.len().checked_add(1),
-        MemberKind::Static => Some(called.params.len()),
-        MemberKind::Constructor => Some(called.params.len()),
-        MemberKind::Field => Some(0),
+        MemberKind::Instance => params + 1,
+        MemberKind::Static => params,
+        MemberKind::Constructor => params,
+        MemberKind::Field => 0,
     }
 }
 
@@ -124,11 +140,10 @@ fn call_with(
     limits: &Rules<'_>,
     number: u32,
     called: &MemberType,
-    words: Stack<Word>,
 ) -> Step
-    ensures { (stack : List Word) → Comes (spec.on_received code.now.functions limits.now (received called.now words) number called.now (with_stack (frame_of run.old.top) stack) (frames_of run.old.below) (world_of run.old.world) run.old.top.stack) result run.new }
+    ensures { (stack : List Word) → Comes (spec.on_received code.now.functions limits.now (received called.now run.old.words) number called.now (with_stack run.old.frames.top stack) run.old.frames.below (world_of run.old.world) run.old.frames.top.stack) result run.new }
 {
-    match received(run.world.heap.alloc(), called, words) {
+    match received(called, &mut run.words, &mut run.values) {
         Ok(receiving) => call_on(run, code, limits, number, called, receiving),
         Err(_) => Step::NoMemory,
     }
@@ -143,25 +158,21 @@ fn call_on(
     called: &MemberType,
     receiving: Receiving,
 ) -> Step
-    ensures { (stack : List Word) → Comes (spec.on_received code.now.functions limits.now (receiving_of receiving) number called.now (with_stack (frame_of run.old.top) stack) (frames_of run.old.below) (world_of run.old.world) run.old.top.stack) result run.new }
+    ensures { (stack : List Word) → Comes (spec.on_received code.now.functions limits.now (receiving_of receiving run.old.values.items) number called.now (with_stack run.old.frames.top stack) run.old.frames.below (world_of run.old.world) run.old.frames.top.stack) result run.new }
 {
-    match &receiving {
+    match receiving {
         Receiving::Unfit => Step::Ends(End::Stuck),
         Receiving::OnNull => on_null(run, code, limits, called),
-        Receiving::Receives(arguments) => pay_and_act(
-            run,
-            code,
-            limits,
-            number,
-            called,
-            arguments.as_slice(),
-        ),
-        Receiving::Reads => act(run, code, limits, number, called, &[]),
+        Receiving::Receives => pay_and_act(run, code, limits, number, called),
+        Receiving::Reads => {
+            run.values.clear();
+            act(run, code, limits, number, called)
+        }
     }
 }
 
 fn on_null(run: &mut Configuration, code: &Code, limits: &Rules<'_>, called: &MemberType) -> Step
-    ensures { (stack : List Word) → Comes (spec.on_outcome code.now.functions limits.now (acts_in (world_of run.old.world) (effect run.old.world.heap null_error)) (given_as called.now.result) (with_stack (frame_of run.old.top) stack) (frames_of run.old.below) (world_of run.old.world) run.old.top.stack) result run.new }
+    ensures { (stack : List Word) → Comes (spec.on_outcome code.now.functions limits.now (acts_in (world_of run.old.world) (effect run.old.world.heap null_error)) (given_as called.now.result) (with_stack run.old.frames.top stack) run.old.frames.below (world_of run.old.world) run.old.frames.top.stack) result run.new }
 {
     let answer = throw(&mut run.world.heap, NULL_POINTER_EXCEPTION, None);
     answered_as(run, code, limits, &called.result, answer)
@@ -173,12 +184,11 @@ fn pay_and_act(
     limits: &Rules<'_>,
     number: u32,
     called: &MemberType,
-    arguments: &[Value],
 ) -> Step
-    ensures { (stack : List Word) → Comes (spec.on_paid code.now.functions limits.now (pay_member number (world_of run.old.world)) number arguments.now called.now (with_stack (frame_of run.old.top) stack) (frames_of run.old.below) run.old.top.stack) result run.new }
+    ensures { (stack : List Word) → Comes (spec.on_paid code.now.functions limits.now (pay_member number (world_of run.old.world)) number run.old.values.items called.now (with_stack run.old.frames.top stack) run.old.frames.below run.old.frames.top.stack) result run.new }
 {
     match pay_member(&mut run.world, number) {
-        Ok(None) => act(run, code, limits, number, called, arguments),
+        Ok(None) => act(run, code, limits, number, called),
         Ok(Some(which)) => Step::Ends(End::Limit(which)),
         Err(_) => Step::NoMemory,
     }
@@ -191,11 +201,10 @@ fn act(
     limits: &Rules<'_>,
     number: u32,
     called: &MemberType,
-    arguments: &[Value],
 ) -> Step
-    ensures { (stack : List Word) → Comes (spec.on_act code.now.functions limits.now (does number arguments.now run.old.world.heap) called.now (with_stack (frame_of run.old.top) stack) (frames_of run.old.below) (world_of run.old.world) run.old.top.stack) result run.new }
+    ensures { (stack : List Word) → Comes (spec.on_act code.now.functions limits.now (does number run.old.values.items run.old.world.heap) called.now (with_stack run.old.frames.top stack) run.old.frames.below (world_of run.old.world) run.old.frames.top.stack) result run.new }
 {
-    match member_acts::call(number, &mut run.world.heap, arguments) {
+    match member_acts::call(number, &mut run.world.heap, run.values.as_slice()) {
         Some(answer) => answered_as(run, code, limits, &called.result, answer),
         None => Step::Ends(End::Stuck),
     }

@@ -5,12 +5,12 @@ ghost use Rattle.arithmetic.specs.Operators.{of_type, as_long};
 ghost use Rattle.arithmetic.specs.declared.operator.Num.TheVariants as n;
 ghost use Rattle.code_meaning.specs.Machine.{on_calculation};
 ghost use Rattle.code_meaning.specs.Words as words;
-ghost use Rattle.code_machine.specs.Seen.{Comes, frame_of, frames_of, world_of};
+ghost use Rattle.code_machine.specs.Seen.{Comes, with_stack, world_of};
 ghost use Rattle.code_machine.specs.Rows.{CalculatesTo, calculated_of};
 
 use crate::configuration::{Configuration, End, Step};
+use crate::frames::Frames;
 use crate::rules::Rules;
-use crate::stack::Stack;
 use crate::stacks::{pop_int, pop_long};
 use crate::throwing::throw_zero_divisor;
 use arithmetic::{Num, Op, arith};
@@ -34,9 +34,9 @@ pub fn arithmetic(
     op: ArithmeticOp,
     width: Width,
 ) -> Step
-    ensures { Comes (on_calculation code.now.functions limits.now (words.calculation op width run.old.top.stack) (frame_of run.old.top) (frames_of run.old.below) (world_of run.old.world)) result run.new }
+    ensures { Comes (on_calculation code.now.functions limits.now (words.calculation op width run.old.frames.top.stack) run.old.frames.top run.old.frames.below (world_of run.old.world)) result run.new }
 {
-    match calculated(&mut run.top.stack, op, width) {
+    match calculated(&mut run.frames, op, width) {
         Operated::NoRow => Step::Ends(End::Stuck),
         Operated::Number(number) => run.push(word_of(number)),
         Operated::ZeroDivisor => throw_zero_divisor(run, code, limits),
@@ -52,34 +52,40 @@ fn word_of(number: Num) -> Word
     }
 }
 
-fn calculated(stack: &mut Stack<Word>, op: ArithmeticOp, width: Width) -> Operated
-    ensures { CalculatesTo (words.calculation op width stack.old) stack.new result }
+fn calculated(frames: &mut Frames, op: ArithmeticOp, width: Width) -> Operated
+    ensures stack { CalculatesTo (words.calculation op width frames.old.top.stack) frames.new.top.stack result }
+    ensures top { frames.new.top ≡ with_stack frames.old.top frames.new.top.stack }
+    ensures below { frames.new.below ≡ frames.old.below }
 {
     match width {
-        Width::Int => ints(stack, op),
-        Width::Long => longs(stack, op),
+        Width::Int => ints(frames, op),
+        Width::Long => longs(frames, op),
     }
 }
 
-fn ints(stack: &mut Stack<Word>, op: ArithmeticOp) -> Operated
-    ensures { CalculatesTo (words.ints_of op stack.old) stack.new result }
+fn ints(frames: &mut Frames, op: ArithmeticOp) -> Operated
+    ensures stack { CalculatesTo (words.ints_of op frames.old.top.stack) frames.new.top.stack result }
+    ensures top { frames.new.top ≡ with_stack frames.old.top frames.new.top.stack }
+    ensures below { frames.new.below ≡ frames.old.below }
 {
     if takes_one(op) {
-        one_int(stack, op_of(op))
+        one_int(frames, op_of(op))
     } else {
-        two_ints(stack, op_of(op))
+        two_ints(frames, op_of(op))
     }
 }
 
-fn longs(stack: &mut Stack<Word>, op: ArithmeticOp) -> Operated
-    ensures { CalculatesTo (words.longs_of op stack.old) stack.new result }
+fn longs(frames: &mut Frames, op: ArithmeticOp) -> Operated
+    ensures stack { CalculatesTo (words.longs_of op frames.old.top.stack) frames.new.top.stack result }
+    ensures top { frames.new.top ≡ with_stack frames.old.top frames.new.top.stack }
+    ensures below { frames.new.below ≡ frames.old.below }
 {
     if takes_one(op) {
-        one_long(stack, op_of(op))
+        one_long(frames, op_of(op))
     } else if is_shift(op) {
-        long_and_int(stack, op_of(op))
+        long_and_int(frames, op_of(op))
     } else {
-        two_longs(stack, op_of(op))
+        two_longs(frames, op_of(op))
     }
 }
 
@@ -99,21 +105,25 @@ fn is_shift(op: ArithmeticOp) -> bool
 }
 
 #[tactic(auto, using(crate::proofs::Rows::not_one_int))]
-fn one_int(stack: &mut Stack<Word>, op: Op) -> Operated
-    ensures { CalculatesTo (words.one_int op stack.old) stack.new result }
+fn one_int(frames: &mut Frames, op: Op) -> Operated
+    ensures stack { CalculatesTo (words.one_int op frames.old.top.stack) frames.new.top.stack result }
+    ensures top { frames.new.top ≡ with_stack frames.old.top frames.new.top.stack }
+    ensures below { frames.new.below ≡ frames.old.below }
 {
-    match pop_int(stack) {
+    match pop_int(frames) {
         Some(a) => given(on_ints(op, a, a)),
         None => Operated::NoRow,
     }
 }
 
 #[tactic(auto, using(crate::proofs::Rows::not_two_ints, crate::proofs::Rows::one_of_two_ints))]
-fn two_ints(stack: &mut Stack<Word>, op: Op) -> Operated
-    ensures { CalculatesTo (words.two_ints op stack.old) stack.new result }
+fn two_ints(frames: &mut Frames, op: Op) -> Operated
+    ensures stack { CalculatesTo (words.two_ints op frames.old.top.stack) frames.new.top.stack result }
+    ensures top { frames.new.top ≡ with_stack frames.old.top frames.new.top.stack }
+    ensures below { frames.new.below ≡ frames.old.below }
 {
-    match pop_int(stack) {
-        Some(b) => match pop_int(stack) {
+    match pop_int(frames) {
+        Some(b) => match pop_int(frames) {
             Some(a) => given(on_ints(op, a, b)),
             None => Operated::NoRow,
         },
@@ -122,21 +132,25 @@ fn two_ints(stack: &mut Stack<Word>, op: Op) -> Operated
 }
 
 #[tactic(auto, using(crate::proofs::Rows::not_one_long))]
-fn one_long(stack: &mut Stack<Word>, op: Op) -> Operated
-    ensures { CalculatesTo (words.one_long op stack.old) stack.new result }
+fn one_long(frames: &mut Frames, op: Op) -> Operated
+    ensures stack { CalculatesTo (words.one_long op frames.old.top.stack) frames.new.top.stack result }
+    ensures top { frames.new.top ≡ with_stack frames.old.top frames.new.top.stack }
+    ensures below { frames.new.below ≡ frames.old.below }
 {
-    match pop_long(stack) {
+    match pop_long(frames) {
         Some(a) => given(on_longs(op, a, Num::Long(a))),
         None => Operated::NoRow,
     }
 }
 
 #[tactic(auto, using(crate::proofs::Rows::no_shift, crate::proofs::Rows::half_shift))]
-fn long_and_int(stack: &mut Stack<Word>, op: Op) -> Operated
-    ensures { CalculatesTo (words.long_and_int op stack.old) stack.new result }
+fn long_and_int(frames: &mut Frames, op: Op) -> Operated
+    ensures stack { CalculatesTo (words.long_and_int op frames.old.top.stack) frames.new.top.stack result }
+    ensures top { frames.new.top ≡ with_stack frames.old.top frames.new.top.stack }
+    ensures below { frames.new.below ≡ frames.old.below }
 {
-    match pop_int(stack) {
-        Some(b) => match pop_long(stack) {
+    match pop_int(frames) {
+        Some(b) => match pop_long(frames) {
             Some(a) => given(on_longs(op, a, Num::Int(b))),
             None => Operated::NoRow,
         },
@@ -145,11 +159,13 @@ fn long_and_int(stack: &mut Stack<Word>, op: Op) -> Operated
 }
 
 #[tactic(auto, using(crate::proofs::Rows::not_two_longs, crate::proofs::Rows::one_of_two_longs))]
-fn two_longs(stack: &mut Stack<Word>, op: Op) -> Operated
-    ensures { CalculatesTo (words.two_longs op stack.old) stack.new result }
+fn two_longs(frames: &mut Frames, op: Op) -> Operated
+    ensures stack { CalculatesTo (words.two_longs op frames.old.top.stack) frames.new.top.stack result }
+    ensures top { frames.new.top ≡ with_stack frames.old.top frames.new.top.stack }
+    ensures below { frames.new.below ≡ frames.old.below }
 {
-    match pop_long(stack) {
-        Some(b) => match pop_long(stack) {
+    match pop_long(frames) {
+        Some(b) => match pop_long(frames) {
             Some(a) => given(on_longs(op, a, Num::Long(b))),
             None => Operated::NoRow,
         },

@@ -1,52 +1,45 @@
 //! What a member is called with: the words of its call as values.
-ghost use Rattle.std.specs.Prelude.{◌≡◌, Some, IfOk};
+ghost use Rattle.std.specs.Prelude.{◌≡◌, List, Some, IfOk};
 ghost use Rattle.allowlist.specs.declared.member.MemberKind.TheVariants as kind;
+ghost use Rattle.object_values.specs.declared.value.Value.{Value};
 ghost use Rattle.code_meaning.specs.Members as members;
-ghost use Rattle.code_machine.specs.Members.{behind, is_null, received_with, receiving_of};
+ghost use Rattle.code_machine.specs.Members.{behind, filled, is_null, received_with, receiving_of};
 
 use crate::boxes::boxed;
 use crate::stack::Stack;
 use allowlist::{MemberKind, MemberType};
 use code_meaning::Word;
-use object_values::{Elements, Value};
+use object_values::Value;
 use pl_types::Ty;
-use std::alloc::{AllocError, Global};
+use std::alloc::AllocError;
+use std::mem::replace;
 
 /// What a member is called with.
+#[derive(Clone, Copy)]
 pub enum Receiving {
     /// The words do not fit.
     Unfit,
     /// The receiver is null.
     OnNull,
     /// The arguments, the receiver first.
-    Receives(Elements<Value>),
+    Receives,
     /// A field is read.
     Reads,
 }
 
-impl Drop for Receiving {
-    fn drop(self) {
-        match self {
-            Receiving::Unfit => {}
-            Receiving::OnNull => {}
-            Receiving::Receives(_arguments) => {}
-            Receiving::Reads => {}
-        }
-    }
-}
-
-/// The words of a call, the receiver's on the top, as what the member is called with. A text is copied, which takes memory.
+/// The words of a call, the receiver's on the top, as what the member is called with. They are moved, and what they become stands in
+/// `values` alone.
 pub fn received(
-    alloc: Global,
     called: &MemberType,
-    words: Stack<Word>,
+    words: &mut Stack<Word>,
+    values: &mut Vec<Value>,
 ) -> Result<Receiving, AllocError>
-    ensures { IfOk result (λ r. receiving_of r ≡ members.received called.now words) }
+    ensures { IfOk result (λ r. receiving_of r values.new.items ≡ members.received called.now words.old) }
 {
     match called.kind {
-        MemberKind::Instance => received_on(alloc, called.params.as_slice(), words),
-        MemberKind::Static => received_all(alloc, called.params.as_slice(), words),
-        MemberKind::Constructor => received_all(alloc, called.params.as_slice(), words),
+        MemberKind::Instance => received_on(called.params.as_slice(), words, values),
+        MemberKind::Static => received_all(called.params.as_slice(), words, values),
+        MemberKind::Constructor => received_all(called.params.as_slice(), words, values),
         MemberKind::Field => {
             if words.len() == 0 {
                 Ok(Receiving::Reads)
@@ -57,25 +50,31 @@ pub fn received(
     }
 }
 
-fn received_all(alloc: Global, params: &[Ty], words: Stack<Word>) -> Result<Receiving, AllocError>
-    ensures { IfOk result (λ r. receiving_of r ≡ members.receives (members.taken_all params.now words)) }
+fn received_all(
+    params: &[Ty],
+    words: &mut Stack<Word>,
+    values: &mut Vec<Value>,
+) -> Result<Receiving, AllocError>
+    ensures { IfOk result (λ r. receiving_of r values.new.items ≡ members.receives (members.taken_all params.now words.old)) }
 {
-    match take_arguments(params, words, Elements::new(alloc))? {
-        Some(arguments) => Ok(Receiving::Receives(arguments)),
-        None => Ok(Receiving::Unfit),
+    values.clear();
+    if take_arguments(params, words, values)? {
+        Ok(Receiving::Receives)
+    } else {
+        Ok(Receiving::Unfit)
     }
 }
 
 fn received_on(
-    alloc: Global,
     params: &[Ty],
-    mut words: Stack<Word>,
+    words: &mut Stack<Word>,
+    values: &mut Vec<Value>,
 ) -> Result<Receiving, AllocError>
-    ensures { IfOk result (λ r. receiving_of r ≡ members.received_by kind.Instance params.now words) }
+    ensures { IfOk result (λ r. receiving_of r values.new.items ≡ members.received_by kind.Instance params.now words.old) }
 {
     match words.pop() {
-        Some(word) => match reference_in(&word)? {
-            Some(receiver) => received_by(alloc, params, words, receiver),
+        Some(word) => match reference_in(word) {
+            Some(receiver) => received_by(params, words, values, receiver),
             None => Ok(Receiving::Unfit),
         },
         None => Ok(Receiving::Unfit),
@@ -83,29 +82,30 @@ fn received_on(
 }
 
 fn received_by(
-    alloc: Global,
     params: &[Ty],
-    words: Stack<Word>,
+    words: &mut Stack<Word>,
+    values: &mut Vec<Value>,
     receiver: Value,
 ) -> Result<Receiving, AllocError>
-    ensures { IfOk result (λ r. receiving_of r ≡ members.receives_on (Some receiver) (members.taken_all params.now words)) }
+    ensures { IfOk result (λ r. receiving_of r values.new.items ≡ members.receives_on (Some receiver) (members.taken_all params.now words.old)) }
 {
     let null = is_null(&receiver);
-    let mut values = Elements::new(alloc);
+    values.clear();
     values.push(receiver)?;
-    match take_arguments(params, words, values)? {
-        Some(arguments) => Ok(on_receiver(null, arguments)),
-        None => Ok(Receiving::Unfit),
+    if take_arguments(params, words, values)? {
+        Ok(on_receiver(null))
+    } else {
+        Ok(Receiving::Unfit)
     }
 }
 
-fn on_receiver(null: bool, arguments: Elements<Value>) -> Receiving
-    ensures { receiving_of result ≡ received_with null arguments }
+fn on_receiver(null: bool) -> Receiving
+    ensures { (values : List Value) → receiving_of result values ≡ received_with null values }
 {
     if null {
         Receiving::OnNull
     } else {
-        Receiving::Receives(arguments)
+        Receiving::Receives
     }
 }
 
@@ -115,51 +115,51 @@ fn is_null(value: &Value) -> bool
     matches!(value, Value::Null)
 }
 
-// The arguments of these types, behind values that are there.
+// The arguments of these types, behind values that are there. It is false where the words do not fit.
 fn take_arguments(
     params: &[Ty],
-    mut words: Stack<Word>,
-    mut values: Elements<Value>,
-) -> Result<Option<Elements<Value>>, AllocError>
-    ensures { IfOk result (λ given. given ≡ behind values (members.taken_all params.now words)) }
+    words: &mut Stack<Word>,
+    values: &mut Vec<Value>,
+) -> Result<bool, AllocError>
+    ensures { IfOk result (λ fit. filled fit values.new.items ≡ behind values.old.items (members.taken_all params.now words.old)) }
 {
     let mut rest = params;
     'params: while let [of, others @ ..] = rest {
         match words.pop() {
-            Some(word) => match taken(of, &word)? {
+            Some(word) => match taken(of, word) {
                 Some(value) => values.push(value)?,
-                None => return Ok(None),
+                None => return Ok(false),
             },
-            None => return Ok(None),
+            None => return Ok(false),
         }
         rest = others;
     }
     if words.len() == 0 {
-        Ok(Some(values))
+        Ok(true)
     } else {
-        Ok(None)
+        Ok(false)
     }
 }
 
 // An argument of a type: a number goes in the box of its primitive.
-fn taken(of: &Ty, word: &Word) -> Result<Option<Value>, AllocError>
-    ensures { IfOk result (λ value. value ≡ members.taken of.now word.now) }
+fn taken(of: &Ty, word: Word) -> Option<Value>
+    ensures { result ≡ members.taken of.now word }
 {
     match of {
         Ty::Void => reference_in(word),
         Ty::Null => reference_in(word),
         Ty::Def => reference_in(word),
-        Ty::Prim(primitive) => Ok(boxed(*primitive, word)),
+        Ty::Prim(primitive) => boxed(*primitive, &word),
         Ty::Class(_) => reference_in(word),
         Ty::Array(_) => reference_in(word),
     }
 }
 
-fn reference_in(word: &Word) -> Result<Option<Value>, AllocError>
-    ensures { IfOk result (λ value. value ≡ members.reference_in word.now) }
+fn reference_in(mut word: Word) -> Option<Value>
+    ensures { result ≡ members.reference_in word }
 {
-    match word {
-        Word::R(value) => Ok(Some(value.share()?)),
-        _ => Ok(None),
+    match &mut word {
+        Word::R(value) => Some(replace(value, Value::Null)),
+        _ => None,
     }
 }

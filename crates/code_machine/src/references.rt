@@ -2,7 +2,7 @@
 ghost use Rattle.std.specs.Prelude.{◌≡◌, List, ◌∷◌, suc};
 ghost use Rattle.code_meaning.specs.declared.word.Word.{Word};
 ghost use Rattle.code_meaning.specs.Machine.{quoted_act, on_reference, on_top, if_null, to_line};
-ghost use Rattle.code_machine.specs.Seen.{Comes, frame_of, with_stack, frames_of, world_of};
+ghost use Rattle.code_machine.specs.Seen.{Comes, with_stack, world_of};
 ghost use Rattle.code_machine.specs.Rows.{null_in, on_pair, on_references, paired, text_act};
 
 use crate::configuration::{Configuration, End, Step};
@@ -23,7 +23,7 @@ pub fn quoted(
     kind: Quoting,
     text: &Text,
 ) -> Step
-    ensures { Comes (quoted_act code.now.functions limits.now kind text.now (frame_of run.old.top) (frames_of run.old.below) (world_of run.old.world)) result run.new }
+    ensures { Comes (quoted_act code.now.functions limits.now kind text.now run.old.frames.top run.old.frames.below (world_of run.old.world)) result run.new }
 {
     match kind {
         Quoting::Constant => constant(run, text),
@@ -32,7 +32,7 @@ pub fn quoted(
 }
 
 fn constant(run: &mut Configuration, text: &Text) -> Step
-    ensures { Comes (text_act text.now (frame_of run.old.top) (frames_of run.old.below) (world_of run.old.world)) result run.new }
+    ensures { Comes (text_act text.now run.old.frames.top run.old.frames.below (world_of run.old.world)) result run.new }
 {
     match UText::from_utf8(run.world.heap.alloc(), text.as_str()) {
         Ok(text) => run.push(Word::R(Value::Str(text))),
@@ -53,10 +53,10 @@ pub enum Pairing {
 
 /// An instruction on two references, which are taken off the stack.
 pub fn pair(run: &mut Configuration, code: &Code, limits: &Rules<'_>, kind: Pairing) -> Step
-    ensures { Comes (on_pair run.old.top.stack (λ a b stack. paired code.now.functions limits.now kind a b (frame_of run.old.top) (frames_of run.old.below) (world_of run.old.world) stack)) result run.new }
+    ensures { Comes (on_pair run.old.frames.top.stack (λ a b stack. paired code.now.functions limits.now kind a b run.old.frames.top run.old.frames.below (world_of run.old.world) stack)) result run.new }
 {
-    match run.top.stack.pop() {
-        Some(upper) => match run.top.stack.pop() {
+    match run.frames.pop() {
+        Some(upper) => match run.frames.pop() {
             Some(lower) => pair_words(run, code, limits, kind, &lower, &upper),
             None => Step::Ends(End::Stuck),
         },
@@ -73,7 +73,7 @@ fn pair_words(
     lower: &Word,
     upper: &Word,
 ) -> Step
-    ensures { (stack : List Word) → Comes (on_references lower.now upper.now (λ a b. paired code.now.functions limits.now kind a b (with_stack (frame_of run.old.top) stack) (frames_of run.old.below) (world_of run.old.world) run.old.top.stack)) result run.new }
+    ensures { (stack : List Word) → Comes (on_references lower.now upper.now (λ a b. paired code.now.functions limits.now kind a b (with_stack run.old.frames.top stack) run.old.frames.below (world_of run.old.world) run.old.frames.top.stack)) result run.new }
 {
     match upper {
         Word::R(b) => match lower {
@@ -92,7 +92,7 @@ fn pair_values(
     a: &Value,
     b: &Value,
 ) -> Step
-    ensures { (stack : List Word) → Comes (paired code.now.functions limits.now kind a.now b.now (with_stack (frame_of run.old.top) stack) (frames_of run.old.below) (world_of run.old.world) run.old.top.stack) result run.new }
+    ensures { (stack : List Word) → Comes (paired code.now.functions limits.now kind a.now b.now (with_stack run.old.frames.top stack) run.old.frames.below (world_of run.old.world) run.old.frames.top.stack) result run.new }
 {
     match kind {
         Pairing::Concat => {
@@ -109,9 +109,9 @@ fn pair_values(
 
 /// To a line where the reference on the stack is null, and else on to the next one.
 pub fn jump_if_null(run: &mut Configuration, line: u32) -> Step
-    ensures { Comes (on_top run.old.top.stack (λ word stack. on_reference word (λ value. if_null value (to_line (frame_of run.old.top) (frames_of run.old.below) (world_of run.old.world) line stack) (to_line (frame_of run.old.top) (frames_of run.old.below) (world_of run.old.world) (suc run.old.top.line) stack)))) result run.new }
+    ensures { Comes (on_top run.old.frames.top.stack (λ word stack. on_reference word (λ value. if_null value (to_line run.old.frames.top run.old.frames.below (world_of run.old.world) line stack) (to_line run.old.frames.top run.old.frames.below (world_of run.old.world) (suc run.old.frames.top.line) stack)))) result run.new }
 {
-    match run.top.stack.pop() {
+    match run.frames.pop() {
         Some(word) => match null_in(&word) {
             Some(true) => run.goes_to(line),
             Some(false) => run.goes_on(),

@@ -1,7 +1,6 @@
 //! Stacks.
 ghost use Rattle.std.specs.Prelude.{◌≡◌, [], ◌∷◌, length, MatchOption, OnOk, OnErr, IfOk};
 
-use object_values::Elements;
 use std::alloc::{AllocError, Global};
 use std::marker::Model;
 
@@ -28,15 +27,6 @@ impl<T> Model for Stack<T> {
 }
 
 impl<T> Stack<T> {
-    /// An empty stack. It takes memory as it grows.
-    pub fn new(alloc: Global) -> Stack<T>
-        ensures { result ≡ [] }
-    {
-        Stack {
-            items: Vec::new(alloc),
-        }
-    }
-
     /// An empty stack with memory for so many elements.
     pub fn with_capacity(alloc: Global, capacity: usize) -> Result<Stack<T>, AllocError>
         ensures { IfOk result (λ stack. stack ≡ []) }
@@ -59,19 +49,10 @@ impl<T> Stack<T> {
     {
         self.items.pop()
     }
-
-    /// The elements from the top down.
-    pub fn into_elements(self) -> Elements<T>
-        ensures { result ≡ self }
-    {
-        let Stack { mut items } = self;
-        items.reverse();
-        Elements::from_vec(items)
-    }
 }
 
 impl<T: Drop> Stack<T> {
-    /// Takes all elements off.
+    /// Drops all elements. The memory stays.
     pub fn clear(&mut self)
         ensures { self.new ≡ [] }
     {

@@ -4,14 +4,14 @@ ghost use Rattle.pl_code.specs.declared.kinds.Plain.TheVariants as plains;
 ghost use Rattle.code_meaning.specs.declared.word.Word.TheVariants.{I, J};
 ghost use Rattle.code_meaning.specs.Machine as spec;
 ghost use Rattle.code_meaning.specs.Machine.{plain_act, on_stack, to_line};
-ghost use Rattle.code_machine.specs.Seen.{Comes, int_of, long_of, frame_of, frames_of, world_of};
+ghost use Rattle.code_machine.specs.Seen.{Comes, int_of, long_of, with_stack, world_of};
 ghost use Rattle.code_machine.specs.Rows.{Copies};
 
 use crate::calls::ret;
 use crate::configuration::{Configuration, End, Step};
+use crate::frames::Frames;
 use crate::references::{Pairing, pair};
 use crate::rules::Rules;
-use crate::stack::Stack;
 use crate::throwing::throw_top;
 use arithmetic::casts::{low_byte, low_char, low_int, low_short};
 use code_meaning::Word;
@@ -21,27 +21,27 @@ use pl_code::{Code, Plain};
 /// An instruction without operands.
 #[tactic(auto, using(crate::proofs::Rows::no_int, crate::proofs::Rows::no_long))]
 pub fn plain(run: &mut Configuration, code: &Code, limits: &Rules<'_>, kind: Plain) -> Step
-    ensures { Comes (plain_act code.now.functions limits.now kind (frame_of run.old.top) (frames_of run.old.below) (world_of run.old.world)) result run.new }
+    ensures { Comes (plain_act code.now.functions limits.now kind run.old.frames.top run.old.frames.below (world_of run.old.world)) result run.new }
 {
     match kind {
         Plain::Null => run.push(Word::R(Value::Null)),
-        Plain::IntToLong => match pop_int(&mut run.top.stack) {
+        Plain::IntToLong => match pop_int(&mut run.frames) {
             Some(a) => run.push(Word::J(i64::from(a))),
             None => Step::Ends(End::Stuck),
         },
-        Plain::LongToInt => match pop_long(&mut run.top.stack) {
+        Plain::LongToInt => match pop_long(&mut run.frames) {
             Some(a) => run.push(Word::I(low_int(a))),
             None => Step::Ends(End::Stuck),
         },
-        Plain::IntToByte => match pop_int(&mut run.top.stack) {
+        Plain::IntToByte => match pop_int(&mut run.frames) {
             Some(a) => run.push(Word::I(i32::from(low_byte(a)))),
             None => Step::Ends(End::Stuck),
         },
-        Plain::IntToShort => match pop_int(&mut run.top.stack) {
+        Plain::IntToShort => match pop_int(&mut run.frames) {
             Some(a) => run.push(Word::I(i32::from(low_short(a)))),
             None => Step::Ends(End::Stuck),
         },
-        Plain::IntToChar => match pop_int(&mut run.top.stack) {
+        Plain::IntToChar => match pop_int(&mut run.frames) {
             Some(a) => run.push(Word::I(i32::from(low_char(a)))),
             None => Step::Ends(End::Stuck),
         },
@@ -55,20 +55,24 @@ pub fn plain(run: &mut Configuration, code: &Code, limits: &Rules<'_>, kind: Pla
 }
 
 /// Takes an int off a stack. What is left where there is none is of no account.
-pub fn pop_int(stack: &mut Stack<Word>) -> Option<i32>
-    ensures { MatchOption result (int_of stack.old ≡ None) (λ a. stack.old ≡ I a ∷ stack.new) }
+pub fn pop_int(frames: &mut Frames) -> Option<i32>
+    ensures stack { MatchOption result (int_of frames.old.top.stack ≡ None) (λ a. frames.old.top.stack ≡ I a ∷ frames.new.top.stack) }
+    ensures top { frames.new.top ≡ with_stack frames.old.top frames.new.top.stack }
+    ensures below { frames.new.below ≡ frames.old.below }
 {
-    match &stack.pop() {
+    match &frames.pop() {
         Some(Word::I(a)) => Some(*a),
         _ => None,
     }
 }
 
 /// Takes a long off a stack. What is left where there is none is of no account.
-pub fn pop_long(stack: &mut Stack<Word>) -> Option<i64>
-    ensures { MatchOption result (long_of stack.old ≡ None) (λ a. stack.old ≡ J a ∷ stack.new) }
+pub fn pop_long(frames: &mut Frames) -> Option<i64>
+    ensures stack { MatchOption result (long_of frames.old.top.stack ≡ None) (λ a. frames.old.top.stack ≡ J a ∷ frames.new.top.stack) }
+    ensures top { frames.new.top ≡ with_stack frames.old.top frames.new.top.stack }
+    ensures below { frames.new.below ≡ frames.old.below }
 {
-    match &stack.pop() {
+    match &frames.pop() {
         Some(Word::J(a)) => Some(*a),
         _ => None,
     }
@@ -84,43 +88,49 @@ pub enum Copying {
 
 // An instruction that copies words of the stack, or takes the top off.
 fn copy(run: &mut Configuration, kind: Plain) -> Step
-    ensures { Comes (on_stack (spec.copied kind run.old.top.stack) (λ stack. to_line (frame_of run.old.top) (frames_of run.old.below) (world_of run.old.world) (suc run.old.top.line) stack)) result run.new }
+    ensures { Comes (on_stack (spec.copied kind run.old.frames.top.stack) (λ stack. to_line run.old.frames.top run.old.frames.below (world_of run.old.world) (suc run.old.frames.top.line) stack)) result run.new }
 {
-    match copied(&mut run.top.stack, kind) {
+    match copied(&mut run.frames, kind) {
         Copying::Done => run.goes_on(),
         Copying::Stuck => Step::Ends(End::Stuck),
         Copying::NoMemory => Step::NoMemory,
     }
 }
 
-fn copied(stack: &mut Stack<Word>, kind: Plain) -> Copying
-    ensures { Copies (spec.copied kind stack.old) stack.new result }
+fn copied(frames: &mut Frames, kind: Plain) -> Copying
+    ensures stack { Copies (spec.copied kind frames.old.top.stack) frames.new.top.stack result }
+    ensures top { frames.new.top ≡ with_stack frames.old.top frames.new.top.stack }
+    ensures below { frames.new.below ≡ frames.old.below }
 {
     match kind {
-        Plain::Pop => pop(stack),
-        Plain::Dup => dup(stack),
-        Plain::Dup2 => dup_two(stack),
-        Plain::DupX1 => dup_below_one(stack),
-        Plain::DupX2 => dup_below_two(stack),
+        Plain::Pop => pop(frames),
+        Plain::Dup => dup(frames),
+        Plain::Dup2 => dup_two(frames),
+        Plain::DupX1 => dup_below_one(frames),
+        Plain::DupX2 => dup_below_two(frames),
         _ => Copying::Stuck,
     }
 }
 
-fn pop(stack: &mut Stack<Word>) -> Copying
-    ensures { Copies (spec.copied plains.Pop stack.old) stack.new result }
+fn pop(frames: &mut Frames) -> Copying
+    ensures stack { Copies (spec.copied plains.Pop frames.old.top.stack) frames.new.top.stack result }
+    ensures top { frames.new.top ≡ with_stack frames.old.top frames.new.top.stack }
+    ensures below { frames.new.below ≡ frames.old.below }
 {
-    match stack.pop() {
+    match frames.pop() {
         Some(_top) => Copying::Done,
         None => Copying::Stuck,
     }
 }
 
 // Puts words on a stack, the first of them first.
-fn put_two(stack: &mut Stack<Word>, first: Word, second: Word) -> Copying
-    ensures { Copies (Some (second ∷ first ∷ stack.old)) stack.new result }
+fn put_two(frames: &mut Frames, first: Word, second: Word) -> Copying
+    ensures stack { Copies (Some (second ∷ first ∷ frames.old.top.stack)) frames.new.top.stack result }
+    ensures top { frames.new.top ≡ with_stack frames.old.top frames.new.top.stack }
+    ensures below { frames.new.below ≡ frames.old.below }
 {
-    match stack.push(first) {
-        Ok(()) => match stack.push(second) {
+    match frames.push(first) {
+        Ok(()) => match frames.push(second) {
             Ok(()) => Copying::Done,
             Err(_) => Copying::NoMemory,
         },
@@ -128,48 +138,50 @@ fn put_two(stack: &mut Stack<Word>, first: Word, second: Word) -> Copying
     }
 }
 
-fn put_three(stack: &mut Stack<Word>, first: Word, second: Word, third: Word) -> Copying
-    ensures { Copies (Some (third ∷ second ∷ first ∷ stack.old)) stack.new result }
+fn put_three(frames: &mut Frames, first: Word, second: Word, third: Word) -> Copying
+    ensures stack { Copies (Some (third ∷ second ∷ first ∷ frames.old.top.stack)) frames.new.top.stack result }
+    ensures top { frames.new.top ≡ with_stack frames.old.top frames.new.top.stack }
+    ensures below { frames.new.below ≡ frames.old.below }
 {
-    match stack.push(first) {
-        Ok(()) => put_two(stack, second, third),
+    match frames.push(first) {
+        Ok(()) => put_two(frames, second, third),
         Err(_) => Copying::NoMemory,
     }
 }
 
-fn put_four(
-    stack: &mut Stack<Word>,
-    first: Word,
-    second: Word,
-    third: Word,
-    fourth: Word,
-) -> Copying
-    ensures { Copies (Some (fourth ∷ third ∷ second ∷ first ∷ stack.old)) stack.new result }
+fn put_four(frames: &mut Frames, first: Word, second: Word, third: Word, fourth: Word) -> Copying
+    ensures stack { Copies (Some (fourth ∷ third ∷ second ∷ first ∷ frames.old.top.stack)) frames.new.top.stack result }
+    ensures top { frames.new.top ≡ with_stack frames.old.top frames.new.top.stack }
+    ensures below { frames.new.below ≡ frames.old.below }
 {
-    match stack.push(first) {
-        Ok(()) => put_three(stack, second, third, fourth),
+    match frames.push(first) {
+        Ok(()) => put_three(frames, second, third, fourth),
         Err(_) => Copying::NoMemory,
     }
 }
 
-fn dup(stack: &mut Stack<Word>) -> Copying
-    ensures { Copies (spec.copied plains.Dup stack.old) stack.new result }
+fn dup(frames: &mut Frames) -> Copying
+    ensures stack { Copies (spec.copied plains.Dup frames.old.top.stack) frames.new.top.stack result }
+    ensures top { frames.new.top ≡ with_stack frames.old.top frames.new.top.stack }
+    ensures below { frames.new.below ≡ frames.old.below }
 {
-    match stack.pop() {
+    match frames.pop() {
         Some(z) => match z.share() {
-            Ok(copy) => put_two(stack, z, copy),
+            Ok(copy) => put_two(frames, z, copy),
             Err(_) => Copying::NoMemory,
         },
         None => Copying::Stuck,
     }
 }
 
-fn dup_two(stack: &mut Stack<Word>) -> Copying
-    ensures { Copies (spec.copied plains.Dup2 stack.old) stack.new result }
+fn dup_two(frames: &mut Frames) -> Copying
+    ensures stack { Copies (spec.copied plains.Dup2 frames.old.top.stack) frames.new.top.stack result }
+    ensures top { frames.new.top ≡ with_stack frames.old.top frames.new.top.stack }
+    ensures below { frames.new.below ≡ frames.old.below }
 {
-    match stack.pop() {
-        Some(z) => match stack.pop() {
-            Some(y) => share_two(stack, z, y),
+    match frames.pop() {
+        Some(z) => match frames.pop() {
+            Some(y) => share_two(frames, z, y),
             None => Copying::Stuck,
         },
         None => Copying::Stuck,
@@ -177,46 +189,54 @@ fn dup_two(stack: &mut Stack<Word>) -> Copying
 }
 
 // Puts two words on a stack twice.
-fn share_two(stack: &mut Stack<Word>, z: Word, y: Word) -> Copying
-    ensures { Copies (Some (z ∷ y ∷ z ∷ y ∷ stack.old)) stack.new result }
+fn share_two(frames: &mut Frames, z: Word, y: Word) -> Copying
+    ensures stack { Copies (Some (z ∷ y ∷ z ∷ y ∷ frames.old.top.stack)) frames.new.top.stack result }
+    ensures top { frames.new.top ≡ with_stack frames.old.top frames.new.top.stack }
+    ensures below { frames.new.below ≡ frames.old.below }
 {
     match z.share() {
         Ok(upper) => match y.share() {
-            Ok(lower) => put_four(stack, y, z, lower, upper),
+            Ok(lower) => put_four(frames, y, z, lower, upper),
             Err(_) => Copying::NoMemory,
         },
         Err(_) => Copying::NoMemory,
     }
 }
 
-fn dup_below_one(stack: &mut Stack<Word>) -> Copying
-    ensures { Copies (spec.copied plains.DupX1 stack.old) stack.new result }
+fn dup_below_one(frames: &mut Frames) -> Copying
+    ensures stack { Copies (spec.copied plains.DupX1 frames.old.top.stack) frames.new.top.stack result }
+    ensures top { frames.new.top ≡ with_stack frames.old.top frames.new.top.stack }
+    ensures below { frames.new.below ≡ frames.old.below }
 {
-    match stack.pop() {
-        Some(z) => match stack.pop() {
-            Some(y) => share_below_one(stack, z, y),
+    match frames.pop() {
+        Some(z) => match frames.pop() {
+            Some(y) => share_below_one(frames, z, y),
             None => Copying::Stuck,
         },
         None => Copying::Stuck,
     }
 }
 
-fn share_below_one(stack: &mut Stack<Word>, z: Word, y: Word) -> Copying
-    ensures { Copies (Some (z ∷ y ∷ z ∷ stack.old)) stack.new result }
+fn share_below_one(frames: &mut Frames, z: Word, y: Word) -> Copying
+    ensures stack { Copies (Some (z ∷ y ∷ z ∷ frames.old.top.stack)) frames.new.top.stack result }
+    ensures top { frames.new.top ≡ with_stack frames.old.top frames.new.top.stack }
+    ensures below { frames.new.below ≡ frames.old.below }
 {
     match z.share() {
-        Ok(copy) => put_three(stack, copy, y, z),
+        Ok(copy) => put_three(frames, copy, y, z),
         Err(_) => Copying::NoMemory,
     }
 }
 
-fn dup_below_two(stack: &mut Stack<Word>) -> Copying
-    ensures { Copies (spec.copied plains.DupX2 stack.old) stack.new result }
+fn dup_below_two(frames: &mut Frames) -> Copying
+    ensures stack { Copies (spec.copied plains.DupX2 frames.old.top.stack) frames.new.top.stack result }
+    ensures top { frames.new.top ≡ with_stack frames.old.top frames.new.top.stack }
+    ensures below { frames.new.below ≡ frames.old.below }
 {
-    match stack.pop() {
-        Some(z) => match stack.pop() {
-            Some(y) => match stack.pop() {
-                Some(x) => share_below_two(stack, z, y, x),
+    match frames.pop() {
+        Some(z) => match frames.pop() {
+            Some(y) => match frames.pop() {
+                Some(x) => share_below_two(frames, z, y, x),
                 None => Copying::Stuck,
             },
             None => Copying::Stuck,
@@ -225,11 +245,13 @@ fn dup_below_two(stack: &mut Stack<Word>) -> Copying
     }
 }
 
-fn share_below_two(stack: &mut Stack<Word>, z: Word, y: Word, x: Word) -> Copying
-    ensures { Copies (Some (z ∷ y ∷ x ∷ z ∷ stack.old)) stack.new result }
+fn share_below_two(frames: &mut Frames, z: Word, y: Word, x: Word) -> Copying
+    ensures stack { Copies (Some (z ∷ y ∷ x ∷ z ∷ frames.old.top.stack)) frames.new.top.stack result }
+    ensures top { frames.new.top ≡ with_stack frames.old.top frames.new.top.stack }
+    ensures below { frames.new.below ≡ frames.old.below }
 {
     match z.share() {
-        Ok(copy) => put_four(stack, copy, x, y, z),
+        Ok(copy) => put_four(frames, copy, x, y, z),
         Err(_) => Copying::NoMemory,
     }
 }

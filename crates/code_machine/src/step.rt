@@ -1,6 +1,6 @@
 //! One instruction.
 ghost use Rattle.code_meaning.specs.Machine.{act, step};
-ghost use Rattle.code_machine.specs.Seen.{Comes, configuration_of, frame_of, frames_of, world_of};
+ghost use Rattle.code_machine.specs.Seen.{Comes, configuration_of, world_of};
 
 use crate::boxes::{box_number, unbox};
 use crate::configuration::{Configuration, End, Step};
@@ -18,8 +18,8 @@ use pl_code::{Code, Instruction};
 pub fn step(run: &mut Configuration, code: &Code, limits: &Rules<'_>) -> Step
     ensures { Comes (step code.now.functions limits.now (configuration_of run.old)) result run.new }
 {
-    match code.functions.get(run.top.fun as usize) {
-        Some(function) => match function.lines.get(run.top.line) {
+    match code.functions.get(run.frames.fun() as usize) {
+        Some(function) => match function.lines.get(run.frames.line()) {
             Some(instruction) => execute(run, code, limits, instruction),
             None => Step::Ends(End::Stuck),
         },
@@ -33,7 +33,7 @@ fn execute(
     limits: &Rules<'_>,
     instruction: &Instruction,
 ) -> Step
-    ensures { Comes (act code.now.functions limits.now instruction.now (frame_of run.old.top) (frames_of run.old.below) (world_of run.old.world)) result run.new }
+    ensures { Comes (act code.now.functions limits.now instruction.now run.old.frames.top run.old.frames.below (world_of run.old.world)) result run.new }
 {
     match instruction {
         Instruction::Plain(kind) => plain(run, code, limits, *kind),

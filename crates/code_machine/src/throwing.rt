@@ -12,10 +12,11 @@ ghost use Rattle.code_meaning.specs.declared.word.Word.{Word};
 ghost use Rattle.code_meaning.specs.declared.word.Word.TheVariants.{R};
 ghost use Rattle.code_meaning.specs.Machine as spec;
 ghost use Rattle.code_meaning.specs.Machine.{Next, on_outcome, on_reference, on_thrown, on_top};
-ghost use Rattle.code_machine.specs.Seen.{Comes, frame_of, with_stack, frames_of, world_of};
+ghost use Rattle.code_machine.specs.Seen.{Comes, with_stack, world_of};
 ghost use Rattle.code_machine.specs.Rows.{bare, catches, landing, landed, line_of};
 
-use crate::configuration::{Configuration, End, Frame, Step, World};
+use crate::configuration::{Configuration, End, Step, World};
+use crate::frames::Frames;
 use crate::rules::Rules;
 use code_meaning::Word;
 use number_ops::throw_value;
@@ -28,7 +29,7 @@ use pl_units::UText;
 
 /// What an operation on the heap gives goes on the stack. The operands have been taken off it.
 pub fn answered(run: &mut Configuration, code: &Code, limits: &Rules<'_>, answer: Answer) -> Step
-    ensures { (effect : Effect) (old : Store) (stack : List Word) → Answers effect old run.old.world.heap answer → Comes (on_outcome code.now.functions limits.now (acts_in (with_store (world_of run.old.world) old) effect) words.unboxed (with_stack (frame_of run.old.top) stack) (frames_of run.old.below) (with_store (world_of run.old.world) old) run.old.top.stack) result run.new }
+    ensures { (effect : Effect) (old : Store) (stack : List Word) → Answers effect old run.old.world.heap answer → Comes (on_outcome code.now.functions limits.now (acts_in (with_store (world_of run.old.world) old) effect) words.unboxed (with_stack run.old.frames.top stack) run.old.frames.below (with_store (world_of run.old.world) old) run.old.frames.top.stack) result run.new }
 {
     match answer {
         Answer::Value(value) => run.push(unboxed(value)),
@@ -45,7 +46,7 @@ pub fn answered_whole(
     limits: &Rules<'_>,
     answer: Answer,
 ) -> Step
-    ensures { (effect : Effect) (old : Store) (stack : List Word) → Answers effect old run.old.world.heap answer → Comes (on_outcome code.now.functions limits.now (acts_in (with_store (world_of run.old.world) old) effect) R (with_stack (frame_of run.old.top) stack) (frames_of run.old.below) (with_store (world_of run.old.world) old) run.old.top.stack) result run.new }
+    ensures { (effect : Effect) (old : Store) (stack : List Word) → Answers effect old run.old.world.heap answer → Comes (on_outcome code.now.functions limits.now (acts_in (with_store (world_of run.old.world) old) effect) R (with_stack run.old.frames.top stack) run.old.frames.below (with_store (world_of run.old.world) old) run.old.frames.top.stack) result run.new }
 {
     match answer {
         Answer::Value(value) => run.push(Word::R(value)),
@@ -63,7 +64,7 @@ pub fn answered_as(
     of: &Ty,
     answer: Answer,
 ) -> Step
-    ensures { (effect : Effect) (old : Store) (stack : List Word) → Answers effect old run.old.world.heap answer → Comes (on_outcome code.now.functions limits.now (acts_in (with_store (world_of run.old.world) old) effect) (given_as of.now) (with_stack (frame_of run.old.top) stack) (frames_of run.old.below) (with_store (world_of run.old.world) old) run.old.top.stack) result run.new }
+    ensures { (effect : Effect) (old : Store) (stack : List Word) → Answers effect old run.old.world.heap answer → Comes (on_outcome code.now.functions limits.now (acts_in (with_store (world_of run.old.world) old) effect) (given_as of.now) (with_stack run.old.frames.top stack) run.old.frames.below (with_store (world_of run.old.world) old) run.old.frames.top.stack) result run.new }
 {
     match answer {
         Answer::Value(value) => run.push(given_as(of, value)),
@@ -114,7 +115,7 @@ fn bare(value: &Value) -> Option<Word>
 /// Throws the exception of a zero divisor.
 #[tactic(auto, unfolding(number_ops::specs::Outcomes::says))]
 pub fn throw_zero_divisor(run: &mut Configuration, code: &Code, limits: &Rules<'_>) -> Step
-    ensures { Comes (on_outcome code.now.functions limits.now (acts_in (world_of run.old.world) (effect run.old.world.heap zero_divisor)) words.unboxed (frame_of run.old.top) (frames_of run.old.below) (world_of run.old.world) run.old.top.stack) result run.new }
+    ensures { Comes (on_outcome code.now.functions limits.now (acts_in (world_of run.old.world) (effect run.old.world.heap zero_divisor)) words.unboxed run.old.frames.top run.old.frames.below (world_of run.old.world) run.old.frames.top.stack) result run.new }
 {
     match UText::from_utf8(run.world.heap.alloc(), "/ by zero") {
         Ok(message) => {
@@ -127,9 +128,9 @@ pub fn throw_zero_divisor(run: &mut Configuration, code: &Code, limits: &Rules<'
 
 /// Throws the reference on the stack.
 pub fn throw_top(run: &mut Configuration, code: &Code, limits: &Rules<'_>) -> Step
-    ensures { Comes (on_top run.old.top.stack (λ word stack. on_reference word (λ value. on_thrown code.now.functions limits.now (acts_in (world_of run.old.world) (thrown run.old.world.heap value)) (frame_of run.old.top) (frames_of run.old.below) (world_of run.old.world)))) result run.new }
+    ensures { Comes (on_top run.old.frames.top.stack (λ word stack. on_reference word (λ value. on_thrown code.now.functions limits.now (acts_in (world_of run.old.world) (thrown run.old.world.heap value)) run.old.frames.top run.old.frames.below (world_of run.old.world)))) result run.new }
 {
-    match run.top.stack.pop() {
+    match run.frames.pop() {
         Some(word) => throw_word(run, code, limits, &word),
         None => Step::Ends(End::Stuck),
     }
@@ -137,7 +138,7 @@ pub fn throw_top(run: &mut Configuration, code: &Code, limits: &Rules<'_>) -> St
 
 // The same of a word that was taken off the stack.
 fn throw_word(run: &mut Configuration, code: &Code, limits: &Rules<'_>, word: &Word) -> Step
-    ensures { (stack : List Word) → Comes (on_reference word.now (λ value. on_thrown code.now.functions limits.now (acts_in (world_of run.old.world) (thrown run.old.world.heap value)) (with_stack (frame_of run.old.top) stack) (frames_of run.old.below) (world_of run.old.world))) result run.new }
+    ensures { (stack : List Word) → Comes (on_reference word.now (λ value. on_thrown code.now.functions limits.now (acts_in (world_of run.old.world) (thrown run.old.world.heap value)) (with_stack run.old.frames.top stack) run.old.frames.below (world_of run.old.world))) result run.new }
 {
     match word {
         Word::R(value) => {
@@ -150,7 +151,7 @@ fn throw_word(run: &mut Configuration, code: &Code, limits: &Rules<'_>, word: &W
 
 // What is thrown goes on at the trap that catches it. What gives a value throws nothing.
 fn answered_throw(run: &mut Configuration, code: &Code, limits: &Rules<'_>, answer: Answer) -> Step
-    ensures { (effect : Effect) (old : Store) (stack : List Word) → Answers effect old run.old.world.heap answer → Comes (on_thrown code.now.functions limits.now (acts_in (with_store (world_of run.old.world) old) effect) (with_stack (frame_of run.old.top) stack) (frames_of run.old.below) (with_store (world_of run.old.world) old)) result run.new }
+    ensures { (effect : Effect) (old : Store) (stack : List Word) → Answers effect old run.old.world.heap answer → Comes (on_thrown code.now.functions limits.now (acts_in (with_store (world_of run.old.world) old) effect) (with_stack run.old.frames.top stack) run.old.frames.below (with_store (world_of run.old.world) old)) result run.new }
 {
     match answer {
         Answer::Value(_value) => Step::Ends(End::Stuck),
@@ -162,27 +163,28 @@ fn answered_throw(run: &mut Configuration, code: &Code, limits: &Rules<'_>, answ
 
 /// An exception, from the newest frame on down.
 fn unwind(run: &mut Configuration, code: &Code, id: u32) -> Step
-    ensures { Comes (spec.unwind code.now.functions (frame_of run.old.top ∷ frames_of run.old.below) id (world_of run.old.world)) result run.new }
+    ensures { Comes (spec.unwind code.now.functions (run.old.frames.top ∷ run.old.frames.below) id (world_of run.old.world)) result run.new }
 {
     'frames: loop {
-        match landing(code, &run.top, id, &run.world) {
+        match landing(code, &run.frames, id, &run.world) {
             Some(line) => return land(run, line, id),
-            None => match run.below.pop() {
-                Some(frame) => run.top = frame,
-                None => return Step::Ends(End::Thrown(id)),
-            },
+            None => {
+                if !run.frames.leave() {
+                    return Step::Ends(End::Thrown(id));
+                }
+            }
         }
     }
 }
 
 // Goes on in the newest frame.
 fn land(run: &mut Configuration, line: u32, id: u32) -> Step
-    ensures { (further : Next) → Comes (landed (Some line) (frame_of run.old.top) (frames_of run.old.below) id (world_of run.old.world) further) result run.new }
+    ensures { (further : Next) → Comes (landed (Some line) run.old.frames.top run.old.frames.below id (world_of run.old.world) further) result run.new }
 {
-    run.top.stack.clear();
-    match run.top.stack.push(Word::R(Value::Ref(id))) {
+    run.frames.clear();
+    match run.frames.push(Word::R(Value::Ref(id))) {
         Ok(()) => {
-            run.top.line = line as usize;
+            run.frames.set_line(line as usize);
             Step::Goes
         }
         Err(_) => Step::NoMemory,
@@ -190,13 +192,13 @@ fn land(run: &mut Configuration, line: u32, id: u32) -> Step
 }
 
 // Where an exception goes on in a frame, if it is caught at its line.
-fn landing(code: &Code, frame: &Frame, id: u32, world: &World) -> Option<u32>
-    ensures { result ≡ landing (slice_get code.now.functions frame.now.fun) frame.now.line id (world_of world.now) }
+fn landing(code: &Code, frames: &Frames, id: u32, world: &World) -> Option<u32>
+    ensures { result ≡ landing (slice_get code.now.functions frames.now.top.fun) frames.now.top.line id (world_of world.now) }
 {
-    match code.functions.get(frame.fun as usize) {
+    match code.functions.get(frames.fun() as usize) {
         Some(function) => line_of(first_that_catches(
             function.traps.as_slice(),
-            frame.line,
+            frames.line(),
             id,
             world,
         )),

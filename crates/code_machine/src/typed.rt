@@ -9,7 +9,7 @@ ghost use Rattle.code_meaning.specs.Words as words;
 ghost use Rattle.code_meaning.specs.declared.word.Word.{Word};
 ghost use Rattle.code_meaning.specs.declared.word.Word.TheVariants.{I, R};
 ghost use Rattle.code_meaning.specs.Machine.{cast_act, typed_act, on_type, on_top, on_reference, on_outcome, to_line, is_written};
-ghost use Rattle.code_machine.specs.Seen.{Comes, frame_of, with_stack, frames_of, world_of};
+ghost use Rattle.code_machine.specs.Seen.{Comes, with_stack, world_of};
 
 use crate::boxes::is_written;
 use crate::configuration::{Configuration, End, Step};
@@ -29,7 +29,7 @@ pub fn cast(
     to: &TypeName,
     way: Way,
 ) -> Step
-    ensures { Comes (on_type (type_of_full to.now) (λ to. cast_act code.now.functions limits.now to (is_written way) (frame_of run.old.top) (frames_of run.old.below) (world_of run.old.world))) result run.new }
+    ensures { Comes (on_type (type_of_full to.now) (λ to. cast_act code.now.functions limits.now to (is_written way) run.old.frames.top run.old.frames.below (world_of run.old.world))) result run.new }
 {
     match Ty::of_full_text(run.world.heap.alloc(), to.as_str().as_bytes()) {
         Ok(Some(to)) => cast_top(run, code, limits, &to, way),
@@ -39,9 +39,9 @@ pub fn cast(
 }
 
 fn cast_top(run: &mut Configuration, code: &Code, limits: &Rules<'_>, to: &Ty, way: Way) -> Step
-    ensures { Comes (cast_act code.now.functions limits.now to.now (is_written way) (frame_of run.old.top) (frames_of run.old.below) (world_of run.old.world)) result run.new }
+    ensures { Comes (cast_act code.now.functions limits.now to.now (is_written way) run.old.frames.top run.old.frames.below (world_of run.old.world)) result run.new }
 {
-    match run.top.stack.pop() {
+    match run.frames.pop() {
         Some(word) => cast_word(run, code, limits, &word, to, way),
         None => Step::Ends(End::Stuck),
     }
@@ -56,7 +56,7 @@ fn cast_word(
     to: &Ty,
     way: Way,
 ) -> Step
-    ensures { (stack : List Word) → Comes (on_reference word.now (λ value. on_outcome code.now.functions limits.now (acts_in (world_of run.old.world) (effect run.old.world.heap (cast_at_run_time run.old.world.heap.objects value to.now (is_written way)))) R (with_stack (frame_of run.old.top) stack) (frames_of run.old.below) (world_of run.old.world) run.old.top.stack)) result run.new }
+    ensures { (stack : List Word) → Comes (on_reference word.now (λ value. on_outcome code.now.functions limits.now (acts_in (world_of run.old.world) (effect run.old.world.heap (cast_at_run_time run.old.world.heap.objects value to.now (is_written way)))) R (with_stack run.old.frames.top stack) run.old.frames.below (world_of run.old.world) run.old.frames.top.stack)) result run.new }
 {
     match word {
         Word::R(value) => {
@@ -75,7 +75,7 @@ pub fn typed(
     kind: Typed,
     of: &TypeName,
 ) -> Step
-    ensures { Comes (on_type (type_of_full of.now) (λ of. typed_act code.now.functions limits.now kind of (frame_of run.old.top) (frames_of run.old.below) (world_of run.old.world))) result run.new }
+    ensures { Comes (on_type (type_of_full of.now) (λ of. typed_act code.now.functions limits.now kind of run.old.frames.top run.old.frames.below (world_of run.old.world))) result run.new }
 {
     match Ty::of_full_text(run.world.heap.alloc(), of.as_str().as_bytes()) {
         Ok(Some(of)) => typed_by(run, code, limits, kind, &of),
@@ -85,7 +85,7 @@ pub fn typed(
 }
 
 fn typed_by(run: &mut Configuration, code: &Code, limits: &Rules<'_>, kind: Typed, of: &Ty) -> Step
-    ensures { Comes (typed_act code.now.functions limits.now kind of.now (frame_of run.old.top) (frames_of run.old.below) (world_of run.old.world)) result run.new }
+    ensures { Comes (typed_act code.now.functions limits.now kind of.now run.old.frames.top run.old.frames.below (world_of run.old.world)) result run.new }
 {
     match kind {
         Typed::IsA => instance(run, of),
@@ -95,9 +95,9 @@ fn typed_by(run: &mut Configuration, code: &Code, limits: &Rules<'_>, kind: Type
 
 // Whether the reference on the stack is an instance of a type.
 fn instance(run: &mut Configuration, of: &Ty) -> Step
-    ensures { Comes (on_top run.old.top.stack (λ word stack. on_reference word (λ value. to_line (frame_of run.old.top) (frames_of run.old.below) (world_of run.old.world) (suc run.old.top.line) (I (words.bit (relations.is_instance run.old.world.heap.objects value of.now)) ∷ stack)))) result run.new }
+    ensures { Comes (on_top run.old.frames.top.stack (λ word stack. on_reference word (λ value. to_line run.old.frames.top run.old.frames.below (world_of run.old.world) (suc run.old.frames.top.line) (I (words.bit (relations.is_instance run.old.world.heap.objects value of.now)) ∷ stack)))) result run.new }
 {
-    match run.top.stack.pop() {
+    match run.frames.pop() {
         Some(word) => instance_word(run, &word, of),
         None => Step::Ends(End::Stuck),
     }
@@ -105,7 +105,7 @@ fn instance(run: &mut Configuration, of: &Ty) -> Step
 
 // The same of a word that was taken off the stack.
 fn instance_word(run: &mut Configuration, word: &Word, of: &Ty) -> Step
-    ensures { (stack : List Word) → Comes (on_reference word.now (λ value. to_line (with_stack (frame_of run.old.top) stack) (frames_of run.old.below) (world_of run.old.world) (suc run.old.top.line) (I (words.bit (relations.is_instance run.old.world.heap.objects value of.now)) ∷ run.old.top.stack))) result run.new }
+    ensures { (stack : List Word) → Comes (on_reference word.now (λ value. to_line (with_stack run.old.frames.top stack) run.old.frames.below (world_of run.old.world) (suc run.old.frames.top.line) (I (words.bit (relations.is_instance run.old.world.heap.objects value of.now)) ∷ run.old.frames.top.stack))) result run.new }
 {
     match word {
         Word::R(value) => {

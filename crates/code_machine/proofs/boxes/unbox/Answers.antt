@@ -1,19 +1,15 @@
-use Rattle.pl_types.specs.declared.ty.Ty.TheVariants as ty
-use Rattle.number_ops.specs.Outcomes.{effect}
 use Rattle.number_ops.specs.Casts.{cast_at_run_time}
+use Rattle.number_ops.specs.Outcomes.{effect}
 use Rattle.run_world.specs.World.{acts_in}
-use Rattle.code_meaning.specs.Words.{unboxed}
 use Rattle.code_meaning.specs.Machine.{on_outcome, on_reference, is_written}
-use Rattle.code_machine.specs.Seen.{frame_of, frames_of, world_of}
-use Rattle.code_machine.proofs.Calling.{as_well}
-use Rattle.code_machine.proofs.Rows.{of_top}
+use Rattle.code_machine.specs.Seen.{world_of}
+use Rattle.code_meaning.specs.Words.{unboxed}
+use Rattle.pl_types.specs.declared.ty.Ty.TheVariants as ty
+use Rattle.code_machine.proofs.Rows.{from_top}
 use Rattle.code_machine.proofs.boxes.unbox.Goals as goal
 
 pub returns-in-Some : goal.returns-in-Some
 returns-in-Some c =
-    as_well _ _ _ _
-    (of_top c.args.run.now.top.stack c.pop.new.self c.in-Some.word c.in-Some.ensures (λ word stack. on_reference word (λ value.
-    on_outcome c.args.code.now.functions c.args.limits.now
-    (acts_in (world_of c.args.run.now.world) (effect c.args.run.now.world.heap (cast_at_run_time c.args.run.now.world.heap.objects value (ty.Prim c.args.primitive) (is_written c.args.way))))
-    unboxed (frame_of c.args.run.now.top) (frames_of c.args.run.now.below) (world_of c.args.run.now.world) stack)))
-    (c.unbox_word.ensures c.args.run.now.top.stack)
+    from_top c.args.run.now.frames c.pop.new.self c.in-Some.word c.in-Some.ensures.stack c.pop.ensures.top c.pop.ensures.below
+    (λ word f below stack. on_reference word (λ value. on_outcome c.args.code.now.functions c.args.limits.now (acts_in (world_of c.args.run.now.world) (effect c.args.run.now.world.heap (cast_at_run_time c.args.run.now.world.heap.objects value (ty.Prim c.args.primitive) (is_written c.args.way)))) unboxed f below (world_of c.args.run.now.world) stack)) _ _
+    (c.unbox_word.ensures c.args.run.now.frames.top.stack)

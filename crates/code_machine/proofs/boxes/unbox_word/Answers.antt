@@ -4,7 +4,7 @@ use Rattle.number_ops.specs.Casts.{cast_at_run_time}
 use Rattle.run_world.specs.World.{acts_in}
 use Rattle.code_meaning.specs.Words.{unboxed}
 use Rattle.code_meaning.specs.Machine.{on_outcome, is_written}
-use Rattle.code_machine.specs.Seen.{with_stack, frame_of, frames_of, world_of}
+use Rattle.code_machine.specs.Seen.{with_stack, world_of}
 use Rattle.code_machine.proofs.Calling.{as_well}
 use Rattle.code_machine.proofs.Rows.{of_reference}
 use Rattle.code_machine.proofs.boxes.unbox_word.Goals as goal
@@ -15,5 +15,5 @@ returns-in-R c = λ stack.
     (of_reference c.args.word.now c.in-R.value c.in-R.is (λ value.
     on_outcome c.args.code.now.functions c.args.limits.now
     (acts_in (world_of c.args.run.now.world) (effect c.args.run.now.world.heap (cast_at_run_time c.args.run.now.world.heap.objects value (ty.Prim c.args.primitive) (is_written c.args.way))))
-    unboxed (with_stack (frame_of c.args.run.now.top) stack) (frames_of c.args.run.now.below) (world_of c.args.run.now.world) c.args.run.now.top.stack))
+    unboxed (with_stack c.args.run.now.frames.top stack) c.args.run.now.frames.below (world_of c.args.run.now.world) c.args.run.now.frames.top.stack))
     (c.answered.ensures _ _ stack c.cast-answer.ensures)

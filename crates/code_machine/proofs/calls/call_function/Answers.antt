@@ -1,13 +1,20 @@
-use Rattle.run_world.specs.World.{enter}
-use Rattle.code_meaning.specs.Machine.{depth_of}
-use Rattle.code_machine.specs.Seen.{frame_of, frames_of, world_of}
-use Rattle.code_machine.proofs.Calling.{as_well, same_caller, with_arguments}
+use Rattle.std.proofs.Common.{[], ◌≤◌, length, ap, sym, rules, ◌∙◌}
+use Rattle.run_world.specs.World.{Counted, enter}
+use Rattle.code_meaning.specs.Machine.{take_words, on_words, on_enter}
+use Rattle.code_machine.specs.Seen.{limit_of, world_of}
+use Rattle.code_machine.proofs.Calling.{as_well, limited}
 use Rattle.code_machine.proofs.calls.call_function.Goals as goal
 
-pub returns-in-Ok-Some : goal.returns-in-Ok-Some
-returns-in-Ok-Some c =
-    with_arguments _ c.args.function.now.locals c.in-Ok-Some.locals c.locals_of.new.stack (rw c.in-Ok-Some.field-0-is at c.in-Ok-Some.ensures) _ _ _
-    (λ args h. as_well _ _ _ _
-    (same_caller c.args.code.now.functions c.args.limits.now (enter c.args.limits.now (depth_of (frames_of c.args.run.now.below)) (world_of c.args.run.now.world)) c.args.number c.args.function.now _
-    (frame_of c.args.run.now.top) c.locals_of.new.stack (frames_of c.args.run.now.below) (world_of c.args.run.now.world) args c.locals_of.new.stack)
-    (c.enter.ensures args c.args.function.now h))
+pub returns-in-Some : goal.returns-in-Some
+returns-in-Some c =
+    let few : length c.args.function.now.params ≤ length c.args.run.now.frames.top.stack = search rules in
+    limited c.args.code.now.functions c.args.limits.now (length c.args.function.now.params) c.args.number c.args.function.now c.args.run.now.frames.top c.args.run.now.frames.below (world_of c.args.run.now.world)
+    (world_of c.count_call.new.world) _ (limit_of c.in-Some.which) few (ap (λ depth. enter c.args.limits.now depth (world_of c.args.run.now.world)) (sym c.depth.ensures) ∙ c.in-Some.ensures)
+
+pub returns-in-None : goal.returns-in-None
+returns-in-None c =
+    as_well _ _ _ _
+    (ap (λ (counted : Counted). on_words (take_words (length c.args.function.now.params) c.args.run.now.frames.top.stack [])
+    (λ args stack. on_enter c.args.code.now.functions c.args.limits.now counted c.args.number c.args.function.now [] c.args.run.now.frames.top c.args.run.now.frames.below (world_of c.args.run.now.world) args stack))
+    (ap (λ depth. enter c.args.limits.now depth (world_of c.args.run.now.world)) (sym c.depth.ensures) ∙ c.in-None.ensures))
+    c.push_frame.ensures

@@ -1,10 +1,11 @@
 use Rattle.member_acts.specs.Members.{does}
-use Rattle.code_machine.specs.Seen.{frame_of, with_stack, frames_of, world_of}
+use Rattle.code_machine.specs.Seen.{with_stack, world_of}
 use Rattle.code_machine.proofs.Given.{of_act}
 use Rattle.code_machine.proofs.members.act.Goals as goal
 
 pub returns-in-Some : goal.returns-in-Some
 returns-in-Some c = λ stack.
-    of_act c.args.code.now.functions c.args.limits.now (does c.args.number c.args.arguments.now c.args.run.now.world.heap) c.in-Some.answer c.args.run.now.world.heap c.call.new.heap c.args.called.now
-    (with_stack (frame_of c.args.run.now.top) stack) (frames_of c.args.run.now.below) (world_of c.args.run.now.world) c.args.run.now.top.stack _ _ c.in-Some.ensures.does
-    (λ effect h. c.answered_as.ensures effect c.args.run.now.world.heap stack h)
+    rw (← c.as_slice.ensures.value)
+    (of_act c.args.code.now.functions c.args.limits.now (does c.args.number c.as_slice.result.now c.args.run.now.world.heap) c.in-Some.answer c.args.run.now.world.heap c.call.new.heap c.args.called.now
+    (with_stack c.args.run.now.frames.top stack) c.args.run.now.frames.below (world_of c.args.run.now.world) c.args.run.now.frames.top.stack _ _ c.in-Some.ensures.does
+    (λ effect h. c.answered_as.ensures effect c.args.run.now.world.heap stack h))

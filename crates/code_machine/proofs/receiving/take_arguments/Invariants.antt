@@ -5,7 +5,7 @@ use Rattle.code_machine.proofs.receiving.take_arguments.Given as goal
 
 -- the arguments that are still to be taken come behind those that were
 abbrev pub invariant-params : goal.invariant-params
-invariant-params l = behind l.initial.values (taken_all l.params l.initial.words) ≡ behind l.values (taken_all l.rest l.words)
+invariant-params l = behind l.initial.values.items (taken_all l.params l.initial.words) ≡ behind l.values.items (taken_all l.rest l.words)
 
 abbrev pub decreases-params : goal.decreases-params
 decreases-params l = length l.rest

@@ -1,5 +1,5 @@
 use Rattle.std.proofs.Common.{ap}
-use Rattle.code_machine.specs.Seen.{with_stack, frame_of, frames_of, world_of}
+use Rattle.code_machine.specs.Seen.{with_stack, world_of}
 use Rattle.code_machine.specs.Rows.{paired}
 use Rattle.code_machine.proofs.Calling.{as_well}
 use Rattle.code_machine.proofs.references.pair_values.Goals as goal
@@ -7,5 +7,5 @@ use Rattle.code_machine.proofs.references.pair_values.Goals as goal
 pub returns-in-Equal : goal.returns-in-Equal
 returns-in-Equal c = λ stack.
     as_well _ _ _ _
-    (ap (λ kind. paired c.args.code.now.functions c.args.limits.now kind c.args.a.now c.args.b.now (with_stack (frame_of c.args.run.now.top) stack) (frames_of c.args.run.now.below) (world_of c.args.run.now.world) c.args.run.now.top.stack) c.in-Equal.is)
+    (ap (λ kind. paired c.args.code.now.functions c.args.limits.now kind c.args.a.now c.args.b.now (with_stack c.args.run.now.frames.top stack) c.args.run.now.frames.below (world_of c.args.run.now.world) c.args.run.now.frames.top.stack) c.in-Equal.is)
     (c.answered.ensures _ _ stack c.equal-answer.ensures)

@@ -3,7 +3,7 @@ use Rattle.object_heap.specs.Effects.{Answers}
 use Rattle.run_world.specs.World.{Limited, Room, with_store}
 use Rattle.code_meaning.specs.declared.word.Word.TheVariants.{R}
 use Rattle.code_meaning.specs.Machine.{Ends}
-use Rattle.code_machine.specs.Seen.{frame_of, with_stack, frames_of, world_of}
+use Rattle.code_machine.specs.Seen.{with_stack, world_of}
 use Rattle.code_machine.proofs.Answering.{gave, threw, filled}
 use Rattle.code_machine.proofs.Calling.{as_well}
 use Rattle.code_machine.proofs.throwing.answered_whole.Goals as goal
@@ -11,20 +11,20 @@ use Rattle.code_machine.proofs.throwing.answered_whole.Goals as goal
 pub returns-in-Value : goal.returns-in-Value
 returns-in-Value c = λ effect old stack h.
     as_well _ _ _ _
-    (gave c.args.code.now.functions c.args.limits.now R (with_stack (frame_of c.args.run.now.top) stack) (frames_of c.args.run.now.below) (with_store (world_of c.args.run.now.world) old) c.args.run.now.top.stack effect
+    (gave c.args.code.now.functions c.args.limits.now R (with_stack c.args.run.now.frames.top stack) c.args.run.now.frames.below (with_store (world_of c.args.run.now.world) old) c.args.run.now.frames.top.stack effect
     (with_store (world_of c.args.run.now.world) old) c.in-Value.value c.args.run.now.world.heap (R c.in-Value.value) (subst (Answers effect old c.args.run.now.world.heap) c.in-Value.is h) refl)
     c.push.ensures
 
 pub returns-in-Thrown : goal.returns-in-Thrown
 returns-in-Thrown c = λ effect old stack h.
     as_well _ _ _ _
-    (threw c.args.code.now.functions c.args.limits.now R (with_stack (frame_of c.args.run.now.top) stack) (frames_of c.args.run.now.below) (with_store (world_of c.args.run.now.world) old) c.args.run.now.top.stack effect
+    (threw c.args.code.now.functions c.args.limits.now R (with_stack c.args.run.now.frames.top stack) c.args.run.now.frames.below (with_store (world_of c.args.run.now.world) old) c.args.run.now.frames.top.stack effect
     (with_store (world_of c.args.run.now.world) old) c.in-Thrown.id c.args.run.now.world.heap (subst (Answers effect old c.args.run.now.world.heap) c.in-Thrown.is h))
     c.unwind.ensures
 
 pub returns-in-Room : goal.returns-in-Room
 returns-in-Room c = λ effect old stack h.
     let answers = subst (Answers effect old c.args.run.now.world.heap) c.in-Room.is h in
-    filled c.args.code.now.functions c.args.limits.now R (with_stack (frame_of c.args.run.now.top) stack) (frames_of c.args.run.now.below) (with_store (world_of c.args.run.now.world) old) c.args.run.now.top.stack effect
+    filled c.args.code.now.functions c.args.limits.now R (with_stack c.args.run.now.frames.top stack) c.args.run.now.frames.below (with_store (world_of c.args.run.now.world) old) c.args.run.now.frames.top.stack effect
     (with_store (world_of c.args.run.now.world) old) answers.0
     ∙ ap (λ store. Ends (Limited Room (with_store (world_of c.args.run.now.world) store))) (sym answers.1)

@@ -1,14 +1,12 @@
 use Rattle.number_ops.specs.Relations.{thrown}
 use Rattle.run_world.specs.World.{acts_in}
 use Rattle.code_meaning.specs.Machine.{on_reference, on_thrown}
-use Rattle.code_machine.specs.Seen.{frame_of, frames_of, world_of}
-use Rattle.code_machine.proofs.Calling.{as_well}
-use Rattle.code_machine.proofs.Rows.{of_top}
+use Rattle.code_machine.specs.Seen.{world_of}
+use Rattle.code_machine.proofs.Rows.{from_top}
 use Rattle.code_machine.proofs.throwing.throw_top.Goals as goal
 
 pub returns-in-Some : goal.returns-in-Some
 returns-in-Some c =
-    as_well _ _ _ _
-    (of_top c.args.run.now.top.stack c.pop.new.self c.in-Some.word c.in-Some.ensures (λ word stack. on_reference word (λ value.
-    on_thrown c.args.code.now.functions c.args.limits.now (acts_in (world_of c.args.run.now.world) (thrown c.args.run.now.world.heap value)) (frame_of c.args.run.now.top) (frames_of c.args.run.now.below) (world_of c.args.run.now.world))))
-    (c.throw_word.ensures c.args.run.now.top.stack)
+    from_top c.args.run.now.frames c.pop.new.self c.in-Some.word c.in-Some.ensures.stack c.pop.ensures.top c.pop.ensures.below
+    (λ word f below stack. on_reference word (λ value. on_thrown c.args.code.now.functions c.args.limits.now (acts_in (world_of c.args.run.now.world) (thrown c.args.run.now.world.heap value)) f below (world_of c.args.run.now.world))) _ _
+    (c.throw_word.ensures c.args.run.now.frames.top.stack)

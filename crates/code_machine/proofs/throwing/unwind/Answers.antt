@@ -1,6 +1,7 @@
-use Rattle.std.proofs.Common.{ap, ◌∙◌}
+use Rattle.std.proofs.Common.{ap, subst, ◌∙◌}
 use Rattle.code_meaning.specs.Machine.{unwind}
-use Rattle.code_machine.specs.Seen.{frame_of, frames_of, world_of}
+use Rattle.code_machine.specs.Frames.{Leaves}
+use Rattle.code_machine.specs.Seen.{world_of}
 use Rattle.code_machine.proofs.Calling.{as_well}
 use Rattle.code_machine.proofs.Landing.{goes_on_here, goes_on_below}
 use Rattle.code_machine.proofs.throwing.unwind.Goals as goal
@@ -8,15 +9,17 @@ use Rattle.code_machine.proofs.throwing.unwind.Goals as goal
 pub returns-in-Some : goal.returns-in-Some
 returns-in-Some c =
     as_well _ _ _ _
-    (goes_on_here c.args.code.now.functions (frame_of c.frames.run.top) (frames_of c.frames.run.below) c.args.id (world_of c.frames.run.world) _ c.frames.invariant c.in-Some.line c.in-Some.ensures)
-    (c.land.ensures (unwind c.args.code.now.functions (frames_of c.frames.run.below) c.args.id (world_of c.frames.run.world)))
+    (goes_on_here c.args.code.now.functions c.frames.run.frames.top c.frames.run.frames.below c.args.id (world_of c.frames.run.world) _ c.frames.invariant c.in-Some.line c.in-Some.ensures)
+    (c.land.ensures (unwind c.args.code.now.functions c.frames.run.frames.below c.args.id (world_of c.frames.run.world)))
 
 pub frames-preserved : goal.frames-preserved
 frames-preserved c =
-    goes_on_below c.args.code.now.functions (frame_of c.frames.run.top) (frames_of c.frames.run.below) c.args.id (world_of c.frames.run.world) _ c.frames.invariant c.in-None.ensures
-    ∙ ap (λ fs. unwind c.args.code.now.functions (frames_of fs) c.args.id (world_of c.frames.run.world)) c.in-Some-pop.ensures
+    goes_on_below c.args.code.now.functions c.frames.run.frames.top c.frames.run.frames.below c.args.id (world_of c.frames.run.world) _ c.frames.invariant c.in-None.ensures
+    ∙ ap (λ fs. unwind c.args.code.now.functions fs c.args.id (world_of c.frames.run.world))
+    (subst (Leaves c.frames.run.frames.top c.frames.run.frames.below c.leave.new.self.top c.leave.new.self.below) c.if-not-leave.false c.leave.ensures.frames)
 
-pub returns-in-None-pop : goal.returns-in-None-pop
-returns-in-None-pop c =
-    goes_on_below c.args.code.now.functions (frame_of c.frames.run.top) (frames_of c.frames.run.below) c.args.id (world_of c.frames.run.world) _ c.frames.invariant c.in-None.ensures
-    ∙ ap (λ fs. unwind c.args.code.now.functions (frames_of fs) c.args.id (world_of c.frames.run.world)) c.in-None-pop.ensures.0
+pub returns-then-not-leave : goal.returns-then-not-leave
+returns-then-not-leave c =
+    goes_on_below c.args.code.now.functions c.frames.run.frames.top c.frames.run.frames.below c.args.id (world_of c.frames.run.world) _ c.frames.invariant c.in-None.ensures
+    ∙ ap (λ fs. unwind c.args.code.now.functions fs c.args.id (world_of c.frames.run.world))
+    (subst (Leaves c.frames.run.frames.top c.frames.run.frames.below c.leave.new.self.top c.leave.new.self.below) c.if-not-leave.true c.leave.ensures.frames).0

@@ -1,0 +1,10 @@
+use Rattle.std.proofs.Common.{◌≡◌, ◌-◌}
+use Rattle.code_meaning.specs.Machine.{take_words}
+use Rattle.code_machine.specs.Frames.{with_stack}
+use Rattle.code_machine.proofs.members.take_words.Given as goal
+
+-- the words that are still to be taken come on top of those that were, and nothing else changes
+abbrev pub invariant-words : goal.invariant-words
+invariant-words l =
+    (take_words (l.count - l.place) l.frames.top.stack l.taken ≡ take_words l.count l.initial.frames.top.stack l.initial.taken)
+    × (l.frames.top ≡ with_stack l.initial.frames.top l.frames.top.stack) × (l.frames.below ≡ l.initial.frames.below)
