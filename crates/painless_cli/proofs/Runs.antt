@@ -6,7 +6,6 @@ use Rattle.pl_types.specs.declared.refusal.Refusal.{Refusal}
 use Rattle.pl_types.specs.declared.refusal.Fail.{Fail}
 use Rattle.pl_types.specs.declared.refusal.Fail.TheVariants.{Refused, NoMemory}
 use Rattle.pl_types.specs.declared.ty.Ty.{out-Ty}
-use Rattle.program_types.specs.Types.{IsReference}
 use Rattle.allowlist.specs.Allow.{full_list}
 use Rattle.object_values.specs.declared.value.Value.{Value}
 use Rattle.object_heap.specs.declared.outcome.Which.{Which}
@@ -23,7 +22,7 @@ use Rattle.script_engine.specs.Stages.{GoesOn, Then}
 use Rattle.script_engine.specs.Programs.{IsProgramOf}
 use Rattle.script_engine.specs.Compiling.{IsScriptOf, Compiles}
 use Rattle.script_engine.specs.Ends.{RunsTo}
-use Rattle.script_engine.specs.Running.{end_seen, world_left, IsOutcome, RunsAsItsProgram}
+use Rattle.script_engine.specs.Running.{IsRead, end_seen, world_left, IsOutcome, RunsAsItsProgram}
 use Rattle.script_engine.proofs.Ends.{ends_once}
 use Rattle.painless_cli.specs.declared.reply.Answer.{Answer}
 use Rattle.painless_cli.specs.Script.{Decodes, eval_types, eval_limits, eval_world, RunsProgram, MeansText, Means}
@@ -114,11 +113,11 @@ tells_refusal_only script refusal (Err error) only h told t = tt
 
 -- ---- the run
 
-def_is_reference : IsReference eval_types.result
+def_is_read : IsRead eval_types.result
 unfolding out-Ty denote.Hole.Carrier.out
-def_is_reference = tt
+def_is_read = tt
 
--- `eval` has no variables, and its result is a reference
-pub runs_as_eval : (script : Script) (result : Result Outcome AllocError) → IfOk result (RunsAsItsProgram script eval_world.store machine_limits) → IfOk result (RunsAsEval script)
-runs_as_eval script (Ok o) h = λ p is. h full_list eval_types p is refl def_is_reference
+-- `eval` has no variables, and its result is read
+pub runs_as_eval : (script : Script) (result : Result Outcome AllocError) → IfOk result (RunsAsItsProgram script eval_world.store [] machine_limits) → IfOk result (RunsAsEval script)
+runs_as_eval script (Ok o) h = λ p is. h full_list eval_types p is tt def_is_read
 runs_as_eval script (Err error) h = tt

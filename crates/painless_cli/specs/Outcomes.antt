@@ -1,5 +1,5 @@
 -- What the code comes to, and what it is told of.
-use Rattle.std.specs.Prelude.{◌≡◌, ℕ, Result, Ok, Err}
+use Rattle.std.specs.Prelude.{◌≡◌, ℕ, [], Result, Ok, Err}
 use Rattle.pl_types.specs.declared.refusal.Refusal.{Refusal}
 use Rattle.pl_types.specs.declared.refusal.Fail.{Fail}
 use Rattle.pl_types.specs.declared.refusal.Fail.TheVariants.{Refused, NoMemory}
@@ -31,4 +31,4 @@ machine_limits = record { loops = eval_limits.loop; depth = eval_limits.depth; t
 
 -- a script runs as each program does that it is of, in the context of `eval`
 abbrev pub RunsAsEval : Script → Outcome → Type 0
-RunsAsEval script o = (p : Program) → IsScriptOf full_list eval_types p script → IsOutcome full_list p eval_world.store machine_limits o
+RunsAsEval script o = (p : Program) → IsScriptOf full_list eval_types p script → IsOutcome full_list p eval_world.store [] machine_limits o

@@ -67,7 +67,8 @@ fn run(alloc: Global, script: &Script<'_>) -> Result<Outcome, AllocError>
         depth: 256,
         ticks: 10_000_000,
     };
-    script.run(heap, limits)
+    let args = Vec::new(alloc);
+    script.run(heap, args, limits)
 }
 
 /// What a text comes to under the full catalogue.

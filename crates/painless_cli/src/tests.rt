@@ -375,7 +375,7 @@ fn nodes_that_are_not_built(rt: HostRuntime) -> Result<(), Fail> {
         19,
         &[
             ("1.5", 0),
-            ("try {} catch (Exception e) {}", 0),
+            ("for (x in 1) {}", 0),
             ("[]", 0),
             ("[:]", 0),
             ("[1, 2]", 0),

@@ -75,11 +75,11 @@ reached_from allow context text p good h = let tree = typed_from allow context t
 
 -- code of a text's program is its script
 pub is_script : (allow : AllowList) (context : ContextTypes) (text : List ℕ) (p : Program) (script : Script) → IsContext context → IsProgramOf allow context text (Ok p)
-    → script.allow.now ≡ allow → IsCodeOf p script.code.functions → IsScriptOf allow context p script
-is_script allow context text p script good h allowed code =
+    → script.allow.now ≡ allow → script.result ≡ context.result → IsCodeOf p script.code.functions → IsScriptOf allow context p script
+is_script allow context text p script good h allowed kept code =
     let tree = typed_from allow context text p h in
     let has = has_context allow context tree.0 p tree.1 in
-    record { allowed = allowed; formed = typing_is_sound allow context tree.0 p good tree.1; code = code; variables = has.variables; result = has.result }
+    record { allowed = allowed; formed = typing_is_sound allow context tree.0 p good tree.1; code = code; variables = has.variables; result = has.result; kept = kept }
 
 -- a text without a program has no script
 pub fails_only : (allow : AllowList) (context : ContextTypes) (fail : Fail) (reading : Result Program Refusal) → Answers {X = Program} (λ p. p) (Err fail) (λ a. a ≡ reading)

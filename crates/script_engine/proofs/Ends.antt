@@ -15,7 +15,7 @@ use Rattle.program_types.specs.Types.{HaveAll}
 use Rattle.program_types.specs.Agreeing.{known, types_in, WellFormed}
 use Rattle.program_types.specs.Enough.{enough, IsEnough}
 use Rattle.program_types.proofs.Enough.{comes_to_an_end}
-use Rattle.script_engine.specs.Ends.{end_of, end_in, end_at, RunsTo}
+use Rattle.script_engine.specs.Ends.{given, end_of, end_in, end_at, RunsTo}
 
 -- what was come to at a bound is come to at every greater one
 stays_end : (of : Ty) (o other : Out Flow) (end : End Value) → Stays o other → end_of of o ≡ Some end → end_of of other ≡ Some end
@@ -43,10 +43,10 @@ record Comes (of : Ty) (o : Out Flow) : Type 0 where
   is : end_of of o ≡ Some end
 
 comes : (of : Ty) (o : Out Flow) → IsEnough of o → Comes of o
-comes of (Done Normal s e) x = record { end = Result (default_of of) s.world; is = refl }
+comes of (Done Normal s e) x = record { end = Result (given of (default_of of)) s.world; is = refl }
 comes of (Done Broke s e) x = absurd x
 comes of (Done Continued s e) x = absurd x
-comes of (Done (Returned value) s e) x = record { end = Result value s.world; is = refl }
+comes of (Done (Returned value) s e) x = record { end = Result (given of value) s.world; is = refl }
 comes of (Thrown id s e) x = record { end = Uncaught id s.world; is = refl }
 comes of (Over limit w) x = record { end = Limited limit w; is = refl }
 comes of More x = absurd x

@@ -1,9 +1,14 @@
 -- A run of a script is that of its program.
-use Rattle.std.proofs.Common.{◌≡◌, ℕ, ◌-◌, ◌≤◌, ◌<◌, List, [], ◌∷◌, map, Option, Some, None, option_map, IsTrue, inl, inr, ◌⊎◌, refl, sym, subst, ap, ◌∙◌, arith}
+use Rattle.std.specs.Prelude.{pos, slice_get}
+use Rattle.std.specs.Ordering.{int_eq}
+use Rattle.std.proofs.Common.{◌≡◌, ℕ, ◌-◌, ◌≤◌, ◌<◌, Bool, true, false, not, List, [], ◌∷◌, map, Option, Some, None, option_map, IsTrue, inl, inr, ◌⊎◌, refl, sym, subst, ap, ◌∙◌, arith}
 use Rattle.std.proofs.lemmas.Bool.{cases_order}
 use Rattle.pl_types.specs.declared.ty.Ty.{Ty, out-Ty}
+use Rattle.pl_types.specs.declared.primitive.Primitive.{Primitive}
+use Rattle.pl_types.specs.declared.primitive.Primitive.TheVariants as prim
 use Rattle.pl_types.specs.declared.ty.Ty.TheOpen.{Ty-F}
 use Rattle.object_values.specs.declared.value.Value.{Value}
+use Rattle.object_values.specs.declared.value.Value.TheVariants as v
 use Rattle.object_heap.specs.Store.{Store}
 use Rattle.object_heap.specs.declared.outcome.End as left_end
 use Rattle.object_heap.specs.declared.outcome.End.TheVariants as l
@@ -13,16 +18,19 @@ use Rattle.run_world.specs.World.{World, Limit, End, Result, Uncaught, Limited}
 use Rattle.typed_tree.specs.declared.program.Program.{Program}
 use Rattle.program_meaning.specs.Programs.{fun_of, program_of, variable_of}
 use Rattle.program_meaning.specs.Tree.{Variable, Fun}
-use Rattle.program_meaning.specs.Meaning.{Env, Out, Done, Thrown, Over, More, Flow, entry, returned, meaning}
+use Rattle.program_meaning.specs.Meaning.{Env, Out, Done, Thrown, Over, More, Flow, Normal, Broke, Continued, Returned, entry, returned, default_of, default_of_layer, default_of_primitive, meaning}
 use Rattle.object_values.specs.declared.object.Owner.TheVariants.{Script as script_text}
-use Rattle.program_types.specs.Types.{IsReference, is_reference_layer, HaveAll}
+use Rattle.program_types.specs.Types.{Has, HasLayer, HasPrimitive, HaveAll}
 use Rattle.program_types.specs.Agreeing.{known, types_in, WellFormed}
-use Rattle.program_types.specs.Enough.{enough}
-use Rattle.program_code.specs.Lying.{Whole, lying_of, lying_of_layer, low}
+use Rattle.program_types.specs.Enough.{enough, FlowOut, IsEnough}
+use Rattle.program_types.proofs.Enough.{comes_to_an_end}
+use Rattle.program_code.specs.Lying.{lying_of, lying_of_layer, low, kind_of, kind_of_layer, kind_of_primitive}
+use Rattle.program_code.specs.Stands.{kinds_of}
 use Rattle.program_code.specs.Correct as code
 use Rattle.program_code.specs.Correct.{EndsAs, Words}
 use Rattle.program_outcome.specs.Outcome.{CodeEndsAsPrograms}
 use Rattle.code_meaning.specs.declared.word.Word.{Word}
+use Rattle.code_meaning.specs.Words.{bit, unboxed}
 use Rattle.code_meaning.specs.Machine as code_config
 use Rattle.code_meaning.specs.Machine.{Next, Goes, Ends, start, after}
 use Rattle.code_machine.specs.declared.configuration.Limits.{Limits}
@@ -33,8 +41,8 @@ use Rattle.task_core.specs.declared.task.Turn.TheVariants as turn
 use Rattle.code_machine.specs.Activations.{Activation, later, is_over, Turned}
 use Rattle.code_machine.proofs.Turning.{comes_to_its_end}
 use Rattle.script_engine.specs.declared.compiling.Script.{Script}
-use Rattle.script_engine.specs.Ends.{end_of, end_in, end_with}
-use Rattle.script_engine.specs.Running.{value_of, end_left, end_seen, world_left, world_at, LeftBy, IsOutcome, RunsAsItsProgram}
+use Rattle.script_engine.specs.Ends.{end_of, end_in, end_with, given, given_layer}
+use Rattle.script_engine.specs.Running.{is_read_layer, IsRead, value_by, value_of, word_in, words_in, params_of, end_left, end_seen, world_left, world_at, LeftBy, IsOutcome, RunsAsItsProgram}
 
 -- ---- where a run of code stands that has ended
 
@@ -59,31 +67,71 @@ ends_there a from end stands ran q over = elim (first_or_last ran.steps q) [
 
 -- ---- the end with its value
 
-whole_layer : (l : Ty-F Ty) → is_reference_layer l → lying_of_layer l ≡ Whole
-whole_layer Ty-F.Void h = absurd h
-whole_layer Ty-F.Null h = refl
-whole_layer Ty-F.Def h = refl
-whole_layer (Ty-F.Prim p) h = absurd h
-whole_layer (Ty-F.Class class) h = refl
-whole_layer (Ty-F.Array of) h = refl
+boolean_read : (flag : Bool) → v.Bool (not (int_eq (bit flag) (pos 0))) ≡ v.Bool flag
+boolean_read true = refl
+boolean_read false = refl
+
+read_primitive : (p : Primitive) → is_read_layer (Ty-F.Prim p) → (value : Value) → HasPrimitive p value → value_by (Ty-F.Prim p) (Some (unboxed value)) ≡ value
+read_primitive prim.Boolean read value has = subst (λ x. value_by (Ty-F.Prim prim.Boolean) (Some (unboxed x)) ≡ x) (sym has.1) (boolean_read has.0)
+read_primitive prim.Byte read value has = absurd read
+read_primitive prim.Short read value has = absurd read
+read_primitive prim.Char read value has = absurd read
+read_primitive prim.Int read value has = subst (λ x. value_by (Ty-F.Prim prim.Int) (Some (unboxed x)) ≡ x) (sym has.1) refl
+read_primitive prim.Long read value has = subst (λ x. value_by (Ty-F.Prim prim.Long) (Some (unboxed x)) ≡ x) (sym has.1) refl
+
+-- a value of a type that is read, by its word
+read_back : (l : Ty-F Ty) → is_read_layer l → (value : Value) → HasLayer l value → value_by l (low (lying_of_layer l) value) ≡ given_layer l value
+read_back Ty-F.Void read value has = refl
+read_back Ty-F.Null read value has = refl
+read_back Ty-F.Def read value has = refl
+read_back (Ty-F.Prim p) read value has = read_primitive p read value has
+read_back (Ty-F.Class class) read value has = refl
+read_back (Ty-F.Array of) read value has = refl
+
+default_has_primitive : (p : Primitive) → HasPrimitive p (default_of_primitive p)
+default_has_primitive prim.Boolean = (false, refl)
+default_has_primitive prim.Byte = (pos 0, refl)
+default_has_primitive prim.Short = (pos 0, refl)
+default_has_primitive prim.Char = (0, refl)
+default_has_primitive prim.Int = (pos 0, refl)
+default_has_primitive prim.Long = (pos 0, refl)
+
+default_has : (l : Ty-F Ty) → HasLayer l (default_of_layer l)
+default_has Ty-F.Void = tt
+default_has Ty-F.Null = tt
+default_has Ty-F.Def = tt
+default_has (Ty-F.Prim p) = default_has_primitive p
+default_has (Ty-F.Class class) = tt
+default_has (Ty-F.Array of) = tt
+
+same_given : (x y : Value) → Some x ≡ Some y → x ≡ y
+same_given x y is = cc
+
+-- what a function gives is of its type
+given_has : (of : Ty) (flow : Flow) → FlowOut of flow → (x : Value) → returned of flow ≡ Some x → Has of x
+given_has of Normal out x is = subst (Has of) (same_given (default_of of) x is) (default_has (out-Ty of))
+given_has of Broke out x is = absurd out
+given_has of Continued out x is = absurd out
+given_has of (Returned value) out x is = subst (Has of) (same_given value x is) out
 
 result_at : (value other : Value) (s w : World) → value ≡ other → s ≡ w → Some (Result value s) ≡ Some (Result other w)
 result_at value other s w v e = ap (λ x. Some (Result x s)) v ∙ ap (λ x. Some (Result other x)) e
 
-with_value : (of : Ty) → lying_of of ≡ Whole → (value : Option Value) (s w : World) (word : Option Word) → code.end_with of value s ≡ Some (Result word w)
-    → end_with value s ≡ Some (Result (value_of word) w)
-with_value of whole None s w word is = cc
-with_value of whole (Some value) s w word is =
+with_value : (of : Ty) → IsRead of → (value : Option Value) → ((x : Value) → value ≡ Some x → Has of x) → (s w : World) (word : Option Word)
+    → code.end_with of value s ≡ Some (Result word w) → end_with of value s ≡ Some (Result (value_of of word) w)
+with_value of read None has s w word is = cc
+with_value of read (Some value) has s w word is =
     let words : low (lying_of of) value ≡ word = cc in
     let worlds : s ≡ w = cc in
-    let read : value ≡ value_of word = ap value_of (sym (ap (λ k. low k value) whole) ∙ words) in
-    result_at value (value_of word) s w read worlds
+    let back : value_of of (low (lying_of of) value) ≡ given of value = read_back (out-Ty of) read value (has value refl) in
+    result_at (given of value) (value_of of word) s w (sym back ∙ ap (value_of of) words) worlds
 
-value_end : (of : Ty) → lying_of of ≡ Whole → (o : Out Flow) (word : Option Word) (w : World) → code.end_of of o ≡ Some (Result word w) → end_of of o ≡ Some (Result (value_of word) w)
-value_end of whole (Done flow s e) word w is = with_value of whole (returned of flow) s.world w word is
-value_end of whole (Thrown id s e) word w is = cc
-value_end of whole (Over limit s) word w is = cc
-value_end of whole More word w is = cc
+value_end : (of : Ty) → IsRead of → (o : Out Flow) → IsEnough of o → (word : Option Word) (w : World) → code.end_of of o ≡ Some (Result word w)
+    → end_of of o ≡ Some (Result (value_of of word) w)
+value_end of read (Done flow s e) enough word w is = with_value of read (returned of flow) (given_has of flow enough) s.world w word is
+value_end of read (Thrown id s e) enough word w is = cc
+value_end of read (Over limit s) enough word w is = cc
+value_end of read More enough word w is = cc
 
 not_thrown : (of : Ty) (value : Option Value) (s w : World) (id : ℕ) → code.end_with of value s ≡ Some (Uncaught id w) → ⊥
 not_thrown of None s w id is = cc
@@ -118,67 +166,107 @@ limited_end of (Over l s) limit w is = let ls : l ≡ limit = cc in let worlds :
 limited_end of More limit w is = cc
 
 -- the same of the whole run, which began in an environment
-end_read : (p : Program) (limits : run.Limits) (bound : ℕ) (main : Fun) → lying_of main.result ≡ Whole → (o : Option Env) (begun : World) (end : run_end.End) (left : left_end.End) (w : World)
-    → end_left end ≡ Some left → (whole : End (Option Word)) → code.source_in (program_of p) limits bound main o begun ≡ Some whole → Ends whole ≡ ended end w
+
+abbrev main_out : Program → run.Limits → ℕ → Fun → World → Env → Out Flow
+main_out p limits bound main begun e =
+    (meaning (program_of p) limits bound).stmts (record { text = script_text; depth = 0 }) (record { world = begun; turns = 0 }) e main.body
+
+end_read : (p : Program) (limits : run.Limits) (bound : ℕ) (main : Fun) → IsRead main.result → (o : Option Env) (begun : World)
+    → ((e : Env) → o ≡ Some e → IsEnough main.result (main_out p limits bound main begun e)) → (end : run_end.End) (left : left_end.End) (w : World)
+    → end_left main.result end ≡ Some left → (whole : End (Option Word)) → code.source_in (program_of p) limits bound main o begun ≡ Some whole → Ends whole ≡ ended end w
     → end_in p limits bound main o begun ≡ Some (end_seen left w)
-end_read p limits bound main lies None begun end left w read whole is same = cc
-end_read p limits bound main lies (Some e) begun (r.Result word) left w read whole is same =
+end_read p limits bound main read None begun enough end left w seen whole is same = cc
+end_read p limits bound main read (Some e) begun enough (r.Result word) left w seen whole is same =
     let ends : whole ≡ Result word w = cc in
-    value_end main.result lies ((meaning (program_of p) limits bound).stmts (record { text = script_text; depth = 0 }) (record { world = begun; turns = 0 }) e main.body) word w (is ∙ ap (λ x. Some x) ends)
-    ∙ ap (λ x. Some (end_seen x w)) (let given : l.Value (value_of word) ≡ left = cc in given)
-end_read p limits bound main lies (Some e) begun (r.Thrown id) left w read whole is same =
+    value_end main.result read (main_out p limits bound main begun e) (enough e refl) word w (is ∙ ap (λ x. Some x) ends)
+    ∙ ap (λ x. Some (end_seen x w)) (let given : l.Value (value_of main.result word) ≡ left = cc in given)
+end_read p limits bound main read (Some e) begun enough (r.Thrown id) left w seen whole is same =
     let ends : whole ≡ Uncaught id w = cc in
-    thrown_end main.result ((meaning (program_of p) limits bound).stmts (record { text = script_text; depth = 0 }) (record { world = begun; turns = 0 }) e main.body) id w (is ∙ ap (λ x. Some x) ends)
+    thrown_end main.result (main_out p limits bound main begun e) id w (is ∙ ap (λ x. Some x) ends)
     ∙ ap (λ x. Some (end_seen x w)) (let given : l.Thrown id ≡ left = cc in given)
-end_read p limits bound main lies (Some e) begun (r.Limit which) left w read whole is same =
+end_read p limits bound main read (Some e) begun enough (r.Limit which) left w seen whole is same =
     let ends : whole ≡ Limited (limit_of which) w = cc in
-    limited_end main.result ((meaning (program_of p) limits bound).stmts (record { text = script_text; depth = 0 }) (record { world = begun; turns = 0 }) e main.body) (limit_of which) w (is ∙ ap (λ x. Some x) ends)
+    limited_end main.result (main_out p limits bound main begun e) (limit_of which) w (is ∙ ap (λ x. Some x) ends)
     ∙ ap (λ x. Some (end_seen x w)) (let given : l.Limit which ≡ left = cc in given)
-end_read p limits bound main lies (Some e) begun r.Stuck left w read whole is same = cc
+end_read p limits bound main read (Some e) begun enough r.Stuck left w seen whole is same = cc
+
+-- ---- arguments
+
+word_match_primitive : (p : Primitive) (value : Value) (word : Word) → Some word ≡ Some (unboxed value) → word ≡ word_in (kind_of_primitive p) value
+word_match_primitive prim.Boolean value word is = cc
+word_match_primitive prim.Byte value word is = cc
+word_match_primitive prim.Short value word is = cc
+word_match_primitive prim.Char value word is = cc
+word_match_primitive prim.Int value word is = cc
+word_match_primitive prim.Long value word is = cc
+
+word_match : (l : Ty-F Ty) (value : Value) (word : Word) → Some word ≡ low (lying_of_layer l) value → word ≡ word_in (kind_of_layer l) value
+word_match Ty-F.Void value word is = cc
+word_match Ty-F.Null value word is = cc
+word_match Ty-F.Def value word is = cc
+word_match (Ty-F.Prim p) value word is = word_match_primitive p value word is
+word_match (Ty-F.Class class) value word is = cc
+word_match (Ty-F.Array of) value word is = cc
+
+one_more : (word word' : Word) (words words' : List Word) → word ≡ word' → words ≡ words' → word ∷ words ≡ word' ∷ words'
+one_more word word' words words' w e = ap (λ x. x ∷ words) w ∙ ap (λ x. word' ∷ x) e
+
+words_match : (params : List Variable) (args : List Value) (words : List Word) → map Some words ≡ code.words_of params args → words ≡ words_in (kinds_of params) args
+words_match [] args [] are = refl
+words_match [] args (word ∷ words) are = cc
+words_match (x ∷ params) [] [] are = refl
+words_match (x ∷ params) [] (word ∷ words) are = cc
+words_match (x ∷ params) (value ∷ args) [] are = cc
+words_match (x ∷ params) (value ∷ args) (word ∷ words) are =
+    let first : Some word ≡ low (lying_of x.of) value = cc in
+    let rest : map Some words ≡ code.words_of params args = cc in
+    one_more word (word_in (kind_of x.of) value) words (words_in (kinds_of params) args) (word_match (out-Ty x.of) value word first) (words_match params args words rest)
 
 -- ---- a script's run
 
-no_words : (words : List Word) (params : List Variable) → params ≡ [] → map Some words ≡ code.words_of params [] → words ≡ []
-no_words [] params none are = refl
-no_words (word ∷ words) [] none are = cc
-no_words (word ∷ words) (x ∷ params) none are = cc
+same_env : (o : Option Env) (e e' : Env) → o ≡ Some e → o ≡ Some e' → e ≡ e'
+same_env o e e' is is' = cc
 
-have_none : (params : List Variable) → params ≡ [] → HaveAll (types_in params) []
-have_none [] none = tt
-have_none (x ∷ params) none = cc
-
-pub runs_as_its_program : CodeEndsAsPrograms → (script : Script) (store : Store) (limits : Limits) (a : Activation) (q : ℕ) (o : Outcome)
-    → a ≡ record { code = script.code.functions; limits = limits; allow = script.allow.now; now = Some (start script.code.functions [] (world_at store limits)); steps = 0 }
-    → IsTrue (is_over (later q a).now) → LeftBy (later q a) o → RunsAsItsProgram script store limits o
-runs_as_its_program outcomes script store limits a q o begun over by allow context p is none reference =
+pub runs_as_its_program : CodeEndsAsPrograms → (script : Script) (store : Store) (args : List Value) (limits : Limits) (a : Activation) (q : ℕ) (o : Outcome)
+    → a ≡ record { code = script.code.functions; limits = limits; allow = script.allow.now; now = Some (start script.code.functions (words_in (params_of (slice_get script.code.functions 0)) args) (world_at store limits)); steps = 0 }
+    → IsTrue (is_over (later q a).now) → LeftBy script.result (later q a) o → RunsAsItsProgram script store args limits o
+runs_as_its_program outcomes script store args limits a q o begun over by allow context p is have read =
+    let funs = program_of p in
     let main = fun_of p.main in
     let functions = script.code.functions in
-    let no_params : main.params ≡ [] = is.variables ∙ ap (map variable_of) none in
-    let refers : IsReference main.result = subst IsReference (sym is.result) reference in
+    let gives : script.result ≡ main.result = is.kept ∙ sym is.result in
+    let reads : IsRead main.result = subst IsRead (sym is.result) read in
+    let have' : HaveAll (types_in main.params) args = subst (λ ps. HaveAll (types_in ps) args) (sym is.variables) have in
     let w = world_at store limits in
     let kept = limits_of limits script.allow.now in
-    let formed = subst (λ list. WellFormed (known list (program_of p))) (sym is.allowed) is.formed in
-    let out = outcomes p functions kept formed is.code [] (have_none main.params no_params) w in
-    let words : out.words ≡ [] = no_words out.words main.params no_params out.are.are in
-    let b : Activation = record { code = functions; limits = limits; allow = script.allow.now; now = Some (start functions [] w); steps = 0 } in
+    let formed = subst (λ list. WellFormed (known list funs)) (sym is.allowed) is.formed in
+    let out = outcomes p functions kept formed is.code args have' w in
+    let first = is.code.each 0 main refl in
+    let kinds : params_of (slice_get functions 0) ≡ kinds_of main.params = ap params_of first.is ∙ first.params in
+    let words : out.words ≡ words_in (params_of (slice_get functions 0)) args = words_match main.params args out.words out.are.are ∙ ap (λ ks. words_in ks args) (sym kinds) in
+    let begin = words_in (params_of (slice_get functions 0)) args in
+    let b : Activation = record { code = functions; limits = limits; allow = script.allow.now; now = Some (start functions begin w); steps = 0 } in
     let stands : (later q b).now ≡ Some (Ends out.end) =
-    ends_there b (start functions [] w) out.end refl (subst (λ ws. EndsAs functions kept (start functions ws w) out.end) words out.code_ends) q
+    ends_there b (start functions begin w) out.end refl (subst (λ ws. EndsAs functions kept (start functions ws w) out.end) words out.code_ends) q
     (subst (λ x. IsTrue (is_over (later q x).now)) begun over) in
     let there : Some (Ends out.end) ≡ Some (ended by.end (world_left o by.left)) = sym stands ∙ sym (ap (λ x. (later q x).now) begun) ∙ by.stands in
     let same : Ends out.end ≡ ended by.end (world_left o by.left) = cc in
-    let bound = enough (program_of p) w in
-    subst (λ list. IsOutcome list p store limits o) is.allowed (record {
+    let bound = enough funs w in
+    let ran = comes_to_an_end (known script.allow.now funs) formed kept main refl refl args have' w bound (omega arith) in
+    let enough' : (e : Env) → entry main.params args [] ≡ Some e → IsEnough main.result (main_out p kept bound main w e) =
+    λ e h. subst (λ x. IsEnough main.result (main_out p kept bound main w x)) (same_env (entry main.params args []) ran.0 e ran.1 h) ran.2 in
+    subst (λ list. IsOutcome list p store args limits o) is.allowed (record {
       left = by.left;
       ends = record {
         bound = bound;
-        is = end_read p kept bound main (whole_layer (out-Ty main.result) refers) (entry main.params [] []) w by.end o.end (world_left o by.left) by.read out.end (out.ends.always bound (omega arith)) same;
+        is = end_read p kept bound main reads (entry main.params args []) w enough' by.end o.end (world_left o by.left) (subst (λ of. end_left of by.end ≡ Some o.end) gives by.read) out.end (out.ends.always bound (omega arith)) same;
       };
       ticks = by.ticks ∙ ap (λ x. (later q x).limits.ticks - by.left) begun;
     })
 
 -- .. and so does what a turn that came to the end has left
-pub turned_runs : CodeEndsAsPrograms → (script : Script) (store : Store) (limits : Limits) (a new : Activation) (q : ℕ) (o : Outcome)
-    → a ≡ record { code = script.code.functions; limits = limits; allow = script.allow.now; now = Some (start script.code.functions [] (world_at store limits)); steps = 0 }
-    → Turned q a new turn.Done → LeftBy new o → RunsAsItsProgram script store limits o
-turned_runs outcomes script store limits a new q o begun turned by =
-    runs_as_its_program outcomes script store limits a q o begun (subst (λ x. IsTrue (is_over x.now)) turned.0 turned.1) (subst (λ x. LeftBy x o) turned.0 by)
+pub turned_runs : CodeEndsAsPrograms → (script : Script) (store : Store) (args : List Value) (limits : Limits) (a new : Activation) (q : ℕ) (o : Outcome)
+    → a ≡ record { code = script.code.functions; limits = limits; allow = script.allow.now; now = Some (start script.code.functions (words_in (params_of (slice_get script.code.functions 0)) args) (world_at store limits)); steps = 0 }
+    → Turned q a new turn.Done → LeftBy script.result new o → RunsAsItsProgram script store args limits o
+turned_runs outcomes script store args limits a new q o begun turned by =
+    runs_as_its_program outcomes script store args limits a q o begun (subst (λ x. IsTrue (is_over x.now)) turned.0 turned.1) (subst (λ x. LeftBy script.result x o) turned.0 by)

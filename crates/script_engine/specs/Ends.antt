@@ -2,20 +2,30 @@
 use Rattle.std.specs.Prelude.{◌≡◌, ℕ, List, [], Option, Some, None}
 use Rattle.object_values.specs.declared.value.Value.{Value}
 use Rattle.object_values.specs.declared.object.Owner.TheVariants.{Script}
-use Rattle.pl_types.specs.declared.ty.Ty.{Ty}
+use Rattle.object_values.specs.declared.value.Value.TheVariants as v
+use Rattle.pl_types.specs.declared.ty.Ty.{Ty, out-Ty}
+use Rattle.pl_types.specs.declared.ty.Ty.TheOpen.{Ty-F}
 use Rattle.run_world.specs.World.{World, Limits, End, Result, Uncaught, Limited}
 use Rattle.typed_tree.specs.declared.program.Program.{Program}
 use Rattle.program_meaning.specs.Programs.{fun_of, program_of}
 use Rattle.program_meaning.specs.Tree.{Fun}
 use Rattle.program_meaning.specs.Meaning.{Env, Out, Done, Thrown, Over, More, Flow, entry, returned, meaning}
 
-abbrev pub end_with : Option Value → World → Option (End Value)
-end_with None w = None
-end_with (Some value) w = Some (Result value w)
+-- what a function of this result type gives: without a result it is null
+abbrev pub given_layer : Ty-F Ty → Value → Value
+given_layer Ty-F.Void value = v.Null
+given_layer other value = value
+
+abbrev pub given : Ty → Value → Value
+given of value = given_layer (out-Ty of) value
+
+abbrev pub end_with : Ty → Option Value → World → Option (End Value)
+end_with of None w = None
+end_with of (Some value) w = Some (Result (given of value) w)
 
 -- the end of a function of this result type; nothing where it is More
 abbrev pub end_of : Ty → Out Flow → Option (End Value)
-end_of of (Done flow s e) = end_with (returned of flow) s.world
+end_of of (Done flow s e) = end_with of (returned of flow) s.world
 end_of of (Thrown id s e) = Some (Uncaught id s.world)
 end_of of (Over limit w) = Some (Limited limit w)
 end_of of More = None

@@ -1,5 +1,6 @@
 -- What a run of a script leaves.
-use Rattle.std.specs.Prelude.{◌≡◌, ℕ, ◌-◌, [], Option, Some, None}
+use Rattle.std.specs.Prelude.{◌≡◌, ℕ, ◌-◌, ℤ, pos, not, List, [], ◌∷◌, map, Option, Some, None}
+use Rattle.std.specs.Ordering.{int_eq}
 use Rattle.object_values.specs.declared.value.Value.{Value}
 use Rattle.object_values.specs.declared.value.Value.TheVariants as v
 use Rattle.object_heap.specs.Store.{Store}
@@ -10,7 +11,16 @@ use Rattle.run_world.specs.World.{World, End, Result, Uncaught, Limited}
 use Rattle.typed_tree.specs.declared.program.Program.{Program}
 use Rattle.allowlist.specs.Allow.{AllowList}
 use Rattle.typing_rules.specs.declared.header.ContextTypes.{ContextTypes}
-use Rattle.program_types.specs.Types.{IsReference}
+use Rattle.pl_types.specs.declared.primitive.Primitive.TheVariants as prim
+use Rattle.pl_types.specs.declared.ty.Ty.{Ty, out-Ty}
+use Rattle.pl_types.specs.declared.ty.Ty.TheOpen.{Ty-F}
+use Rattle.pl_code.specs.declared.kinds.Slot.{Slot}
+use Rattle.pl_code.specs.declared.kinds.Slot.TheVariants as slot
+use Rattle.pl_code.specs.declared.code.FunCode.{FunCode}
+use Rattle.program_meaning.specs.Programs.{variable_of}
+use Rattle.program_types.specs.Types.{HaveAll}
+use Rattle.program_types.specs.Agreeing.{types_in}
+use Rattle.code_meaning.specs.Words.{unboxed}
 use Rattle.code_meaning.specs.declared.word.Word.{Word}
 use Rattle.code_meaning.specs.declared.word.Word.TheVariants.{I, J, R}
 use Rattle.code_machine.specs.declared.configuration.End as run_end
@@ -22,19 +32,56 @@ use Rattle.script_engine.specs.declared.compiling.Script.{Script}
 use Rattle.script_engine.specs.Compiling.{IsScriptOf}
 use Rattle.script_engine.specs.Ends.{RunsTo}
 
--- the value of a word that a script gives
-abbrev pub value_of : Option Word → Value
-value_of None = v.Null
-value_of (Some (I a)) = v.Int a
-value_of (Some (J a)) = v.Long a
-value_of (Some (R value)) = value
+-- ---- arguments
+
+-- the word of a value in a local of a kind
+abbrev pub word_in : Slot → Value → Word
+word_in slot.R value = R value
+word_in number value = unboxed value
+
+-- those of the locals that have values
+abbrev pub words_in : List Slot → List Value → List Word
+words_in [] values = []
+words_in (kind ∷ kinds) [] = []
+words_in (kind ∷ kinds) (value ∷ values) = word_in kind value ∷ words_in kinds values
+
+abbrev pub params_of : Option FunCode → List Slot
+params_of None = []
+params_of (Some f) = f.params
+
+-- ---- results
+
+-- the types of results that are read from words: void, a boolean, an int, a long, and every reference
+abbrev pub is_read_layer : Ty-F Ty → Type 0
+is_read_layer (Ty-F.Prim prim.Byte) = ⊥
+is_read_layer (Ty-F.Prim prim.Short) = ⊥
+is_read_layer (Ty-F.Prim prim.Char) = ⊥
+is_read_layer other = Unit {0}
+
+abbrev pub IsRead : Ty → Type 0
+IsRead of = is_read_layer (out-Ty of)
+
+-- an int is a boolean where one is wanted
+abbrev pub value_of_int : Ty-F Ty → ℤ → Value
+value_of_int (Ty-F.Prim prim.Boolean) a = v.Bool (not (int_eq a (pos 0)))
+value_of_int other a = v.Int a
+
+abbrev pub value_by : Ty-F Ty → Option Word → Value
+value_by layer None = v.Null
+value_by layer (Some (I a)) = value_of_int layer a
+value_by layer (Some (J a)) = v.Long a
+value_by layer (Some (R value)) = value
+
+-- the value of a word that a script of this result type gives
+abbrev pub value_of : Ty → Option Word → Value
+value_of of word = value_by (out-Ty of) word
 
 -- the end of a run of code, with its value; none where it is stuck
-abbrev pub end_left : run_end.End → Option left_end.End
-end_left (r.Result word) = Some (l.Value (value_of word))
-end_left (r.Thrown id) = Some (l.Thrown id)
-end_left (r.Limit which) = Some (l.Limit which)
-end_left r.Stuck = None
+abbrev pub end_left : Ty → run_end.End → Option left_end.End
+end_left of (r.Result word) = Some (l.Value (value_of of word))
+end_left of (r.Thrown id) = Some (l.Thrown id)
+end_left of (r.Limit which) = Some (l.Limit which)
+end_left of r.Stuck = None
 
 abbrev pub end_seen : left_end.End → World → End Value
 end_seen (l.Value value) w = Result value w
@@ -45,11 +92,11 @@ end_seen (l.Limit which) w = Limited (limit_of which) w
 abbrev pub world_left : Outcome → ℕ → World
 world_left o left = record { store = o.heap; ticks = left; reached = o.reached }
 
--- an activation left this
-pub record LeftBy (a : Activation) (o : Outcome) : Type 0 where
+-- an activation of code that gives this type left this
+pub record LeftBy (of : Ty) (a : Activation) (o : Outcome) : Type 0 where
   pub left : ℕ
   pub end : run_end.End
-  pub read : end_left end ≡ Some o.end
+  pub read : end_left of end ≡ Some o.end
   pub stands : a.now ≡ Some (ended end (world_left o left))
   pub ticks : o.ticks ≡ a.limits.ticks - left
 
@@ -57,14 +104,14 @@ pub record LeftBy (a : Activation) (o : Outcome) : Type 0 where
 abbrev pub world_at : Store → Limits → World
 world_at store limits = record { store = store; ticks = limits.ticks; reached = [] }
 
--- The outcome is that of the program under a list: how its run ends, in which world, and how many ticks it paid.
-pub record IsOutcome (allow : AllowList) (p : Program) (store : Store) (limits : Limits) (o : Outcome) : Type 0 where
+-- The outcome is that of the program under a list on these arguments: how its run ends, in which world, and how many ticks it paid.
+pub record IsOutcome (allow : AllowList) (p : Program) (store : Store) (args : List Value) (limits : Limits) (o : Outcome) : Type 0 where
   pub left : ℕ
-  pub ends : RunsTo p (limits_of limits allow) [] (world_at store limits) (end_seen o.end (world_left o left))
+  pub ends : RunsTo p (limits_of limits allow) args (world_at store limits) (end_seen o.end (world_left o left))
   pub ticks : o.ticks ≡ limits.ticks - left
 
--- A script of a context without variables, whose result is a reference, runs as its program does.
-abbrev pub RunsAsItsProgram : Script → Store → Limits → Outcome → Type 0
-RunsAsItsProgram script store limits o =
-    (allow : AllowList) (context : ContextTypes) (p : Program) → IsScriptOf allow context p script → context.variables ≡ [] → IsReference context.result
-    → IsOutcome allow p store limits o
+-- A script runs as its program does, on arguments of the types of the context's variables, where the context's result is read.
+abbrev pub RunsAsItsProgram : Script → Store → List Value → Limits → Outcome → Type 0
+RunsAsItsProgram script store args limits o =
+    (allow : AllowList) (context : ContextTypes) (p : Program) → IsScriptOf allow context p script → HaveAll (types_in (map variable_of context.variables)) args
+    → IsRead context.result → IsOutcome allow p store args limits o

@@ -17,7 +17,7 @@ use pl_code::{Code, listing};
 use pl_lexer::{Token, lex};
 use pl_parser::parse;
 use pl_tree::Tree;
-use pl_types::Fail;
+use pl_types::{Fail, Ty};
 use program_shapes::code_is_well_shaped;
 use static_types::{ContextTypes, elaborate};
 use std::alloc::{AllocError, Global};
@@ -27,6 +27,8 @@ use typed_tree::Program;
 pub struct Script<'a> {
     pub(crate) allow: &'a Allow,
     pub(crate) code: Code,
+    /// The type of what it gives.
+    pub(crate) result: Ty,
 }
 
 impl<'a> Drop for Script<'a> {
@@ -34,6 +36,7 @@ impl<'a> Drop for Script<'a> {
         let Script {
             allow: _,
             code: _code,
+            result: _result,
         } = self;
     }
 }
@@ -110,8 +113,13 @@ pub fn compile<'a>(
 {
     code_is_well_shaped();
     let program = program_of(alloc, allow, context, text)?;
+    let result = context.result.share(alloc)?;
     match generate(alloc, allow, &program) {
-        Ok(code) => Ok(Script { allow, code }),
+        Ok(code) => Ok(Script {
+            allow,
+            code,
+            result,
+        }),
         Err(_) => Err(Fail::NoMemory),
     }
 }

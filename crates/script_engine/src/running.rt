@@ -1,44 +1,112 @@
 //! Runs of scripts.
 
-ghost use Rattle.std.specs.Prelude.{◌≡◌, IfOk};
-ghost use Rattle.script_engine.specs.Running.{RunsAsItsProgram, LeftBy, value_of, end_left};
+ghost use Rattle.std.specs.Prelude.{◌≡◌, IfOk, slice_get};
+ghost use Rattle.pl_types.specs.declared.ty.Ty.{out-Ty};
+ghost use Rattle.script_engine.specs.Running.{RunsAsItsProgram, LeftBy, value_of, value_of_int, word_in, words_in, end_left, params_of};
+ghost use Rattle.code_meaning.specs.Words.{unboxed};
 
 use crate::compiling::Script;
 use code_machine::{Activation, Limits};
 use code_meaning::Word;
 use object_heap::{End, Heap, Outcome};
 use object_values::{Elements, Value};
+use pl_code::{Code, Slot};
+use pl_types::{Primitive, Ty};
 use program_outcome::programs_end;
-use std::alloc::AllocError;
+use std::alloc::{AllocError, Global};
 use task_core::Turn;
 
-/// The value of a word. It takes memory for a text alone.
-fn value_of(word: &Option<Word>) -> Result<Value, AllocError>
-    ensures { IfOk result (λ value. value ≡ value_of word.now) }
+/// The number of a value that is one.
+fn unboxed(value: Value) -> Word
+    ensures { result ≡ unboxed value }
+{
+    match value {
+        Value::Bool(flag) => Word::I(flag as i32),
+        Value::Byte(number) => Word::I(number as i32),
+        Value::Short(number) => Word::I(number as i32),
+        Value::Char(unit) => Word::I(unit as i32),
+        Value::Int(number) => Word::I(number),
+        Value::Long(number) => Word::J(number),
+        other => Word::R(other),
+    }
+}
+
+/// The word of an argument in a local of a kind.
+fn word_in(kind: Slot, value: Value) -> Word
+    ensures { result ≡ word_in kind value }
+{
+    match kind {
+        Slot::R => Word::R(value),
+        Slot::I => unboxed(value),
+        Slot::J => unboxed(value),
+    }
+}
+
+/// The words of arguments in locals of these kinds.
+fn words_in(
+    alloc: Global,
+    kinds: &[Slot],
+    mut args: Vec<Value>,
+) -> Result<Elements<Word>, AllocError>
+    ensures { IfOk result (λ words. words ≡ words_in kinds.now args.items) }
+{
+    let mut words = Elements::new(alloc);
+    args.reverse();
+    for kind in kinds {
+        let Some(value) = args.pop() else {
+            return Ok(words);
+        };
+        words.push(word_in(*kind, value))?;
+    }
+    Ok(words)
+}
+
+/// The kinds of the main script's parameters.
+fn params_of(code: &Code) -> &[Slot]
+    ensures { result.now ≡ params_of (slice_get code.now.functions 0) }
+{
+    match code.functions.get(0) {
+        Some(main) => main.params.as_slice(),
+        None => &[],
+    }
+}
+
+fn value_of_int(of: &Ty, number: i32) -> Value
+    ensures { result ≡ value_of_int (out-Ty of.now) number }
+{
+    match of {
+        Ty::Prim(Primitive::Boolean) => Value::Bool(number != 0),
+        _ => Value::Int(number),
+    }
+}
+
+/// The value of a word that code of this result type gives. It takes memory for a text alone.
+fn value_of(of: &Ty, word: &Option<Word>) -> Result<Value, AllocError>
+    ensures { IfOk result (λ value. value ≡ value_of of.now word.now) }
 {
     match word {
         None => Ok(Value::Null),
-        Some(Word::I(number)) => Ok(Value::Int(*number)),
+        Some(Word::I(number)) => Ok(value_of_int(of, *number)),
         Some(Word::J(number)) => Ok(Value::Long(*number)),
         Some(Word::R(value)) => value.share(),
     }
 }
 
 /// The end of a run, with its value.
-fn end_left(end: &code_machine::End) -> Result<Option<End>, AllocError>
-    ensures { IfOk result (λ left. left ≡ end_left end.now) }
+fn end_left(of: &Ty, end: &code_machine::End) -> Result<Option<End>, AllocError>
+    ensures { IfOk result (λ left. left ≡ end_left of.now end.now) }
 {
     match end {
-        code_machine::End::Result(word) => Ok(Some(End::Value(value_of(word)?))),
+        code_machine::End::Result(word) => Ok(Some(End::Value(value_of(of, word)?))),
         code_machine::End::Thrown(id) => Ok(Some(End::Thrown(*id))),
         code_machine::End::Limit(which) => Ok(Some(End::Limit(*which))),
         code_machine::End::Stuck => Ok(None),
     }
 }
 
-/// What an activation leaves that has ended.
-fn left(activation: Activation<'_>) -> Result<Outcome, AllocError>
-    ensures { IfOk result (LeftBy activation.entry) }
+/// What an activation of code of this result type leaves that has ended.
+fn left(of: &Ty, activation: Activation<'_>) -> Result<Outcome, AllocError>
+    ensures { IfOk result (LeftBy of.now activation.entry) }
 {
     let Some(ran) = activation.outcome() else {
         return Err(AllocError);
@@ -50,7 +118,7 @@ fn left(activation: Activation<'_>) -> Result<Outcome, AllocError>
         steps,
         reached,
     } = ran;
-    match end_left(&end)? {
+    match end_left(of, &end)? {
         Some(end) => Ok(Outcome {
             end,
             heap,
@@ -63,17 +131,19 @@ fn left(activation: Activation<'_>) -> Result<Outcome, AllocError>
 }
 
 impl<'a> Script<'a> {
-    /// Runs the script over a heap, whose room is what the run may take of it, within limits. The script has no variables.
+    /// Runs the script over a heap, whose room is what the run may take of it, on arguments, within limits. The arguments are the
+    /// values of the context's variables, in their order.
     ///
-    /// The outcome is that of the script's program: how its run ends, what it leaves of the heap, and how many ticks it has paid.
-    pub fn run(&self, heap: Heap, limits: Limits) -> Result<Outcome, AllocError>
-        ensures { IfOk result (RunsAsItsProgram self.now heap limits) }
+    /// The outcome is that of the script's program: how its run ends, what it leaves of the heap, and how many ticks it has paid. The
+    /// value of a script without a result is null.
+    pub fn run(&self, heap: Heap, args: Vec<Value>, limits: Limits) -> Result<Outcome, AllocError>
+        ensures { IfOk result (RunsAsItsProgram self.now heap args.items limits) }
     {
         programs_end();
-        let args = Elements::new(heap.alloc());
-        let mut activation = Activation::start(&self.code, self.allow, heap, args, limits)?;
+        let words = words_in(heap.alloc(), params_of(&self.code), args)?;
+        let mut activation = Activation::start(&self.code, self.allow, heap, words, limits)?;
         match activation.turn(u64::MAX) {
-            Turn::Done => left(activation),
+            Turn::Done => left(&self.result, activation),
             _ => Err(AllocError),
         }
     }

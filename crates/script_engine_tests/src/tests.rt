@@ -1,3 +1,5 @@
+mod catches;
+mod contexts;
 mod operands;
 mod operators;
 mod references;
@@ -71,5 +73,30 @@ fn references_end_within_bounds(rt: HostRuntime) -> Result<(), Fail> {
     for (bounds, table) in references::bounded() {
         all_end(&rt, &compiler, bounds, table)?;
     }
+    Ok(())
+}
+
+#[test]
+fn catches_end(rt: HostRuntime) -> Result<(), Fail> {
+    let compiler = Compiler::new(rt.alloc())?;
+    for table in [catches::CATCHES, catches::NESTED, catches::LEFT] {
+        all_end(&rt, &compiler, USUAL, table)?;
+    }
+    Ok(())
+}
+
+#[test]
+fn catches_end_within_bounds(rt: HostRuntime) -> Result<(), Fail> {
+    let compiler = Compiler::new(rt.alloc())?;
+    for (bounds, table) in catches::BOUNDED {
+        all_end(&rt, &compiler, bounds, table)?;
+    }
+    Ok(())
+}
+
+#[test]
+fn contexts_with_variables(rt: HostRuntime) -> Result<(), Fail> {
+    let compiler = Compiler::new(rt.alloc())?;
+    contexts::all_end(&rt, &compiler)?;
     Ok(())
 }

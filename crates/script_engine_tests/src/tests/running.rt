@@ -43,23 +43,38 @@ impl Compiler {
         Ok(Compiler { alloc, allow })
     }
 
+    /// The script of a text by the variables and the result of a context.
+    pub fn compiled_in(&self, script: &str, context: &ContextTypes) -> Result<Script, Fail> {
+        compile(self.alloc, script, &self.allow, context)
+    }
+
     fn compiled(&self, script: &str) -> Result<Script, Fail> {
         let context = ContextTypes {
             variables: Items::new(self.alloc),
             result: Ty::Def,
         };
-        compile(self.alloc, script, &self.allow, &context)
+        self.compiled_in(script, &context)
+    }
+
+    pub fn alloc(&self) -> Global {
+        self.alloc
     }
 }
 
-fn run(alloc: Global, script: &Script, bounds: Bounds) -> Result<Outcome, AllocError> {
+/// Runs a script on arguments, within bounds.
+pub fn run(
+    alloc: Global,
+    script: &Script,
+    args: Vec<Value>,
+    bounds: Bounds,
+) -> Result<Outcome, AllocError> {
     let heap = Heap::new(alloc, bounds.room);
     let limits = Limits {
         loops: bounds.loops,
         depth: bounds.depth,
         ticks: bounds.ticks,
     };
-    script.run(heap, limits)
+    script.run(heap, args, limits)
 }
 
 fn number_text(alloc: Global, letter: &str, number: i64) -> Result<String, AllocError> {
@@ -127,7 +142,7 @@ fn end_text(outcome: &Outcome) -> Result<String, AllocError> {
 }
 
 /// Whether a run ended as a row says: `END`, or `END, N ticks`.
-fn ended(outcome: &Outcome, wanted: &str) -> Result<bool, AllocError> {
+pub fn ended(outcome: &Outcome, wanted: &str) -> Result<bool, AllocError> {
     let alloc = outcome.heap.alloc();
     let text = end_text(outcome)?;
     let end = text.as_str();
@@ -145,7 +160,8 @@ fn ends(
 ) -> Result<bool, AllocError> {
     match compiler.compiled(script) {
         Ok(compiled) => {
-            let outcome = run(compiler.alloc, &compiled, bounds)?;
+            let args = Vec::new(compiler.alloc);
+            let outcome = run(compiler.alloc, &compiled, args, bounds)?;
             ended(&outcome, wanted)
         }
         Err(_) => Ok(false),

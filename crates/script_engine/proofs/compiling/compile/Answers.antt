@@ -12,13 +12,13 @@ returns-in_err-program-clause-only c =
 pub returns-in-Ok-clause-exact : goal.returns-in-Ok-clause-exact
 returns-in-Ok-clause-exact c =
     let p = c.in_ok-program.program in
-    let made = is_script c.args.allow.now c.args.context.now c.args.text.now p (record { allow = c.args.allow; code = c.in-Ok.code }) c.requires.context c.in_ok-program.ensures.exact refl c.in-Ok.ensures.code in
+    let made = is_script c.args.allow.now c.args.context.now c.args.text.now p (record { allow = c.args.allow; code = c.in-Ok.code; result = c.in_ok-result.result }) c.requires.context c.in_ok-program.ensures.exact refl c.in_ok-result.ensures c.in-Ok.ensures.code in
     (p, c.in_ok-program.ensures.exact, made)
 
 pub returns-in-Ok-clause-only : goal.returns-in-Ok-clause-only
 returns-in-Ok-clause-only c reading is =
     let p = c.in_ok-program.program in
-    let made = is_script c.args.allow.now c.args.context.now c.args.text.now p (record { allow = c.args.allow; code = c.in-Ok.code }) c.requires.context c.in_ok-program.ensures.exact refl c.in-Ok.ensures.code in
+    let made = is_script c.args.allow.now c.args.context.now c.args.text.now p (record { allow = c.args.allow; code = c.in-Ok.code; result = c.in_ok-result.result }) c.requires.context c.in_ok-program.ensures.exact refl c.in_ok-result.ensures c.in-Ok.ensures.code in
     (p, c.in_ok-program.ensures.only reading is, made)
 
 pub returns-in-Ok-clause-sound : goal.returns-in-Ok-clause-sound
