@@ -5,3 +5,4 @@ pub mod Nodes
 pub mod Simulates
 pub mod Correct
 pub mod Example
+pub mod Covers

@@ -1,5 +1,5 @@
 -- The instructions of a part of a program at their lines, whatever is caught there. The code has no traps here.
-use Rattle.std.specs.Prelude.{◌≡◌, ◌≢◌, ℕ, suc, ◌<◌, List, [], ◌∷◌, Bool, true, false, pos}
+use Rattle.std.specs.Prelude.{◌≡◌, ◌≢◌, ℕ, suc, ◌<◌, [], ◌∷◌, pos}
 use Rattle.pl_types.specs.declared.ty.Ty.{Ty}
 use Rattle.pl_types.specs.declared.ty.Ty.TheVariants as t
 use Rattle.pl_code.specs.declared.kinds.Plain.TheVariants as plain
@@ -8,7 +8,7 @@ use Rattle.pl_code.specs.declared.code.FunCode.{FunCode}
 use Rattle.pl_code.specs.declared.code.Instruction.TheVariants as i
 use Rattle.program_meaning.specs.Tree.{Stmt, Do, If, While, DoWhile, ForEach, Try, Block, Break, Continue, Return, Throw, Stmts, Finish, Then, Declare, Catches, NoCatch, Catch, Program, type_of}
 use Rattle.program_code.specs.Lying.{Lying, Bare, Whole, Absent, lying_of}
-use Rattle.program_code.specs.Stands.{Scope, At, AllAt, ExprAt, all_fall, goes_on, end_all, end_expr, end_skip, end_update, end_test, end_last, end_value, end_returned, end_stmt, end_stmts, end_tried, end_caught, next_stmt, next_stmts, jumps_over, Jumps, no_jumps, HasLocal, SkipAt, DroppedAt, UpdateAt, TestAt, LastAt, ValueAt, ReturnedAt, StmtsAt, EndAt, traps_stmts}
+use Rattle.program_code.specs.Stands.{Scope, At, ExprAt, all_fall, goes_on, end_expr, end_skip, end_update, end_test, end_last, end_value, end_returned, end_stmt, end_stmts, end_tried, end_caught, next_stmt, next_stmts, jumps_over, Jumps, no_jumps, HasLocal, SkipAt, DroppedAt, UpdateAt, TestAt, LastAt, ValueAt, ReturnedAt, StmtsAt, EndAt, traps_stmts}
 
 -- code without its traps
 abbrev pub untrapped : FunCode → FunCode

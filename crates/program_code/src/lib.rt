@@ -2,5 +2,7 @@
 #![tactic(auto)]
 
 mod laws;
+mod traps;
 
 pub use laws::{compiler_laws, small_program};
+pub use traps::covering_laws;

@@ -1,0 +1,4 @@
+pub mod Ends
+pub mod Exprs
+pub mod Misses
+pub mod Statements
