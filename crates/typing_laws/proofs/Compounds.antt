@@ -1,33 +1,40 @@
 -- Statements with statements in them.
 use Rattle.std.proofs.Common.{◌≡◌, ℕ, Bool, true, false, List, [], ◌∷◌, ◌++◌, length, Option, Some, None, Ok, refl, sym, ap, ◌∙◌, subst}
 use Rattle.std.specs.Prelude.{◌&&◌, if◌then◌else◌}
+use Rattle.std.specs.List.{list_all}
+use Rattle.std.proofs.lemmas.Bool.{false≢true}
 use Rattle.pl_types.specs.declared.primitive.Primitive.TheVariants as prim
 use Rattle.pl_types.specs.declared.ty.Ty.{Ty}
+use Rattle.pl_types.specs.declared.ty.Ty.TheVariants as t
 use Rattle.pl_tree.specs.declared.tree.Spelled.{Spelled}
 use Rattle.pl_tree.specs.declared.tree.TypeName.{TypeName}
 use Rattle.typed_tree.specs.declared.typed.Typed.{Typed}
 use Rattle.typed_tree.specs.declared.statement.TypedVariable.{TypedVariable}
+use Rattle.typing_rules.specs.declared.part.Caught.{Caught}
 use Rattle.typing_rules.specs.declared.part.Part.{Part}
 use Rattle.typing_rules.specs.declared.part.Step.{Step}
 use Rattle.typing_rules.specs.declared.state.State.{State}
 use Rattle.typing_rules.specs.Scopes.{find}
 use Rattle.typing_rules.specs.State.{closed, variable as new_entry, declared_if, declared as declares}
 use Rattle.typing_rules.specs.Outcomes.{refuse, bind}
-use Rattle.typing_rules.specs.Doing.{Answer, Doing, ◌>>=◌, pure, and_then, by_rule, stating}
+use Rattle.typing_rules.specs.Doing.{Whole, Answer, Doing, ◌>>=◌, ◌>>◌, pure, and_then, by_rule, changing, stating}
 use Rattle.typing_rules.specs.Rules.Nodes.{boolean}
-use Rattle.typing_rules.specs.Rules.Types.{type_of as named_type}
+use Rattle.typing_rules.specs.Rules.Types.{type_of as named_type, caught_class}
 use Rattle.typing_rules.specs.Rules.Casts.{cast_to}
-use Rattle.typing_rules.specs.Rules.Statements.{reached, deed, variable, variable_of, declaration_of, test, is_true, loop_test, escapes_if, last_escapes, statement_if, if_of, loop_of, do_of, block_of, statements_of}
-use Rattle.typing_rules.specs.Typing.{scoped, looping, perhaps, Doer, Reading, is_empty, statements, variables, initial, loop_condition, loop_update}
-use Rattle.program_meaning.specs.Tree.{If, While, DoWhile, Block, Stmts, Finish, Then, Missing}
+use Rattle.typing_rules.specs.Rules.Statements.{reached, deed, variable, variable_of, declaration_of, test, is_true, loop_test, escapes_if, last_escapes, statement_if, if_of, loop_of, do_of, block_of, statements_of, caught, caught_escapes, try_of}
+use Rattle.typing_rules.specs.Typing.{scoped, looping, perhaps, Doer, Reading, is_empty, statements, variables, initial, loop_condition, loop_update, handlers}
+use Rattle.program_meaning.specs.Tree.{If, While, DoWhile, Try, Block, Stmts, Finish, Then, Missing}
+use Rattle.program_meaning.specs.Falls.{any_falls}
 use Rattle.program_meaning.specs.Programs.{Before, expr_of, maybe_of, alone, alone_if, declared, before}
-use Rattle.program_types.specs.Agreeing.{Known as Script, TestAgrees, UpdateAgrees, BeginAgrees, StmtsAgree}
+use Rattle.program_types.specs.Types.{IsNamed}
+use Rattle.program_types.specs.Agreeing.{Known as Script, Scope, TestAgrees, UpdateAgrees, BeginAgrees, StmtsAgree, CatchesAgree}
+use Rattle.program_types.specs.Reached.{CatchesReached}
 use Rattle.typing_laws.proofs.Types.{IsBuilt, built_values, built_aim, prim_aim}
 use Rattle.typing_laws.proofs.Parts.{passed, accepted, settled, cast_is}
 use Rattle.typing_laws.proofs.Names.{in_sight, Known}
 use Rattle.typing_laws.proofs.Sentences as sentence
-use Rattle.typing_laws.proofs.Sentences.{before_if}
-use Rattle.typing_laws.proofs.Values.{Value, ruled, type_is, PartAt, ReadingIs}
+use Rattle.typing_laws.proofs.Sentences.{before_if, catches_in}
+use Rattle.typing_laws.proofs.Values.{Value, ruled, type_is, caught_named, PartAt, ReadingIs}
 use Rattle.typing_laws.proofs.Steps.{Grew, stays, grew_on, closes, sight_grows, not_found, distinct_behind, Kind, Leads, of_step, of_first, Steps, Bodies, step_at, StepAt}
 use Rattle.typing_laws.proofs.Reaching.{Reaches, AloneReached, alone_reached, nothing_alone, stmt_reaches, declared_reaches, one_falls, in_a_row, nothing_reaches, by_any, none_escapes, row_reaches}
 
@@ -314,6 +321,12 @@ module _ (funs : Script) where
       settled (λ t. Declared s t name of) (record s { scopes = s.scopes ++ new_entry name.spelling of ∷ [] }) t e
       (record { is = refl; known = (distinct_behind s.scopes (new_entry name.spelling of) d.0 (not_found name.spelling s.scopes is), d.1) })
 
+  declared_grew : (s t : State) (name : Spelled) (of : Ty) → Declared s t name of → Grew s t
+  declared_grew s t name of x = record { more = new_entry name.spelling of ∷ []; is = x.is; known = x.known }
+
+  declared_sight : (s t : State) (name : Spelled) (of : Ty) → Declared s t name of → in_sight t.scopes ≡ record { name = name.spelling; of = of } ∷ in_sight s.scopes
+  declared_sight s t name of x = ap (λ (t : State). in_sight t.scopes) x.is ∙ sight_grows s.scopes (new_entry name.spelling of) []
+
   pub variable_is : (name : Spelled) (of : Ty) {m : Doing (Option Typed)} → IsBuilt of → Value (BeginAt of) m
       → Steps funs one_variable (m >>= (λ x. stating (variable_of name of x)))
   variable_is name of p h = record {
@@ -322,14 +335,12 @@ module _ (funs : Script) where
         let b = ruled (variable_of name of a.given s) (λ p. next p.0 p.1) r a.goes in
         let c = passed (declares name.at name.spelling of s) (λ t. accepted (variable name of a.given, t)) b.given b.has in
         let made = declared_by (find name.spelling s.scopes) s c.given name of refl c.first d in
-        let sight : in_sight c.given.scopes ≡ record { name = name.spelling; of = of } ∷ in_sight s.scopes =
-        ap (λ (t : State). in_sight t.scopes) made.is ∙ sight_grows s.scopes (new_entry name.spelling of) [] in
         let goes : next (variable name of a.given) c.given ≡ Ok r = settled (λ (p : TypedVariable × State). next p.0 p.1 ≡ Ok r) _ _ (sym c.then') b.goes in
         record {
           given = variable name of a.given;
           state = c.given;
-          grew = record { more = new_entry name.spelling of ∷ []; is = made.is; known = made.known };
-          leads = λ rest h. (a.has, built_values of p, subst (λ g. StmtsAgree funs s.result s.looped g rest) sight h);
+          grew = declared_grew s c.given name of made;
+          leads = λ rest h. (a.has, built_values of p, subst (λ g. StmtsAgree funs s.result s.looped g rest) (declared_sight s c.given name of made) h);
           reaches = tt;
           goes = goes;
         };
@@ -368,5 +379,95 @@ module _ (funs : Script) where
           leads = λ rest h. subst (StmtsAgree funs s.result s.looped (in_sight s.scopes)) (sym (sentence.declare_is at vs.given rest)) (vs.leads rest h);
           reaches = declared_reaches (before (declaration_of at vs.given).statement) vs.given (sentence.declare_is at vs.given);
           goes = vs.goes;
+        };
+  }
+
+  -- ---- try
+
+  -- a catch in the scope around it
+  pub record CaughtAt (s : State) (x : Caught) : Type 0 where
+    pub named : IsNamed (t.Class x.class)
+    pub agrees : StmtsAgree funs s.result s.looped (record { name = x.name; of = t.Class x.class } ∷ in_sight s.scopes) (alone (before x.body.statement))
+    pub reached : AloneReached x.body.escapes (alone (before x.body.statement))
+
+  -- catches in the scope around them: one falls, where not all escape
+  pub record CatchesAt (s : State) (xs : List Caught) : Type 0 where
+    pub agree : CatchesAgree funs s.result s.looped (in_sight s.scopes) (catches_in xs)
+    pub reached : CatchesReached (catches_in xs)
+    pub falling : list_all caught_escapes xs ≡ false → any_falls (catches_in xs) ≡ true
+
+  no_catches : (s : State) → CatchesAt s []
+  no_catches s = record { agree = tt; reached = tt; falling = λ e. absurd (false≢true (sym e)) }
+
+  more_catches : (s : State) (x : Caught) (xs : List Caught) → CaughtAt s x → CatchesAt s xs → CatchesAt s (x ∷ xs)
+  more_catches s x xs h hs = record {
+    agree = (h.named, h.agrees, hs.agree);
+    reached = (h.reached.reached, hs.reached);
+    falling = one_falls x.body.escapes (list_all caught_escapes xs) _ _ h.reached.falling hs.falling;
+  }
+
+  abbrev handler : (at block_at class : ℕ) (name : Spelled) → List Step → Caught
+  handler at block_at class name ys = caught at class name.spelling (block_of block_at ys)
+
+  -- a block, in the scope of the name of its catch
+  caught_is : (s after u : State) (at block_at class : ℕ) (name : Spelled) (ys : List Step) → IsNamed (t.Class class) → Declared s after name (t.Class class)
+      → Leads funs after u (in_a_row ys) → Reaches (last_escapes ys) (in_a_row ys) → CaughtAt s (handler at block_at class name ys)
+  caught_is s after u at block_at class name ys n x leads reaches =
+      let g : Scope = record { name = name.spelling; of = t.Class class } ∷ in_sight s.scopes in
+      let inside = brought s after (in_a_row ys Finish) (declared_grew s after name (t.Class class) x) (leads Finish tt) in
+      let agrees = subst (λ g. StmtsAgree funs s.result s.looped g (in_a_row ys Finish)) (declared_sight s after name (t.Class class) x) inside in
+      record {
+        named = n;
+        agrees = subst (StmtsAgree funs s.result s.looped g) (sym (sentence.block_is block_at (statements_of ys) Finish)) (agrees, tt);
+        reached = alone_reached (last_escapes ys) (before (block_of block_at ys).statement) (block_reaches block_at ys (alone_reached (last_escapes ys) (in_a_row ys) reaches));
+      }
+
+  behind_scope : {A : Type 0} (s u : State) (next : A → State → Answer) (x : A) (r : Whole) → Grew s u → next x (closed (length s.scopes) u) ≡ Ok r → next x s ≡ Ok r
+  behind_scope s u next x r g e = subst (λ t. next x t ≡ Ok r) (closes s u g) e
+
+  pub catch_value : (at block_at : ℕ) (of : TypeName) (name : Spelled) {m : Doing (List Step)} → Steps funs row m
+      → Value CaughtAt (by_rule (caught_class of) >>= (λ class. scoped (changing (declares name.at name.spelling (t.Class class)) >> (m >>= (λ ys. pure (handler at block_at class name ys))))))
+  catch_value at block_at of name {m = m} h = record {
+    by = λ s next r d e.
+        let last : Caught → State → Answer = λ x t. next x (closed (length s.scopes) t) in
+        let a = ruled (caught_class of) (λ class. and_then (declares name.at name.spelling (t.Class class) s) (λ t. m t (λ ys t. last (handler at block_at class name ys) t))) r e in
+        let b = ruled (declares name.at name.spelling (t.Class a.given) s) (λ t. m t (λ ys t. last (handler at block_at a.given name ys) t)) r a.goes in
+        let made = declared_by (find name.spelling s.scopes) s b.given name (t.Class a.given) refl b.has d in
+        let ys = h.by b.given (λ ys t. last (handler at block_at a.given name ys) t) r made.known b.goes in
+        let grew = grew_on s b.given ys.state (declared_grew s b.given name (t.Class a.given) made) ys.grew in
+        record {
+          given = handler at block_at a.given name ys.given;
+          has = caught_is s b.given ys.state at block_at a.given name ys.given (caught_named of a.given a.has) made ys.leads ys.reaches;
+          goes = behind_scope s ys.state next (handler at block_at a.given name ys.given) r grew ys.goes;
+        };
+  }
+
+  abbrev pub AllCatches : List (Doing Caught) → Type 0
+  AllCatches [] = Unit {0}
+  AllCatches (m ∷ ms) = Value CaughtAt m × AllCatches ms
+
+  pub catches_value : (ms : List (Doing Caught)) → AllCatches ms → Value CatchesAt (handlers ms)
+  catches_value [] h = record { by = λ s next r d e. record { given = []; has = no_catches s; goes = e } }
+  catches_value (m ∷ ms) h = record {
+    by = λ s next r d e.
+        let a = h.0.by s (λ x t. handlers ms t (λ xs t. next (x ∷ xs) t)) r d e in
+        let rest = (catches_value ms h.1).by s (λ xs t. next (a.given ∷ xs) t) r d a.goes in
+        record { given = a.given ∷ rest.given; has = more_catches s a.given rest.given a.has rest.has; goes = rest.goes };
+  }
+
+  pub try_step : (at block_at : ℕ) {m : Doing (List Step)} (ms : List (Doing Caught)) → Steps funs row m → AllCatches ms
+      → Value (StepAt funs) (scoped m >>= (λ ys. handlers ms >>= (λ xs. pure (try_of at (block_of block_at ys) xs))))
+  try_step at block_at ms hm hs = record {
+    by = λ s next r d e.
+        let a = (scoped_row hm).by s (λ ys t. handlers ms t (λ xs t. next (try_of at (block_of block_at ys) xs) t)) r d e in
+        let c = (catches_value ms hs).by s (λ xs t. next (try_of at (block_of block_at a.given) xs) t) r d a.goes in
+        let block = (block_of block_at a.given).statement in
+        let body = alone_reached (last_escapes a.given) (before block) (block_reaches block_at a.given a.has.1) in
+        record {
+          given = try_of at (block_of block_at a.given) c.given;
+          has = step_at funs s (try_of at (block_of block_at a.given) c.given) (Try (alone (before block)) (catches_in c.given)) (sentence.try_is at block c.given)
+              (subst (StmtsAgree funs s.result s.looped (in_sight s.scopes)) (sym (sentence.block_is block_at (statements_of a.given) Finish)) (a.has.0, tt), c.has.agree)
+              (body.reached, c.has.reached) (one_falls (last_escapes a.given) (list_all caught_escapes c.given) _ _ body.falling c.has.falling);
+          goes = c.goes;
         };
   }

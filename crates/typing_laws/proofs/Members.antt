@@ -17,6 +17,7 @@ use Rattle.allowlist.specs.Catalogue.{catalogue, constructor}
 use Rattle.allowlist.specs.Index.{member_at}
 use Rattle.allowlist.proofs.Unique.{found_is_allowed}
 use Rattle.member_acts.specs.Members.{is_built}
+use Rattle.member_acts.proofs.Owners.{built_owners}
 use Rattle.member_acts.specs.Types.{is_plain_class, is_plain_layer, is_plain, is_plain_member}
 use Rattle.typed_tree.specs.declared.operation.Operation.{Operation}
 use Rattle.typed_tree.specs.declared.operation.Operation.TheVariants as o
@@ -35,7 +36,7 @@ use Rattle.program_meaning.specs.Programs.{exprs_of, expr_of}
 use Rattle.program_types.specs.Types.{IsReference}
 use Rattle.program_types.specs.Agreeing.{Known as Script, Scope, types_of, TakesTypes, Applies, is_primitive_layer, is_primitive as gives_number, MemberAgrees, ExprsAgree}
 use Rattle.typing_laws.proofs.Nodes.{applied_is, guarded_is}
-use Rattle.typing_laws.proofs.Types.{part_layer, IsOfPart, part_aim, reference_by, plain_class}
+use Rattle.typing_laws.proofs.Types.{part_layer, IsOfPart, part_aim, reference_by, plain_class, members_built}
 use Rattle.typing_laws.proofs.Parts.{passed, accepted, settled, PartIs, node_is, part_of, cast_is}
 use Rattle.typing_laws.proofs.Names.{AllParts}
 
@@ -73,6 +74,7 @@ all_plain (t ∷ ts) e =
 
 -- what is open in a member
 record Opens (m : MemberType) : Type 0 where
+  owner : is_built_class m.owner ≡ true
   plain : is_plain_member m ≡ true
   params : list_all is_open m.params ≡ true
   result : IsOfPart m.result
@@ -83,6 +85,7 @@ opens m e =
     let first = and_parts (is_built_class m.owner) (list_all is_open m.params && is_open m.result) e in
     let second = and_parts (list_all is_open m.params) (is_open m.result) first.1 in
     record {
+      owner = first.0;
       plain = both_true (is_plain_class m.owner) (list_all is_plain m.params) (plain_class m.owner first.0) (all_plain m.params second.0);
       params = second.0;
       result = open_part m.result second.1;
@@ -97,11 +100,10 @@ kind_is kind.Instance kind.Instance e = refl
 kind_is kind.Field kind.Field e = refl
 kind_is a b e = cc
 
--- what is wanted was found, and is built
+-- what is wanted was found, and is open
 record Wants (sort : MemberKind) (found : Option ℕ) (number : ℕ) : Type 0 where
   is : found ≡ Some number
   kind : (member_at number).kind ≡ sort
-  built : is_built number ≡ true
   opens : Opens (member_at number)
 
 record BothHold (c d : Bool) (m n : ℕ) : Type 0 where
@@ -117,10 +119,8 @@ both_hold false d a b at m n e = cc
 wants : (sort : MemberKind) (at : ℕ) (found : Option ℕ) (number : ℕ) → wanted sort at found ≡ Ok number → Wants sort found number
 wants sort at None number e = cc
 wants sort at (Some m) number e =
-    let h = both_hold (is_kind sort (member_at m).kind) (is_built m && is_open_member (member_at m)) _ _ at m number e in
-    let ready = and_parts (is_built m) (is_open_member (member_at m)) h.second in
-    subst (Wants sort (Some m)) h.same
-    (record { is = refl; kind = kind_is sort (member_at m).kind h.first; built = ready.0; opens = opens (member_at m) ready.1 })
+    let h = both_hold (is_kind sort (member_at m).kind) (is_open_member (member_at m)) _ _ at m number e in
+    subst (Wants sort (Some m)) h.same (record { is = refl; kind = kind_is sort (member_at m).kind h.first; opens = opens (member_at m) h.second })
 
 -- ---- the member that is found
 
@@ -128,6 +128,10 @@ record Allowed (allow : AllowList) (arity number : ℕ) : Type 0 where
   allowed : flag allow.members number ≡ true
   is : slice_get catalogue number ≡ Some (member_at number)
   takes : length (member_at number).params ≡ arity
+
+-- a member that is open is built
+open_built : (number : ℕ) → slice_get catalogue number ≡ Some (member_at number) → Opens (member_at number) → is_built number ≡ true
+open_built number is x = built_owners number (member_at number) is ∙ members_built (member_at number).owner x.owner
 
 allowed_by : (allow : AllowList) (arity number : ℕ) (m : MemberType) → flag allow.members number ≡ true → slice_get catalogue number ≡ Some m
     → length m.params ≡ arity
@@ -248,7 +252,8 @@ module _ (funs : Script) (g : Scope) where
       → Callable sort arity number
   callable sort at arity found number e there =
       let w = wants sort at found number e in
-      record { kind = w.kind; built = w.built; opens = w.opens; found = there w.is }
+      let a = there w.is in
+      record { kind = w.kind; built = open_built number a.is w.opens; opens = w.opens; found = a }
 
   given_to : (sort : MemberKind) (number : ℕ) (xs : List Part) (ys : List Typed) → Callable sort (length xs) number → member_arguments number xs ≡ Ok ys
       → AllParts funs g xs

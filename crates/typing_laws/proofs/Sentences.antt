@@ -1,14 +1,17 @@
 -- The statements of typing as trees.
-use Rattle.std.proofs.Common.{◌≡◌, ℕ, List, map, Option, Some, None, sym, ap, ◌∙◌}
+use Rattle.std.proofs.Common.{◌≡◌, ℕ, List, [], ◌∷◌, map, Option, Some, None, refl, sym, ap, ◌∙◌}
 use Rattle.typed_tree.specs.declared.typed.Typed.{Typed}
 use Rattle.typed_tree.specs.declared.statement.StatementNode.{StatementNode}
 use Rattle.typed_tree.specs.declared.statement.TypedStatement.{TypedStatement, roll-TypedStatement}
+use Rattle.typed_tree.specs.declared.statement.TypedCatch.{TypedCatch}
 use Rattle.typed_tree.specs.declared.statement.TypedVariable.{TypedVariable}
 use Rattle.typed_tree.specs.declared.statement.StatementNode.TheVariants as n
 use Rattle.typed_tree.specs.declared.statement.StatementNode.TheOpen.{StatementNode-F}
-use Rattle.typed_tree.specs.declared.statement.StatementNode.TheFolds.{fold-StatementNode, fold-roll-TypedStatement, fold-roll-StatementNode}
-use Rattle.program_meaning.specs.Tree.{Do, If, While, DoWhile, Block, Break, Continue, Return, Throw, Stmts, Finish, Then}
-use Rattle.program_meaning.specs.Programs.{Before, Caught, expr_of, maybe_of, alone, alone_if, in_row, declared, begun, catch_before, node_before, statement_before, before}
+use Rattle.typed_tree.specs.declared.statement.StatementNode.TheFolds.{fold-StatementNode, fold-TypedCatch, fold-roll-TypedStatement, fold-roll-TypedCatch, fold-roll-StatementNode}
+use Rattle.typing_rules.specs.declared.part.Caught.{Caught as Handler}
+use Rattle.typing_rules.specs.Rules.Statements.{catch_of}
+use Rattle.program_meaning.specs.Tree.{Do, If, While, DoWhile, Try, Block, Break, Continue, Return, Throw, Stmts, Finish, Then, Catches, NoCatch, Catch}
+use Rattle.program_meaning.specs.Programs.{Before, Caught, expr_of, maybe_of, alone, alone_if, in_row, declared, begun, caught_in_row, catch_before, node_before, statement_before, before}
 
 abbrev fold : StatementNode → Before
 fold node = fold-StatementNode Before Caught Before node_before catch_before statement_before node
@@ -48,6 +51,29 @@ loop_is at (Some f) c u (Some b) rest = ap (λ f. f rest) (at_step at (n.Loop (S
 pub do_is : (at : ℕ) (b : TypedStatement) (c : Option Typed) (rest : Stmts) → before (roll-TypedStatement (record { at = at; node = n.Do b c })) rest ≡ Then (DoWhile (alone (before b)) (maybe_of c)) rest
 unfolding before
 do_is at b c rest = ap (λ f. f rest) (at_step at (n.Do b c) ∙ (ap fold (sym (n.rolls-Do b c)) ∙ fold-roll-StatementNode Before Caught Before node_before catch_before statement_before (StatementNode-F.Do b c)))
+
+-- the catches of a `try`
+abbrev pub catches_in : List Handler → Catches
+catches_in [] = NoCatch
+catches_in (x ∷ xs) = Catch x.class x.name (alone (before x.body.statement)) (catches_in xs)
+
+abbrev fold_catch : TypedCatch → Caught
+fold_catch c = fold-TypedCatch Before Caught Before node_before catch_before statement_before c
+
+catch_is : (x : Handler) (rest : Catches) → fold_catch (catch_of x) rest ≡ Catch x.class x.name (alone (before x.body.statement)) rest
+unfolding before
+catch_is x rest = ap (λ f. f rest) (fold-roll-TypedCatch Before Caught Before node_before catch_before statement_before (record { at = x.at; class = x.class; name = x.name; body = x.body.statement }))
+
+catches_are : (xs : List Handler) → caught_in_row (map fold_catch (map catch_of xs)) ≡ catches_in xs
+catches_are [] = refl
+catches_are (x ∷ xs) = catch_is x (caught_in_row (map fold_catch (map catch_of xs))) ∙ ap (λ rest. Catch x.class x.name (alone (before x.body.statement)) rest) (catches_are xs)
+
+try_folds : (at : ℕ) (b : TypedStatement) (cs : List TypedCatch) (rest : Stmts) → before (roll-TypedStatement (record { at = at; node = n.Try b cs })) rest ≡ Then (Try (alone (before b)) (caught_in_row (map fold_catch cs))) rest
+unfolding before
+try_folds at b cs rest = ap (λ f. f rest) (at_step at (n.Try b cs) ∙ (ap fold (sym (n.rolls-Try b cs)) ∙ fold-roll-StatementNode Before Caught Before node_before catch_before statement_before (StatementNode-F.Try b cs)))
+
+pub try_is : (at : ℕ) (b : TypedStatement) (xs : List Handler) (rest : Stmts) → before (roll-TypedStatement (record { at = at; node = n.Try b (map catch_of xs) })) rest ≡ Then (Try (alone (before b)) (catches_in xs)) rest
+try_is at b xs rest = try_folds at b (map catch_of xs) rest ∙ ap (λ cs. Then (Try (alone (before b)) cs) rest) (catches_are xs)
 
 pub break_is : (at : ℕ) (rest : Stmts) → before (roll-TypedStatement (record { at = at; node = n.Break })) rest ≡ Then Break rest
 unfolding before

@@ -1,5 +1,5 @@
 -- Every tree's typing gives what agrees: by induction over trees.
-use Rattle.std.proofs.Common.{ℕ, zero, suc, Bool, true, false, List, [], ◌∷◌, map, take, length, Option, Some, None, sym, subst}
+use Rattle.std.proofs.Common.{ℕ, Bool, true, false, List, [], ◌∷◌, map, Option, Some, None, sym, subst}
 use Rattle.pl_types.specs.declared.ty.Ty.{Ty}
 use Rattle.pl_types.specs.declared.ty.Ty.TheVariants as t
 use Rattle.pl_tree.specs.declared.operator.Access.{Access}
@@ -30,10 +30,9 @@ use Rattle.typing_rules.specs.declared.header.Header.{Header}
 use Rattle.typing_rules.specs.declared.part.Caught.{Caught}
 use Rattle.typing_rules.specs.declared.part.Part.{Part}
 use Rattle.typing_rules.specs.declared.part.Step.{Step}
-use Rattle.typing_rules.specs.declared.scopes.Entry as scopes
 use Rattle.typing_rules.specs.declared.state.State.{State}
-use Rattle.typing_rules.specs.State.{closed, noted}
-use Rattle.typing_rules.specs.Doing.{Doing, ◌>>=◌, ◌>>◌, pure, and_then, by_rule, looking, setting}
+use Rattle.typing_rules.specs.State.{noted}
+use Rattle.typing_rules.specs.Doing.{Doing, ◌>>=◌, pure, and_then, by_rule, looking}
 use Rattle.typing_rules.specs.Rules.Types.{type_of}
 use Rattle.typing_rules.specs.Rules.Nodes.{bracketed}
 use Rattle.typing_rules.specs.Rules.Literals.{integer, negated_integer, constant, text}
@@ -42,16 +41,16 @@ use Rattle.typing_rules.specs.Rules.Operators.{binary_of, unary_of, choice_of, e
 use Rattle.typing_rules.specs.Rules.Places.{local, written, assign_of, step_of}
 use Rattle.typing_rules.specs.Rules.Calls.{call_of}
 use Rattle.typing_rules.specs.Rules.Members.{read_of, field_of, method_of, static_of, new_of}
-use Rattle.typing_rules.specs.Rules.Statements.{escapes_if, last_escapes, expression_of, break_of, continue_of, return_of, nothing_returned, throw_of, deed}
-use Rattle.typing_rules.specs.Typing.{Reading, Doer, Braces, Seen, unbuilt, seen, all_seen, scoped, looping, parts, alone, parameter_type, lambda_parameters, lambda, for_each, call, read, method, initial, returned, loop_step, argument_step, body_step, unary, expression_step, first_step, lambda_step, statement_step, block_step, catch_step, declaration_step, entry_step, variable_step, reading, argument, body, doer, braces}
+use Rattle.typing_rules.specs.Rules.Statements.{escapes_if, expression_of, break_of, continue_of, return_of, nothing_returned, throw_of, deed}
+use Rattle.typing_rules.specs.Typing.{Reading, Doer, Braces, Seen, unbuilt, seen, all_seen, looping, parts, alone, parameter_type, lambda_parameters, lambda, for_each, call, read, method, initial, returned, loop_step, argument_step, body_step, unary, expression_step, first_step, lambda_step, statement_step, block_step, catch_step, declaration_step, entry_step, variable_step, reading, argument, body, doer, braces}
 use Rattle.program_types.specs.Agreeing.{Known as Script}
 use Rattle.typing_laws.proofs.Types.{IsBuilt, def_aim}
 use Rattle.typing_laws.proofs.Parts.{integer_is, negated_is, constant_part, text_part, bracketed_is, asked_is, binary_is, unary_is, choice_part, elvis_part, instance_part}
-use Rattle.typing_laws.proofs.Names.{Fresh, Distinct, Known, in_sight, AllParts, Heads, local_part, written_place, assign_part, step_part, call_part}
+use Rattle.typing_laws.proofs.Names.{Known, in_sight, AllParts, Heads, local_part, written_place, assign_part, step_part, call_part}
 use Rattle.typing_laws.proofs.Members.{method_part, static_part, new_part, read_part, field_part}
 use Rattle.typing_laws.proofs.Values.{Value, ruled, never, Looked, looked, in_order, followed, rule_looked, pure_looked, setting_looked, seen_looked, ends_unbuilt, ends_unbuilt', is_unbuilt, type_is, PartAt, NamesAre, ReadingIs, one_part, two_parts, three_parts, looks, by_one_rule, plain_is, type_name_is, placed_is, fixed_place, minus_part}
 use Rattle.typing_laws.proofs.Steps.{Kind, of_step, of_first, Steps, Bodies, StepAt, FirstAt, steps_of, firsts_of, first_is_step, noted_known, deed_first, expression_step as expression_agrees, return_step, throw_step, nothing_step, break_step, continue_step}
-use Rattle.typing_laws.proofs.Compounds.{condition_is, no_condition, update_is, no_update, RunsAlone, scoped_is, stmts_if, perhaps_some, perhaps_none, row, block_body, if_step, while_step, for_step, for_first_step, do_step, AllSteps, block_steps, BeginAt, initial_some, initial_none, one_variable, variable_is, AllVariables, declaration_step as declaration_agrees}
+use Rattle.typing_laws.proofs.Compounds.{condition_is, no_condition, update_is, no_update, RunsAlone, scoped_is, stmts_if, perhaps_some, perhaps_none, row, block_body, if_step, while_step, for_step, for_first_step, do_step, CaughtAt, AllCatches, catch_value, try_step, AllSteps, block_steps, BeginAt, initial_some, initial_none, one_variable, variable_is, AllVariables, declaration_step as declaration_agrees}
 
 module _ (funs : Script) (hs : List Header) (heads : Heads funs hs) where
   abbrev first : First → Doing Step
@@ -60,7 +59,7 @@ module _ (funs : Script) (hs : List Header) (heads : Heads funs hs) where
   abbrev inner : LambdaBody → Seen
   inner = fold-LambdaBody (Doing Part) (Doing Step) Reading (Doing Step) Seen Doer Braces (Doing Caught) Doer Seen (Ty → Doing TypedVariable) (argument_step funs.allowed hs) (body_step funs.allowed hs) (expression_step funs.allowed hs) (first_step funs.allowed hs) (lambda_step funs.allowed hs) (statement_step funs.allowed hs) (block_step funs.allowed hs) (catch_step funs.allowed hs) (declaration_step funs.allowed hs) (entry_step funs.allowed hs) (variable_step funs.allowed hs)
 
-  abbrev handler : Catch → Seen
+  abbrev handler : Catch → Doing Caught
   handler = fold-Catch (Doing Part) (Doing Step) Reading (Doing Step) Seen Doer Braces (Doing Caught) Doer Seen (Ty → Doing TypedVariable) (argument_step funs.allowed hs) (body_step funs.allowed hs) (expression_step funs.allowed hs) (first_step funs.allowed hs) (lambda_step funs.allowed hs) (statement_step funs.allowed hs) (block_step funs.allowed hs) (catch_step funs.allowed hs) (declaration_step funs.allowed hs) (entry_step funs.allowed hs) (variable_step funs.allowed hs)
 
   abbrev declaration : Declaration → Doer
@@ -94,7 +93,7 @@ module _ (funs : Script) (hs : List Header) (heads : Heads funs hs) where
   OfBlock x = Steps funs (row funs) (braces funs.allowed hs x).steps
 
   abbrev OfCatch : Catch → Type 0
-  OfCatch x = Looked (handler x)
+  OfCatch x = Value (CaughtAt funs) (handler x)
 
   abbrev OfDeclaration : Declaration → Type 0
   OfDeclaration x = (last : Bool) → Steps funs (of_first funs) ((declaration x).typed last)
@@ -190,9 +189,9 @@ module _ (funs : Script) (hs : List Header) (heads : Heads funs hs) where
   seen_entries [] = pure_looked tt
   seen_entries (y ∷ ys) = followed y.1 (seen_entries ys)
 
-  seen_catches : (ys : List ((x : Catch) × OfCatch x)) → Looked (all_seen (map handler (map (λ e. e.0) ys)))
-  seen_catches [] = pure_looked tt
-  seen_catches (y ∷ ys) = followed y.1 (seen_catches ys)
+  given_catches : (ys : List ((x : Catch) × OfCatch x)) → AllCatches funs (map handler (map (λ e. e.0) ys))
+  given_catches [] = tt
+  given_catches (y ∷ ys) = (y.1, given_catches ys)
 
   row_steps : (ys : List ((x : Statement) × OfStatement x)) → AllSteps funs (map (doer funs.allowed hs) (map (λ e. e.0) ys))
   row_steps [] = tt
@@ -417,35 +416,6 @@ module _ (funs : Script) (hs : List Header) (heads : Heads funs hs) where
         record { given = b.given; has = expression_agrees funs s at last a.given b.given d.1 b.has a.has; goes = b.goes };
   }
 
-  try_value : (at : ℕ) (block : (x : Block) × OfBlock x) (catches : List ((x : Catch) × OfCatch x))
-      → Value (StepAt funs) (seen (scoped (braces funs.allowed hs block.0).steps) >> (all_seen (map handler (map (λ e. e.0) catches)) >> unbuilt {A = Step} at))
-  try_value at block catches = record {
-    by = λ s next r d e.
-        let a = (scoped_is funs (row funs) last_escapes (λ a h. h) block.1).by s (λ x t. all_seen (map handler (map (λ e. e.0) catches)) t (λ u t. unbuilt {A = Step} at t next)) r d e in
-        let b = (seen_catches catches).by s (λ u t. unbuilt {A = Step} at t next) r d a.goes in
-        never at r b.goes;
-  }
-
-  fewer : (n : ℕ) (x : List ℕ) (es : List scopes.Entry) → Fresh x es → Fresh x (take n es)
-  fewer zero x es h = tt
-  fewer (suc n) x [] h = tt
-  fewer (suc n) x (e ∷ es) h = (h.0, fewer n x es h.1)
-
-  shorter : (n : ℕ) (es : List scopes.Entry) → Distinct es → Distinct (take n es)
-  shorter zero es d = tt
-  shorter (suc n) [] d = tt
-  shorter (suc n) (e ∷ es) d = (fewer n e.name es d.0, shorter n es d.1)
-
-  catch_looked : (of : TypeName) (name : List ℕ) (block : (x : Block) × OfBlock x)
-      → Looked (by_rule (type_of of) >>= (λ of. scoped (setting (noted name of) >> seen (braces funs.allowed hs block.0).steps)))
-  catch_looked of name block = record {
-    by = λ s next r d e.
-        let to = ruled (type_of of) (λ of. scoped (setting (noted name of) >> seen (braces funs.allowed hs block.0).steps) s next) r e in
-        let n = noted name to.given s in
-        let b = (steps_looked block.1).by n (λ x t. next tt (closed (length s.scopes) t)) r (noted_known name to.given s d) to.goes in
-        record { given = tt; state = closed (length s.scopes) b.state; known = (shorter (length s.scopes) b.state.scopes b.known.0, b.known.1); goes = b.goes };
-  }
-
   argument_layer : (y : WithArgument) → OfArgument (roll-Argument (bareArgument y))
   argument_layer (Argument-F.Value value) = subst (Value (PartAt funs)) (sym (fold-roll-Argument (Doing Part) (Doing Step) Reading (Doing Step) Seen Doer Braces (Doing Caught) Doer Seen (Ty → Doing TypedVariable) (argument_step funs.allowed hs) (body_step funs.allowed hs) (expression_step funs.allowed hs) (first_step funs.allowed hs) (lambda_step funs.allowed hs) (statement_step funs.allowed hs) (block_step funs.allowed hs) (catch_step funs.allowed hs) (declaration_step funs.allowed hs) (entry_step funs.allowed hs) (variable_step funs.allowed hs) (Argument-F.Value value.0))) (value.1.value)
   argument_layer (Argument-F.Lambda at ps body) = subst (Value (PartAt funs)) (sym (fold-roll-Argument (Doing Part) (Doing Step) Reading (Doing Step) Seen Doer Braces (Doing Caught) Doer Seen (Ty → Doing TypedVariable) (argument_step funs.allowed hs) (body_step funs.allowed hs) (expression_step funs.allowed hs) (first_step funs.allowed hs) (lambda_step funs.allowed hs) (statement_step funs.allowed hs) (block_step funs.allowed hs) (catch_step funs.allowed hs) (declaration_step funs.allowed hs) (entry_step funs.allowed hs) (variable_step funs.allowed hs) (Argument-F.Lambda at ps body.0))) (lambda_value at ps body.1)
@@ -488,7 +458,7 @@ module _ (funs : Script) (hs : List Header) (heads : Heads funs hs) where
   statement_layer (Statement-F.For at (Some f) (Some c) (Some u) (Some b)) = subst (λ (d : Doer). (last : Bool) → Steps funs (of_step funs) (d.typed last)) (sym (fold-roll-Statement (Doing Part) (Doing Step) Reading (Doing Step) Seen Doer Braces (Doing Caught) Doer Seen (Ty → Doing TypedVariable) (argument_step funs.allowed hs) (body_step funs.allowed hs) (expression_step funs.allowed hs) (first_step funs.allowed hs) (lambda_step funs.allowed hs) (statement_step funs.allowed hs) (block_step funs.allowed hs) (catch_step funs.allowed hs) (declaration_step funs.allowed hs) (entry_step funs.allowed hs) (variable_step funs.allowed hs) (Statement-F.For at (Some f.0) (Some c.0) (Some u.0) (Some b.0)))) (λ last. steps_of funs (for_first_step funs at f.1 (condition_is funs (reading funs.allowed hs c.0) c.1) (update_is funs (reading funs.allowed hs u.0) u.1) (perhaps_some funs b.1)))
   statement_layer (Statement-F.ForEach at of name over b) = subst (λ (d : Doer). (last : Bool) → Steps funs (of_step funs) (d.typed last)) (sym (fold-roll-Statement (Doing Part) (Doing Step) Reading (Doing Step) Seen Doer Braces (Doing Caught) Doer Seen (Ty → Doing TypedVariable) (argument_step funs.allowed hs) (body_step funs.allowed hs) (expression_step funs.allowed hs) (first_step funs.allowed hs) (lambda_step funs.allowed hs) (statement_step funs.allowed hs) (block_step funs.allowed hs) (catch_step funs.allowed hs) (declaration_step funs.allowed hs) (entry_step funs.allowed hs) (variable_step funs.allowed hs) (Statement-F.ForEach at of name over.0 b.0))) (λ last. steps_of funs (each_value at (by_rule (type_of of)) name.spelling (reading funs.allowed hs over.0) (rule_looked (type_of of)) over.1 b.1))
   statement_layer (Statement-F.ForIn at name over b) = subst (λ (d : Doer). (last : Bool) → Steps funs (of_step funs) (d.typed last)) (sym (fold-roll-Statement (Doing Part) (Doing Step) Reading (Doing Step) Seen Doer Braces (Doing Caught) Doer Seen (Ty → Doing TypedVariable) (argument_step funs.allowed hs) (body_step funs.allowed hs) (expression_step funs.allowed hs) (first_step funs.allowed hs) (lambda_step funs.allowed hs) (statement_step funs.allowed hs) (block_step funs.allowed hs) (catch_step funs.allowed hs) (declaration_step funs.allowed hs) (entry_step funs.allowed hs) (variable_step funs.allowed hs) (Statement-F.ForIn at name over.0 b.0))) (λ last. steps_of funs (each_value at (pure t.Def) name.spelling (reading funs.allowed hs over.0) (pure_looked t.Def) over.1 b.1))
-  statement_layer (Statement-F.Try at block catches) = subst (λ (d : Doer). (last : Bool) → Steps funs (of_step funs) (d.typed last)) (sym (fold-roll-Statement (Doing Part) (Doing Step) Reading (Doing Step) Seen Doer Braces (Doing Caught) Doer Seen (Ty → Doing TypedVariable) (argument_step funs.allowed hs) (body_step funs.allowed hs) (expression_step funs.allowed hs) (first_step funs.allowed hs) (lambda_step funs.allowed hs) (statement_step funs.allowed hs) (block_step funs.allowed hs) (catch_step funs.allowed hs) (declaration_step funs.allowed hs) (entry_step funs.allowed hs) (variable_step funs.allowed hs) (Statement-F.Try at block.0 (map (λ e. e.0) catches)))) (λ last. steps_of funs (try_value at block catches))
+  statement_layer (Statement-F.Try at block catches) = subst (λ (d : Doer). (last : Bool) → Steps funs (of_step funs) (d.typed last)) (sym (fold-roll-Statement (Doing Part) (Doing Step) Reading (Doing Step) Seen Doer Braces (Doing Caught) Doer Seen (Ty → Doing TypedVariable) (argument_step funs.allowed hs) (body_step funs.allowed hs) (expression_step funs.allowed hs) (first_step funs.allowed hs) (lambda_step funs.allowed hs) (statement_step funs.allowed hs) (block_step funs.allowed hs) (catch_step funs.allowed hs) (declaration_step funs.allowed hs) (entry_step funs.allowed hs) (variable_step funs.allowed hs) (Statement-F.Try at block.0 (map (λ e. e.0) catches)))) (λ last. steps_of funs (try_step funs at (braces funs.allowed hs block.0).at (map handler (map (λ e. e.0) catches)) block.1 (given_catches catches)))
   statement_layer (Statement-F.Do at block condition) = subst (λ (d : Doer). (last : Bool) → Steps funs (of_step funs) (d.typed last)) (sym (fold-roll-Statement (Doing Part) (Doing Step) Reading (Doing Step) Seen Doer Braces (Doing Caught) Doer Seen (Ty → Doing TypedVariable) (argument_step funs.allowed hs) (body_step funs.allowed hs) (expression_step funs.allowed hs) (first_step funs.allowed hs) (lambda_step funs.allowed hs) (statement_step funs.allowed hs) (block_step funs.allowed hs) (catch_step funs.allowed hs) (declaration_step funs.allowed hs) (entry_step funs.allowed hs) (variable_step funs.allowed hs) (Statement-F.Do at block.0 condition.0))) (λ last. steps_of funs (do_step funs at (braces funs.allowed hs block.0).at block.1 (condition_is funs (reading funs.allowed hs condition.0) condition.1)))
   statement_layer (Statement-F.«Statement::Declare» d) = subst (λ (d : Doer). (last : Bool) → Steps funs (of_step funs) (d.typed last)) (sym (fold-roll-Statement (Doing Part) (Doing Step) Reading (Doing Step) Seen Doer Braces (Doing Caught) Doer Seen (Ty → Doing TypedVariable) (argument_step funs.allowed hs) (body_step funs.allowed hs) (expression_step funs.allowed hs) (first_step funs.allowed hs) (lambda_step funs.allowed hs) (statement_step funs.allowed hs) (block_step funs.allowed hs) (catch_step funs.allowed hs) (declaration_step funs.allowed hs) (entry_step funs.allowed hs) (variable_step funs.allowed hs) (Statement-F.«Statement::Declare» d.0))) (λ last. first_is_step funs (d.1 false))
   statement_layer (Statement-F.Continue at) = subst (λ (d : Doer). (last : Bool) → Steps funs (of_step funs) (d.typed last)) (sym (fold-roll-Statement (Doing Part) (Doing Step) Reading (Doing Step) Seen Doer Braces (Doing Caught) Doer Seen (Ty → Doing TypedVariable) (argument_step funs.allowed hs) (body_step funs.allowed hs) (expression_step funs.allowed hs) (first_step funs.allowed hs) (lambda_step funs.allowed hs) (statement_step funs.allowed hs) (block_step funs.allowed hs) (catch_step funs.allowed hs) (declaration_step funs.allowed hs) (entry_step funs.allowed hs) (variable_step funs.allowed hs) (Statement-F.Continue at))) (λ last. steps_of funs (looks funs (continue_of at) (λ s x d e. continue_step funs s at x e)))
@@ -502,7 +472,7 @@ module _ (funs : Script) (hs : List Header) (heads : Heads funs hs) where
   block_layer y = subst (λ (b : Braces). Steps funs (row funs) b.steps) (sym (fold-roll-Block (Doing Part) (Doing Step) Reading (Doing Step) Seen Doer Braces (Doing Caught) Doer Seen (Ty → Doing TypedVariable) (argument_step funs.allowed hs) (body_step funs.allowed hs) (expression_step funs.allowed hs) (first_step funs.allowed hs) (lambda_step funs.allowed hs) (statement_step funs.allowed hs) (block_step funs.allowed hs) (catch_step funs.allowed hs) (declaration_step funs.allowed hs) (entry_step funs.allowed hs) (variable_step funs.allowed hs) (bareBlock y))) (block_steps funs _ (row_steps y.statements))
 
   catch_layer : (y : WithCatch) → OfCatch (roll-Catch (bareCatch y))
-  catch_layer y = subst Looked (sym (fold-roll-Catch (Doing Part) (Doing Step) Reading (Doing Step) Seen Doer Braces (Doing Caught) Doer Seen (Ty → Doing TypedVariable) (argument_step funs.allowed hs) (body_step funs.allowed hs) (expression_step funs.allowed hs) (first_step funs.allowed hs) (lambda_step funs.allowed hs) (statement_step funs.allowed hs) (block_step funs.allowed hs) (catch_step funs.allowed hs) (declaration_step funs.allowed hs) (entry_step funs.allowed hs) (variable_step funs.allowed hs) (bareCatch y))) (catch_looked y.of y.name.spelling y.block)
+  catch_layer y = subst (Value (CaughtAt funs)) (sym (fold-roll-Catch (Doing Part) (Doing Step) Reading (Doing Step) Seen Doer Braces (Doing Caught) Doer Seen (Ty → Doing TypedVariable) (argument_step funs.allowed hs) (body_step funs.allowed hs) (expression_step funs.allowed hs) (first_step funs.allowed hs) (lambda_step funs.allowed hs) (statement_step funs.allowed hs) (block_step funs.allowed hs) (catch_step funs.allowed hs) (declaration_step funs.allowed hs) (entry_step funs.allowed hs) (variable_step funs.allowed hs) (bareCatch y))) (catch_value funs y.at (braces funs.allowed hs y.block.0).at y.of y.name y.block.1)
 
   declaration_layer : (y : WithDeclaration) → OfDeclaration (roll-Declaration (bareDeclaration y))
   declaration_layer y = subst (λ (d : Doer). (last : Bool) → Steps funs (of_first funs) (d.typed last)) (sym (fold-roll-Declaration (Doing Part) (Doing Step) Reading (Doing Step) Seen Doer Braces (Doing Caught) Doer Seen (Ty → Doing TypedVariable) (argument_step funs.allowed hs) (body_step funs.allowed hs) (expression_step funs.allowed hs) (first_step funs.allowed hs) (lambda_step funs.allowed hs) (statement_step funs.allowed hs) (block_step funs.allowed hs) (catch_step funs.allowed hs) (declaration_step funs.allowed hs) (entry_step funs.allowed hs) (variable_step funs.allowed hs) (bareDeclaration y))) (λ last. declaration_agrees funs y.of.at y.of _ (λ of p. all_variables of p y.variables))

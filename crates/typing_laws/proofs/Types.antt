@@ -1,7 +1,7 @@
 -- Types that parts of expressions have, and types to which they are cast.
 use Rattle.std.proofs.Common.{◌≡◌, ℕ, Bool, true, false, ◌||◌, ◌&&◌, Some, None, refl, sym, ap, ◌∙◌, subst, arith, ◌≤◌, ◌<◌, nat_lt, ◌⊎◌, inl, inr}
 use Rattle.std.specs.Prelude.{nat_le, not, ◌==◌, if◌then◌else◌}
-use Rattle.std.proofs.lemmas.Bool.{and_parts, or_cases, eqb-true, leb-true, lt-ltb, ne_eqb}
+use Rattle.std.proofs.lemmas.Bool.{and_parts, or_cases, or_left, or_right, eqb-true, leb-true, le-leb, lt-ltb, ne_eqb}
 use Rattle.pl_types.specs.declared.classes.TheConstants.{CHAR_SEQUENCE, STRING, STRING_BUILDER, EXCEPTION, STRING_INDEX_OUT_OF_BOUNDS_EXCEPTION, PRELUDE, NUMBER, BYTE, SHORT, INTEGER, LONG, CHARACTER, BOOLEAN}
 use Rattle.pl_types.specs.declared.primitive.Primitive.{Primitive}
 use Rattle.pl_types.specs.declared.primitive.Primitive.TheVariants as prim
@@ -10,6 +10,7 @@ use Rattle.pl_types.specs.declared.ty.Ty.TheVariants as t
 use Rattle.pl_types.specs.declared.ty.Ty.TheOpen.{Ty-F}
 use Rattle.pl_types.specs.declared.ty.Ty.TheFolds.{fold-roll-Ty, map-Ty}
 use Rattle.pl_types.specs.Casts.{unboxed}
+use Rattle.member_acts.specs.Laws.{is_built_class as has_members}
 use Rattle.member_acts.specs.Types.{is_plain_class}
 use Rattle.typing_rules.specs.Rules.Types.{is_built_class, is_built_layer, is_built}
 use Rattle.program_types.specs.Types.{is_reference_layer, IsReference, has_values_layer, HasValues, listed_layer, is_listed, IsNamed}
@@ -70,6 +71,25 @@ plain_class c e =
   where
     plain_by : (a b c : Bool) → a ≡ false → b ≡ false → c ≡ false → (not a && (not b && not c)) ≡ true
     plain_by a b c x y z = cc
+
+-- the members of a class that is built are built
+pub members_built : (c : ℕ) → is_built_class c ≡ true → has_members c ≡ true
+members_built c e = first (or_cases (nat_le c CHAR_SEQUENCE) _ e)
+  where
+    low : c ≤ STRING_BUILDER → has_members c ≡ true
+    low most = or_left (nat_le c STRING_BUILDER) _ (le-leb c STRING_BUILDER most)
+
+    third : ((c == STRING_BUILDER) ≡ true) ⊎ ((nat_le EXCEPTION c && nat_le c STRING_INDEX_OUT_OF_BOUNDS_EXCEPTION) ≡ true) → has_members c ≡ true
+    third (inl e) = let is = eqb-true c STRING_BUILDER e in low (omega (arith, is))
+    third (inr e) = or_right (nat_le c STRING_BUILDER) _ e
+
+    second : ((c == STRING) ≡ true) ⊎ ((c == STRING_BUILDER || (nat_le EXCEPTION c && nat_le c STRING_INDEX_OUT_OF_BOUNDS_EXCEPTION)) ≡ true) → has_members c ≡ true
+    second (inl e) = let is = eqb-true c STRING e in low (omega (arith, is))
+    second (inr e) = third (or_cases (c == STRING_BUILDER) _ e)
+
+    first : (nat_le c CHAR_SEQUENCE ≡ true) ⊎ ((c == STRING || (c == STRING_BUILDER || (nat_le EXCEPTION c && nat_le c STRING_INDEX_OUT_OF_BOUNDS_EXCEPTION))) ≡ true) → has_members c ≡ true
+    first (inl e) = let most = leb-true c CHAR_SEQUENCE e in low (omega (arith, most))
+    first (inr e) = second (or_cases (c == STRING) _ e)
 
 -- ---- types by their layers
 
@@ -146,6 +166,10 @@ built_named of b = record { listed = listed_by of (out-Ty of) refl ∙ by_layer 
     by_layer Ty-F.Void is = cc
     by_layer Ty-F.Null is = cc
     by_layer (Ty-F.Array u) is = cc
+
+-- code may name each class that scripts may name
+pub class_named : (c : ℕ) → nat_lt c PRELUDE ≡ true → IsNamed (t.Class c)
+class_named c is = record { listed = listed_by (t.Class c) (Ty-F.Class c) (class_layer c) ∙ is }
 
 -- ---- what parts have: void, the type of null, or a type of variables that is built
 

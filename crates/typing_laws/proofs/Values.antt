@@ -1,6 +1,7 @@
 -- What steps of typing give, where they refuse nothing: expressions leave what is known as it was.
 use Rattle.std.proofs.Common.{◌≡◌, ℕ, List, [], ◌∷◌, Option, Some, None, Ok, Err, refl}
-use Rattle.std.specs.Prelude.{Bool, true, false, if◌then◌else◌}
+use Rattle.std.specs.Prelude.{Bool, true, false, nat_lt, if◌then◌else◌}
+use Rattle.pl_types.specs.declared.classes.TheConstants.{PRELUDE}
 use Rattle.pl_types.specs.declared.ty.Ty.{Ty}
 use Rattle.pl_types.specs.declared.ty.Ty.TheVariants as t
 use Rattle.pl_tree.specs.declared.operator.UnaryOperator.TheVariants as sign
@@ -12,14 +13,15 @@ use Rattle.typing_rules.specs.declared.part.Place.{Place}
 use Rattle.typing_rules.specs.declared.part.Place.TheVariants as place
 use Rattle.typing_rules.specs.declared.state.State.{State}
 use Rattle.pl_types.specs.declared.refusal.Refusal.{Refusal}
-use Rattle.pl_types.specs.declared.rules.TheConstants.{OUT_OF_PROFILE}
+use Rattle.pl_types.specs.declared.rules.TheConstants.{BAD_CAST, OUT_OF_PROFILE}
 use Rattle.typing_rules.specs.Outcomes.{Out, refusal, refuse}
 use Rattle.typing_rules.specs.Doing.{Whole, Answer, Doing, ◌>>=◌, ◌>>◌, pure, and_then, by_rule, looking, setting}
-use Rattle.typing_rules.specs.Rules.Types.{is_built_class, base_of, bracketed as with_brackets, type_of}
+use Rattle.typing_rules.specs.Rules.Types.{is_built_class, base_of, bracketed as with_brackets, type_of, is_empty, caught_base, caught_class}
 use Rattle.typing_rules.specs.Rules.Operators.{unary_of}
 use Rattle.typing_rules.specs.Typing.{Reading, plain, unbuilt, seen}
+use Rattle.program_types.specs.Types.{IsNamed}
 use Rattle.program_types.specs.Agreeing.{Known as Script}
-use Rattle.typing_laws.proofs.Types.{IsBuilt, prim_built, def_built, class_built}
+use Rattle.typing_laws.proofs.Types.{IsBuilt, prim_built, def_built, class_built, class_named}
 use Rattle.typing_laws.proofs.Parts.{passed, accepted, settled, PartIs, unary_is}
 use Rattle.typing_laws.proofs.Names.{Known, in_sight, PlaceIs}
 
@@ -110,6 +112,29 @@ pub type_is : (name : TypeName) (of : Ty) → type_of name ≡ Ok of → IsBuilt
 type_is name of e =
     let a = passed (base_of name.at name.base) (with_brackets name.at name.brackets) of e in
     bracketed_is name.at name.brackets a.given of a.then' (base_is name.at name.base a.given a.first)
+
+-- ---- code may name the class of a catch
+
+listed_if : (c : Bool) (number at class given : ℕ) → nat_lt class PRELUDE ≡ c → (if c then accepted class else refuse number at) ≡ accepted given
+    → IsNamed (t.Class given)
+listed_if true number at class given is e = settled (λ c. IsNamed (t.Class c)) class given e (class_named class is)
+listed_if false number at class given is e = cc
+
+caught_base_is : (at : ℕ) (base : TypeBase) (class : ℕ) → caught_base at base ≡ Ok class → IsNamed (t.Class class)
+caught_base_is at base.Def class e = cc
+caught_base_is at (base.Primitive p) class e = cc
+caught_base_is at (base.Class c) class e = listed_if (nat_lt c PRELUDE) _ at c class refl e
+caught_base_is at (base.Name name) class e = cc
+
+kept_if : (c : Bool) (number at class given : ℕ) → (if c then accepted class else refuse number at) ≡ accepted given → IsNamed (t.Class class)
+    → IsNamed (t.Class given)
+kept_if true number at class given e h = settled (λ c. IsNamed (t.Class c)) class given e h
+kept_if false number at class given e h = cc
+
+pub caught_named : (name : TypeName) (class : ℕ) → caught_class name ≡ Ok class → IsNamed (t.Class class)
+caught_named name class e =
+    let a = passed (caught_base name.at name.base) (λ c. if is_empty name.brackets then accepted c else refuse BAD_CAST name.at) class e in
+    kept_if (is_empty name.brackets) _ name.at a.given class a.then' (caught_base_is name.at name.base a.given a.first)
 
 -- ---- expressions
 
