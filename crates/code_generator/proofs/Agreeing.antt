@@ -2,17 +2,18 @@
 use Rattle.std.proofs.Common.{◌≡◌, ℕ, ◌+◌, List, [], ◌∷◌, length, drop, Ok, Result, Option, Some, None, refl, sym, ap, ◌∙◌, subst}
 use Rattle.std.specs.Prelude.{map, slice_get, pos}
 use Rattle.pl_types.specs.declared.ty.Ty.{Ty}
+use Rattle.pl_types.specs.declared.ty.Ty.TheVariants as t
 use Rattle.pl_code.specs.declared.kinds.Numbered.TheVariants as numbered
 use Rattle.pl_code.specs.declared.code.Instruction.TheVariants as i
 use Rattle.pl_code.specs.declared.kinds.Slot.{Slot}
 use Rattle.typed_tree.specs.declared.statement.TypedStatement.{TypedStatement}
 use Rattle.typed_tree.specs.declared.statement.TypedVariable.{TypedVariable}
-use Rattle.program_meaning.specs.Tree.{Name, Expr, Maybe, Missing, Given, If, While, DoWhile, Block, Stmts, Finish, Then, Declare, Variable, Program}
+use Rattle.program_meaning.specs.Tree.{Name, Expr, Maybe, Missing, Given, If, While, DoWhile, Try, Block, Stmts, Finish, Then, Declare, Catches, NoCatch, Catch, Variable, Program}
 use Rattle.program_meaning.specs.Programs.{before, declared, stmts_of, maybe_of}
 use Rattle.allowlist.specs.Allow.{AllowList}
 use Rattle.program_types.specs.Agreeing.{Known, known, BeginAgrees}
 use Rattle.program_code.specs.Lying.{lying_of}
-use Rattle.code_generator.specs.Jobs.{Job, Value, Put, Jump, Bind, One, Run, Declared, Close, Both, Either, Skip, Update, Test, Last, Turned, First, IsFirst, keep, entry, flow_of}
+use Rattle.code_generator.specs.Jobs.{Job, Value, Put, Jump, Bind, One, Run, Declared, Close, Both, Either, Skip, Update, Test, Last, Turned, Tried, Caught, Over, First, IsFirst, keep, entry, flow_of}
 use Rattle.code_generator.specs.Sound.{Agree, Keeps, BeginLies, variable, names_in, names_behind}
 use Rattle.code_generator.specs.declared.config.Config.{Config}
 use Rattle.code_generator.specs.declared.config.Entry as d
@@ -21,6 +22,7 @@ use Rattle.code_generator.specs.declared.error.CodeError.{CodeError}
 use Rattle.code_generator.specs.declared.labels.Line.{Line}
 use Rattle.code_generator.specs.declared.task.Exits.{Exits}
 use Rattle.code_generator.proofs.Known.{closed_names}
+use Rattle.code_generator.proofs.Fitting.{class_has_values}
 use Rattle.code_generator.proofs.Parts.{drop_one, drop_end}
 use Rattle.code_generator.proofs.Rows.{kept_mapped}
 use Rattle.code_generator.proofs.Steps.{instead, never}
@@ -57,6 +59,25 @@ module _ (funs : Known) (of : Ty) (js : List Job) (c : Config) (exits : Option E
       → Agree funs of (Jump numbered.Goto first ∷ Bind start ∷ Run body (Some x) ∷ Close height ∷ Bind x.on ∷ Last test x.out ∷ Bind first ∷ Put (i.Int (pos 1) ∷ []) ∷ Jump numbered.Loop start ∷ Bind x.out ∷ Turned ∷ js) (names_in c) c.flows
   do_while_agrees body test height first start x e s =
       (s.0.0, left (Bind x.on ∷ Last test x.out ∷ Bind first ∷ Put (i.Int (pos 1) ∷ []) ∷ Jump numbered.Loop start ∷ Bind x.out ∷ Turned ∷ js) body height (flow_of body ∷ c.flows) e (s.0.1, s.1))
+
+  pub try_agrees : (body : Stmts) (catches : Catches) (height from end : ℕ) → height ≡ length c.scope → Agree funs of (One (Try body catches) exits ∷ js) (names_in c) c.flows
+      → Agree funs of (Run body exits ∷ Close height ∷ Skip end ∷ Tried catches from end exits ∷ Bind end ∷ Either ∷ js) (names_in c) c.flows
+  try_agrees body catches height from end e s = (s.0.0, left (Skip end ∷ Tried catches from end exits ∷ Bind end ∷ Either ∷ js) body height (flow_of body ∷ c.flows) e (s.0.1, s.1))
+
+  over_agrees : (rest : Catches) (label : ℕ) (js' : List Job) (x : Flow) (flows : List Flow) → Agree funs of js' (names_in c) (x ∷ flows) → Agree funs of (Over rest label ∷ js') (names_in c) (x ∷ flows)
+  over_agrees NoCatch label js' x flows s = s
+  over_agrees (Catch class y body rest) label js' x flows s = s
+
+  pub catch_agrees : (class : ℕ) (x : Name) (body : Stmts) (rest : Catches) (height from to label : ℕ) → height ≡ length c.scope → Agree funs of (Caught (Catch class x body rest) from to label exits ∷ js) (names_in c) c.flows
+      → Agree funs of (Declared x (t.Class class) ∷ Run body exits ∷ Close height ∷ Over rest label ∷ Caught rest from to label exits ∷ Either ∷ js) (names_in c) c.flows
+  catch_agrees class x body rest height from to label e s = (
+    class_has_values class,
+    (
+      s.0.1,
+      left (Over rest label ∷ Caught rest from to label exits ∷ Either ∷ js) (Declare x (t.Class class) Missing body) height (flow_of body ∷ c.flows) e
+          (over_agrees rest label (Caught rest from to label exits ∷ Either ∷ js) (flow_of body) c.flows (s.0.2, s.1)),
+    ),
+  )
 
 -- ---- rows of statements and of variables
 

@@ -11,15 +11,15 @@ use Rattle.pl_code.specs.declared.code.Instruction.{Instruction}
 use Rattle.pl_code.specs.declared.code.Instruction.TheVariants as i
 use Rattle.allowlist.specs.declared.member.MemberKind.{MemberKind}
 use Rattle.code_generator.specs.Called.{call_code}
-use Rattle.code_meaning.specs.Machine.{traps_at}
 use Rattle.program_meaning.specs.Tree.{Name, Program}
 use Rattle.pl_code.specs.declared.kinds.Numbered.TheVariants as numbered
 use Rattle.program_code.specs.Lying.{Lying}
 use Rattle.program_code.specs.Parts.{cast_code}
 use Rattle.program_code.specs.Stands.{At, AllAt, end_all}
+use Rattle.program_code.specs.Placed.{untrapped}
 use Rattle.code_generator.specs.Checks.{lying}
 use Rattle.code_generator.specs.Labels.{or_first, bound, settled_line}
-use Rattle.code_generator.specs.Jobs.{Job, Put, Convert, Ask, Call, Jump, Bind, Load, Store, Stand, Holds, Back, IsLocal, scope_in, next_in}
+use Rattle.code_generator.specs.Jobs.{Job, Put, Convert, Ask, Call, Jump, Bind, Load, Store, Stand, Trapped, Holds, Back, IsLocal, scope_in, next_in, whole_in}
 use Rattle.code_generator.specs.declared.config.Config.{Config}
 use Rattle.code_generator.specs.declared.config.Flow.{Flow}
 use Rattle.code_generator.specs.declared.labels.Line.{Line}
@@ -59,15 +59,15 @@ kept_set (w ∷ xs) (suc k) (suc at) x y z h e n = kept_set xs k at x y z h e n
 abbrev Lines : FunCode → List (Option ℕ) → List Line → Type 0
 Lines f labels lines = (at : ℕ) (l : Line) → slice_get lines at ≡ Some l → slice_get f.lines at ≡ Some (settled_line labels l)
 
-pub one_at : (f : FunCode) (labels : List (Option ℕ)) (xs : List Line) (l : Line) (ys : List Line) → Lines f labels (xs ++ l ∷ ys) → f.traps ≡ [] → At f [] (length xs) (settled_line labels l)
-one_at f labels xs l ys h t = record { here = h (length xs) l (seam xs l ys); traps = ap (λ t. traps_at t (length xs)) t }
+pub one_at : (f : FunCode) (labels : List (Option ℕ)) (xs : List Line) (l : Line) (ys : List Line) → Lines f labels (xs ++ l ∷ ys) → At (untrapped f) [] (length xs) (settled_line labels l)
+one_at f labels xs l ys h = record { here = h (length xs) l (seam xs l ys); traps = refl }
 
-all_at : (f : FunCode) (labels : List (Option ℕ)) (xs : List Line) (is : List Instruction) → Lines f labels (xs ++ map line.Fixed is) → f.traps ≡ [] → AllAt f [] (length xs) is
-all_at f labels xs [] h t = tt
-all_at f labels xs (x ∷ is) h t = (
-  one_at f labels xs (line.Fixed x) (map line.Fixed is) h t,
-  subst (λ p. AllAt f [] p is) (one_longer xs (line.Fixed x))
-      (all_at f labels (xs ++ line.Fixed x ∷ []) is (subst (λ ls. Lines f labels ls) (sym (append_assoc xs (line.Fixed x ∷ []) (map line.Fixed is))) h) t),
+all_at : (f : FunCode) (labels : List (Option ℕ)) (xs : List Line) (is : List Instruction) → Lines f labels (xs ++ map line.Fixed is) → AllAt (untrapped f) [] (length xs) is
+all_at f labels xs [] h = tt
+all_at f labels xs (x ∷ is) h = (
+  one_at f labels xs (line.Fixed x) (map line.Fixed is) h,
+  subst (λ p. AllAt (untrapped f) [] p is) (one_longer xs (line.Fixed x))
+      (all_at f labels (xs ++ line.Fixed x ∷ []) is (subst (λ ls. Lines f labels ls) (sym (append_assoc xs (line.Fixed x ∷ []) (map line.Fixed is))) h)),
 )
 
 all_end : (xs : List Line) (is : List Instruction) → end_all (length xs) is ≡ length (xs ++ map line.Fixed is)
@@ -81,7 +81,6 @@ all_end xs (x ∷ is) =
 holds_before : (f : FunCode) (labels : List (Option ℕ)) (c : Config) (more : List Line) → Holds f labels (record c { lines = c.lines ++ more }) → Holds f labels c
 holds_before f labels c more h = record {
   lines = λ at l e. h.lines at l (before c.lines more at l e);
-  traps = h.traps;
   bound = h.bound;
   params = h.params;
   locals = h.locals;
@@ -89,12 +88,12 @@ holds_before f labels c more h = record {
 
 module _ (funs : Program) (js : List Job) (c : Config) where
   -- what is to be written is another list, with nothing written
-  pub planned : (js' : List Job) → ((f : FunCode) (labels : List (Option ℕ)) (g : _) (n p : ℕ) (flows : List Flow) → Stand funs (lying c.result) f labels js' g n p flows → Stand funs (lying c.result) f labels js g n p flows)
+  pub planned : (js' : List Job) → ((f : FunCode) (labels : List (Option ℕ)) (g : _) (n p : ℕ) (flows : List Flow) (whole : Trapped) → Stand funs (lying c.result) f labels js' g n p flows whole → Stand funs (lying c.result) f labels js g n p flows whole)
       → Back funs js c js' c
-  planned js' h = record { by = λ f labels m. record { holds = m.holds; stand = h f labels (scope_in c) (next_in c) (length c.lines) c.flows m.stand } }
+  planned js' h = record { by = λ f labels m. record { holds = m.holds; stand = h f labels (scope_in c) (next_in c) (length c.lines) c.flows (whole_in c) m.stand } }
 
   -- the same at the place where it is done
-  pub planned_here : (js' : List Job) → ((f : FunCode) (labels : List (Option ℕ)) → Stand funs (lying c.result) f labels js' (scope_in c) (next_in c) (length c.lines) c.flows → Stand funs (lying c.result) f labels js (scope_in c) (next_in c) (length c.lines) c.flows)
+  pub planned_here : (js' : List Job) → ((f : FunCode) (labels : List (Option ℕ)) → Stand funs (lying c.result) f labels js' (scope_in c) (next_in c) (length c.lines) c.flows (whole_in c) → Stand funs (lying c.result) f labels js (scope_in c) (next_in c) (length c.lines) c.flows (whole_in c))
       → Back funs js c js' c
   planned_here js' h = record { by = λ f labels m. record { holds = m.holds; stand = h f labels m.stand } }
 
@@ -103,8 +102,8 @@ module _ (funs : Program) (js : List Job) (c : Config) where
     by = λ f labels m. record {
       holds = holds_before f labels c (map line.Fixed is) m.holds;
       stand = (
-        all_at f labels c.lines is m.holds.lines m.holds.traps,
-        subst (λ p. Stand funs (lying c.result) f labels js (scope_in c) (next_in c) p c.flows) (sym (all_end c.lines is)) m.stand,
+        all_at f labels c.lines is m.holds.lines,
+        subst (λ p. Stand funs (lying c.result) f labels js (scope_in c) (next_in c) p c.flows (whole_in c)) (sym (all_end c.lines is)) m.stand,
       );
     };
   }
@@ -114,8 +113,8 @@ module _ (funs : Program) (js : List Job) (c : Config) where
     by = λ f labels m. record {
       holds = holds_before f labels c (line.Jump kind label ∷ []) m.holds;
       stand = (
-        one_at f labels c.lines (line.Jump kind label) [] m.holds.lines m.holds.traps,
-        subst (λ p. Stand funs (lying c.result) f labels js (scope_in c) (next_in c) p c.flows) (one_longer c.lines (line.Jump kind label)) m.stand,
+        one_at f labels c.lines (line.Jump kind label) [] m.holds.lines,
+        subst (λ p. Stand funs (lying c.result) f labels js (scope_in c) (next_in c) p c.flows (whole_in c)) (one_longer c.lines (line.Jump kind label)) m.stand,
       );
     };
   }
@@ -125,7 +124,6 @@ module _ (funs : Program) (js : List Job) (c : Config) where
     by = λ f labels m. record {
       holds = record {
         lines = m.holds.lines;
-        traps = m.holds.traps;
         bound = λ at l e. m.holds.bound at l (kept_set c.labels label at (Some l) (Some (length c.lines)) None free e (λ k. cc));
         params = m.holds.params;
         locals = m.holds.locals;
@@ -143,7 +141,6 @@ module _ (funs : Program) (js : List Job) (c : Config) where
     by = λ f labels m. record {
       holds = record {
         lines = m.holds.lines;
-        traps = m.holds.traps;
         bound = λ at l e. m.holds.bound at l (before c.labels more at (Some l) e);
         params = m.holds.params;
         locals = m.holds.locals;
@@ -200,8 +197,8 @@ module _ (funs : Program) (js : List Job) (c : Config) where
     by = λ f labels m. record {
       holds = holds_before f labels c (line.Fixed (i.Numbered numbered.Load local) ∷ []) m.holds;
       stand = (
-        (l.entry, l.is, l.lies_so, subst (λ n. At f [] (length c.lines) (i.Numbered numbered.Load n)) l.number (one_at f labels c.lines (line.Fixed (i.Numbered numbered.Load local)) [] m.holds.lines m.holds.traps)),
-        subst (λ p. Stand funs (lying c.result) f labels js (scope_in c) (next_in c) p c.flows) (one_longer c.lines (line.Fixed (i.Numbered numbered.Load local))) m.stand,
+        (l.entry, l.is, l.lies_so, subst (λ n. At (untrapped f) [] (length c.lines) (i.Numbered numbered.Load n)) l.number (one_at f labels c.lines (line.Fixed (i.Numbered numbered.Load local)) [] m.holds.lines)),
+        subst (λ p. Stand funs (lying c.result) f labels js (scope_in c) (next_in c) p c.flows (whole_in c)) (one_longer c.lines (line.Fixed (i.Numbered numbered.Load local))) m.stand,
       );
     };
   }
@@ -211,8 +208,8 @@ module _ (funs : Program) (js : List Job) (c : Config) where
     by = λ f labels m. record {
       holds = holds_before f labels c (line.Fixed (i.Numbered numbered.Store local) ∷ []) m.holds;
       stand = (
-        (l.entry, l.is, l.lies_so, subst (λ n. At f [] (length c.lines) (i.Numbered numbered.Store n)) l.number (one_at f labels c.lines (line.Fixed (i.Numbered numbered.Store local)) [] m.holds.lines m.holds.traps)),
-        subst (λ p. Stand funs (lying c.result) f labels js (scope_in c) (next_in c) p c.flows) (one_longer c.lines (line.Fixed (i.Numbered numbered.Store local))) m.stand,
+        (l.entry, l.is, l.lies_so, subst (λ n. At (untrapped f) [] (length c.lines) (i.Numbered numbered.Store n)) l.number (one_at f labels c.lines (line.Fixed (i.Numbered numbered.Store local)) [] m.holds.lines)),
+        subst (λ p. Stand funs (lying c.result) f labels js (scope_in c) (next_in c) p c.flows (whole_in c)) (one_longer c.lines (line.Fixed (i.Numbered numbered.Store local))) m.stand,
       );
     };
   }

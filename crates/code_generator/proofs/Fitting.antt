@@ -36,6 +36,10 @@ class_lies : (class : ℕ) → lying_of (t.Class class) ≡ Whole
 unfolding out-Ty denote.Hole.Carrier.out
 class_lies class = refl
 
+pub class_has_values : (class : ℕ) → HasValues (t.Class class)
+unfolding out-Ty denote.Hole.Carrier.out
+class_has_values class = tt
+
 pub string_lies : (of : Ty) → of ≡ string → lying_of of ≡ Whole
 string_lies of x = ap lying_of x ∙ class_lies STRING
 

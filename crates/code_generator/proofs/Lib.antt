@@ -14,4 +14,5 @@ pub mod Free
 pub mod Known
 pub mod Agreeing
 pub mod Called
+pub mod Handled
 pub mod Whole

@@ -135,6 +135,27 @@ formed = ind-Ty Formed (λ x y is. let P : Ty-F Ty → Type 0 = λ z. Formed (ro
 pub named_formed : (t : Ty) → IsNamed t → is_type (full_text t) ≡ true
 named_formed t h = formed t h.listed
 
+each_class : map (λ class. is_class (full_name class)) (range_with_len 0 55) ≡ map (λ class. true) (range_with_len 0 55)
+unfolding is_class is_name full_name class_row class_table
+each_class = refl
+
+-- the name of a class that code may name
+pub class_named : (class : ℕ) → IsNamed (Class class) → class < 55
+class_named class h = below class (sym (fold-roll-Ty Bool listed_layer (Ty-F.Class class)) ∙ sym (ap is_listed (sym (rolls-Class class))) ∙ h.listed)
+
+name_formed : (class : ℕ) → class < 55 → is_class (full_name class) ≡ true
+name_formed class h =
+    sym (get_or-map-range_with_len (λ c. is_class (full_name c)) 0 55 class class false h (omega arith))
+    ∙ ap (λ xs. get_or xs class false) each_class
+    ∙ get_or-map-range_with_len (λ c. true) 0 55 class class false h (omega arith)
+
+pub class_made_so : (class : ℕ) (text : List ℕ) (made : Option (List ℕ)) → made ≡ formed_as is_class text → text ≡ full_name class → made ≡ None → IsNamed (Class class) → ⊥
+class_made_so class text made e is none h = let given : formed_as is_class text ≡ Some text = chosen (is_class text) (ap is_class is ∙ name_formed class (class_named class h)) in let bad : None ≡ Some text = sym none ∙ e ∙ given in cc
+  where
+    chosen : (b : Bool) → b ≡ true → (if b then Some text else None) ≡ Some text
+    chosen true e = refl
+    chosen false e = cc
+
 -- a text that is asked for in that form is given
 pub made_so : (t : Ty) (text : List ℕ) (made : Option (List ℕ)) → made ≡ formed_as is_type text → text ≡ full_text t → made ≡ None → IsNamed t → ⊥
 made_so t text made e is none h = let given : formed_as is_type text ≡ Some text = chosen (is_type text) (ap is_type is ∙ named_formed t h) in let bad : None ≡ Some text = sym none ∙ e ∙ given in cc

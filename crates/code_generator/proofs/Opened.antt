@@ -9,13 +9,13 @@ use Rattle.program_meaning.specs.Tree.{Expr, type_of}
 use Rattle.program_meaning.specs.Programs.{expr_of, node_expr, typed_expr}
 use Rattle.std.proofs.Common.{Some, None}
 use Rattle.typed_tree.specs.declared.statement.TypedStatement.{TypedStatement, out-TypedStatement}
-use Rattle.typed_tree.specs.declared.statement.TypedCatch.{TypedCatch}
+use Rattle.typed_tree.specs.declared.statement.TypedCatch.{TypedCatch, out-TypedCatch}
 use Rattle.typed_tree.specs.declared.statement.StatementNode.{StatementNode, out-StatementNode}
 use Rattle.typed_tree.specs.declared.statement.StatementNode.TheOpen.{StatementNode-F}
-use Rattle.typed_tree.specs.declared.statement.StatementNode.TheFolds.{fold_out-TypedStatement, fold_out-StatementNode, map-StatementNode, fold-StatementNode, fold-TypedCatch, fold-TypedStatement}
-use Rattle.program_meaning.specs.Tree.{Stmts}
+use Rattle.typed_tree.specs.declared.statement.StatementNode.TheFolds.{fold_out-TypedStatement, fold_out-StatementNode, fold_out-TypedCatch, map-StatementNode, fold-StatementNode, fold-TypedCatch, fold-TypedStatement}
+use Rattle.program_meaning.specs.Tree.{Stmts, Catches, Catch}
 use Rattle.program_meaning.specs.Programs.{Before, Caught, before, node_before, catch_before, statement_before}
-use Rattle.code_generator.specs.Opened.{opened, opened_node, opened_before, caught}
+use Rattle.code_generator.specs.Opened.{opened, opened_node, opened_before, body_of, caught}
 
 node_layer : (x : Node-F Node Typed) (at : ℕ) (of : Ty)
     → node_expr (map-Node Node Typed (ℕ → Ty → Expr) Expr (fold-Node (ℕ → Ty → Expr) Expr node_expr typed_expr) (fold-Typed (ℕ → Ty → Expr) Expr node_expr typed_expr) x) at of ≡ opened_node x at of
@@ -86,3 +86,7 @@ statement_opened s rest =
     ap (λ (f : Before). f rest) (fold_out-TypedStatement Before Caught Before node_before catch_before statement_before s)
     ∙ ap (λ (f : Before). f rest) (fold_out-StatementNode Before Caught Before node_before catch_before statement_before (out-TypedStatement s).node)
     ∙ layer_before (out-StatementNode (out-TypedStatement s).node) rest
+
+pub catch_opened : (c : TypedCatch) (rest : Catches) → caught c rest ≡ Catch (out-TypedCatch c).class (out-TypedCatch c).name (body_of (out-TypedCatch c).body) rest
+unfolding before caught
+catch_opened c rest = ap (λ (f : Caught). f rest) (fold_out-TypedCatch Before Caught Before node_before catch_before statement_before c)

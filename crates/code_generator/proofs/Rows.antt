@@ -13,7 +13,7 @@ use Rattle.program_meaning.specs.Programs.{before, declared, stmts_of, maybe_of}
 use Rattle.program_code.specs.Lying.{lying_of, kind_of, Absent}
 use Rattle.program_code.specs.Stands.{Entry}
 use Rattle.code_generator.specs.Checks.{lying}
-use Rattle.code_generator.specs.Jobs.{Job, Run, Declared, Close, Stand, First, IsFirst, keep, entry, scope_in, next_in, Back}
+use Rattle.code_generator.specs.Jobs.{Job, Run, Declared, Close, Stand, First, IsFirst, keep, entry, scope_in, next_in, whole_in, Back}
 use Rattle.code_generator.specs.declared.config.Config.{Config}
 use Rattle.code_generator.specs.declared.config.Entry as d
 use Rattle.code_generator.specs.declared.labels.Line.{Line}
@@ -51,8 +51,8 @@ module _ (funs : Program) (js : List Job) (c : Config) where
   pub close_back : (height : ℕ) (new : List d.Entry) → new ≡ keep height c.scope → Back funs (Close height ∷ js) c js (record c { scope = new })
   close_back height new e = record {
     by = λ f labels m. record {
-      holds = record { lines = m.holds.lines; traps = m.holds.traps; bound = m.holds.bound; params = m.holds.params; locals = m.holds.locals };
-      stand = subst (λ g. Stand funs (lying c.result) f labels js g (next_in c) (length c.lines) c.flows) (ap (map entry) e ∙ kept_mapped entry height c.scope) m.stand;
+      holds = record { lines = m.holds.lines; bound = m.holds.bound; params = m.holds.params; locals = m.holds.locals };
+      stand = subst (λ g. Stand funs (lying c.result) f labels js g (next_in c) (length c.lines) c.flows (whole_in c)) (ap (map entry) e ∙ kept_mapped entry height c.scope) m.stand;
     };
   }
 
@@ -64,16 +64,15 @@ module _ (funs : Program) (js : List Job) (c : Config) where
         record {
           holds = record {
             lines = λ at l h. m.holds.lines at l (got_before c.lines (line.Fixed (i.Numbered numbered.Store (next_in c)) ∷ []) at l h);
-            traps = m.holds.traps;
             bound = m.holds.bound;
             params = m.holds.params;
             locals = λ at k h. m.holds.locals at k (got_before c.locals (slot ∷ []) at k h);
           };
           stand = (
-            (present, record { is = got_behind f.params f.locals c.params (length c.locals) (Some slot) m.holds.params (m.holds.locals (length c.locals) slot (seam c.locals slot [])) ∙ ap (λ k. Some k) kind }, one_at f labels c.lines (line.Fixed (i.Numbered numbered.Store (next_in c))) [] m.holds.lines m.holds.traps),
-            subst (λ p. Stand funs (lying c.result) f labels js (record { name = x; of = of; local = next_in c } ∷ scope_in c) (suc (next_in c)) p c.flows) (one_longer c.lines (line.Fixed (i.Numbered numbered.Store (next_in c))))
-                (subst (λ n. Stand funs (lying c.result) f labels js (record { name = x; of = of; local = next_in c } ∷ scope_in c) n (length (c.lines ++ line.Fixed (i.Numbered numbered.Store (next_in c)) ∷ [])) c.flows) (omega (arith, long))
-                (subst (λ (z : Entry). Stand funs (lying c.result) f labels js (z ∷ scope_in c) (length c.params + length (c.locals ++ slot ∷ [])) (length (c.lines ++ line.Fixed (i.Numbered numbered.Store (next_in c)) ∷ [])) c.flows) e m.stand)),
+            (present, record { is = got_behind f.params f.locals c.params (length c.locals) (Some slot) m.holds.params (m.holds.locals (length c.locals) slot (seam c.locals slot [])) ∙ ap (λ k. Some k) kind }, one_at f labels c.lines (line.Fixed (i.Numbered numbered.Store (next_in c))) [] m.holds.lines),
+            subst (λ p. Stand funs (lying c.result) f labels js (record { name = x; of = of; local = next_in c } ∷ scope_in c) (suc (next_in c)) p c.flows (whole_in c)) (one_longer c.lines (line.Fixed (i.Numbered numbered.Store (next_in c))))
+                (subst (λ n. Stand funs (lying c.result) f labels js (record { name = x; of = of; local = next_in c } ∷ scope_in c) n (length (c.lines ++ line.Fixed (i.Numbered numbered.Store (next_in c)) ∷ [])) c.flows (whole_in c)) (omega (arith, long))
+                (subst (λ (z : Entry). Stand funs (lying c.result) f labels js (z ∷ scope_in c) (length c.params + length (c.locals ++ slot ∷ [])) (length (c.lines ++ line.Fixed (i.Numbered numbered.Store (next_in c)) ∷ [])) c.flows (whole_in c)) e m.stand)),
           );
         };
   }

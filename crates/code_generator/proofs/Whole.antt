@@ -11,10 +11,11 @@ use Rattle.program_meaning.specs.Programs.{variable_of, fun_of, program_of}
 use Rattle.typed_tree.specs.declared.program.Program as typed
 use Rattle.typed_tree.specs.declared.program.TypedFunction.{TypedFunction}
 use Rattle.program_code.specs.Lying.{Absent, lying_of, kind_of}
-use Rattle.program_code.specs.Stands.{StmtsAt, EndAt, ArePresent, Compiled, lyings_of, scope_of, no_jumps, all_fall, end_stmts, end_end, kinds_of}
+use Rattle.program_code.specs.Placed.{untrapped, CatchesCover, StmtsIn}
+use Rattle.program_code.specs.Stands.{EndAt, traps_stmts, ArePresent, Compiled, lyings_of, scope_of, no_jumps, all_fall, end_stmts, end_end, kinds_of}
 use Rattle.code_generator.specs.Checks.{lying}
 use Rattle.code_generator.specs.Labels.{settled_line}
-use Rattle.code_generator.specs.Jobs.{Run, End, Meets, Back, entry, scope_in, next_in}
+use Rattle.code_generator.specs.Jobs.{Run, End, Meets, Back, entry, scope_in, next_in, whole_in}
 use Rattle.code_generator.specs.Sound.{Sound, variable}
 use Rattle.code_generator.specs.Functions.{FunStands, Begun, Finished, Written, InScope}
 use Rattle.code_generator.specs.declared.config.Config.{Config}
@@ -31,33 +32,37 @@ length_mapped : {A B : Type 0} (f : A → B) (xs : List A) → length (map f xs)
 length_mapped f [] = refl
 length_mapped f (x ∷ xs) = ap suc (length_mapped f xs)
 
-pub function_stands : (funs : Program) (fun : Fun) (c c' : Config) (code : FunCode) → Begun fun c → Back funs (Run fun.body None ∷ End fun.result ∷ []) c [] c' → Finished c' fun.result code → FunStands funs code fun
-function_stands funs fun c c' code begun back finished =
+pub function_stands : (funs : Program) (fun : Fun) (c c' : Config) (code : FunCode) → CatchesCover → Begun fun c → Back funs (Run fun.body None ∷ End fun.result ∷ []) c [] c' → Finished c' fun.result code → FunStands funs code fun
+function_stands funs fun c c' code cover begun back finished =
     let m : Meets funs code c'.labels [] c' = record {
       holds = record {
         lines = λ at l e. ap (λ ls. slice_get ls at) finished.lines ∙ got_mapped (settled_line c'.labels) c'.lines at l e;
-        traps = finished.traps;
         bound = λ label line e. e;
         params = finished.params;
         locals = λ at kind e. ap (λ ls. slice_get ls at) finished.locals ∙ e;
       };
-      stand = ap length finished.lines ∙ length_mapped (settled_line c'.labels) c'.lines;
+      stand = (ap length finished.lines ∙ length_mapped (settled_line c'.labels) c'.lines, finished.traps ∙ sym (append-nil c'.traps));
     } in
     let s = back.by code c'.labels m in
     let n : next_in c ≡ length fun.params = omega (arith, ap length begun.params, length_mapped (λ (x : Variable). kind_of x.of) fun.params, ap length begun.locals) in
     let p : length c.lines ≡ 0 = ap length begun.lines in
+    let placed =
+        subst (λ p. StmtsIn funs (untrapped code) (lying_of fun.result) (scope_of fun.params 0 []) (length fun.params) no_jumps p fun.body) p
+        (subst (λ n. StmtsIn funs (untrapped code) (lying_of fun.result) (scope_of fun.params 0 []) n no_jumps (length c.lines) fun.body) n
+        (subst (λ g. StmtsIn funs (untrapped code) (lying_of fun.result) g (next_in c) no_jumps (length c.lines) fun.body) begun.scope
+        (subst (λ k. StmtsIn funs (untrapped code) k (scope_in c) (next_in c) no_jumps (length c.lines) fun.body) begun.result s.stand.0))) in
+    let ends = subst (λ p. EndAt (untrapped code) (all_fall fun.body) (end_stmts p fun.body) fun.result) p s.stand.1.2.0 in
+    let traps : code.traps ≡ traps_stmts 0 fun.body =
+    s.stand.1.2.1.1 ∙ ap (λ ts. ts ++ (traps_stmts (length c.lines) fun.body ++ [])) begun.traps ∙ append-nil (traps_stmts (length c.lines) fun.body) ∙ ap (λ p. traps_stmts p fun.body) p in
+    let covered = cover funs code (lying_of fun.result) (scope_of fun.params 0 []) (length fun.params) fun.body fun.result traps placed ends in
     record {
       params = s.holds.params ∙ begun.params;
       present = begun.present;
       result = finished.result;
-      stands =
-          subst (λ p. StmtsAt funs code [] (lying_of fun.result) (scope_of fun.params 0 []) (length fun.params) no_jumps p fun.body) p
-          (subst (λ n. StmtsAt funs code [] (lying_of fun.result) (scope_of fun.params 0 []) n no_jumps (length c.lines) fun.body) n
-          (subst (λ g. StmtsAt funs code [] (lying_of fun.result) g (next_in c) no_jumps (length c.lines) fun.body) begun.scope
-          (subst (λ k. StmtsAt funs code [] k (scope_in c) (next_in c) no_jumps (length c.lines) fun.body) begun.result s.stand.0)));
-      ends = subst (λ p. EndAt code (all_fall fun.body) (end_stmts p fun.body) fun.result) p s.stand.1.2.0;
-      lines = s.stand.1.2.1 ∙ ap (λ p. end_end (all_fall fun.body) (end_stmts p fun.body) fun.result) p;
-      traps = finished.traps;
+      stands = covered.0;
+      ends = covered.1;
+      lines = s.stand.1.2.1.0 ∙ ap (λ p. end_end (all_fall fun.body) (end_stmts p fun.body) fun.result) p;
+      traps = traps;
     }
 
 -- ---- parameters
@@ -93,11 +98,12 @@ ahead_end all at old now scope is a =
       present = a.present (subst (λ (xs : List Named). ArePresent (lyings_of (map variable_of xs))) (sym none) tt);
     }
 
-pub begun : (f : TypedFunction) (c : Config) (old : List Slot) → old ≡ [] → lying c.result ≡ lying_of f.result → InScope f.parameters old c.params c.scope → c.locals ≡ [] → c.lines ≡ [] → c.labels ≡ [] → c.flows ≡ [] → Begun (fun_of f) c
-begun f c old none result a locals lines labels flows = record {
+pub begun : (f : TypedFunction) (c : Config) (old : List Slot) → old ≡ [] → lying c.result ≡ lying_of f.result → InScope f.parameters old c.params c.scope → c.locals ≡ [] → c.traps ≡ [] → c.lines ≡ [] → c.labels ≡ [] → c.flows ≡ [] → Begun (fun_of f) c
+begun f c old none result a locals traps lines labels flows = record {
   result = result;
   params = a.kinds ∙ ap (λ ks. ks ++ kinds_of (map variable_of f.parameters)) none;
   locals = locals;
+  traps = traps;
   lines = lines;
   scope = a.names;
   labels = labels;

@@ -5,7 +5,7 @@ use Rattle.typed_tree.specs.declared.program.TypedFunction.{TypedFunction}
 use Rattle.pl_code.specs.declared.code.FunCode.{FunCode}
 use Rattle.program_meaning.specs.Tree.{Fun, Program}
 use Rattle.program_code.specs.Lying.{lying_of, result_of}
-use Rattle.program_code.specs.Stands.{ArePresent, StmtsAt, EndAt, lyings_of, scope_of, no_jumps, all_fall, end_stmts, end_end, kinds_of}
+use Rattle.program_code.specs.Stands.{ArePresent, StmtsAt, EndAt, lyings_of, scope_of, no_jumps, all_fall, end_stmts, end_end, kinds_of, traps_stmts}
 use Rattle.code_generator.specs.Checks.{lying}
 use Rattle.pl_types.specs.declared.ty.Ty.{Ty}
 use Rattle.pl_code.specs.declared.kinds.Slot.{Slot}
@@ -33,13 +33,14 @@ pub record FunStands (funs : Program) (body : FunCode) (fun : Fun) : Type 0 wher
   pub stands : StmtsAt funs body [] (lying_of fun.result) (scope_of fun.params 0 []) (length fun.params) no_jumps 0 fun.body
   pub ends : EndAt body (all_fall fun.body) (end_stmts 0 fun.body) fun.result
   pub lines : length body.lines ≡ end_end (all_fall fun.body) (end_stmts 0 fun.body) fun.result
-  pub traps : body.traps ≡ []
+  pub traps : body.traps ≡ traps_stmts 0 fun.body
 
 -- nothing is written yet of a function, and its parameters are in scope
 pub record Begun (fun : Fun) (c : Config) : Type 0 where
   pub result : lying c.result ≡ lying_of fun.result
   pub params : c.params ≡ kinds_of fun.params
   pub locals : c.locals ≡ []
+  pub traps : c.traps ≡ []
   pub lines : c.lines ≡ []
   pub scope : scope_in c ≡ scope_of fun.params 0 []
   pub labels : c.labels ≡ []
@@ -58,7 +59,7 @@ pub record Finished (c : Config) (of : Ty) (code : FunCode) : Type 0 where
   pub params : code.params ≡ c.params
   pub locals : code.locals ≡ c.locals
   pub result : code.result ≡ result_of of
-  pub traps : code.traps ≡ []
+  pub traps : code.traps ≡ c.traps
   pub lines : code.lines ≡ map (settled_line c.labels) c.lines
 
 -- parameters that are in scope

@@ -5,24 +5,29 @@ use Rattle.pl_code.specs.declared.kinds.Numbered.TheVariants as numbered
 use Rattle.pl_code.specs.declared.kinds.Slot.{Slot}
 use Rattle.pl_code.specs.declared.kinds.Typed.TheVariants as typed
 use Rattle.pl_code.specs.declared.code.FunCode.{FunCode}
+use Rattle.pl_code.specs.declared.code.Trap.{Trap}
 use Rattle.pl_code.specs.declared.code.Instruction.{Instruction}
 use Rattle.pl_code.specs.declared.code.Instruction.TheVariants as i
 use Rattle.pl_types.specs.declared.ty.Ty.{Ty}
+use Rattle.pl_types.specs.declared.ty.Ty.TheVariants as ty
 use Rattle.allowlist.specs.declared.member.MemberKind.{MemberKind}
 use Rattle.pl_types.specs.declared.conversion.Cast.{Cast}
 use Rattle.pl_types.specs.Texts.{full_text}
 use Rattle.std.specs.Borrow.{Bor}
-use Rattle.program_meaning.specs.Tree.{Name, Expr, Exprs, Maybe, Missing, Given, Stmt, Stmts, Finish, Then, Program, type_of}
-use Rattle.program_meaning.specs.Programs.{expr_of, exprs_of, before, declared, stmts_of, maybe_of}
+use Rattle.program_meaning.specs.Tree.{Name, Expr, Exprs, Maybe, Missing, Given, Stmt, Stmts, Finish, Then, Catches, NoCatch, Catch, Program, type_of}
+use Rattle.program_meaning.specs.Falls.{any_falls, catches_continue}
+use Rattle.program_meaning.specs.Programs.{expr_of, exprs_of, before, declared, stmts_of, maybe_of, caught_in_row}
 use Rattle.program_code.specs.Lying.{Lying, Absent, lying_of}
-use Rattle.program_code.specs.Stands.{Entry, Scope, IsEntry, At, AllAt, end_all, end_expr, end_exprs, ExprAt, ExprsAt, AllLie, lyings, with_receiver, falls, all_fall, continues, any_continues, end_skip, end_update, end_test, end_last, end_stmt, end_stmts, next_stmt, next_stmts, Jumps, no_jumps, HasLocal, SkipAt, UpdateAt, TestAt, LastAt, StmtAt, StmtsAt, EndAt, end_end}
+use Rattle.program_code.specs.Stands.{Entry, Scope, IsEntry, At, AllAt, end_all, end_expr, end_exprs, ExprAt, ExprsAt, AllLie, lyings, with_receiver, falls, all_fall, continues, any_continues, end_skip, end_update, end_test, end_last, end_stmt, end_stmts, end_catches, next_stmt, next_stmts, next_catches, traps_stmt, traps_stmts, traps_catches, Jumps, no_jumps, HasLocal, SkipAt, UpdateAt, TestAt, LastAt, EndAt, end_end}
+use Rattle.program_code.specs.Placed.{untrapped, StmtIn, StmtsIn, CatchesIn}
 use Rattle.program_code.specs.Parts.{default_code, cast_code}
 use Rattle.typed_tree.specs.declared.statement.TypedVariable.{TypedVariable}
+use Rattle.typed_tree.specs.declared.statement.TypedCatch.{TypedCatch, out-TypedCatch}
 use Rattle.code_generator.specs.Checks.{lying}
 use Rattle.code_generator.specs.Labels.{line_of, settled_line}
 use Rattle.code_generator.specs.Pieces.{piece}
 use Rattle.code_generator.specs.Called.{call_code}
-use Rattle.code_generator.specs.Opened.{statement_of}
+use Rattle.code_generator.specs.Opened.{statement_of, caught}
 use Rattle.code_generator.specs.declared.task.Exits.{Exits}
 use Rattle.code_generator.specs.declared.task.Tail.{Tail}
 use Rattle.code_generator.specs.declared.task.Tail.TheVariants as tail
@@ -82,6 +87,11 @@ pub data Job : Type 0 where
   Test : (test : Maybe) → Job
   Last : (test : Maybe) (label : ℕ) → Job
   Turned : Job
+  -- the catches of a block that begins at a line and ends here, and catches of the lines between two; a label is behind them
+  Tried : (catches : Catches) (from label : ℕ) (exits : Option Exits) → Job
+  Caught : (catches : Catches) (from to label : ℕ) (exits : Option Exits) → Job
+  -- a jump over further catches, if there are any, where it is reached
+  Over : (further : Catches) (label : ℕ) → Job
   -- the end of a function with this result
   End : (of : Ty) → Job
 
@@ -116,6 +126,10 @@ tail_of tail.Nothing = Finish
 tail_of (tail.Row all at) = stmts_of (drop at all.now)
 tail_of (tail.Loop s) = Then (statement_of s.now) Finish
 
+-- catches from one on
+abbrev pub catches_from : ℕ → List TypedCatch → Catches
+catches_from at catches = caught_in_row (map caught (drop at catches))
+
 abbrev pub job : Task → Job
 job (t.Value e) = Value (expr_of e.now)
 job (t.Values parts at kind) = Values (parts_from at parts.now) (wanted at kind)
@@ -141,6 +155,10 @@ job (t.Update update) = Update (maybe_in update)
 job (t.Test test) = Test (maybe_in test)
 job (t.Last test label) = Last (maybe_in test) label
 job t.Turned = Turned
+job (t.Named c) = Declared (out-TypedCatch c.now).name (ty.Class (out-TypedCatch c.now).class)
+job (t.Tried catches from label exits) = Tried (catches_from 0 catches.now) from label exits
+job (t.Caught catches at from to label exits) = Caught (catches_from at catches.now) from to label exits
+job (t.Over catches at label) = Over (catches_from at catches.now) label
 job (t.End of) = End of.now
 
 abbrev pub jobs : List Task → List Job
@@ -172,6 +190,9 @@ flow_of body = record { falls = all_fall body; continues = any_continues body }
 
 abbrev pub flow_in : Stmt → Flow
 flow_in t = record { falls = falls t; continues = continues t }
+
+abbrev pub flow_caught : Catches → Flow
+flow_caught catches = record { falls = any_falls catches; continues = catches_continue catches }
 
 abbrev pub on : Flow
 on = record { falls = true; continues = false }
@@ -214,51 +235,68 @@ pub record Grown (g later : Scope) : Type 0 where
   pub more : Scope
   pub is : later ≡ more ++ g
 
--- What is still to be written stands in this code, whose labels have these lines, and no further line.
+-- all trap lines of a function, by those that stand behind what is written
+abbrev pub Trapped : Type 0
+Trapped = List Trap → List Trap
+
+-- What is still to be written stands in this code, whose labels have these lines, and no further line and no further trap line.
 module _ (funs : Program) (k : Lying) (f : FunCode) (labels : List (Option ℕ)) where
-  abbrev pub Stand : List Job → Scope → ℕ → ℕ → List Flow → Type 0
-  Stand [] g n p flows = length f.lines ≡ p
-  Stand (Value e ∷ js) g n p flows = ExprAt funs f [] g p e × Stand js g n (end_expr p e) flows
-  Stand (Values es wanted ∷ js) g n p flows = (ExprsAt funs f [] g p es × Wants wanted (lyings es)) × Stand js g n (end_exprs p es) flows
-  Stand (Put is ∷ js) g n p flows = AllAt f [] p is × Stand js g n (end_all p is) flows
-  Stand (Convert by to ∷ js) g n p flows = AllAt f [] p (cast_code by to) × Stand js g n (end_all p (cast_code by to)) flows
-  Stand (Ask is ∷ js) g n p flows = At f [] p (i.Typed typed.IsA (full_text is)) × Stand js g n (suc p) flows
-  Stand (Call kind text ∷ js) g n p flows = At f [] p (call_code kind text) × Stand js g n (suc p) flows
-  Stand (Jump kind label ∷ js) g n p flows = At f [] p (i.Numbered kind (line_of labels label)) × Stand js g n (suc p) flows
-  Stand (Bind label ∷ js) g n p flows = (line_of labels label ≡ p) × Stand js g n p flows
-  Stand (Load x lies ∷ js) g n p flows =
-      ((y : Entry) × IsEntry g x y × (lies ≡ lying_of y.of) × At f [] p (i.Numbered numbered.Load y.local)) × Stand js g n (suc p) flows
-  Stand (Store x lies ∷ js) g n p flows =
-      ((y : Entry) × IsEntry g x y × (lies ≡ lying_of y.of) × At f [] p (i.Numbered numbered.Store y.local)) × Stand js g n (suc p) flows
-  Stand (One t exits ∷ js) g n p flows =
-      StmtAt funs f [] k g n (jumps_of labels exits) p t × Stand js g (next_stmt n t) (end_stmt p t) (flow_in t ∷ flows)
-  Stand (Run body exits ∷ js) g n p flows =
-      StmtsAt funs f [] k g n (jumps_of labels exits) p body × ((later : Scope) × Grown g later × Stand js later (next_stmts n body) (end_stmts p body) (flow_of body ∷ flows))
-  Stand (Declared x of ∷ js) g n p flows =
-      ((lying_of of ≢ Absent) × HasLocal f n of × At f [] p (i.Numbered numbered.Store n)) × Stand js (record { name = x; of = of; local = n } ∷ g) (suc n) (suc p) flows
-  Stand (Close height ∷ js) g n p flows = Stand js (keep height g) n p flows
-  Stand (Flows x ∷ js) g n p flows = Stand js g n p (x ∷ flows)
-  Stand (Both ∷ js) g n p flows = on_two flows (λ x y flows. Stand js g n p (both x y ∷ flows))
-  Stand (Either ∷ js) g n p flows = on_two flows (λ x y flows. Stand js g n p (either x y ∷ flows))
-  Stand (Skip label ∷ js) g n p flows = on_top flows (λ x flows. SkipAt f [] x.falls p (line_of labels label) × Stand js g n (end_skip x.falls p) (x ∷ flows))
-  Stand (Update update ∷ js) g n p flows = on_top flows (λ x flows. UpdateAt funs f [] g (turns_on x) p update × Stand js g n (end_update (turns_on x) p update) (x ∷ flows))
-  Stand (Test test ∷ js) g n p flows = TestAt funs f [] g p test × Stand js g n (end_test p test) flows
-  Stand (Last test label ∷ js) g n p flows =
-      on_top flows (λ x flows. LastAt funs f [] g (turns_on x) p test (line_of labels label) × Stand js g n (end_last (turns_on x) p test) (x ∷ flows))
-  Stand (Turned ∷ js) g n p flows = on_top flows (λ x flows. Stand js g n p (on ∷ flows))
-  Stand (End of ∷ js) g n p flows = on_top flows (λ x flows. EndAt f x.falls p of × Stand js g n (end_end x.falls p of) (x ∷ flows))
+  abbrev pub Stand : List Job → Scope → ℕ → ℕ → List Flow → Trapped → Type 0
+  Stand [] g n p flows whole = (length f.lines ≡ p) × (f.traps ≡ whole [])
+  Stand (Value e ∷ js) g n p flows whole = ExprAt funs (untrapped f) [] g p e × Stand js g n (end_expr p e) flows whole
+  Stand (Values es wanted ∷ js) g n p flows whole = (ExprsAt funs (untrapped f) [] g p es × Wants wanted (lyings es)) × Stand js g n (end_exprs p es) flows whole
+  Stand (Put is ∷ js) g n p flows whole = AllAt (untrapped f) [] p is × Stand js g n (end_all p is) flows whole
+  Stand (Convert by to ∷ js) g n p flows whole = AllAt (untrapped f) [] p (cast_code by to) × Stand js g n (end_all p (cast_code by to)) flows whole
+  Stand (Ask is ∷ js) g n p flows whole = At (untrapped f) [] p (i.Typed typed.IsA (full_text is)) × Stand js g n (suc p) flows whole
+  Stand (Call kind text ∷ js) g n p flows whole = At (untrapped f) [] p (call_code kind text) × Stand js g n (suc p) flows whole
+  Stand (Jump kind label ∷ js) g n p flows whole = At (untrapped f) [] p (i.Numbered kind (line_of labels label)) × Stand js g n (suc p) flows whole
+  Stand (Bind label ∷ js) g n p flows whole = (line_of labels label ≡ p) × Stand js g n p flows whole
+  Stand (Load x lies ∷ js) g n p flows whole =
+      ((y : Entry) × IsEntry g x y × (lies ≡ lying_of y.of) × At (untrapped f) [] p (i.Numbered numbered.Load y.local)) × Stand js g n (suc p) flows whole
+  Stand (Store x lies ∷ js) g n p flows whole =
+      ((y : Entry) × IsEntry g x y × (lies ≡ lying_of y.of) × At (untrapped f) [] p (i.Numbered numbered.Store y.local)) × Stand js g n (suc p) flows whole
+  Stand (One t exits ∷ js) g n p flows whole =
+      StmtIn funs (untrapped f) k g n (jumps_of labels exits) p t
+      × Stand js g (next_stmt n t) (end_stmt p t) (flow_in t ∷ flows) (λ more. whole (traps_stmt p t ++ more))
+  Stand (Run body exits ∷ js) g n p flows whole =
+      StmtsIn funs (untrapped f) k g n (jumps_of labels exits) p body
+      × ((later : Scope) × Grown g later × Stand js later (next_stmts n body) (end_stmts p body) (flow_of body ∷ flows) (λ more. whole (traps_stmts p body ++ more)))
+  Stand (Declared x of ∷ js) g n p flows whole =
+      ((lying_of of ≢ Absent) × HasLocal (untrapped f) n of × At (untrapped f) [] p (i.Numbered numbered.Store n)) × Stand js (record { name = x; of = of; local = n } ∷ g) (suc n) (suc p) flows whole
+  Stand (Close height ∷ js) g n p flows whole = Stand js (keep height g) n p flows whole
+  Stand (Flows x ∷ js) g n p flows whole = Stand js g n p (x ∷ flows) whole
+  Stand (Both ∷ js) g n p flows whole = on_two flows (λ x y flows. Stand js g n p (both x y ∷ flows) whole)
+  Stand (Either ∷ js) g n p flows whole = on_two flows (λ x y flows. Stand js g n p (either x y ∷ flows) whole)
+  Stand (Skip label ∷ js) g n p flows whole = on_top flows (λ x flows. SkipAt (untrapped f) [] x.falls p (line_of labels label) × Stand js g n (end_skip x.falls p) (x ∷ flows) whole)
+  Stand (Update update ∷ js) g n p flows whole = on_top flows (λ x flows. UpdateAt funs (untrapped f) [] g (turns_on x) p update × Stand js g n (end_update (turns_on x) p update) (x ∷ flows) whole)
+  Stand (Test test ∷ js) g n p flows whole = TestAt funs (untrapped f) [] g p test × Stand js g n (end_test p test) flows whole
+  Stand (Last test label ∷ js) g n p flows whole =
+      on_top flows (λ x flows. LastAt funs (untrapped f) [] g (turns_on x) p test (line_of labels label) × Stand js g n (end_last (turns_on x) p test) (x ∷ flows) whole)
+  Stand (Turned ∷ js) g n p flows whole = on_top flows (λ x flows. Stand js g n p (on ∷ flows) whole)
+  Stand (Tried catches from label exits ∷ js) g n p flows whole =
+      CatchesIn funs (untrapped f) k g n (jumps_of labels exits) (line_of labels label) p catches
+      × Stand js g (next_catches n catches) (end_catches p catches) (flow_caught catches ∷ flows) (λ more. whole (traps_catches from p p catches ++ more))
+  Stand (Caught catches from to label exits ∷ js) g n p flows whole =
+      CatchesIn funs (untrapped f) k g n (jumps_of labels exits) (line_of labels label) p catches
+      × Stand js g (next_catches n catches) (end_catches p catches) (flow_caught catches ∷ flows) (λ more. whole (traps_catches from to p catches ++ more))
+  Stand (Over NoCatch label ∷ js) g n p flows whole = Stand js g n p flows whole
+  Stand (Over (Catch class x body rest) label ∷ js) g n p flows whole = on_top flows (λ x flows. SkipAt (untrapped f) [] x.falls p (line_of labels label) × Stand js g n (end_skip x.falls p) (x ∷ flows) whole)
+  Stand (End of ∷ js) g n p flows whole = on_top flows (λ x flows. EndAt (untrapped f) x.falls p of × Stand js g n (end_end x.falls p of) (x ∷ flows) whole)
+
+-- with what is written
+abbrev pub whole_in : Config → Trapped
+whole_in c more = c.traps ++ more
 
 -- What is written so far stands in this code.
 pub record Holds (f : FunCode) (labels : List (Option ℕ)) (c : Config) : Type 0 where
   pub lines : (at : ℕ) (line : Line) → slice_get c.lines at ≡ Some line → slice_get f.lines at ≡ Some (settled_line labels line)
-  pub traps : f.traps ≡ []
   pub bound : (label line : ℕ) → slice_get c.labels label ≡ Some (Some line) → slice_get labels label ≡ Some (Some line)
   pub params : f.params ≡ c.params
   pub locals : (at : ℕ) (kind : Slot) → slice_get c.locals at ≡ Some kind → slice_get f.locals at ≡ Some kind
 
 pub record Meets (funs : Program) (f : FunCode) (labels : List (Option ℕ)) (js : List Job) (c : Config) : Type 0 where
   pub holds : Holds f labels c
-  pub stand : Stand funs (lying c.result) f labels js (scope_in c) (next_in c) (length c.lines) c.flows
+  pub stand : Stand funs (lying c.result) f labels js (scope_in c) (next_in c) (length c.lines) c.flows (whole_in c)
 
 -- Code in which the later stands has the earlier too.
 pub record Back (funs : Program) (js : List Job) (c : Config) (js' : List Job) (c' : Config) : Type 0 where

@@ -4,7 +4,7 @@ use Rattle.pl_types.specs.declared.ty.Ty.{Ty}
 use Rattle.typed_tree.specs.declared.typed.Typed.{Typed, out-Typed}
 use Rattle.typed_tree.specs.declared.typed.Node.{Node, out-Node}
 use Rattle.typed_tree.specs.declared.typed.Node.TheOpen.{Node-F}
-use Rattle.program_meaning.specs.Tree.{Expr, Literal, Quoted, Local, Apply, Guarded, Logic, Conditional, Elvis, Assign, Modify, Lambda, Reference, NewReference, Stmt, Do, If, While, DoWhile, ForEach, Try, Block, Break, Continue, Return, Throw, Stmts, Finish, Then, NoCatch}
+use Rattle.program_meaning.specs.Tree.{Expr, Literal, Quoted, Local, Apply, Guarded, Logic, Conditional, Elvis, Assign, Modify, Lambda, Reference, NewReference, Stmt, Do, If, While, DoWhile, ForEach, Try, Block, Break, Continue, Return, Throw, Stmts, Finish, Then}
 use Rattle.program_meaning.specs.Programs.{expr_of, exprs_of, maybe_of, before, declared, stmts_of, Before, Caught, caught_in_row, node_before, catch_before, statement_before}
 use Rattle.typed_tree.specs.declared.statement.TypedStatement.{TypedStatement, out-TypedStatement}
 use Rattle.typed_tree.specs.declared.statement.StatementNode.{StatementNode, out-StatementNode}
@@ -41,10 +41,10 @@ body_if (Some s) = body_of s
 unfoldable pub caught : TypedCatch → Caught
 caught c = fold-TypedCatch Before Caught Before node_before catch_before statement_before c
 
--- a statement that declares nothing, without what is done before a loop; a declaration, which never stands so, counts as not built
+-- a statement that declares nothing, without what is done before a loop; a declaration, which never stands so, is in a block of its own
 abbrev pub opened_statement : StatementNode-F StatementNode TypedCatch TypedStatement → Stmt
 opened_statement (StatementNode-F.Expression value) = Do (expr_of value)
-opened_statement (StatementNode-F.Declare variables) = Try Finish NoCatch
+opened_statement (StatementNode-F.Declare variables) = Block (declared variables Finish)
 opened_statement (StatementNode-F.Block statements) = Block (stmts_of statements)
 opened_statement (StatementNode-F.If condition then otherwise) = If (expr_of condition) (body_of then) (body_if otherwise)
 opened_statement (StatementNode-F.Loop first condition update body) = While (maybe_of condition) (maybe_of update) (body_if body)

@@ -4,16 +4,16 @@ use Rattle.std.specs.Prelude.{◌≡◌, ℕ, ◌<◌, ◌++◌, Bool, true, fal
 use Rattle.pl_types.specs.declared.ty.Ty.{Ty}
 use Rattle.pl_types.specs.declared.conversion.Cast.{Cast}
 use Rattle.pl_types.specs.declared.conversion.Cast.TheVariants as cast
-use Rattle.program_meaning.specs.Tree.{Name, Maybe, Missing, Given, Stmts, Finish, Then, Declare, Variable, Program, type_of}
+use Rattle.program_meaning.specs.Tree.{Name, Maybe, Missing, Given, Stmts, Finish, Then, Declare, Catches, NoCatch, Catch, Variable, Program, type_of}
 use Rattle.program_types.specs.Types.{HasValues}
 use Rattle.program_types.specs.Types as types
 use Rattle.allowlist.specs.Allow.{AllowList}
 use Rattle.member_names.specs.Names.{has_form}
-use Rattle.program_types.specs.Agreeing.{Known, known, IsVariable, ExprAgrees, ExprsAgree, TestAgrees, UpdateAgrees, StmtAgrees, StmtsAgree}
+use Rattle.program_types.specs.Agreeing.{Known, known, IsVariable, ExprAgrees, ExprsAgree, TestAgrees, UpdateAgrees, StmtAgrees, StmtsAgree, CatchesAgree}
 use Rattle.program_code.specs.Lying.{Lying, lying_of}
 use Rattle.program_code.specs.Stands.{Entry, lyings}
 use Rattle.code_generator.specs.Checks.{lying}
-use Rattle.code_generator.specs.Jobs.{Job, Value, Values, Put, Convert, Ask, Call, Jump, Bind, Load, Store, One, Run, Declared, Close, Flows, Both, Either, Skip, Update, Test, Last, Turned, End, Wanted, Wants, keep, scope_in, flow_of, flow_in, both, either, on, on_top, on_two}
+use Rattle.code_generator.specs.Jobs.{Job, Value, Values, Put, Convert, Ask, Call, Jump, Bind, Load, Store, One, Run, Declared, Close, Flows, Both, Either, Skip, Update, Test, Last, Turned, Tried, Caught, Over, End, Wanted, Wants, keep, scope_in, flow_of, flow_in, flow_caught, both, either, on, on_top, on_two}
 use Rattle.code_generator.specs.declared.task.Exits.{Exits}
 use Rattle.code_generator.specs.declared.config.Config.{Config}
 use Rattle.code_generator.specs.declared.config.Flow.{Flow}
@@ -89,6 +89,10 @@ module _ (funs : Known) (result : Ty) where
   Agree (Test test ∷ js) g flows = TestAgrees funs g test × Agree js g flows
   Agree (Last test label ∷ js) g flows = TestAgrees funs g test × on_top flows (λ x flows. Agree js g (x ∷ flows))
   Agree (Turned ∷ js) g flows = on_top flows (λ x flows. Agree js g (on ∷ flows))
+  Agree (Tried catches from label exits ∷ js) g flows = CatchesAgree funs result (is_looped exits) g catches × Agree js g (flow_caught catches ∷ flows)
+  Agree (Caught catches from to label exits ∷ js) g flows = CatchesAgree funs result (is_looped exits) g catches × Agree js g (flow_caught catches ∷ flows)
+  Agree (Over NoCatch label ∷ js) g flows = Agree js g flows
+  Agree (Over (Catch class x body rest) label ∷ js) g flows = on_top flows (λ x flows. Agree js g (x ∷ flows))
   Agree (End of ∷ js) g flows = on_top flows (λ x flows. Agree js g (x ∷ flows))
 
 -- ---- labels that are still to be bound

@@ -8,7 +8,7 @@ use crate::error::CodeError;
 use crate::labels::{Labels, Line, settle};
 use crate::lying::{Lies, given};
 use crate::pile::Pile;
-use pl_code::{FunCode, Slot};
+use pl_code::{FunCode, Slot, Trap};
 use pl_types::Ty;
 use plain_data::{Items, Text};
 use std::alloc::Global;
@@ -43,6 +43,7 @@ pub struct Config {
     pub result: Lies,
     pub params: Items<Slot>,
     pub locals: Items<Slot>,
+    pub traps: Items<Trap>,
     pub lines: Items<Line>,
     pub labels: Labels,
     /// The names in sight, the newest on the top.
@@ -57,6 +58,7 @@ impl Drop for Config {
             result: _,
             params: _params,
             locals: _locals,
+            traps: _traps,
             lines: _lines,
             labels: _labels,
             scope: _scope,
@@ -75,6 +77,7 @@ impl Config {
             result: _,
             params,
             locals,
+            traps,
             lines,
             labels,
             scope: _scope,
@@ -86,7 +89,7 @@ impl Config {
             result: given(of),
             params,
             locals,
-            traps: Items::new(alloc),
+            traps,
             lines,
         })
     }

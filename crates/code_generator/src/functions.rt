@@ -23,7 +23,7 @@ use crate::writer::walk;
 use allowlist::Allow;
 use pl_code::{Code, FunCode, Slot};
 use plain_data::Items;
-use program_code::compiler_laws;
+use program_code::{compiler_laws, covering_laws};
 use std::alloc::Global;
 use typed_tree::{Named, Program, TypedFunction};
 
@@ -77,6 +77,7 @@ fn function(
         Task::End(&f.result),
     )?;
     walk(alloc, catalogue, program, &mut config, &mut tasks)?;
+    covering_laws();
     config.finish(alloc, &f.result)
 }
 
@@ -91,6 +92,7 @@ fn begin(alloc: Global, f: &TypedFunction) -> Result<Config, CodeError>
         result: lies_of(&f.result),
         params,
         locals: Items::new(alloc),
+        traps: Items::new(alloc),
         lines: Items::new(alloc),
         labels: Labels::new(alloc),
         scope,

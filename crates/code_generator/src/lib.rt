@@ -21,6 +21,7 @@ mod scopes;
 mod statements;
 mod step;
 mod task;
+mod tries;
 mod values;
 mod writer;
 

@@ -60,7 +60,7 @@ fn by_kind<'a>(
         StatementNode::Loop { first, .. } => begun(program, config, tasks, s, first, tail, exits),
         StatementNode::Do { .. } => simple(program, config, tasks, s, tail, exits),
         StatementNode::ForEach { .. } => Err(CodeError::Unbuilt),
-        StatementNode::Try { .. } => Err(CodeError::Unbuilt),
+        StatementNode::Try { .. } => simple(program, config, tasks, s, tail, exits),
         StatementNode::Break => simple(program, config, tasks, s, tail, exits),
         StatementNode::Continue => simple(program, config, tasks, s, tail, exits),
         StatementNode::Return(_) => simple(program, config, tasks, s, tail, exits),
@@ -265,16 +265,17 @@ pub fn declare<'a>(
     program: &'a Program,
     config: &mut Config,
     tasks: &Pile<Task<'a>>,
-    variable: &TypedVariable,
+    name: &Text,
+    of: &Ty,
 ) -> Result<(), CodeError>
-    ensures back { OnOk result (Back (program_of program.now) (j.Declared variable.now.name variable.now.of ∷ jobs tasks.now) config.old (jobs tasks.now) config.new) }
-    ensures sound { Keeps (program_of program.now) (j.Declared variable.now.name variable.now.of ∷ jobs tasks.now) config.old result (jobs tasks.now) config.new }
+    ensures back { OnOk result (Back (program_of program.now) (j.Declared name.now of.now ∷ jobs tasks.now) config.old (jobs tasks.now) config.new) }
+    ensures sound { Keeps (program_of program.now) (j.Declared name.now of.now ∷ jobs tasks.now) config.old result (jobs tasks.now) config.new }
 {
-    present(&variable.of)?;
+    present(of)?;
     let local = next(config)?;
-    let one = entry_for(alloc, &variable.name, &variable.of, local)?;
+    let one = entry_for(alloc, name, of, local)?;
     config.scope.push(one)?;
-    config.locals.push(slot(&variable.of))?;
+    config.locals.push(slot(of))?;
     config
         .lines
         .push(Line::Fixed(Instruction::Numbered(Numbered::Store, local)))?;

@@ -5,7 +5,7 @@ ghost use Rattle.code_generator.specs.Jobs as j;
 ghost use Rattle.code_generator.specs.Jobs.{Back, job, jobs, maybe_in};
 ghost use Rattle.code_generator.specs.Opened.{body_of, body_if, statement_of};
 ghost use Rattle.code_generator.specs.Sound.{Keeps};
-ghost use Rattle.program_meaning.specs.Programs.{program_of, expr_of, maybe_of, stmts_of};
+ghost use Rattle.program_meaning.specs.Programs.{program_of, declared, expr_of, maybe_of, stmts_of};
 ghost use Rattle.program_meaning.specs.Tree as tree;
 
 use crate::config::{Config, Flow};
@@ -15,9 +15,10 @@ use crate::lying::{Lies, alike};
 use crate::pieces::Piece;
 use crate::pile::Pile;
 use crate::task::{Exits, Tail, Task};
+use crate::tries::attempt;
 use pl_code::{Numbered, Plain};
 use plain_data::{Items, Subtree};
-use typed_tree::{Program, StatementNode, Typed, TypedStatement};
+use typed_tree::{Program, StatementNode, Typed, TypedStatement, TypedVariable};
 
 /// What is to be written for a statement that declares nothing, without what is done before a loop.
 pub fn one<'a>(
@@ -60,9 +61,11 @@ pub fn one<'a>(
         StatementNode::Break => leave(program, config, tasks, exits),
         StatementNode::Continue => go_on(program, config, tasks, exits),
         StatementNode::Return(value) => give(program, config, tasks, value, exits),
-        StatementNode::Declare(_) => Err(CodeError::Unbuilt),
+        StatementNode::Declare(all) => variables(program, config, tasks, all, exits),
         StatementNode::ForEach { .. } => Err(CodeError::Unbuilt),
-        StatementNode::Try { .. } => Err(CodeError::Unbuilt),
+        StatementNode::Try { body, catches } => {
+            attempt(program, config, tasks, body.get(), catches, exits)
+        }
         StatementNode::Throw(value) => throw(program, config, tasks, value.get(), exits),
     }
 }
@@ -128,6 +131,25 @@ fn block<'a>(
     let height = config.scope.len();
     tasks.push_two(
         Task::Rest(Tail::Row(statements, 0), exits),
+        Task::Close(height),
+    )?;
+    Ok(())
+}
+
+/// Variables alone, in a scope of their own.
+fn variables<'a>(
+    program: &'a Program,
+    config: &Config,
+    tasks: &mut Pile<Task<'a>>,
+    all: &'a Items<TypedVariable>,
+    exits: Option<Exits>,
+) -> Result<(), CodeError>
+    ensures back { OnOk result (Back (program_of program.now) (j.One (tree.Block (declared all.now tree.Finish)) exits ∷ jobs tasks.old) config.now (jobs tasks.new) config.now) }
+    ensures sound { Keeps (program_of program.now) (j.One (tree.Block (declared all.now tree.Finish)) exits ∷ jobs tasks.old) config.now result (jobs tasks.new) config.now }
+{
+    let height = config.scope.len();
+    tasks.push_two(
+        Task::Variables(all, 0, Tail::Nothing, exits),
         Task::Close(height),
     )?;
     Ok(())

@@ -21,13 +21,14 @@ use crate::pile::Pile;
 use crate::scopes::{close, declare, rest, statement, variables};
 use crate::statements::one;
 use crate::task::Task;
+use crate::tries::{caught, named, over, tried};
 use crate::values::values;
 use allowlist::{Allow, MemberKind};
 use pl_code::{Instruction, Numbered};
 use pl_types::{Cast, Ty};
 use plain_data::Text;
 use std::alloc::Global;
-use typed_tree::{Program, Typed};
+use typed_tree::{Program, Typed, TypedVariable};
 
 /// Goes on with a task.
 pub fn step<'a>(
@@ -85,7 +86,7 @@ pub fn step<'a>(
             return variables(program, config, tasks, all, at, tail, exits);
         }
         Task::Declared(variable) => {
-            return declare(alloc, program, config, tasks, variable);
+            return declared(alloc, program, config, tasks, variable);
         }
         Task::Close(height) => {
             return close(program, config, tasks, height);
@@ -114,6 +115,18 @@ pub fn step<'a>(
         Task::Turned => {
             return turned(program, config, tasks);
         }
+        Task::Named(one) => {
+            return named(alloc, program, config, tasks, one);
+        }
+        Task::Tried(catches, from, label, exits) => {
+            return tried(program, config, tasks, catches, from, label, exits);
+        }
+        Task::Caught(catches, at, from, to, label, exits) => {
+            return caught(alloc, program, config, tasks, catches, at, from, to, label, exits);
+        }
+        Task::Over(catches, at, label) => {
+            return over(program, config, tasks, catches, at, label);
+        }
         Task::End(of) => {
             return end(program, config, tasks, of);
         }
@@ -132,6 +145,19 @@ fn expression<'a>(
     ensures sound { Keeps (program_of program.now) (j.Value (expr_of e.now) ∷ jobs tasks.old) config.old result (jobs tasks.new) config.new }
 {
     value(alloc, catalogue, program, config, tasks, e)
+}
+
+fn declared<'a>(
+    alloc: Global,
+    program: &'a Program,
+    config: &mut Config,
+    tasks: &Pile<Task<'a>>,
+    variable: &TypedVariable,
+) -> Result<(), CodeError>
+    ensures back { OnOk result (Back (program_of program.now) (j.Declared variable.now.name variable.now.of ∷ jobs tasks.now) config.old (jobs tasks.now) config.new) }
+    ensures sound { Keeps (program_of program.now) (j.Declared variable.now.name variable.now.of ∷ jobs tasks.now) config.old result (jobs tasks.now) config.new }
+{
+    declare(alloc, program, config, tasks, &variable.name, &variable.of)
 }
 
 fn piece<'a>(

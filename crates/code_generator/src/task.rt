@@ -7,7 +7,7 @@ use allowlist::MemberKind;
 use pl_code::Numbered;
 use pl_types::{Cast, Ty};
 use plain_data::{Items, Subtree, Text};
-use typed_tree::{Named, Typed, TypedStatement, TypedVariable};
+use typed_tree::{Named, Typed, TypedCatch, TypedStatement, TypedVariable};
 
 /// How parts have to lie.
 #[derive(Clone, Copy)]
@@ -87,6 +87,14 @@ pub enum Task<'a> {
     Last(Option<&'a Typed>, u32),
     /// A loop is left.
     Turned,
+    /// The name of a catch is in scope from here on.
+    Named(&'a TypedCatch),
+    /// The catches of a block that begins at a line and ends here, and a label behind them.
+    Tried(&'a Items<TypedCatch>, u32, u32, Option<Exits>),
+    /// The catches, from one on, of the lines from one on and before another, and a label behind them.
+    Caught(&'a Items<TypedCatch>, usize, u32, u32, u32, Option<Exits>),
+    /// A jump over the catches from one on, if there are any, where it is reached.
+    Over(&'a Items<TypedCatch>, usize, u32),
     /// The end of a function with this result.
     End(&'a Ty),
 }
