@@ -25,3 +25,4 @@ mod typed;
 pub use activation::{Activation, Outcome};
 pub use configuration::{End, Limits};
 pub use laws::activation_laws;
+pub use throwing::unboxed;

@@ -87,8 +87,9 @@ fn given_as(of: &Ty, value: Value) -> Word
     }
 }
 
+/// The word of a value that is a primitive: its number. Another value is its own word.
 #[tactic(auto, using(crate::proofs::Answering::bare_word, crate::proofs::Answering::not_bare))]
-fn unboxed(value: Value) -> Word
+pub fn unboxed(value: Value) -> Word
     ensures { result ≡ words.unboxed value }
 {
     match bare(&value) {

@@ -3,10 +3,9 @@
 ghost use Rattle.std.specs.Prelude.{◌≡◌, IfOk, slice_get};
 ghost use Rattle.pl_types.specs.declared.ty.Ty.{out-Ty};
 ghost use Rattle.script_engine.specs.Running.{RunsAsItsProgram, LeftBy, value_of, value_of_int, word_in, words_in, end_left, params_of};
-ghost use Rattle.code_meaning.specs.Words.{unboxed};
 
 use crate::compiling::Script;
-use code_machine::{Activation, Limits};
+use code_machine::{Activation, Limits, unboxed};
 use code_meaning::Word;
 use object_heap::{End, Heap, Outcome};
 use object_values::{Elements, Value};
@@ -15,21 +14,6 @@ use pl_types::{Primitive, Ty};
 use program_outcome::programs_end;
 use std::alloc::{AllocError, Global};
 use task_core::Turn;
-
-/// The number of a value that is one.
-fn unboxed(value: Value) -> Word
-    ensures { result ≡ unboxed value }
-{
-    match value {
-        Value::Bool(flag) => Word::I(flag as i32),
-        Value::Byte(number) => Word::I(number as i32),
-        Value::Short(number) => Word::I(number as i32),
-        Value::Char(unit) => Word::I(unit as i32),
-        Value::Int(number) => Word::I(number),
-        Value::Long(number) => Word::J(number),
-        other => Word::R(other),
-    }
-}
 
 /// The word of an argument in a local of a kind.
 fn word_in(kind: Slot, value: Value) -> Word
