@@ -10,3 +10,4 @@ pub mod Landing
 pub mod Taking
 pub mod Places
 pub mod Entering
+pub mod Spared
