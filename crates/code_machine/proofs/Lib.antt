@@ -11,3 +11,4 @@ pub mod Taking
 pub mod Places
 pub mod Entering
 pub mod Spared
+pub mod Most

@@ -1,5 +1,4 @@
 -- Calls of members that take no memory.
-use Rattle.std.proofs.Common.{◌≡◌}
 use Rattle.object_heap.specs.declared.answer.Answer.{Answer}
 use Rattle.object_heap.specs.declared.answer.Answer.TheVariants as a
 use Rattle.api_text.specs.declared.outcome.Outcome.{Outcome}
