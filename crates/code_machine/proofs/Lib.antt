@@ -10,3 +10,5 @@ pub mod Landing
 pub mod Taking
 pub mod Places
 pub mod Entering
+pub mod Spared
+pub mod Most

@@ -58,3 +58,6 @@ all_locals xs = take-length xs
 
 pub no_words : {X : Type 0} (xs : List X) → drop (0 + length xs) xs ≡ []
 no_words xs = ap (λ k. drop k xs) {x = 0 + length xs} {y = length xs} (omega arith) ∙ drop-length xs
+
+pub reversed_length : {X : Type 0} (xs : List X) → length (reverse xs) ≡ length xs
+reversed_length xs = length-reverse xs

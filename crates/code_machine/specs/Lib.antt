@@ -1,6 +1,8 @@
 pub mod Frames
+pub mod Piles
 pub mod Seen
 pub mod Rows
+pub mod Memory
 pub mod Members
 pub mod Runs
 pub mod Activations

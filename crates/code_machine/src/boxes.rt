@@ -1,5 +1,5 @@
 //! Boxes: a primitive as a value, and a value as a primitive.
-ghost use Rattle.std.specs.Prelude.{◌≡◌, List, ◌∷◌, suc};
+ghost use Rattle.std.specs.Prelude.{◌≡◌, ◌<◌, ◌^◌, List, ◌∷◌, suc};
 ghost use Rattle.pl_types.specs.declared.ty.Ty.TheVariants as ty;
 ghost use Rattle.object_heap.specs.Effects.{Answers};
 ghost use Rattle.number_ops.specs.Outcomes.{effect};
@@ -10,6 +10,7 @@ ghost use Rattle.code_meaning.specs.declared.word.Word.{Word};
 ghost use Rattle.code_meaning.specs.declared.word.Word.TheVariants.{R};
 ghost use Rattle.code_meaning.specs.Machine.{on_top, on_value, on_reference, on_outcome, to_line, is_written};
 ghost use Rattle.code_machine.specs.Seen.{Comes, with_stack, world_of};
+ghost use Rattle.code_machine.specs.Memory.{HasMemory};
 
 use crate::configuration::{Configuration, End, Step};
 use crate::rules::Rules;
@@ -24,7 +25,8 @@ use pl_types::{Primitive, Ty};
 
 /// Makes a value of the number on the stack.
 pub fn box_number(run: &mut Configuration, primitive: Primitive) -> Step
-    ensures { Comes (on_top run.old.frames.top.stack (λ word stack. on_value (words.boxed primitive word) (λ value. to_line run.old.frames.top run.old.frames.below (world_of run.old.world) (suc run.old.frames.top.line) (R value ∷ stack)))) result run.new }
+    ensures exact { Comes (on_top run.old.frames.top.stack (λ word stack. on_value (words.boxed primitive word) (λ value. to_line run.old.frames.top run.old.frames.below (world_of run.old.world) (suc run.old.frames.top.line) (R value ∷ stack)))) result run.new }
+    ensures memory { suc run.old.frames.top.line < 2 ^ 64 → HasMemory result }
 {
     match run.frames.pop() {
         Some(word) => match boxed(primitive, &word) {

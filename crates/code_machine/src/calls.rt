@@ -8,6 +8,7 @@ ghost use Rattle.code_meaning.specs.Machine as spec;
 ghost use Rattle.code_meaning.specs.Machine.{Goes, depth_of};
 ghost use Rattle.code_machine.specs.Seen.{Comes, with_stack, world_of};
 ghost use Rattle.code_machine.specs.Rows.{CountsTo};
+ghost use Rattle.code_machine.specs.Memory.{CallFinds, HasMemory, Returns, RoomFor};
 
 use crate::configuration::{Configuration, End, Step, World};
 use crate::rules::Rules;
@@ -18,7 +19,8 @@ use pl_code::{Code, FunCode, Slot};
 
 /// Calls the function of this number.
 pub fn call(run: &mut Configuration, code: &Code, limits: &Rules<'_>, number: u32) -> Step
-    ensures { Comes (spec.on_call code.now.functions limits.now (slice_get code.now.functions number) number run.old.frames.top run.old.frames.below (world_of run.old.world)) result run.new }
+    ensures exact { Comes (spec.on_call code.now.functions limits.now (slice_get code.now.functions number) number run.old.frames.top run.old.frames.below (world_of run.old.world)) result run.new }
+    ensures memory { CallFinds (slice_get code.now.functions number) run.old.frames → HasMemory result }
 {
     match code.functions.get(number as usize) {
         Some(function) => call_function(run, code, limits, function, number),
@@ -34,7 +36,8 @@ fn call_function(
     function: &FunCode,
     number: u32,
 ) -> Step
-    ensures { Comes (spec.on_call code.now.functions limits.now (Some function.now) number run.old.frames.top run.old.frames.below (world_of run.old.world)) result run.new }
+    ensures exact { Comes (spec.on_call code.now.functions limits.now (Some function.now) number run.old.frames.top run.old.frames.below (world_of run.old.world)) result run.new }
+    ensures memory { CallFinds (Some function.now) run.old.frames → HasMemory result }
 {
     if !run.frames.has(function.params.len()) {
         return Step::Ends(End::Stuck);
@@ -73,7 +76,8 @@ fn count_call(world: &mut World, limits: &Rules<'_>, depth: usize) -> Option<Whi
 
 fn push_frame(run: &mut Configuration, number: u32, function: &FunCode) -> Step
     requires { length function.now.params ≤ length run.old.frames.top.stack }
-    ensures { Comes (spec.on_words (spec.take_words (length function.now.params) run.old.frames.top.stack []) (λ args stack. Goes (record { top = record { text = run.old.frames.top.text; fun = number; line = 0; locals = args ++ map words.start_of function.now.locals; stack = []; turns = 0; due = [] }; below = with_stack run.old.frames.top stack ∷ run.old.frames.below; world = world_of run.old.world }))) result run.new }
+    ensures exact { Comes (spec.on_words (spec.take_words (length function.now.params) run.old.frames.top.stack []) (λ args stack. Goes (record { top = record { text = run.old.frames.top.text; fun = number; line = 0; locals = args ++ map words.start_of function.now.locals; stack = []; turns = 0; due = [] }; below = with_stack run.old.frames.top stack ∷ run.old.frames.below; world = world_of run.old.world }))) result run.new }
+    ensures memory { CallFinds (Some function.now) run.old.frames → HasMemory result }
 {
     match run
         .frames
@@ -86,7 +90,8 @@ fn push_frame(run: &mut Configuration, number: u32, function: &FunCode) -> Step
 
 /// Returns.
 pub fn ret(run: &mut Configuration, code: &Code, limits: &Rules<'_>) -> Step
-    ensures { Comes (spec.returns code.now.functions limits.now (slice_get code.now.functions run.old.frames.top.fun) run.old.frames.top.stack (λ result. spec.gives_back code.now.functions limits.now run.old.frames.below run.old.frames.top.due result (world_of run.old.world))) result run.new }
+    ensures exact { Comes (spec.returns code.now.functions limits.now (slice_get code.now.functions run.old.frames.top.fun) run.old.frames.top.stack (λ result. spec.gives_back code.now.functions limits.now run.old.frames.below run.old.frames.top.due result (world_of run.old.world))) result run.new }
+    ensures memory { Returns run.old.frames.below → HasMemory result }
 {
     match code.functions.get(run.frames.fun() as usize) {
         Some(function) => match function.result {
@@ -101,7 +106,8 @@ pub fn ret(run: &mut Configuration, code: &Code, limits: &Rules<'_>) -> Step
 }
 
 fn give_back(run: &mut Configuration, code: &Code, limits: &Rules<'_>, word: Option<Word>) -> Step
-    ensures { Comes (spec.gives_back code.now.functions limits.now run.old.frames.below run.old.frames.top.due word (world_of run.old.world)) result run.new }
+    ensures exact { Comes (spec.gives_back code.now.functions limits.now run.old.frames.below run.old.frames.top.due word (world_of run.old.world)) result run.new }
+    ensures memory { RoomFor word run.old.frames → Returns run.old.frames.below → HasMemory result }
 {
     if run.frames.leave() {
         match word {

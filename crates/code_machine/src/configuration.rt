@@ -1,7 +1,8 @@
 //! Where a run stands.
-ghost use Rattle.std.specs.Prelude.{◌≡◌, suc, ◌∷◌};
+ghost use Rattle.std.specs.Prelude.{◌≡◌, ◌<◌, ◌^◌, suc, ◌∷◌};
 ghost use Rattle.code_meaning.specs.Machine.{to_line};
 ghost use Rattle.code_machine.specs.Seen.{Comes, end_in, goes, world_of};
+ghost use Rattle.code_machine.specs.Memory.{HasMemory};
 
 use crate::frames::Frames;
 use crate::stack::Stack;
@@ -37,7 +38,7 @@ pub struct Configuration {
     pub frames: Frames,
     pub world: World,
     /// The words that a call of a member takes off the operands, the deepest on the top. Each call fills it anew.
-    pub words: Stack<Word>,
+    pub words: Stack,
     /// What a call of a member is called with. Each call fills it anew.
     pub values: Vec<Value>,
 }
@@ -110,7 +111,8 @@ impl Step {
 impl Configuration {
     // On to the next line. No code has so many lines that there is no number for it.
     pub(crate) fn goes_on(&mut self) -> Step
-        ensures { Comes (to_line self.old.frames.top self.old.frames.below (world_of self.old.world) (suc self.old.frames.top.line) self.old.frames.top.stack) result self.new }
+        ensures exact { Comes (to_line self.old.frames.top self.old.frames.below (world_of self.old.world) (suc self.old.frames.top.line) self.old.frames.top.stack) result self.new }
+        ensures memory { suc self.old.frames.top.line < 2 ^ 64 → HasMemory result }
     {
         match self.frames.line().checked_add(1) {
             Some(line) => {
@@ -123,7 +125,8 @@ impl Configuration {
 
     // Puts a word on the stack, and on to the next line.
     pub(crate) fn push(&mut self, word: Word) -> Step
-        ensures { Comes (to_line self.old.frames.top self.old.frames.below (world_of self.old.world) (suc self.old.frames.top.line) (word ∷ self.old.frames.top.stack)) result self.new }
+        ensures exact { Comes (to_line self.old.frames.top self.old.frames.below (world_of self.old.world) (suc self.old.frames.top.line) (word ∷ self.old.frames.top.stack)) result self.new }
+        ensures memory { self.old.frames.count < self.old.frames.words → suc self.old.frames.top.line < 2 ^ 64 → HasMemory result }
     {
         match self.frames.push(word) {
             Ok(()) => self.goes_on(),
@@ -133,7 +136,8 @@ impl Configuration {
 
     // To a line.
     pub(crate) fn goes_to(&mut self, line: u32) -> Step
-        ensures { Comes (to_line self.old.frames.top self.old.frames.below (world_of self.old.world) line self.old.frames.top.stack) result self.new }
+        ensures exact { Comes (to_line self.old.frames.top self.old.frames.below (world_of self.old.world) line self.old.frames.top.stack) result self.new }
+        ensures memory { HasMemory result }
     {
         self.frames.set_line(line as usize);
         Step::Goes

@@ -1,5 +1,5 @@
 //! Frames that lie one on the other in one vector of words, for which memory is taken once.
-ghost use Rattle.std.specs.Prelude.{◌++◌, map, nat_le, ◌≡◌, ◌≤◌, ◌<◌, suc, [], ◌∷◌, length, slice_get, slice_set, MatchOption, OnOk, OnErr, IsOk, IfOk};
+ghost use Rattle.std.specs.Prelude.{◌+◌, ◌++◌, map, nat_le, ◌≡◌, ◌≤◌, ◌<◌, suc, [], ◌∷◌, length, slice_get, slice_set, MatchOption, OnOk, OnErr, IsOk, IfOk};
 ghost use Rattle.std.specs.Option.{option_copied};
 ghost use Rattle.std.specs.Vec.{vec_capacity};
 ghost use Rattle.code_meaning.specs.Machine.{depth_of, take_words};
@@ -109,6 +109,7 @@ impl Frames {
         ensures top { self.new.top ≡ with_stack self.old.top self.new.top.stack }
         ensures below { self.new.below ≡ self.old.below }
         ensures count { MatchOption result (self.new.count ≡ self.old.count) (λ word. self.old.count ≡ suc self.new.count) }
+        ensures room { MatchOption result (Unit {0}) (λ word. self.new.count < self.new.words) }
         ensures words { self.new.words ≡ self.old.words }
         ensures depth { self.new.depth ≡ self.old.depth }
     {
@@ -149,6 +150,7 @@ impl Frames {
     #[tactic(auto, using(crate::proofs::Places::locals_stay, crate::proofs::Places::no_stack, crate::proofs::Places::rest_stay))]
     pub fn clear(&mut self)
         ensures top { self.new.top ≡ with_stack self.old.top [] }
+        ensures count { self.new.count ≤ self.old.count }
         ensures below { self.new.below ≡ self.old.below }
         ensures words { self.new.words ≡ self.old.words }
         ensures depth { self.new.depth ≡ self.old.depth }
@@ -209,6 +211,7 @@ impl Frames {
     pub fn leave(&mut self) -> bool
         ensures due { self.old.top.due ≡ [] }
         ensures frames { Leaves self.old.top self.old.below self.new.top self.new.below result }
+        ensures count { self.new.count ≤ self.old.count }
         ensures words { self.new.words ≡ self.old.words }
         ensures depth { self.new.depth ≡ self.old.depth }
     {
@@ -231,9 +234,11 @@ impl Frames {
     }
 
     /// A new frame of a function, whose first locals are so many operands of the newest frame. The others begin with these.
+    #[tactic(auto, using(crate::proofs::Places::frames_below))]
     pub fn enter(&mut self, fun: u32, params: usize, slots: &[Slot]) -> Result<(), AllocError>
         requires { params ≤ length self.old.top.stack }
-        ensures { OnOk result (Enters (take_words params self.old.top.stack []) fun slots.now self.old.top self.old.below self.new.top self.new.below) }
+        ensures frame { OnOk result (Enters (take_words params self.old.top.stack []) fun slots.now self.old.top self.old.below self.new.top self.new.below) }
+        ensures memory { self.old.count + length slots.now ≤ self.old.words → depth_of self.old.below < self.old.depth → IsOk result }
     {
         let base = self.words.len() - params;
         push_starts(&mut self.words, slots)?;
@@ -255,6 +260,7 @@ fn push_starts(words: &mut Vec<Word>, slots: &[Slot]) -> Result<(), AllocError>
     ensures ok { OnOk result (words.new.items ≡ words.old.items ++ map start_of slots.now) }
     ensures grows { length words.old.items ≤ length words.new.items }
     ensures room { vec_capacity words.old ≤ vec_capacity words.new }
+    ensures memory { length words.old.items + length slots.now ≤ vec_capacity words.old → IsOk result }
 {
     for slot in slots {
         words.push(start_of(*slot))?;

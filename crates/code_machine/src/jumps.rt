@@ -1,11 +1,13 @@
 //! Locals, jumps and loops.
-ghost use Rattle.std.specs.Prelude.{◌≡◌, [], ◌∷◌, suc, slice_get, slice_set};
+ghost use Rattle.std.specs.Prelude.{◌≡◌, ◌<◌, ◌^◌, [], ◌∷◌, suc, slice_get, slice_set};
 ghost use Rattle.code_meaning.specs.Machine.{numbered_act, on_local, on_top, on_turn, to_line, Goes};
 ghost use Rattle.run_world.specs.World.{take_turn};
 ghost use Rattle.code_machine.specs.Seen.{Comes, world_of};
+ghost use Rattle.code_machine.specs.Memory.{HasMemory, LocalBare, NumberedFinds};
 
 use crate::calls::call;
 use crate::configuration::{Configuration, End, Step};
+use crate::copies::copy_of;
 use crate::references::jump_if_null;
 use crate::rules::Rules;
 use crate::stacks::pop_int;
@@ -21,7 +23,8 @@ pub fn numbered(
     kind: Numbered,
     number: u32,
 ) -> Step
-    ensures { Comes (numbered_act code.now.functions limits.now kind number run.old.frames.top run.old.frames.below (world_of run.old.world)) result run.new }
+    ensures exact { Comes (numbered_act code.now.functions limits.now kind number run.old.frames.top run.old.frames.below (world_of run.old.world)) result run.new }
+    ensures memory { NumberedFinds code.now.functions kind number run.old.frames → suc run.old.frames.top.line < 2 ^ 64 → HasMemory result }
 {
     match kind {
         Numbered::Load => load(run, number),
@@ -50,10 +53,11 @@ pub fn numbered(
 
 // The local of this number goes on the stack. A copy of a text takes memory.
 fn load(run: &mut Configuration, number: u32) -> Step
-    ensures { Comes (on_local (slice_get run.old.frames.top.locals number) (λ word. to_line run.old.frames.top run.old.frames.below (world_of run.old.world) (suc run.old.frames.top.line) (word ∷ run.old.frames.top.stack))) result run.new }
+    ensures exact { Comes (on_local (slice_get run.old.frames.top.locals number) (λ word. to_line run.old.frames.top run.old.frames.below (world_of run.old.world) (suc run.old.frames.top.line) (word ∷ run.old.frames.top.stack))) result run.new }
+    ensures memory { run.old.frames.count < run.old.frames.words → LocalBare (slice_get run.old.frames.top.locals number) → suc run.old.frames.top.line < 2 ^ 64 → HasMemory result }
 {
     match run.frames.local(number as usize) {
-        Some(word) => match word.share() {
+        Some(word) => match copy_of(word) {
             Ok(word) => run.push(word),
             Err(_) => Step::NoMemory,
         },
@@ -62,7 +66,8 @@ fn load(run: &mut Configuration, number: u32) -> Step
 }
 
 fn store(run: &mut Configuration, number: u32) -> Step
-    ensures { Comes (on_top run.old.frames.top.stack (λ word stack. Goes (record { top = record { text = run.old.frames.top.text; fun = run.old.frames.top.fun; line = suc run.old.frames.top.line; locals = slice_set run.old.frames.top.locals number word; stack = stack; turns = run.old.frames.top.turns; due = run.old.frames.top.due }; below = run.old.frames.below; world = world_of run.old.world }))) result run.new }
+    ensures exact { Comes (on_top run.old.frames.top.stack (λ word stack. Goes (record { top = record { text = run.old.frames.top.text; fun = run.old.frames.top.fun; line = suc run.old.frames.top.line; locals = slice_set run.old.frames.top.locals number word; stack = stack; turns = run.old.frames.top.turns; due = run.old.frames.top.due }; below = run.old.frames.below; world = world_of run.old.world }))) result run.new }
+    ensures memory { suc run.old.frames.top.line < 2 ^ 64 → HasMemory result }
 {
     match run.frames.pop() {
         Some(word) => {
@@ -76,7 +81,8 @@ fn store(run: &mut Configuration, number: u32) -> Step
 // A turn of a loop, which goes back to a line: the limit of turns is tried before the ticks.
 #[tactic(auto, unfolding(run_world::specs::World::take_turn, run_world::specs::World::pay_tick))]
 fn turn(run: &mut Configuration, code: &Code, limits: &Rules<'_>, line: u32) -> Step
-    ensures { Comes (on_turn code.now.functions limits.now (take_turn limits.now run.old.frames.top.turns (world_of run.old.world)) line run.old.frames.top run.old.frames.below (world_of run.old.world) run.old.frames.top.stack) result run.new }
+    ensures exact { Comes (on_turn code.now.functions limits.now (take_turn limits.now run.old.frames.top.turns (world_of run.old.world)) line run.old.frames.top run.old.frames.below (world_of run.old.world) run.old.frames.top.stack) result run.new }
+    ensures memory { HasMemory result }
 {
     let turns = run.frames.turns();
     if turns >= limits.loops() {

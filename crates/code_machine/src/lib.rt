@@ -5,6 +5,7 @@ mod activation;
 mod boxes;
 mod calls;
 mod configuration;
+mod copies;
 mod frames;
 mod jumps;
 mod laws;

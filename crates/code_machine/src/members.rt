@@ -1,11 +1,14 @@
 //! Members: calls, what is made by constructors, and fields.
-ghost use Rattle.std.specs.Prelude.{◌≡◌, ◌<◌, List, [], Some, IfOk};
+ghost use Rattle.std.specs.Prelude.{◌≡◌, ◌≤◌, ◌<◌, ◌+◌, ◌^◌, suc, length, true, List, [], Some, IfOk, IsOk};
 ghost use Rattle.member_acts.specs.Members.{does};
 ghost use Rattle.code_shapes.specs.Members.{method_of, constructor_of, field_of};
 ghost use Rattle.code_meaning.specs.declared.word.Word.{Word};
 ghost use Rattle.number_ops.specs.Outcomes.{effect, null_error};
 ghost use Rattle.run_world.specs.World.{acts_in, pay_member};
-ghost use Rattle.code_meaning.specs.Members.{count_of, given_as, received};
+ghost use Rattle.code_meaning.specs.Members.{Receives, count_of, given_as, received};
+ghost use Rattle.std.specs.Vec.{vec_capacity};
+ghost use Rattle.allowlist.specs.Index.{member_at};
+ghost use Rattle.code_machine.specs.Memory.{HasMemory, InvokeFinds, MemberCall, MemberFinds, MemberGives, WordsFind};
 ghost use Rattle.code_meaning.specs.Machine as spec;
 ghost use Rattle.code_machine.specs.Seen.{Comes, with_stack, world_of};
 ghost use Rattle.code_machine.specs.Rows.{beside};
@@ -29,7 +32,8 @@ use std::alloc::AllocError;
 
 /// Calls the method that a text names.
 pub fn invoke(run: &mut Configuration, code: &Code, limits: &Rules<'_>, method: &MethodName) -> Step
-    ensures { Comes (spec.member_act code.now.functions limits.now (method_of limits.now.allowed method.now) run.old.frames.top run.old.frames.below (world_of run.old.world)) result run.new }
+    ensures exact { Comes (spec.member_act code.now.functions limits.now (method_of limits.now.allowed method.now) run.old.frames.top run.old.frames.below (world_of run.old.world)) result run.new }
+    ensures memory { InvokeFinds (method_of limits.now.allowed method.now) run.old → suc run.old.frames.top.line < 2 ^ 64 → HasMemory result }
 {
     match method_of(limits.allow(), method) {
         Some(number) => member(run, code, limits, number),
@@ -65,7 +69,8 @@ pub fn read(run: &mut Configuration, code: &Code, limits: &Rules<'_>, field: &Fi
 // The member of this number.
 fn member(run: &mut Configuration, code: &Code, limits: &Rules<'_>, number: u32) -> Step
     requires { number < 228 }
-    ensures { Comes (spec.member_act code.now.functions limits.now (Some number) run.old.frames.top run.old.frames.below (world_of run.old.world)) result run.new }
+    ensures exact { Comes (spec.member_act code.now.functions limits.now (Some number) run.old.frames.top run.old.frames.below (world_of run.old.world)) result run.new }
+    ensures memory { MemberCall number (member_at number) run.old → suc run.old.frames.top.line < 2 ^ 64 → HasMemory result }
 {
     let called = limits.allow().member_type(number);
     call_member(run, code, limits, number, called)
@@ -78,7 +83,8 @@ fn call_member(
     number: u32,
     called: &MemberType,
 ) -> Step
-    ensures { Comes (spec.on_words (spec.take_words (count_of called.now) run.old.frames.top.stack []) (λ words stack. spec.on_received code.now.functions limits.now (received called.now words) number called.now run.old.frames.top run.old.frames.below (world_of run.old.world) stack)) result run.new }
+    ensures exact { Comes (spec.on_words (spec.take_words (count_of called.now) run.old.frames.top.stack []) (λ words stack. spec.on_received code.now.functions limits.now (received called.now words) number called.now run.old.frames.top run.old.frames.below (world_of run.old.world) stack)) result run.new }
+    ensures memory { WordsFind (spec.take_words (count_of called.now) run.old.frames.top.stack []) number called.now run.old.world.heap.objects run.old.world.reached → count_of called.now ≤ run.old.words.room → count_of called.now ≤ vec_capacity run.old.values → run.old.frames.count < run.old.frames.words → suc run.old.frames.top.line < 2 ^ 64 → HasMemory result }
 {
     match words_of(&mut run.frames, &mut run.words, called) {
         Ok(true) => call_with(run, code, limits, number, called),
@@ -88,12 +94,11 @@ fn call_member(
 }
 
 // The words that a call takes off the stack, the deepest on the top. It is false where there are too few.
-fn words_of(
-    frames: &mut Frames,
-    taken: &mut Stack<Word>,
-    called: &MemberType,
-) -> Result<bool, AllocError>
-    ensures words { IfOk result (λ enough. beside frames.new.top.stack (filled enough taken.new) ≡ spec.take_words (count_of called.now) frames.old.top.stack []) }
+fn words_of(frames: &mut Frames, taken: &mut Stack, called: &MemberType) -> Result<bool, AllocError>
+    ensures words { IfOk result (λ enough. beside frames.new.top.stack (filled enough taken.new.items) ≡ spec.take_words (count_of called.now) frames.old.top.stack []) }
+    ensures memory { count_of called.now ≤ taken.old.room → IsOk result }
+    ensures room { (frames.new.count ≤ frames.old.count) × (frames.new.words ≡ frames.old.words) }
+    ensures taken { IfOk result (λ enough. enough ≡ true → length taken.new.items ≡ count_of called.now) }
     ensures top { IfOk result (λ enough. frames.new.top ≡ with_stack frames.old.top frames.new.top.stack) }
     ensures below { IfOk result (λ enough. frames.new.below ≡ frames.old.below) }
 {
@@ -102,12 +107,11 @@ fn words_of(
 }
 
 // So many words off the stack, the deepest on the top.
-fn take_words(
-    frames: &mut Frames,
-    count: usize,
-    taken: &mut Stack<Word>,
-) -> Result<bool, AllocError>
-    ensures words { IfOk result (λ enough. beside frames.new.top.stack (filled enough taken.new) ≡ spec.take_words count frames.old.top.stack taken.old) }
+fn take_words(frames: &mut Frames, count: usize, taken: &mut Stack) -> Result<bool, AllocError>
+    ensures words { IfOk result (λ enough. beside frames.new.top.stack (filled enough taken.new.items) ≡ spec.take_words count frames.old.top.stack taken.old.items) }
+    ensures memory { length taken.old.items + count ≤ taken.old.room → IsOk result }
+    ensures room { (frames.new.count ≤ frames.old.count) × (frames.new.words ≡ frames.old.words) }
+    ensures taken { IfOk result (λ enough. enough ≡ true → length taken.new.items ≡ length taken.old.items + count) }
     ensures top { IfOk result (λ enough. frames.new.top ≡ with_stack frames.old.top frames.new.top.stack) }
     ensures below { IfOk result (λ enough. frames.new.below ≡ frames.old.below) }
 {
@@ -141,7 +145,8 @@ fn call_with(
     number: u32,
     called: &MemberType,
 ) -> Step
-    ensures { (stack : List Word) → Comes (spec.on_received code.now.functions limits.now (received called.now run.old.words) number called.now (with_stack run.old.frames.top stack) run.old.frames.below (world_of run.old.world) run.old.frames.top.stack) result run.new }
+    ensures exact { (stack : List Word) → Comes (spec.on_received code.now.functions limits.now (received called.now run.old.words.items) number called.now (with_stack run.old.frames.top stack) run.old.frames.below (world_of run.old.world) run.old.frames.top.stack) result run.new }
+    ensures memory { MemberFinds (received called.now run.old.words.items) number run.old.world.heap.objects run.old.world.reached → length run.old.words.items ≤ vec_capacity run.old.values → run.old.frames.count < run.old.frames.words → suc run.old.frames.top.line < 2 ^ 64 → HasMemory result }
 {
     match received(called, &mut run.words, &mut run.values) {
         Ok(receiving) => call_on(run, code, limits, number, called, receiving),
@@ -158,7 +163,8 @@ fn call_on(
     called: &MemberType,
     receiving: Receiving,
 ) -> Step
-    ensures { (stack : List Word) → Comes (spec.on_received code.now.functions limits.now (receiving_of receiving run.old.values.items) number called.now (with_stack run.old.frames.top stack) run.old.frames.below (world_of run.old.world) run.old.frames.top.stack) result run.new }
+    ensures exact { (stack : List Word) → Comes (spec.on_received code.now.functions limits.now (receiving_of receiving run.old.values.items) number called.now (with_stack run.old.frames.top stack) run.old.frames.below (world_of run.old.world) run.old.frames.top.stack) result run.new }
+    ensures memory { MemberFinds (receiving_of receiving run.old.values.items) number run.old.world.heap.objects run.old.world.reached → run.old.frames.count < run.old.frames.words → suc run.old.frames.top.line < 2 ^ 64 → HasMemory result }
 {
     match receiving {
         Receiving::Unfit => Step::Ends(End::Stuck),
@@ -185,7 +191,8 @@ fn pay_and_act(
     number: u32,
     called: &MemberType,
 ) -> Step
-    ensures { (stack : List Word) → Comes (spec.on_paid code.now.functions limits.now (pay_member number (world_of run.old.world)) number run.old.values.items called.now (with_stack run.old.frames.top stack) run.old.frames.below run.old.frames.top.stack) result run.new }
+    ensures exact { (stack : List Word) → Comes (spec.on_paid code.now.functions limits.now (pay_member number (world_of run.old.world)) number run.old.values.items called.now (with_stack run.old.frames.top stack) run.old.frames.below run.old.frames.top.stack) result run.new }
+    ensures memory { MemberFinds (Receives run.old.values.items) number run.old.world.heap.objects run.old.world.reached → run.old.frames.count < run.old.frames.words → suc run.old.frames.top.line < 2 ^ 64 → HasMemory result }
 {
     match pay_member(&mut run.world, number) {
         Ok(None) => act(run, code, limits, number, called),
@@ -195,6 +202,7 @@ fn pay_and_act(
 }
 
 // What the member does.
+#[tactic(auto, using(crate::proofs::Spared::is_answered))]
 fn act(
     run: &mut Configuration,
     code: &Code,
@@ -202,7 +210,8 @@ fn act(
     number: u32,
     called: &MemberType,
 ) -> Step
-    ensures { (stack : List Word) → Comes (spec.on_act code.now.functions limits.now (does number run.old.values.items run.old.world.heap) called.now (with_stack run.old.frames.top stack) run.old.frames.below (world_of run.old.world) run.old.frames.top.stack) result run.new }
+    ensures exact { (stack : List Word) → Comes (spec.on_act code.now.functions limits.now (does number run.old.values.items run.old.world.heap) called.now (with_stack run.old.frames.top stack) run.old.frames.below (world_of run.old.world) run.old.frames.top.stack) result run.new }
+    ensures memory { MemberGives number run.old.values.items run.old.world.heap.objects → run.old.frames.count < run.old.frames.words → suc run.old.frames.top.line < 2 ^ 64 → HasMemory result }
 {
     match member_acts::call(number, &mut run.world.heap, run.values.as_slice()) {
         Some(answer) => answered_as(run, code, limits, &called.result, answer),

@@ -1,5 +1,5 @@
 //! Operators on numbers.
-ghost use Rattle.std.specs.Prelude.{◌≡◌};
+ghost use Rattle.std.specs.Prelude.{◌≡◌, ◌<◌, ◌^◌, suc};
 ghost use Rattle.std.specs.Int.{w32, w64};
 ghost use Rattle.arithmetic.specs.Operators.{of_type, as_long};
 ghost use Rattle.arithmetic.specs.declared.operator.Num.TheVariants as n;
@@ -7,6 +7,7 @@ ghost use Rattle.code_meaning.specs.Machine.{on_calculation};
 ghost use Rattle.code_meaning.specs.Words as words;
 ghost use Rattle.code_machine.specs.Seen.{Comes, with_stack, world_of};
 ghost use Rattle.code_machine.specs.Rows.{CalculatesTo, calculated_of};
+ghost use Rattle.code_machine.specs.Memory.{HasMemory, HasRoom, NoZero};
 
 use crate::configuration::{Configuration, End, Step};
 use crate::frames::Frames;
@@ -34,7 +35,8 @@ pub fn arithmetic(
     op: ArithmeticOp,
     width: Width,
 ) -> Step
-    ensures { Comes (on_calculation code.now.functions limits.now (words.calculation op width run.old.frames.top.stack) run.old.frames.top run.old.frames.below (world_of run.old.world)) result run.new }
+    ensures exact { Comes (on_calculation code.now.functions limits.now (words.calculation op width run.old.frames.top.stack) run.old.frames.top run.old.frames.below (world_of run.old.world)) result run.new }
+    ensures memory { NoZero (words.calculation op width run.old.frames.top.stack) → suc run.old.frames.top.line < 2 ^ 64 → HasMemory result }
 {
     match calculated(&mut run.frames, op, width) {
         Operated::NoRow => Step::Ends(End::Stuck),
@@ -54,6 +56,7 @@ fn word_of(number: Num) -> Word
 
 fn calculated(frames: &mut Frames, op: ArithmeticOp, width: Width) -> Operated
     ensures stack { CalculatesTo (words.calculation op width frames.old.top.stack) frames.new.top.stack result }
+    ensures room { HasRoom result frames.new }
     ensures top { frames.new.top ≡ with_stack frames.old.top frames.new.top.stack }
     ensures below { frames.new.below ≡ frames.old.below }
 {
@@ -65,6 +68,7 @@ fn calculated(frames: &mut Frames, op: ArithmeticOp, width: Width) -> Operated
 
 fn ints(frames: &mut Frames, op: ArithmeticOp) -> Operated
     ensures stack { CalculatesTo (words.ints_of op frames.old.top.stack) frames.new.top.stack result }
+    ensures room { HasRoom result frames.new }
     ensures top { frames.new.top ≡ with_stack frames.old.top frames.new.top.stack }
     ensures below { frames.new.below ≡ frames.old.below }
 {
@@ -77,6 +81,7 @@ fn ints(frames: &mut Frames, op: ArithmeticOp) -> Operated
 
 fn longs(frames: &mut Frames, op: ArithmeticOp) -> Operated
     ensures stack { CalculatesTo (words.longs_of op frames.old.top.stack) frames.new.top.stack result }
+    ensures room { HasRoom result frames.new }
     ensures top { frames.new.top ≡ with_stack frames.old.top frames.new.top.stack }
     ensures below { frames.new.below ≡ frames.old.below }
 {
@@ -107,6 +112,7 @@ fn is_shift(op: ArithmeticOp) -> bool
 #[tactic(auto, using(crate::proofs::Rows::not_one_int))]
 fn one_int(frames: &mut Frames, op: Op) -> Operated
     ensures stack { CalculatesTo (words.one_int op frames.old.top.stack) frames.new.top.stack result }
+    ensures room { HasRoom result frames.new }
     ensures top { frames.new.top ≡ with_stack frames.old.top frames.new.top.stack }
     ensures below { frames.new.below ≡ frames.old.below }
 {
@@ -119,6 +125,7 @@ fn one_int(frames: &mut Frames, op: Op) -> Operated
 #[tactic(auto, using(crate::proofs::Rows::not_two_ints, crate::proofs::Rows::one_of_two_ints))]
 fn two_ints(frames: &mut Frames, op: Op) -> Operated
     ensures stack { CalculatesTo (words.two_ints op frames.old.top.stack) frames.new.top.stack result }
+    ensures room { HasRoom result frames.new }
     ensures top { frames.new.top ≡ with_stack frames.old.top frames.new.top.stack }
     ensures below { frames.new.below ≡ frames.old.below }
 {
@@ -134,6 +141,7 @@ fn two_ints(frames: &mut Frames, op: Op) -> Operated
 #[tactic(auto, using(crate::proofs::Rows::not_one_long))]
 fn one_long(frames: &mut Frames, op: Op) -> Operated
     ensures stack { CalculatesTo (words.one_long op frames.old.top.stack) frames.new.top.stack result }
+    ensures room { HasRoom result frames.new }
     ensures top { frames.new.top ≡ with_stack frames.old.top frames.new.top.stack }
     ensures below { frames.new.below ≡ frames.old.below }
 {
@@ -146,6 +154,7 @@ fn one_long(frames: &mut Frames, op: Op) -> Operated
 #[tactic(auto, using(crate::proofs::Rows::no_shift, crate::proofs::Rows::half_shift))]
 fn long_and_int(frames: &mut Frames, op: Op) -> Operated
     ensures stack { CalculatesTo (words.long_and_int op frames.old.top.stack) frames.new.top.stack result }
+    ensures room { HasRoom result frames.new }
     ensures top { frames.new.top ≡ with_stack frames.old.top frames.new.top.stack }
     ensures below { frames.new.below ≡ frames.old.below }
 {
@@ -161,6 +170,7 @@ fn long_and_int(frames: &mut Frames, op: Op) -> Operated
 #[tactic(auto, using(crate::proofs::Rows::not_two_longs, crate::proofs::Rows::one_of_two_longs))]
 fn two_longs(frames: &mut Frames, op: Op) -> Operated
     ensures stack { CalculatesTo (words.two_longs op frames.old.top.stack) frames.new.top.stack result }
+    ensures room { HasRoom result frames.new }
     ensures top { frames.new.top ≡ with_stack frames.old.top frames.new.top.stack }
     ensures below { frames.new.below ≡ frames.old.below }
 {

@@ -1,5 +1,5 @@
 //! Calls of members that are paid, and the members that are reached.
-ghost use Rattle.std.specs.Prelude.{◌≡◌, ◌==◌, IfOk};
+ghost use Rattle.std.specs.Prelude.{◌≡◌, ◌==◌, true, IfOk, IsOk};
 ghost use Rattle.std.specs.List.{list_any};
 ghost use Rattle.run_world.specs.World.{pay_member};
 ghost use Rattle.code_machine.specs.Seen.{world_of};
@@ -12,7 +12,9 @@ use std::alloc::AllocError;
 /// Pays the tick of a call of a member, and then the member is reached.
 #[tactic(auto, unfolding(run_world::specs::World::pay_member, run_world::specs::World::reaches, run_world::specs::World::reach, run_world::specs::World::pay_tick))]
 pub fn pay_member(world: &mut World, number: u32) -> Result<Option<Which>, AllocError>
-    ensures { IfOk result (λ limit. CountsTo (pay_member number (world_of world.old)) (world_of world.new) limit) }
+    ensures exact { IfOk result (λ limit. CountsTo (pay_member number (world_of world.old)) (world_of world.new) limit) }
+    ensures memory { list_any (λ n. n == number) world.old.reached ≡ true → IsOk result }
+    ensures heap { world.new.heap ≡ world.old.heap }
 {
     if world.ticks == 0 {
         return Ok(Some(Which::Ticks));

@@ -1,5 +1,6 @@
 //! What a member is called with: the words of its call as values.
-ghost use Rattle.std.specs.Prelude.{◌≡◌, List, Some, IfOk};
+ghost use Rattle.std.specs.Prelude.{◌≡◌, ◌≤◌, ◌<◌, ◌+◌, List, length, Some, IfOk, IsOk};
+ghost use Rattle.std.specs.Vec.{vec_capacity};
 ghost use Rattle.allowlist.specs.declared.member.MemberKind.TheVariants as kind;
 ghost use Rattle.object_values.specs.declared.value.Value.{Value};
 ghost use Rattle.code_meaning.specs.Members as members;
@@ -31,10 +32,11 @@ pub enum Receiving {
 /// `values` alone.
 pub fn received(
     called: &MemberType,
-    words: &mut Stack<Word>,
+    words: &mut Stack,
     values: &mut Vec<Value>,
 ) -> Result<Receiving, AllocError>
-    ensures { IfOk result (λ r. receiving_of r values.new.items ≡ members.received called.now words.old) }
+    ensures exact { IfOk result (λ r. receiving_of r values.new.items ≡ members.received called.now words.old.items) }
+    ensures memory { length words.old.items ≤ vec_capacity values.old → IsOk result }
 {
     match called.kind {
         MemberKind::Instance => received_on(called.params.as_slice(), words, values),
@@ -52,10 +54,11 @@ pub fn received(
 
 fn received_all(
     params: &[Ty],
-    words: &mut Stack<Word>,
+    words: &mut Stack,
     values: &mut Vec<Value>,
 ) -> Result<Receiving, AllocError>
-    ensures { IfOk result (λ r. receiving_of r values.new.items ≡ members.receives (members.taken_all params.now words.old)) }
+    ensures exact { IfOk result (λ r. receiving_of r values.new.items ≡ members.receives (members.taken_all params.now words.old.items)) }
+    ensures memory { length words.old.items ≤ vec_capacity values.old → IsOk result }
 {
     values.clear();
     if take_arguments(params, words, values)? {
@@ -67,10 +70,11 @@ fn received_all(
 
 fn received_on(
     params: &[Ty],
-    words: &mut Stack<Word>,
+    words: &mut Stack,
     values: &mut Vec<Value>,
 ) -> Result<Receiving, AllocError>
-    ensures { IfOk result (λ r. receiving_of r values.new.items ≡ members.received_by kind.Instance params.now words.old) }
+    ensures exact { IfOk result (λ r. receiving_of r values.new.items ≡ members.received_by kind.Instance params.now words.old.items) }
+    ensures memory { length words.old.items ≤ vec_capacity values.old → IsOk result }
 {
     match words.pop() {
         Some(word) => match reference_in(word) {
@@ -83,11 +87,12 @@ fn received_on(
 
 fn received_by(
     params: &[Ty],
-    words: &mut Stack<Word>,
+    words: &mut Stack,
     values: &mut Vec<Value>,
     receiver: Value,
 ) -> Result<Receiving, AllocError>
-    ensures { IfOk result (λ r. receiving_of r values.new.items ≡ members.receives_on (Some receiver) (members.taken_all params.now words.old)) }
+    ensures exact { IfOk result (λ r. receiving_of r values.new.items ≡ members.receives_on (Some receiver) (members.taken_all params.now words.old.items)) }
+    ensures memory { length words.old.items < vec_capacity values.old → IsOk result }
 {
     let null = is_null(&receiver);
     values.clear();
@@ -118,10 +123,11 @@ fn is_null(value: &Value) -> bool
 // The arguments of these types, behind values that are there. It is false where the words do not fit.
 fn take_arguments(
     params: &[Ty],
-    words: &mut Stack<Word>,
+    words: &mut Stack,
     values: &mut Vec<Value>,
 ) -> Result<bool, AllocError>
-    ensures { IfOk result (λ fit. filled fit values.new.items ≡ behind values.old.items (members.taken_all params.now words.old)) }
+    ensures exact { IfOk result (λ fit. filled fit values.new.items ≡ behind values.old.items (members.taken_all params.now words.old.items)) }
+    ensures memory { length values.old.items + length words.old.items ≤ vec_capacity values.old → IsOk result }
 {
     let mut rest = params;
     'params: while let [of, others @ ..] = rest {

@@ -1,8 +1,10 @@
 //! Texts, and what is asked of references: whether two are equal or one, their texts joined, and whether one is null.
-ghost use Rattle.std.specs.Prelude.{◌≡◌, List, ◌∷◌, suc};
+ghost use Rattle.std.specs.Prelude.{◌≡◌, ◌<◌, ◌^◌, List, ◌∷◌, suc};
 ghost use Rattle.code_meaning.specs.declared.word.Word.{Word};
 ghost use Rattle.code_meaning.specs.Machine.{quoted_act, on_reference, on_top, if_null, to_line};
 ghost use Rattle.code_machine.specs.Seen.{Comes, with_stack, world_of};
+ghost use Rattle.code_machine.specs.declared.references.Pairing.TheVariants as pairing;
+ghost use Rattle.code_machine.specs.Memory.{HasMemory};
 ghost use Rattle.code_machine.specs.Rows.{null_in, on_pair, on_references, paired, text_act};
 
 use crate::configuration::{Configuration, End, Step};
@@ -53,7 +55,8 @@ pub enum Pairing {
 
 /// An instruction on two references, which are taken off the stack.
 pub fn pair(run: &mut Configuration, code: &Code, limits: &Rules<'_>, kind: Pairing) -> Step
-    ensures { Comes (on_pair run.old.frames.top.stack (λ a b stack. paired code.now.functions limits.now kind a b run.old.frames.top run.old.frames.below (world_of run.old.world) stack)) result run.new }
+    ensures exact { Comes (on_pair run.old.frames.top.stack (λ a b stack. paired code.now.functions limits.now kind a b run.old.frames.top run.old.frames.below (world_of run.old.world) stack)) result run.new }
+    ensures memory { kind ≡ pairing.Same → suc run.old.frames.top.line < 2 ^ 64 → HasMemory result }
 {
     match run.frames.pop() {
         Some(upper) => match run.frames.pop() {
@@ -73,7 +76,8 @@ fn pair_words(
     lower: &Word,
     upper: &Word,
 ) -> Step
-    ensures { (stack : List Word) → Comes (on_references lower.now upper.now (λ a b. paired code.now.functions limits.now kind a b (with_stack run.old.frames.top stack) run.old.frames.below (world_of run.old.world) run.old.frames.top.stack)) result run.new }
+    ensures exact { (stack : List Word) → Comes (on_references lower.now upper.now (λ a b. paired code.now.functions limits.now kind a b (with_stack run.old.frames.top stack) run.old.frames.below (world_of run.old.world) run.old.frames.top.stack)) result run.new }
+    ensures memory { kind ≡ pairing.Same → run.old.frames.count < run.old.frames.words → suc run.old.frames.top.line < 2 ^ 64 → HasMemory result }
 {
     match upper {
         Word::R(b) => match lower {
@@ -92,7 +96,8 @@ fn pair_values(
     a: &Value,
     b: &Value,
 ) -> Step
-    ensures { (stack : List Word) → Comes (paired code.now.functions limits.now kind a.now b.now (with_stack run.old.frames.top stack) run.old.frames.below (world_of run.old.world) run.old.frames.top.stack) result run.new }
+    ensures exact { (stack : List Word) → Comes (paired code.now.functions limits.now kind a.now b.now (with_stack run.old.frames.top stack) run.old.frames.below (world_of run.old.world) run.old.frames.top.stack) result run.new }
+    ensures memory { kind ≡ pairing.Same → run.old.frames.count < run.old.frames.words → suc run.old.frames.top.line < 2 ^ 64 → HasMemory result }
 {
     match kind {
         Pairing::Concat => {
@@ -109,7 +114,8 @@ fn pair_values(
 
 /// To a line where the reference on the stack is null, and else on to the next one.
 pub fn jump_if_null(run: &mut Configuration, line: u32) -> Step
-    ensures { Comes (on_top run.old.frames.top.stack (λ word stack. on_reference word (λ value. if_null value (to_line run.old.frames.top run.old.frames.below (world_of run.old.world) line stack) (to_line run.old.frames.top run.old.frames.below (world_of run.old.world) (suc run.old.frames.top.line) stack)))) result run.new }
+    ensures exact { Comes (on_top run.old.frames.top.stack (λ word stack. on_reference word (λ value. if_null value (to_line run.old.frames.top run.old.frames.below (world_of run.old.world) line stack) (to_line run.old.frames.top run.old.frames.below (world_of run.old.world) (suc run.old.frames.top.line) stack)))) result run.new }
+    ensures memory { suc run.old.frames.top.line < 2 ^ 64 → HasMemory result }
 {
     match run.frames.pop() {
         Some(word) => match null_in(&word) {

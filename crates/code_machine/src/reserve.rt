@@ -1,4 +1,7 @@
 //! How much memory a run takes at its start.
+ghost use Rattle.std.specs.Prelude.{◌≡◌, ◌≤◌, ◌<◌, ℕ, min};
+ghost use Rattle.allowlist.specs.Index.{member_at};
+ghost use Rattle.code_meaning.specs.Members.{count_of};
 
 use crate::members::count_of;
 use allowlist::{Allow, MEMBER_COUNT};
@@ -22,7 +25,11 @@ pub struct Reserve {
 }
 
 impl Reserve {
-    pub fn of(code: &Code, allow: &Allow, depth: u32) -> Reserve {
+    pub fn of(code: &Code, allow: &Allow, depth: u32) -> Reserve
+        ensures frames { result.frames ≡ min 1024 depth }
+        ensures words { result.words ≤ 262144 }
+        ensures arguments { (number : ℕ) → number < 228 → count_of (member_at number) ≤ result.arguments }
+    {
         let frames = FRAMES.min(depth) as usize;
         let words = most_words(code).saturating_mul(frames.saturating_add(1));
         Reserve {
@@ -34,7 +41,10 @@ impl Reserve {
 }
 
 // How many words the member that takes most is called with.
-fn most_arguments(allow: &Allow) -> usize {
+#[tactic(auto, using(crate::proofs::Most::one_more))]
+fn most_arguments(allow: &Allow) -> usize
+    ensures { (number : ℕ) → number < 228 → count_of (member_at number) ≤ result }
+{
     let mut most = 0;
     for number in 0..MEMBER_COUNT {
         most = count_of(allow.member_type(number)).max(most);

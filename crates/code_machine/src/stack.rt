@@ -1,70 +1,72 @@
-//! Stacks.
-ghost use Rattle.std.specs.Prelude.{◌≡◌, [], ◌∷◌, length, MatchOption, OnOk, OnErr, IfOk};
+//! Words that were taken off the operands.
+ghost use Rattle.std.specs.Prelude.{◌≡◌, ◌≤◌, ◌<◌, [], ◌∷◌, length, MatchOption, OnOk, IsOk, IfOk};
 
+use code_meaning::Word;
 use std::alloc::{AllocError, Global};
 use std::marker::Model;
 
-/// A stack, which contracts see as the list of its elements from the top down.
-pub struct Stack<T> {
-    items: Vec<T>,
+/// A stack of words, which contracts see as the list of its words from the top down, with how many there is memory for.
+#[derive(Drop)]
+pub struct Stack {
+    items: Vec<Word>,
 }
 
-impl<T: Drop> Drop for Stack<T> {
-    fn drop(self) {
-        let Stack { items: _items } = self;
-    }
+impl Model for Stack {
+    ghost use Rattle.std.specs.Prelude.{reverse};
+    ghost use Rattle.std.specs.Vec.{vec_capacity};
+    ghost use Rattle.code_machine.specs.Piles.{Pile};
+    ghost use Rattle.std.specs.Coded.{codes};
+    ghost use Rattle.pl_types.specs.contracts.ty.Ty as ty;
+
+    ghost Value = { Pile };
+
+    ghost coded = { Prim.hlevel (codes, ty.the_row.coded) };
+
+    ghost view = { λ s. record { items = reverse s.items.items; room = vec_capacity s.items } };
 }
 
-impl<T> Model for Stack<T> {
-    ghost use Rattle.std.specs.Prelude.{List, reverse};
-    ghost use Rattle.std.specs.Coded.{coded_list};
-
-    ghost Value = { List T };
-
-    ghost coded = { coded_list T.code };
-
-    ghost view = { λ s. reverse s.items.items };
-}
-
-impl<T> Stack<T> {
-    /// An empty stack with memory for so many elements.
-    pub fn with_capacity(alloc: Global, capacity: usize) -> Result<Stack<T>, AllocError>
-        ensures { IfOk result (λ stack. stack ≡ []) }
+impl Stack {
+    /// An empty stack with memory for so many words.
+    pub fn with_capacity(alloc: Global, capacity: usize) -> Result<Stack, AllocError>
+        ensures empty { IfOk result (λ stack. stack.items ≡ []) }
+        ensures room { IfOk result (λ stack. capacity ≤ stack.room) }
     {
         Ok(Stack {
             items: Vec::with_capacity(alloc, capacity)?,
         })
     }
 
-    /// How many elements there are.
+    /// How many words there are.
     pub fn len(&self) -> usize
-        ensures { result ≡ length self.now }
+        ensures { result ≡ length self.now.items }
     {
         self.items.len()
     }
 
     /// Takes the top off, or gives `None` where the stack is empty.
-    pub fn pop(&mut self) -> Option<T>
-        ensures { MatchOption result ((self.old ≡ []) × (self.new ≡ [])) (λ top. self.old ≡ top ∷ self.new) }
+    pub fn pop(&mut self) -> Option<Word>
+        ensures top { MatchOption result ((self.old.items ≡ []) × (self.new.items ≡ [])) (λ top. self.old.items ≡ top ∷ self.new.items) }
+        ensures room { self.new.room ≡ self.old.room }
     {
         self.items.pop()
     }
-}
 
-impl<T: Drop> Stack<T> {
-    /// Drops all elements. The memory stays.
+    /// Drops all words. The memory stays.
     pub fn clear(&mut self)
-        ensures { self.new ≡ [] }
+        ensures items { self.new.items ≡ [] }
+        ensures room { self.new.room ≡ self.old.room }
     {
         self.items.clear();
     }
 
-    /// Puts an element on the top. Where memory is wanting the stack stays as it was.
-    pub fn push(&mut self, element: T) -> Result<(), AllocError>
-        ensures ok { OnOk result (self.new ≡ element ∷ self.old) }
-        ensures err { OnErr result (self.new ≡ self.old) }
+    /// Puts a word on the top.
+    #[tactic(auto, using(crate::proofs::Places::reversed_length))]
+    pub fn push(&mut self, word: Word) -> Result<(), AllocError>
+        ensures ok { OnOk result (self.new.items ≡ word ∷ self.old.items) }
+        ensures room { self.old.room ≤ self.new.room }
+        ensures memory { length self.old.items < self.old.room → IsOk result }
     {
-        self.items.push(element)?;
+        self.items.push(word)?;
         Ok(())
     }
 }

@@ -1,14 +1,16 @@
 //! Instructions on the stack alone: constants, copies and casts of numbers.
-ghost use Rattle.std.specs.Prelude.{◌≡◌, ◌∷◌, Some, None, MatchOption, suc};
+ghost use Rattle.std.specs.Prelude.{◌≡◌, ◌≤◌, ◌<◌, ◌+◌, ◌^◌, ◌∷◌, false, Some, None, MatchOption, suc};
 ghost use Rattle.pl_code.specs.declared.kinds.Plain.TheVariants as plains;
 ghost use Rattle.code_meaning.specs.declared.word.Word.TheVariants.{I, J};
 ghost use Rattle.code_meaning.specs.Machine as spec;
 ghost use Rattle.code_meaning.specs.Machine.{plain_act, on_stack, to_line};
 ghost use Rattle.code_machine.specs.Seen.{Comes, int_of, long_of, with_stack, world_of};
 ghost use Rattle.code_machine.specs.Rows.{Copies};
+ghost use Rattle.code_machine.specs.Memory.{HasMemory, IsCopied, OneBare, PlainFinds, TwoBare, is_text};
 
 use crate::calls::ret;
 use crate::configuration::{Configuration, End, Step};
+use crate::copies::copy_of;
 use crate::frames::Frames;
 use crate::references::{Pairing, pair};
 use crate::rules::Rules;
@@ -21,7 +23,8 @@ use pl_code::{Code, Plain};
 /// An instruction without operands.
 #[tactic(auto, using(crate::proofs::Rows::no_int, crate::proofs::Rows::no_long))]
 pub fn plain(run: &mut Configuration, code: &Code, limits: &Rules<'_>, kind: Plain) -> Step
-    ensures { Comes (plain_act code.now.functions limits.now kind run.old.frames.top run.old.frames.below (world_of run.old.world)) result run.new }
+    ensures exact { Comes (plain_act code.now.functions limits.now kind run.old.frames.top run.old.frames.below (world_of run.old.world)) result run.new }
+    ensures memory { PlainFinds kind run.old.frames → suc run.old.frames.top.line < 2 ^ 64 → HasMemory result }
 {
     match kind {
         Plain::Null => run.push(Word::R(Value::Null)),
@@ -57,6 +60,7 @@ pub fn plain(run: &mut Configuration, code: &Code, limits: &Rules<'_>, kind: Pla
 /// Takes an int off a stack. What is left where there is none is of no account.
 pub fn pop_int(frames: &mut Frames) -> Option<i32>
     ensures stack { MatchOption result (int_of frames.old.top.stack ≡ None) (λ a. frames.old.top.stack ≡ I a ∷ frames.new.top.stack) }
+    ensures room { MatchOption result (Unit {0}) (λ a. frames.new.count < frames.new.words) }
     ensures top { frames.new.top ≡ with_stack frames.old.top frames.new.top.stack }
     ensures below { frames.new.below ≡ frames.old.below }
 {
@@ -69,6 +73,7 @@ pub fn pop_int(frames: &mut Frames) -> Option<i32>
 /// Takes a long off a stack. What is left where there is none is of no account.
 pub fn pop_long(frames: &mut Frames) -> Option<i64>
     ensures stack { MatchOption result (long_of frames.old.top.stack ≡ None) (λ a. frames.old.top.stack ≡ J a ∷ frames.new.top.stack) }
+    ensures room { MatchOption result (Unit {0}) (λ a. frames.new.count < frames.new.words) }
     ensures top { frames.new.top ≡ with_stack frames.old.top frames.new.top.stack }
     ensures below { frames.new.below ≡ frames.old.below }
 {
@@ -88,7 +93,8 @@ pub enum Copying {
 
 // An instruction that copies words of the stack, or takes the top off.
 fn copy(run: &mut Configuration, kind: Plain) -> Step
-    ensures { Comes (on_stack (spec.copied kind run.old.frames.top.stack) (λ stack. to_line run.old.frames.top run.old.frames.below (world_of run.old.world) (suc run.old.frames.top.line) stack)) result run.new }
+    ensures exact { Comes (on_stack (spec.copied kind run.old.frames.top.stack) (λ stack. to_line run.old.frames.top run.old.frames.below (world_of run.old.world) (suc run.old.frames.top.line) stack)) result run.new }
+    ensures memory { PlainFinds kind run.old.frames → suc run.old.frames.top.line < 2 ^ 64 → HasMemory result }
 {
     match copied(&mut run.frames, kind) {
         Copying::Done => run.goes_on(),
@@ -99,6 +105,7 @@ fn copy(run: &mut Configuration, kind: Plain) -> Step
 
 fn copied(frames: &mut Frames, kind: Plain) -> Copying
     ensures stack { Copies (spec.copied kind frames.old.top.stack) frames.new.top.stack result }
+    ensures memory { PlainFinds kind frames.old → IsCopied result }
     ensures top { frames.new.top ≡ with_stack frames.old.top frames.new.top.stack }
     ensures below { frames.new.below ≡ frames.old.below }
 {
@@ -114,6 +121,7 @@ fn copied(frames: &mut Frames, kind: Plain) -> Copying
 
 fn pop(frames: &mut Frames) -> Copying
     ensures stack { Copies (spec.copied plains.Pop frames.old.top.stack) frames.new.top.stack result }
+    ensures memory { IsCopied result }
     ensures top { frames.new.top ≡ with_stack frames.old.top frames.new.top.stack }
     ensures below { frames.new.below ≡ frames.old.below }
 {
@@ -126,6 +134,7 @@ fn pop(frames: &mut Frames) -> Copying
 // Puts words on a stack, the first of them first.
 fn put_two(frames: &mut Frames, first: Word, second: Word) -> Copying
     ensures stack { Copies (Some (second ∷ first ∷ frames.old.top.stack)) frames.new.top.stack result }
+    ensures memory { frames.old.count + 2 ≤ frames.old.words → IsCopied result }
     ensures top { frames.new.top ≡ with_stack frames.old.top frames.new.top.stack }
     ensures below { frames.new.below ≡ frames.old.below }
 {
@@ -140,6 +149,7 @@ fn put_two(frames: &mut Frames, first: Word, second: Word) -> Copying
 
 fn put_three(frames: &mut Frames, first: Word, second: Word, third: Word) -> Copying
     ensures stack { Copies (Some (third ∷ second ∷ first ∷ frames.old.top.stack)) frames.new.top.stack result }
+    ensures memory { frames.old.count + 3 ≤ frames.old.words → IsCopied result }
     ensures top { frames.new.top ≡ with_stack frames.old.top frames.new.top.stack }
     ensures below { frames.new.below ≡ frames.old.below }
 {
@@ -151,6 +161,7 @@ fn put_three(frames: &mut Frames, first: Word, second: Word, third: Word) -> Cop
 
 fn put_four(frames: &mut Frames, first: Word, second: Word, third: Word, fourth: Word) -> Copying
     ensures stack { Copies (Some (fourth ∷ third ∷ second ∷ first ∷ frames.old.top.stack)) frames.new.top.stack result }
+    ensures memory { frames.old.count + 4 ≤ frames.old.words → IsCopied result }
     ensures top { frames.new.top ≡ with_stack frames.old.top frames.new.top.stack }
     ensures below { frames.new.below ≡ frames.old.below }
 {
@@ -162,11 +173,12 @@ fn put_four(frames: &mut Frames, first: Word, second: Word, third: Word, fourth:
 
 fn dup(frames: &mut Frames) -> Copying
     ensures stack { Copies (spec.copied plains.Dup frames.old.top.stack) frames.new.top.stack result }
+    ensures memory { frames.old.count < frames.old.words → OneBare frames.old.top.stack → IsCopied result }
     ensures top { frames.new.top ≡ with_stack frames.old.top frames.new.top.stack }
     ensures below { frames.new.below ≡ frames.old.below }
 {
     match frames.pop() {
-        Some(z) => match z.share() {
+        Some(z) => match copy_of(&z) {
             Ok(copy) => put_two(frames, z, copy),
             Err(_) => Copying::NoMemory,
         },
@@ -176,6 +188,7 @@ fn dup(frames: &mut Frames) -> Copying
 
 fn dup_two(frames: &mut Frames) -> Copying
     ensures stack { Copies (spec.copied plains.Dup2 frames.old.top.stack) frames.new.top.stack result }
+    ensures memory { frames.old.count + 2 ≤ frames.old.words → TwoBare frames.old.top.stack → IsCopied result }
     ensures top { frames.new.top ≡ with_stack frames.old.top frames.new.top.stack }
     ensures below { frames.new.below ≡ frames.old.below }
 {
@@ -191,11 +204,12 @@ fn dup_two(frames: &mut Frames) -> Copying
 // Puts two words on a stack twice.
 fn share_two(frames: &mut Frames, z: Word, y: Word) -> Copying
     ensures stack { Copies (Some (z ∷ y ∷ z ∷ y ∷ frames.old.top.stack)) frames.new.top.stack result }
+    ensures memory { frames.old.count + 4 ≤ frames.old.words → is_text z ≡ false → is_text y ≡ false → IsCopied result }
     ensures top { frames.new.top ≡ with_stack frames.old.top frames.new.top.stack }
     ensures below { frames.new.below ≡ frames.old.below }
 {
-    match z.share() {
-        Ok(upper) => match y.share() {
+    match copy_of(&z) {
+        Ok(upper) => match copy_of(&y) {
             Ok(lower) => put_four(frames, y, z, lower, upper),
             Err(_) => Copying::NoMemory,
         },
@@ -205,6 +219,7 @@ fn share_two(frames: &mut Frames, z: Word, y: Word) -> Copying
 
 fn dup_below_one(frames: &mut Frames) -> Copying
     ensures stack { Copies (spec.copied plains.DupX1 frames.old.top.stack) frames.new.top.stack result }
+    ensures memory { frames.old.count < frames.old.words → OneBare frames.old.top.stack → IsCopied result }
     ensures top { frames.new.top ≡ with_stack frames.old.top frames.new.top.stack }
     ensures below { frames.new.below ≡ frames.old.below }
 {
@@ -219,10 +234,11 @@ fn dup_below_one(frames: &mut Frames) -> Copying
 
 fn share_below_one(frames: &mut Frames, z: Word, y: Word) -> Copying
     ensures stack { Copies (Some (z ∷ y ∷ z ∷ frames.old.top.stack)) frames.new.top.stack result }
+    ensures memory { frames.old.count + 3 ≤ frames.old.words → is_text z ≡ false → IsCopied result }
     ensures top { frames.new.top ≡ with_stack frames.old.top frames.new.top.stack }
     ensures below { frames.new.below ≡ frames.old.below }
 {
-    match z.share() {
+    match copy_of(&z) {
         Ok(copy) => put_three(frames, copy, y, z),
         Err(_) => Copying::NoMemory,
     }
@@ -230,6 +246,7 @@ fn share_below_one(frames: &mut Frames, z: Word, y: Word) -> Copying
 
 fn dup_below_two(frames: &mut Frames) -> Copying
     ensures stack { Copies (spec.copied plains.DupX2 frames.old.top.stack) frames.new.top.stack result }
+    ensures memory { frames.old.count < frames.old.words → OneBare frames.old.top.stack → IsCopied result }
     ensures top { frames.new.top ≡ with_stack frames.old.top frames.new.top.stack }
     ensures below { frames.new.below ≡ frames.old.below }
 {
@@ -247,10 +264,11 @@ fn dup_below_two(frames: &mut Frames) -> Copying
 
 fn share_below_two(frames: &mut Frames, z: Word, y: Word, x: Word) -> Copying
     ensures stack { Copies (Some (z ∷ y ∷ x ∷ z ∷ frames.old.top.stack)) frames.new.top.stack result }
+    ensures memory { frames.old.count + 4 ≤ frames.old.words → is_text z ≡ false → IsCopied result }
     ensures top { frames.new.top ≡ with_stack frames.old.top frames.new.top.stack }
     ensures below { frames.new.below ≡ frames.old.below }
 {
-    match z.share() {
+    match copy_of(&z) {
         Ok(copy) => put_four(frames, copy, x, y, z),
         Err(_) => Copying::NoMemory,
     }

@@ -1,5 +1,8 @@
 //! One instruction.
 ghost use Rattle.code_meaning.specs.Machine.{act, step};
+ghost use Rattle.std.specs.Prelude.{◌≡◌, ◌<◌, ◌^◌, suc, slice_get, IsSome};
+ghost use Rattle.std.specs.Option.{option_copied};
+ghost use Rattle.code_machine.specs.Memory.{Finds, HasMemory, NextFinds};
 ghost use Rattle.code_machine.specs.Seen.{Comes, configuration_of, world_of};
 
 use crate::boxes::{box_number, unbox};
@@ -12,18 +15,31 @@ use crate::rules::Rules;
 use crate::stacks::plain;
 use crate::typed::{cast, typed};
 use code_meaning::Word;
-use pl_code::{Code, Instruction};
+use pl_code::{Code, FunCode, Instruction};
 
 /// Does the instruction at the line of the newest frame.
 pub fn step(run: &mut Configuration, code: &Code, limits: &Rules<'_>) -> Step
-    ensures { Comes (step code.now.functions limits.now (configuration_of run.old)) result run.new }
+    ensures exact { Comes (step code.now.functions limits.now (configuration_of run.old)) result run.new }
+    ensures memory { NextFinds code.now.functions limits.now.allowed run.old → HasMemory result }
 {
     match code.functions.get(run.frames.fun() as usize) {
-        Some(function) => match function.lines.get(run.frames.line()) {
+        Some(function) => match instruction_at(function, run.frames.line()) {
             Some(instruction) => execute(run, code, limits, instruction),
             None => Step::Ends(End::Stuck),
         },
         None => Step::Ends(End::Stuck),
+    }
+}
+
+// The instruction of a line. Where there is one, there is a number for the next line.
+fn instruction_at(function: &FunCode, line: usize) -> Option<&Instruction>
+    ensures instruction { option_copied result ≡ slice_get function.now.lines line }
+    ensures next { IsSome result → suc line < 2 ^ 64 }
+{
+    if line < function.lines.len() {
+        function.lines.get(line)
+    } else {
+        None
     }
 }
 
@@ -33,7 +49,8 @@ fn execute(
     limits: &Rules<'_>,
     instruction: &Instruction,
 ) -> Step
-    ensures { Comes (act code.now.functions limits.now instruction.now run.old.frames.top run.old.frames.below (world_of run.old.world)) result run.new }
+    ensures exact { Comes (act code.now.functions limits.now instruction.now run.old.frames.top run.old.frames.below (world_of run.old.world)) result run.new }
+    ensures memory { Finds code.now.functions limits.now.allowed instruction.now run.old → suc run.old.frames.top.line < 2 ^ 64 → HasMemory result }
 {
     match instruction {
         Instruction::Plain(kind) => plain(run, code, limits, *kind),

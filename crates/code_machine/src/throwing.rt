@@ -1,5 +1,5 @@
 //! What comes of operations on the heap: their values, and exceptions, each of which goes on at the trap that catches it.
-ghost use Rattle.std.specs.Prelude.{◌≡◌, List, ◌∷◌, Some, None, find, slice_get};
+ghost use Rattle.std.specs.Prelude.{◌≡◌, ◌<◌, ◌^◌, suc, List, ◌∷◌, Some, None, find, slice_get};
 ghost use Rattle.std.specs.Option.{option_copied};
 ghost use Rattle.object_heap.specs.Effects.{Effect, Answers};
 ghost use Rattle.object_heap.specs.Store.{Store};
@@ -13,6 +13,7 @@ ghost use Rattle.code_meaning.specs.declared.word.Word.TheVariants.{R};
 ghost use Rattle.code_meaning.specs.Machine as spec;
 ghost use Rattle.code_meaning.specs.Machine.{Next, on_outcome, on_reference, on_thrown, on_top};
 ghost use Rattle.code_machine.specs.Seen.{Comes, with_stack, world_of};
+ghost use Rattle.code_machine.specs.Memory.{HasMemory, IsAnswered};
 ghost use Rattle.code_machine.specs.Rows.{bare, catches, landing, landed, line_of};
 
 use crate::configuration::{Configuration, End, Step, World};
@@ -64,7 +65,8 @@ pub fn answered_as(
     of: &Ty,
     answer: Answer,
 ) -> Step
-    ensures { (effect : Effect) (old : Store) (stack : List Word) → Answers effect old run.old.world.heap answer → Comes (on_outcome code.now.functions limits.now (acts_in (with_store (world_of run.old.world) old) effect) (given_as of.now) (with_stack run.old.frames.top stack) run.old.frames.below (with_store (world_of run.old.world) old) run.old.frames.top.stack) result run.new }
+    ensures exact { (effect : Effect) (old : Store) (stack : List Word) → Answers effect old run.old.world.heap answer → Comes (on_outcome code.now.functions limits.now (acts_in (with_store (world_of run.old.world) old) effect) (given_as of.now) (with_stack run.old.frames.top stack) run.old.frames.below (with_store (world_of run.old.world) old) run.old.frames.top.stack) result run.new }
+    ensures memory { IsAnswered answer → run.old.frames.count < run.old.frames.words → suc run.old.frames.top.line < 2 ^ 64 → HasMemory result }
 {
     match answer {
         Answer::Value(value) => run.push(given_as(of, value)),
@@ -164,7 +166,8 @@ fn answered_throw(run: &mut Configuration, code: &Code, limits: &Rules<'_>, answ
 
 /// An exception, from the newest frame on down.
 fn unwind(run: &mut Configuration, code: &Code, id: u32) -> Step
-    ensures { Comes (spec.unwind code.now.functions (run.old.frames.top ∷ run.old.frames.below) id (world_of run.old.world)) result run.new }
+    ensures exact { Comes (spec.unwind code.now.functions (run.old.frames.top ∷ run.old.frames.below) id (world_of run.old.world)) result run.new }
+    ensures memory { run.old.frames.count < run.old.frames.words → HasMemory result }
 {
     'frames: loop {
         match landing(code, &run.frames, id, &run.world) {
@@ -180,7 +183,8 @@ fn unwind(run: &mut Configuration, code: &Code, id: u32) -> Step
 
 // Goes on in the newest frame.
 fn land(run: &mut Configuration, line: u32, id: u32) -> Step
-    ensures { (further : Next) → Comes (landed (Some line) run.old.frames.top run.old.frames.below id (world_of run.old.world) further) result run.new }
+    ensures exact { (further : Next) → Comes (landed (Some line) run.old.frames.top run.old.frames.below id (world_of run.old.world) further) result run.new }
+    ensures memory { run.old.frames.count < run.old.frames.words → HasMemory result }
 {
     run.frames.clear();
     match run.frames.push(Word::R(Value::Ref(id))) {

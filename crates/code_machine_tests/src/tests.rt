@@ -185,3 +185,22 @@ fn members_are_reached_once(rt: HostRuntime) -> Result<(), Fail> {
     assert!(rt; reached);
     Ok(())
 }
+
+// A builder of three characters stays in a local. Each of 20,000 turns adds its length and 1, by a call: nothing is made in the loop.
+const STEADY: Row = Row {
+    listing: "painless 1\nfun 0 loop I - RII\nnew java.lang.StringBuilder/0\ntext \"abc\"\ninvoke java.lang.StringBuilder.append/1\nstore 0\ni 0\nstore 1\ni 0\nstore 2\ngoto 19\nload 1\nload 0\ninvoke java.lang.CharSequence.length/0\nadd.i\ncall 1\nstore 1\nload 2\ni 1\nadd.i\nstore 2\nload 2\ni 20000\nlt.i\nloop 9\nload 1\nret\nend\nfun 1 loop I I -\nload 0\ni 1\nadd.i\nret\nend\n",
+    loops: 20_000,
+    depth: 1,
+    ticks: 70_000,
+    room: 1000,
+    left: "i 80000; steps 360015; ticks 60002",
+};
+
+// It passes under `rt try --test --fail-alloc 20000` too: there are fewer allocations than turns.
+#[test]
+fn a_loop_that_makes_nothing_ends(rt: HostRuntime) -> Result<(), Fail> {
+    let allow = Catalogue::full(rt.alloc())?;
+    let ends = leaves(rt.alloc(), &allow, &STEADY, 1000)?;
+    assert!(rt; ends);
+    Ok(())
+}

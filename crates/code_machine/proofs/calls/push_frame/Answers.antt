@@ -4,8 +4,8 @@ use Rattle.code_machine.specs.Seen.{world_of}
 use Rattle.code_machine.proofs.Calling.{entered}
 use Rattle.code_machine.proofs.calls.push_frame.Goals as goal
 
-pub returns-in-Ok : goal.returns-in-Ok
-returns-in-Ok c =
+pub returns-in-Ok-clause-exact : goal.returns-in-Ok-clause-exact
+returns-in-Ok-clause-exact c =
     rw (← c.len.ensures, ← c.as_slice.ensures)
     (entered (take_words c.len.result c.args.run.now.frames.top.stack []) c.args.number c.as_slice.result.now c.args.run.now.frames.top c.args.run.now.frames.below _ _ (world_of c.args.run.now.world)
-    c.in-Ok.ensures)
+    c.in-Ok.ensures.frame)

@@ -7,8 +7,8 @@ use Rattle.code_machine.proofs.Calling.{as_well}
 use Rattle.code_machine.proofs.Rows.{from_top}
 use Rattle.code_machine.proofs.jumps.store.Goals as goal
 
-pub returns-in-Some : goal.returns-in-Some
-returns-in-Some c =
+pub returns-in-Some-clause-exact : goal.returns-in-Some-clause-exact
+returns-in-Some-clause-exact c =
     let left = c.pop.new.self in
     let new = c.store.new.self in
     let w = world_of c.args.run.now.world in
@@ -20,4 +20,4 @@ returns-in-Some c =
     ∙ ap (λ (s : List Word). goes (with_words left.top new.top.locals s)) (sym c.store.ensures.stack)
     ∙ ap goes (sym c.store.ensures.top)
     ∙ ap (λ (fs : List Frame). to_line new.top fs w (suc new.top.line) new.top.stack) (sym c.store.ensures.below))
-    c.goes_on.ensures)
+    c.goes_on.ensures.exact)

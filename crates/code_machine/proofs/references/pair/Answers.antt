@@ -3,8 +3,8 @@ use Rattle.code_machine.specs.Rows.{paired}
 use Rattle.code_machine.proofs.Rows.{from_pair}
 use Rattle.code_machine.proofs.references.pair.Goals as goal
 
-pub returns-in-Some-pop : goal.returns-in-Some-pop
-returns-in-Some-pop c =
+pub returns-in-Some-pop-clause-exact : goal.returns-in-Some-pop-clause-exact
+returns-in-Some-pop-clause-exact c =
     from_pair c.args.run.now.frames c.pop.new.self c.pop-in-Some.new.self c.in-Some.upper c.in-Some-pop.lower c.in-Some.ensures.stack c.in-Some-pop.ensures.stack
     c.pop.ensures.top c.pop-in-Some.ensures.top c.pop.ensures.below c.pop-in-Some.ensures.below (λ a b f below stack. paired c.args.code.now.functions c.args.limits.now c.args.kind a b f below (world_of c.args.run.now.world) stack) _ _
-    (c.pair_words.ensures c.args.run.now.frames.top.stack)
+    (c.pair_words.ensures.exact c.args.run.now.frames.top.stack)

@@ -8,12 +8,12 @@ instructions-init c = begins c.args.code.now.functions c.args.limits.now c.args.
 pub instructions-preserved : goal.instructions-preserved
 instructions-preserved c =
     goes_on c.args.code.now.functions c.args.limits.now c.instructions.taken c.args.run.now c.instructions.run c.step-last.new.run c.instructions.invariant
-    (went _ c.step-last.result c.step-last.new.run (sym c.goes.ensures ∙ c.if-not-goes.false) c.step-last.ensures)
+    (went _ c.step-last.result c.step-last.new.run (sym c.goes.ensures ∙ c.if-not-goes.false) c.step-last.ensures.exact)
 
 pub returns-then-not-goes : goal.returns-then-not-goes
 returns-then-not-goes c =
     finishes c.args.code.now.functions c.args.limits.now c.instructions.taken c.args.count c.args.run.now c.instructions.run c.step-last.new.run c.step-last.result
-    c.instructions-test.true c.instructions.invariant c.step-last.ensures (sym c.goes.ensures ∙ c.if-not-goes.true)
+    c.instructions-test.true c.instructions.invariant c.step-last.ensures.exact (sym c.goes.ensures ∙ c.if-not-goes.true)
 
 pub returns : goal.returns
 returns c =

@@ -13,14 +13,14 @@ returns-in-Value c = λ effect old stack h.
     as_well _ _ _ _
     (gave c.args.code.now.functions c.args.limits.now unboxed (with_stack c.args.run.now.frames.top stack) c.args.run.now.frames.below (with_store (world_of c.args.run.now.world) old) c.args.run.now.frames.top.stack effect
     (with_store (world_of c.args.run.now.world) old) c.in-Value.value c.args.run.now.world.heap c.unboxed.result (subst (Answers effect old c.args.run.now.world.heap) c.in-Value.is h) c.unboxed.ensures)
-    c.push.ensures
+    c.push.ensures.exact
 
 pub returns-in-Thrown : goal.returns-in-Thrown
 returns-in-Thrown c = λ effect old stack h.
     as_well _ _ _ _
     (threw c.args.code.now.functions c.args.limits.now unboxed (with_stack c.args.run.now.frames.top stack) c.args.run.now.frames.below (with_store (world_of c.args.run.now.world) old) c.args.run.now.frames.top.stack effect
     (with_store (world_of c.args.run.now.world) old) c.in-Thrown.id c.args.run.now.world.heap (subst (Answers effect old c.args.run.now.world.heap) c.in-Thrown.is h))
-    c.unwind.ensures
+    c.unwind.ensures.exact
 
 pub returns-in-Room : goal.returns-in-Room
 returns-in-Room c = λ effect old stack h.

@@ -17,7 +17,7 @@ returns-in-Thrown c = λ effect old stack h.
     as_well _ _ _ _
     (threw_on c.args.code.now.functions c.args.limits.now (with_stack c.args.run.now.frames.top stack) c.args.run.now.frames.below (with_store (world_of c.args.run.now.world) old) effect
     (with_store (world_of c.args.run.now.world) old) c.in-Thrown.id c.args.run.now.world.heap (subst (Answers effect old c.args.run.now.world.heap) c.in-Thrown.is h))
-    c.unwind.ensures
+    c.unwind.ensures.exact
 
 pub returns-in-Room : goal.returns-in-Room
 returns-in-Room c = λ effect old stack h.

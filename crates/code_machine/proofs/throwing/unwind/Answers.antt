@@ -1,4 +1,4 @@
-use Rattle.std.proofs.Common.{ap, subst, ◌∙◌}
+use Rattle.std.proofs.Common.{ap, subst, ◌∙◌, rules}
 use Rattle.code_meaning.specs.Machine.{unwind}
 use Rattle.code_machine.specs.Frames.{Leaves}
 use Rattle.code_machine.specs.Seen.{world_of}
@@ -6,20 +6,23 @@ use Rattle.code_machine.proofs.Calling.{as_well}
 use Rattle.code_machine.proofs.Landing.{goes_on_here, goes_on_below}
 use Rattle.code_machine.proofs.throwing.unwind.Goals as goal
 
-pub returns-in-Some : goal.returns-in-Some
-returns-in-Some c =
+pub returns-in-Some-clause-exact : goal.returns-in-Some-clause-exact
+returns-in-Some-clause-exact c =
     as_well _ _ _ _
-    (goes_on_here c.args.code.now.functions c.frames.run.frames.top c.frames.run.frames.below c.args.id (world_of c.frames.run.world) _ c.frames.invariant c.in-Some.line c.in-Some.ensures)
-    (c.land.ensures (unwind c.args.code.now.functions c.frames.run.frames.below c.args.id (world_of c.frames.run.world)))
+    (goes_on_here c.args.code.now.functions c.frames.run.frames.top c.frames.run.frames.below c.args.id (world_of c.frames.run.world) _ c.frames.invariant.0 c.in-Some.line c.in-Some.ensures)
+    (c.land.ensures.exact (unwind c.args.code.now.functions c.frames.run.frames.below c.args.id (world_of c.frames.run.world)))
 
 pub frames-preserved : goal.frames-preserved
-frames-preserved c =
-    goes_on_below c.args.code.now.functions c.frames.run.frames.top c.frames.run.frames.below c.args.id (world_of c.frames.run.world) _ c.frames.invariant c.in-None.ensures
-    ∙ ap (λ fs. unwind c.args.code.now.functions fs c.args.id (world_of c.frames.run.world))
-    (subst (Leaves c.frames.run.frames.top c.frames.run.frames.below c.leave.new.self.top c.leave.new.self.below) c.if-not-leave.false c.leave.ensures.frames)
+frames-preserved c = (
+  goes_on_below c.args.code.now.functions c.frames.run.frames.top c.frames.run.frames.below c.args.id (world_of c.frames.run.world) _ c.frames.invariant.0 c.in-None.ensures
+      ∙ ap (λ fs. unwind c.args.code.now.functions fs c.args.id (world_of c.frames.run.world))
+      (subst (Leaves c.frames.run.frames.top c.frames.run.frames.below c.leave.new.self.top c.leave.new.self.below) c.if-not-leave.false c.leave.ensures.frames),
+  search rules,
+  search rules,
+)
 
-pub returns-then-not-leave : goal.returns-then-not-leave
-returns-then-not-leave c =
-    goes_on_below c.args.code.now.functions c.frames.run.frames.top c.frames.run.frames.below c.args.id (world_of c.frames.run.world) _ c.frames.invariant c.in-None.ensures
+pub returns-then-not-leave-clause-exact : goal.returns-then-not-leave-clause-exact
+returns-then-not-leave-clause-exact c =
+    goes_on_below c.args.code.now.functions c.frames.run.frames.top c.frames.run.frames.below c.args.id (world_of c.frames.run.world) _ c.frames.invariant.0 c.in-None.ensures
     ∙ ap (λ fs. unwind c.args.code.now.functions fs c.args.id (world_of c.frames.run.world))
     (subst (Leaves c.frames.run.frames.top c.frames.run.frames.below c.leave.new.self.top c.leave.new.self.below) c.if-not-leave.true c.leave.ensures.frames).0

@@ -1,4 +1,4 @@
-use Rattle.std.proofs.Common.{◌≡◌, ◌∷◌}
+use Rattle.std.proofs.Common.{◌≡◌, ◌≤◌, ◌∷◌}
 use Rattle.code_meaning.specs.Machine.{depth_of, unwind}
 use Rattle.code_machine.specs.Seen.{world_of}
 use Rattle.code_machine.proofs.throwing.unwind.Given as goal
@@ -6,8 +6,9 @@ use Rattle.code_machine.proofs.throwing.unwind.Given as goal
 -- what comes of the frames that are left is what came of all
 abbrev pub invariant-frames : goal.invariant-frames
 invariant-frames l =
-    unwind l.fn.code.functions (l.initial.run.frames.top ∷ l.initial.run.frames.below) l.id (world_of l.initial.run.world)
-    ≡ unwind l.fn.code.functions (l.run.frames.top ∷ l.run.frames.below) l.id (world_of l.run.world)
+    (unwind l.fn.code.functions (l.initial.run.frames.top ∷ l.initial.run.frames.below) l.id (world_of l.initial.run.world)
+    ≡ unwind l.fn.code.functions (l.run.frames.top ∷ l.run.frames.below) l.id (world_of l.run.world))
+    × (l.run.frames.count ≤ l.initial.run.frames.count) × (l.run.frames.words ≡ l.initial.run.frames.words)
 
 abbrev pub decreases-frames : goal.decreases-frames
 decreases-frames l = depth_of l.run.frames.below

@@ -6,8 +6,8 @@ use Rattle.code_machine.specs.Frames.{Laid, Enters, own, lie}
 use Rattle.code_machine.proofs.Entering.{callee, entered, height_is}
 use Rattle.code_machine.proofs.frames.Frames.enter.Goals as goal
 
-pub returns : goal.returns
-returns c =
+pub returns-clause-frame : goal.returns-clause-frame
+returns-clause-frame c =
     let top = c.self.inside.top in
     let below = c.self.inside.below.items in
     let words = c.self.inside.words.items in

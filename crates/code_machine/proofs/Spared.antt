@@ -1,0 +1,12 @@
+-- Calls of members that take no memory.
+use Rattle.object_heap.specs.declared.answer.Answer.{Answer}
+use Rattle.object_heap.specs.declared.answer.Answer.TheVariants as a
+use Rattle.api_text.specs.declared.outcome.Outcome.{Outcome}
+use Rattle.api_text.specs.Outcomes.{NeedsMemory, WantsMemory}
+use Rattle.code_machine.specs.Memory.{IsAnswered}
+
+pub is_answered : (told : Outcome) (answer : Answer) → WantsMemory told answer → (NeedsMemory told → ⊥) → IsAnswered answer
+is_answered told (a.Value value) h none = tt
+is_answered told (a.Thrown id) h none = tt
+is_answered told a.Room h none = tt
+is_answered told a.NoMemory h none = none h
