@@ -171,7 +171,6 @@ module _ (funs : Program) (js : List Job) (c : Config) (exits : Option Exits) wh
         ),
       ))
 
-
   pub given_plan : (x : Name) (of : Ty) (a : Expr) (rest : Stmts) → lying_of (type_of a) ≡ lying_of of
       → Back funs (Run (Declare x of (Given a) rest) exits ∷ js) c (Value a ∷ Declared x of ∷ Run rest exits ∷ js) c
   given_plan x of a rest e =

@@ -99,7 +99,7 @@ module _ (funs : Program) (js : List Job) (c : Config) (exits : Option Exits) wh
         let one = trap_of from to p class in
         let h = e ∙ sym (length_mapped c) in
         let t = subst (λ g. Stand funs k f labels (Over rest label ∷ Caught rest from to label exits ∷ Either ∷ js) g n' q (flow_of body ∷ c.flows) (λ more. (c.traps ++ one ∷ []) ++ (traps_stmts (suc p) body ++ more)))
-            (closed height g s.1.1.0 h (grown_one (record { name = x; of = t.Class class; local = next_in c }) g s.1.1.0 s.1.1.1)) s.1.1.2 in
+        (closed height g s.1.1.0 h (grown_one (record { name = x; of = t.Class class; local = next_in c }) g s.1.1.0 s.1.1.1)) s.1.1.2 in
         let u = over_out funs k f labels (Caught rest from to label exits ∷ Either ∷ js) g n' q c.flows (λ more. (c.traps ++ one ∷ []) ++ (traps_stmts (suc p) body ++ more)) body rest label t in
         record {
           holds = record { lines = m.holds.lines; bound = m.holds.bound; params = m.holds.params; locals = m.holds.locals };

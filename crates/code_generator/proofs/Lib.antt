@@ -14,5 +14,6 @@ pub mod Free
 pub mod Known
 pub mod Agreeing
 pub mod Called
+pub mod Flowing
 pub mod Handled
 pub mod Whole

@@ -47,10 +47,10 @@ function_stands funs fun c c' code cover begun back finished =
     let n : next_in c ≡ length fun.params = omega (arith, ap length begun.params, length_mapped (λ (x : Variable). kind_of x.of) fun.params, ap length begun.locals) in
     let p : length c.lines ≡ 0 = ap length begun.lines in
     let placed =
-        subst (λ p. StmtsIn funs (untrapped code) (lying_of fun.result) (scope_of fun.params 0 []) (length fun.params) no_jumps p fun.body) p
-        (subst (λ n. StmtsIn funs (untrapped code) (lying_of fun.result) (scope_of fun.params 0 []) n no_jumps (length c.lines) fun.body) n
-        (subst (λ g. StmtsIn funs (untrapped code) (lying_of fun.result) g (next_in c) no_jumps (length c.lines) fun.body) begun.scope
-        (subst (λ k. StmtsIn funs (untrapped code) k (scope_in c) (next_in c) no_jumps (length c.lines) fun.body) begun.result s.stand.0))) in
+    subst (λ p. StmtsIn funs (untrapped code) (lying_of fun.result) (scope_of fun.params 0 []) (length fun.params) no_jumps p fun.body) p
+    (subst (λ n. StmtsIn funs (untrapped code) (lying_of fun.result) (scope_of fun.params 0 []) n no_jumps (length c.lines) fun.body) n
+    (subst (λ g. StmtsIn funs (untrapped code) (lying_of fun.result) g (next_in c) no_jumps (length c.lines) fun.body) begun.scope
+    (subst (λ k. StmtsIn funs (untrapped code) k (scope_in c) (next_in c) no_jumps (length c.lines) fun.body) begun.result s.stand.0))) in
     let ends = subst (λ p. EndAt (untrapped code) (all_fall fun.body) (end_stmts p fun.body) fun.result) p s.stand.1.2.0 in
     let traps : code.traps ≡ traps_stmts 0 fun.body =
     s.stand.1.2.1.1 ∙ ap (λ ts. ts ++ (traps_stmts (length c.lines) fun.body ++ [])) begun.traps ∙ append-nil (traps_stmts (length c.lines) fun.body) ∙ ap (λ p. traps_stmts p fun.body) p in

@@ -122,7 +122,9 @@ pub fn step<'a>(
             return tried(program, config, tasks, catches, from, label, exits);
         }
         Task::Caught(catches, at, from, to, label, exits) => {
-            return caught(alloc, program, config, tasks, catches, at, from, to, label, exits);
+            return caught(
+                alloc, program, config, tasks, catches, at, from, to, label, exits,
+            );
         }
         Task::Over(catches, at, label) => {
             return over(program, config, tasks, catches, at, label);

@@ -9,3 +9,5 @@ mod members;
 mod references;
 #[cfg(test)]
 mod tests;
+#[cfg(test)]
+mod tries;

@@ -1,4 +1,3 @@
-use Rattle.std.proofs.Common.{◌∙◌}
 use Rattle.code_generator.proofs.Listed.{class_made_so}
 use Rattle.code_generator.proofs.tries.class_name.Goals as goal
 
