@@ -4,6 +4,6 @@
 mod task;
 
 pub use task::{
-    Act, CatchTask, DeclarationTask, ExpressionTask, LoopTask, StatementAct, StatementTask, Task, Tasks,
-    UnbuiltTask, WordTask,
+    Act, CatchTask, DeclarationTask, ExpressionTask, LoopTask, StatementAct, StatementTask, Task,
+    Tasks, UnbuiltTask, WordTask,
 };

@@ -399,12 +399,7 @@ fn catches_of(alloc: Global, mut catches: Vec<Caught>) -> Result<Items<TypedCatc
 }
 
 /// A `try`, whose block and whose catches are typed.
-pub fn try_of(
-    alloc: Global,
-    at: u32,
-    body: Step,
-    catches: Vec<Caught>,
-) -> Result<Step, AllocError>
+pub fn try_of(alloc: Global, at: u32, body: Step, catches: Vec<Caught>) -> Result<Step, AllocError>
     ensures { IfOk result (λ y. y ≡ spec.try_of at body catches.items) }
 {
     let escapes = body.escapes && all_escape(&catches);
