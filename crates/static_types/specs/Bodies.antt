@@ -28,7 +28,7 @@ KeepsSteps o (Err NoMemory) = Unit {0}
 
 -- nothing is typed so far
 abbrev pub fresh : State → Config
-fresh s = record { state = s; parts = []; places = []; tests = []; variables = []; steps = [] }
+fresh s = record { state = s; parts = []; places = []; tests = []; variables = []; steps = []; catches = [] }
 
 -- what is to be done for a body
 abbrev pub jobs_of : Bool → List Statement → List Job

@@ -24,6 +24,7 @@ fn fresh(alloc: Global, state: State) -> Config
         tests: Pile::new(alloc),
         variables: Pile::new(alloc),
         steps: Pile::new(alloc),
+        catches: Pile::new(alloc),
     }
 }
 

@@ -45,6 +45,14 @@ fn statements_are_refused(rt: HostRuntime) -> Result<(), TestFail> {
 }
 
 #[test]
+fn catches_are_typed_or_refused(rt: HostRuntime) -> Result<(), TestFail> {
+    let alloc = rt.alloc();
+    are_typed(&rt, alloc, Wanted::Number, &rows::TYPED_TRIES);
+    are_refused(&rt, alloc, Wanted::Number, &rows::TRIES);
+    Ok(())
+}
+
+#[test]
 fn contexts_may_want_no_result(rt: HostRuntime) -> Result<(), TestFail> {
     let alloc = rt.alloc();
     are_typed(&rt, alloc, Wanted::Nothing, &rows::TYPED_WITHOUT_RESULT);

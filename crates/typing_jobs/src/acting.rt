@@ -219,6 +219,24 @@ pub fn declare<'a>(
     Ok(())
 }
 
+/// A catch, whose block is typed.
+#[tactic(auto, unfolding(typing_tasks::specs::Machine::run))]
+pub fn caught<'a>(
+    alloc: Global,
+    _allow: &Allow,
+    _headers: &[Header],
+    config: &mut Config,
+    _tasks: &Tasks<'a>,
+    at: u32,
+    class: u32,
+    name: &Text,
+) -> Result<(), Fail>
+    ensures { Goes (run _allow.now _headers.now (j.Caught at class name.now ∷ _tasks.now) config.old) result (run _allow.now _headers.now _tasks.now config.new) }
+{
+    statements::catch(alloc, config, at, class, name)?;
+    Ok(())
+}
+
 /// What is done with a statement.
 #[tactic(auto, unfolding(typing_tasks::specs::Machine::run))]
 pub fn statement_act<'a>(

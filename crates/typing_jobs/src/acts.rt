@@ -66,6 +66,7 @@ pub fn does_statement(alloc: Global, config: &mut Config, act: StatementAct) -> 
             statements::whole_loop(alloc, config, at, has_first, has_body)
         },
         StatementAct::DoLoop(at) => statements::do_loop(alloc, config, at),
+        StatementAct::Try(at, height) => statements::whole_try(alloc, config, at, height),
         StatementAct::Close(height) => {
             bodies::close(config, height);
             Ok(())

@@ -4,6 +4,7 @@
 
 mod acting;
 mod acts;
+mod catches;
 mod declarations;
 mod expressions;
 mod loops;

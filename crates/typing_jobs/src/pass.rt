@@ -5,7 +5,7 @@ ghost use Rattle.typing_tasks.specs.Going.{Goes};
 ghost use Rattle.typing_tasks.specs.Jobs.{job};
 ghost use Rattle.typing_tasks.specs.Machine as spec;
 
-use crate::{acting, declarations, expressions, loops, statements, unbuilt, words};
+use crate::{acting, catches, declarations, expressions, loops, statements, unbuilt, words};
 use allowlist::Allow;
 use pl_types::Fail;
 use std::alloc::Global;
@@ -34,6 +34,7 @@ fn step<'a>(
         Task::DoStatement(what) => return acting::statement_act(
             alloc, allow, headers, config, tasks, what,
         ),
+        Task::Catch(e) => return catches::step(alloc, allow, headers, config, tasks, e),
         Task::Unbuilt(e) => return unbuilt::step(alloc, allow, headers, config, tasks, e),
     }
 }

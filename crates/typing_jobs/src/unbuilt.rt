@@ -46,9 +46,5 @@ pub fn step<'a>(
         UnbuiltTask::Entries(all, i, at) => return unbuilt::entries(
             allow, headers, config, tasks, all, i, at,
         ),
-        UnbuiltTask::Catches(all, i, at) => return unbuilt::catches(
-            allow, headers, config, tasks, all, i, at,
-        ),
-        UnbuiltTask::Catch(e) => return unbuilt::catch(allow, headers, config, tasks, e),
     }
 }

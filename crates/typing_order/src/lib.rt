@@ -2,5 +2,6 @@
 //! statement begins.
 #![tactic(auto)]
 
+pub mod catches;
 mod first;
 pub mod goes;

@@ -11,8 +11,8 @@ use pl_tree::{Argument, Body, Expr, First, Statement, TypeName};
 use plain_data::Subtree;
 use std::alloc::AllocError;
 use typing_tasks::{
-    Act, DeclarationTask, ExpressionTask, LoopTask, StatementAct, StatementTask, Task, Tasks,
-    UnbuiltTask, WordTask,
+    Act, CatchTask, DeclarationTask, ExpressionTask, LoopTask, StatementAct, StatementTask, Task,
+    Tasks, UnbuiltTask, WordTask,
 };
 
 fn has_body(e: &Option<Body>) -> bool
@@ -94,7 +94,7 @@ pub fn statement<'a>(tasks: &mut Tasks<'a>, e: &'a Statement, last: bool) -> Res
         Statement::Try { at, block, catches } => {
             tasks.push_two(
                 Task::Statement(StatementTask::Block(block)),
-                Task::Unbuilt(UnbuiltTask::Catches(catches, 0, *at)),
+                Task::Catch(CatchTask::Try(*at, catches)),
             )
         },
         Statement::Do {

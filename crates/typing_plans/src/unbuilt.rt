@@ -7,13 +7,13 @@ ghost use Rattle.typing_tasks.specs.Machine.{run};
 ghost use Rattle.typing_tasks.specs.Plans as spec;
 
 use allowlist::Allow;
-use pl_tree::{Catch, Entry, Expr, Parameter};
+use pl_tree::{Entry, Expr, Parameter};
 use pl_types::Fail;
 use plain_data::{Items, Subtree};
 use std::alloc::AllocError;
 use typing_acts::Config;
 use typing_rules::Header;
-use typing_tasks::{Act, ExpressionTask, StatementAct, StatementTask, Task, Tasks, UnbuiltTask};
+use typing_tasks::{Act, ExpressionTask, Task, Tasks, UnbuiltTask};
 
 /// Expressions from one on.
 #[tactic(auto, using(typing_tasks::proofs::Goings::values_go, typing_tasks::proofs::Goings::values_end))]
@@ -62,51 +62,6 @@ pub fn entries<'a>(
         Task::Expression(ExpressionTask::Value(one.key.get())),
         Task::Expression(ExpressionTask::Value(one.value.get())),
         Task::Unbuilt(UnbuiltTask::Entries(all, i + 1, at)),
-    )?;
-    Ok(())
-}
-
-/// Handlers of a `try` from one on.
-#[tactic(auto, using(typing_tasks::proofs::Goings::catches_go, typing_tasks::proofs::Goings::catches_end))]
-pub fn catches<'a>(
-    _allow: &Allow,
-    _headers: &[Header],
-    _config: &Config,
-    tasks: &mut Tasks<'a>,
-    all: &'a Items<Catch>,
-    i: usize,
-    at: u32,
-) -> Result<(), Fail>
-    ensures { Goes (run _allow.now _headers.now (j.UnbuiltCatches all.now i at ∷ tasks.old) _config.now) result (run _allow.now _headers.now tasks.new _config.now) }
-{
-    let _count = all.len();
-    let Some(one) = all.get(i) else {
-        tasks.push(Task::Do(Act::Unbuilt(at)))?;
-        return Ok(());
-    };
-    tasks.push_two(
-        Task::Unbuilt(UnbuiltTask::Catch(one)),
-        Task::Unbuilt(UnbuiltTask::Catches(all, i + 1, at)),
-    )?;
-    Ok(())
-}
-
-/// A handler, whose name is in sight in its block.
-#[tactic(auto, using(typing_tasks::proofs::Goings::catch_goes))]
-pub fn catch<'a>(
-    _allow: &Allow,
-    _headers: &[Header],
-    config: &Config,
-    tasks: &mut Tasks<'a>,
-    e: &'a Catch,
-) -> Result<(), Fail>
-    ensures { Goes (run _allow.now _headers.now (j.Catch_ e.now ∷ tasks.old) config.now) result (run _allow.now _headers.now tasks.new config.now) }
-{
-    let height = config.state.scopes.len();
-    tasks.push_three(
-        Task::Unbuilt(UnbuiltTask::Noted(&e.name.spelling, &e.of)),
-        Task::Statement(StatementTask::Statements(&e.block.statements, 0, false, false)),
-        Task::DoStatement(StatementAct::Close(height)),
     )?;
     Ok(())
 }

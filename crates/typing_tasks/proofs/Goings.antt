@@ -1,6 +1,8 @@
 -- What goes on by what is known comes to the same.
-use Rattle.std.proofs.Common.{◌≡◌, ℕ, zero, suc, ◌+◌, ◌&&◌, add-one, Bool, true, false, List, [], ◌∷◌, ◌++◌, length, drop, map, slice_get, Option, Some, None, Ok, refl, sym, ap, ◌∙◌}
+use Rattle.std.proofs.Common.{◌≡◌, ℕ, zero, suc, ◌+◌, ◌&&◌, add-one, Bool, true, false, List, [], ◌∷◌, ◌++◌, length, drop, map, slice_get, Option, Some, None, Ok, Err, refl, sym, ap, ◌∙◌}
+use Rattle.pl_types.specs.declared.refusal.Refusal.{Refusal}
 use Rattle.pl_types.specs.declared.ty.Ty.{Ty}
+use Rattle.pl_types.specs.declared.ty.Ty.TheVariants as ty
 use Rattle.pl_tree.specs.declared.operator.Access.{Access}
 use Rattle.pl_tree.specs.declared.tree.Argument.{Argument}
 use Rattle.pl_tree.specs.declared.tree.Block.{Block, out-Block}
@@ -22,15 +24,16 @@ use Rattle.typing_rules.specs.declared.header.Header.{Header}
 use Rattle.typing_rules.specs.declared.part.Caught.{Caught}
 use Rattle.typing_rules.specs.declared.part.Part.{Part}
 use Rattle.typing_rules.specs.declared.part.Step.{Step}
-use Rattle.typing_rules.specs.Doing.{Doing, and_then}
-use Rattle.typing_rules.specs.Outcomes.{bind}
-use Rattle.typing_rules.specs.State.{closed, noted}
-use Rattle.typing_rules.specs.Rules.Types.{type_of}
+use Rattle.typing_rules.specs.declared.state.State.{State}
+use Rattle.typing_rules.specs.Doing.{Answer, Doing, and_then}
+use Rattle.typing_rules.specs.Outcomes.{Out, bind}
+use Rattle.typing_rules.specs.State.{closed, declared, noted}
+use Rattle.typing_rules.specs.Rules.Types.{type_of, caught_class}
 use Rattle.typing_rules.specs.Rules.Calls as calls
 use Rattle.typing_rules.specs.Rules.Casts as casts
 use Rattle.typing_rules.specs.Rules.Statements as rules
 use Rattle.typing_rules.specs.Typing as typing
-use Rattle.typing_rules.specs.Typing.{Reading, Doer, Braces, Seen, reading, argument, doer, braces, parts, statements, all_seen, seen, lambda_parameters, parameter_type, is_empty, argument_step, body_step, expression_step, first_step, lambda_step, statement_step, block_step, catch_step, declaration_step, entry_step, variable_step}
+use Rattle.typing_rules.specs.Typing.{Reading, Doer, Braces, Seen, reading, argument, doer, braces, parts, handlers, statements, all_seen, seen, lambda_parameters, parameter_type, is_empty, argument_step, body_step, expression_step, first_step, lambda_step, statement_step, block_step, catch_step, declaration_step, entry_step, variable_step}
 use Rattle.typing_acts.specs.declared.config.Config.{Config}
 use Rattle.typing_acts.specs.Piles.{one}
 use Rattle.typing_acts.specs.Bodies as bodies
@@ -40,7 +43,7 @@ use Rattle.typing_tasks.specs.Folds.{handler, entry, variable}
 use Rattle.typing_tasks.specs.Going.{none_left}
 use Rattle.typing_tasks.specs.Job as j
 use Rattle.typing_tasks.specs.Job.{Job}
-use Rattle.typing_tasks.specs.Machine.{run, piled, parts_to, step_to, steps_to, variable_to, variables_to, nothing_to, refused_at}
+use Rattle.typing_tasks.specs.Machine.{run, piled, parts_to, step_to, steps_to, variable_to, variables_to, catch_to, catches_to, nothing_to, refused_at}
 use Rattle.typing_tasks.specs.Plans.{parameter_plan, following}
 use Rattle.typing_tasks.proofs.Above.{above_piled}
 use Rattle.typing_tasks.proofs.Behind.{behind, behind_with, again, again_with}
@@ -196,15 +199,51 @@ module _ (allow : AllowList) (hs : List Header) (js : List Job) (c : Config) whe
   unfolding run
   entries_end all i at is = ap (λ (t : List Entry). all_seen (map (entry allow hs) t) c.state (refused_at at)) (drop_end i all is)
 
-  pub catches_go : (all : List Catch) (i at : ℕ) (one : Catch) → slice_get all i ≡ Some one → run allow hs (j.UnbuiltCatches all i at ∷ js) c ≡ run allow hs (j.Catch_ one ∷ j.UnbuiltCatches all (i + 1) at ∷ js) c
+  pub catches_go : (all : List Catch) (i : ℕ) (one : Catch) → slice_get all i ≡ Some one → run allow hs (j.Catches all i ∷ js) c ≡ run allow hs (j.Catch_ one ∷ j.Catches all (i + 1) ∷ js) c
   unfolding run
-  catches_go all i at one is = ap (λ (t : List Catch). all_seen (map (handler allow hs) t) c.state (refused_at at)) (drop_one i all one is)
-      ∙ ap (λ (x : Seen). x c.state (λ u s. all_seen (map (handler allow hs) (drop (i + 1) all)) s (refused_at at))) (fold_out-Catch (Doing Part) (Doing Step) Reading (Doing Step) Seen Doer Braces (Doing Caught) Doer Seen (Ty → Doing TypedVariable) (argument_step allow hs) (body_step allow hs) (expression_step allow hs) (first_step allow hs) (lambda_step allow hs) (statement_step allow hs) (block_step allow hs) (catch_step allow hs) (declaration_step allow hs) (entry_step allow hs) (variable_step allow hs) one)
+  catches_go all i one is = ap (λ (t : List Catch). handlers (map (handler allow hs) t) c.state (catches_to c (run allow hs js))) (drop_one i all one is)
 
-  pub catches_end : (all : List Catch) (i at : ℕ) → slice_get all i ≡ None → run allow hs (j.UnbuiltCatches all i at ∷ js) c ≡ run allow hs (j.Do (a.Unbuilt at) ∷ js) c
+  pub catches_end : (all : List Catch) (i : ℕ) → slice_get all i ≡ None → run allow hs (j.Catches all i ∷ js) c ≡ run allow hs js c
   unfolding run
-  catches_end all i at is = ap (λ (t : List Catch). all_seen (map (handler allow hs) t) c.state (refused_at at)) (drop_end i all is)
+  catches_end all i is = ap (λ (t : List Catch). handlers (map (handler allow hs) t) c.state (catches_to c (run allow hs js))) (drop_end i all is)
 
-  pub catch_goes : (e : Catch) → run allow hs (j.Catch_ e ∷ js) c ≡ run allow hs (j.Noted (out-Catch e).name.spelling (out-Catch e).of ∷ j.Statements (out-Block (out-Catch e).block).statements 0 false false ∷ j.DoStatement (sa.Close (length c.state.scopes)) ∷ js) c
+  pub try_goes : (at : ℕ) (all : List Catch) → run allow hs (j.Try at all ∷ js) c ≡ run allow hs (j.Catches all 0 ∷ j.DoStatement (sa.Try at (length c.catches)) ∷ js) c
   unfolding run
-  catch_goes e = ap (λ (x : Braces). and_then (type_of (out-Catch e).of) (λ of. x.steps (noted (out-Catch e).name.spelling of c.state) (λ ys s. (run allow hs js) (record c { steps = piled ys c.steps; state = closed (length c.state.scopes) s })))) (fold_out-Block (Doing Part) (Doing Step) Reading (Doing Step) Seen Doer Braces (Doing Caught) Doer Seen (Ty → Doing TypedVariable) (argument_step allow hs) (body_step allow hs) (expression_step allow hs) (first_step allow hs) (lambda_step allow hs) (statement_step allow hs) (block_step allow hs) (catch_step allow hs) (declaration_step allow hs) (entry_step allow hs) (variable_step allow hs) (out-Catch e).block)
+  try_goes at all = refl
+
+  -- the block of a catch of a class, whose name is declared
+  abbrev pub catch_block : Catch → ℕ → State → Braces → Answer
+  catch_block e class t block = block.steps t (λ ys s. (run allow hs js) (record c { catches = rules.caught (out-Catch e).at class (out-Catch e).name.spelling (rules.block_of block.at ys) ∷ c.catches; state = closed (length c.state.scopes) s }))
+
+  abbrev pub catch_name : Catch → ℕ → Out State
+  catch_name e class = declared (out-Catch e).name.at (out-Catch e).name.spelling (ty.Class class) c.state
+
+  catch_by : (e : Catch) → run allow hs (j.Catch_ e ∷ js) c ≡ and_then (caught_class (out-Catch e).of) (λ class. and_then (catch_name e class) (λ t. catch_block e class t (braces allow hs (out-Catch e).block)))
+  unfolding run
+  catch_by e = ap (λ (x : Doing Caught). x c.state (catch_to c (run allow hs js))) (fold_out-Catch (Doing Part) (Doing Step) Reading (Doing Step) Seen Doer Braces (Doing Caught) Doer Seen (Ty → Doing TypedVariable) (argument_step allow hs) (body_step allow hs) (expression_step allow hs) (first_step allow hs) (lambda_step allow hs) (statement_step allow hs) (block_step allow hs) (catch_step allow hs) (declaration_step allow hs) (entry_step allow hs) (variable_step allow hs) e)
+
+  block_by : (e : Catch) (class : ℕ) (t : State) → catch_block e class t (braces allow hs (out-Catch e).block)
+      ≡ run allow hs (j.Statements (out-Block (out-Catch e).block).statements 0 false false ∷ j.DoStatement (sa.Block (out-Block (out-Catch e).block).at (length c.steps)) ∷ j.Caught (out-Catch e).at class (out-Catch e).name.spelling ∷ j.DoStatement (sa.Close (length c.state.scopes)) ∷ js) (record c { state = t })
+  unfolding run
+  block_by e class t =
+      ap (catch_block e class t) (fold_out-Block (Doing Part) (Doing Step) Reading (Doing Step) Seen Doer Braces (Doing Caught) Doer Seen (Ty → Doing TypedVariable) (argument_step allow hs) (body_step allow hs) (expression_step allow hs) (first_step allow hs) (lambda_step allow hs) (statement_step allow hs) (block_step allow hs) (catch_step allow hs) (declaration_step allow hs) (entry_step allow hs) (variable_step allow hs) (out-Catch e).block)
+      ∙ sym (λ i. statements false false (map (doer allow hs) (out-Block (out-Catch e).block).statements) t (λ ys s. and_then (above_piled ys c.steps (λ zs rest. Ok (record c { steps = rules.block_of (out-Block (out-Catch e).block).at zs ∷ rest; state = s })) i) (run allow hs (j.Caught (out-Catch e).at class (out-Catch e).name.spelling ∷ j.DoStatement (sa.Close (length c.state.scopes)) ∷ js))))
+
+  pub catch_goes : (e : Catch) (class : ℕ) (t : State) → caught_class (out-Catch e).of ≡ Ok class → catch_name e class ≡ Ok t
+      → run allow hs (j.Catch_ e ∷ js) c ≡ run allow hs (j.Statements (out-Block (out-Catch e).block).statements 0 false false ∷ j.DoStatement (sa.Block (out-Block (out-Catch e).block).at (length c.steps)) ∷ j.Caught (out-Catch e).at class (out-Catch e).name.spelling ∷ j.DoStatement (sa.Close (length c.state.scopes)) ∷ js) (record c { state = t })
+  catch_goes e class t is named =
+      catch_by e
+      ∙ ap (λ (o : Out ℕ). and_then o (λ class. and_then (catch_name e class) (λ t. catch_block e class t (braces allow hs (out-Catch e).block)))) is
+      ∙ ap (λ (o : Out State). and_then o (λ t. catch_block e class t (braces allow hs (out-Catch e).block))) named
+      ∙ block_by e class t
+
+  -- a catch of what may not be caught
+  pub catch_refused : (e : Catch) (r : Refusal) → caught_class (out-Catch e).of ≡ Err r → run allow hs (j.Catch_ e ∷ js) c ≡ Err r
+  catch_refused e r is = catch_by e ∙ ap (λ (o : Out ℕ). and_then o (λ class. and_then (catch_name e class) (λ t. catch_block e class t (braces allow hs (out-Catch e).block)))) is
+
+  -- one whose name is in sight
+  pub name_refused : (e : Catch) (class : ℕ) (r : Refusal) → caught_class (out-Catch e).of ≡ Ok class → catch_name e class ≡ Err r → run allow hs (j.Catch_ e ∷ js) c ≡ Err r
+  name_refused e class r is named =
+      catch_by e
+      ∙ ap (λ (o : Out ℕ). and_then o (λ class. and_then (catch_name e class) (λ t. catch_block e class t (braces allow hs (out-Catch e).block)))) is
+      ∙ ap (λ (o : Out State). and_then o (λ t. catch_block e class t (braces allow hs (out-Catch e).block))) named

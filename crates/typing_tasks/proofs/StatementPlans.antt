@@ -1,5 +1,5 @@
 -- The plan of each statement comes to what the statement comes to.
-use Rattle.std.proofs.Common.{◌≡◌, Bool, true, false, List, ◌∷◌, ◌++◌, Some, None, sym, ap, ◌∙◌}
+use Rattle.std.proofs.Common.{◌≡◌, Bool, true, false, List, ◌∷◌, ◌++◌, map, Some, None, Ok, sym, ap, ◌∙◌}
 use Rattle.pl_types.specs.declared.ty.Ty.{Ty}
 use Rattle.pl_tree.specs.declared.tree.Statement.{Statement, out-Statement, roll-Statement, roll-out-Statement}
 use Rattle.pl_tree.specs.declared.tree.Argument.TheOpen.{Statement-F}
@@ -14,13 +14,15 @@ use Rattle.typing_rules.specs.Doing.{Doing, and_then}
 use Rattle.typing_rules.specs.State.{noted}
 use Rattle.typing_rules.specs.Rules.Types.{type_of}
 use Rattle.typing_rules.specs.Rules.Statements as rules
-use Rattle.typing_rules.specs.Typing.{Reading, Doer, Braces, Seen, reading, body, braces, argument_step, body_step, expression_step, first_step, lambda_step, statement_step, block_step, catch_step, declaration_step, entry_step, variable_step, scoped, looping}
+use Rattle.typing_rules.specs.Typing.{Reading, Doer, Braces, Seen, reading, body, braces, argument_step, body_step, expression_step, first_step, lambda_step, statement_step, block_step, catch_step, declaration_step, entry_step, variable_step, scoped, looping, handlers}
 use Rattle.typing_acts.specs.declared.config.Config.{Config}
 use Rattle.typing_tasks.specs.declared.task.StatementAct.TheVariants as sa
+use Rattle.typing_tasks.specs.Folds.{handler}
 use Rattle.typing_tasks.specs.Job as j
 use Rattle.typing_tasks.specs.Job.{Job}
 use Rattle.typing_tasks.specs.Machine.{run, step_to, refused_at}
 use Rattle.typing_tasks.specs.Plans.{Open, statement_plan}
+use Rattle.typing_tasks.proofs.Above.{above_piled}
 use Rattle.typing_tasks.proofs.Behind.{behind, behind_with, again}
 
 module _ (allow : AllowList) (hs : List Header) (js : List Job) (c : Config) where
@@ -54,6 +56,7 @@ module _ (allow : AllowList) (hs : List Header) (js : List Job) (c : Config) whe
       ∙ again (type_of of) (λ p. (reading allow hs over).value c.state (λ x s. and_then p (λ t. looping (body allow hs body_) (noted name.spelling t s) (refused_at at))))
   statement_rolled last (Statement-F.ForIn at name over body_) = ap (λ (x : Doer). x.typed last c.state (step_to c (run allow hs js))) (fold-roll-Statement (Doing Part) (Doing Step) Reading (Doing Step) Seen Doer Braces (Doing Caught) Doer Seen (Ty → Doing TypedVariable) (argument_step allow hs) (body_step allow hs) (expression_step allow hs) (first_step allow hs) (lambda_step allow hs) (statement_step allow hs) (block_step allow hs) (catch_step allow hs) (declaration_step allow hs) (entry_step allow hs) (variable_step allow hs) (Statement-F.ForIn at name over body_))
   statement_rolled last (Statement-F.Try at block catches) = ap (λ (x : Doer). x.typed last c.state (step_to c (run allow hs js))) (fold-roll-Statement (Doing Part) (Doing Step) Reading (Doing Step) Seen Doer Braces (Doing Caught) Doer Seen (Ty → Doing TypedVariable) (argument_step allow hs) (body_step allow hs) (expression_step allow hs) (first_step allow hs) (lambda_step allow hs) (statement_step allow hs) (block_step allow hs) (catch_step allow hs) (declaration_step allow hs) (entry_step allow hs) (variable_step allow hs) (Statement-F.Try at block catches))
+      ∙ sym (λ i. scoped (braces allow hs block).steps c.state (λ ys t. handlers (map (handler allow hs) catches) t (λ xs s. and_then (above_piled xs c.catches (λ zs below. Ok (record c { steps = rules.try_of at (rules.block_of (braces allow hs block).at ys) zs ∷ c.steps; catches = below; state = s })) i) (run allow hs js))))
   statement_rolled last (Statement-F.Do at block condition) = ap (λ (x : Doer). x.typed last c.state (step_to c (run allow hs js))) (fold-roll-Statement (Doing Part) (Doing Step) Reading (Doing Step) Seen Doer Braces (Doing Caught) Doer Seen (Ty → Doing TypedVariable) (argument_step allow hs) (body_step allow hs) (expression_step allow hs) (first_step allow hs) (lambda_step allow hs) (statement_step allow hs) (block_step allow hs) (catch_step allow hs) (declaration_step allow hs) (entry_step allow hs) (variable_step allow hs) (Statement-F.Do at block condition))
       ∙ (λ i. looping (scoped (braces allow hs block).steps) c.state (λ ys w. (reading allow hs condition).value w (λ x s. behind (rules.loop_test x) (λ t. record c { tests = t ∷ c.tests; steps = rules.block_of (braces allow hs block).at ys ∷ c.steps; state = s }) (run allow hs (j.DoStatement (sa.DoLoop at) ∷ js)) i)))
   statement_rolled last (Statement-F.«Statement::Declare» declaration) = ap (λ (x : Doer). x.typed last c.state (step_to c (run allow hs js))) (fold-roll-Statement (Doing Part) (Doing Step) Reading (Doing Step) Seen Doer Braces (Doing Caught) Doer Seen (Ty → Doing TypedVariable) (argument_step allow hs) (body_step allow hs) (expression_step allow hs) (first_step allow hs) (lambda_step allow hs) (statement_step allow hs) (block_step allow hs) (catch_step allow hs) (declaration_step allow hs) (entry_step allow hs) (variable_step allow hs) (Statement-F.«Statement::Declare» declaration))

@@ -3,7 +3,6 @@ use Rattle.std.specs.Prelude.{ℕ, false, List, [], ◌∷◌, length, reverse, 
 use Rattle.pl_types.specs.declared.rules.TheConstants.{OUT_OF_PROFILE}
 use Rattle.pl_tree.specs.declared.tree.Argument.{Argument}
 use Rattle.pl_tree.specs.declared.tree.Body.{Body}
-use Rattle.pl_tree.specs.declared.tree.Catch.{Catch}
 use Rattle.pl_tree.specs.declared.tree.Expr.{Expr}
 use Rattle.pl_tree.specs.declared.tree.First.{First}
 use Rattle.pl_tree.specs.declared.tree.TypeName.{TypeName}
@@ -18,8 +17,7 @@ use Rattle.typing_rules.specs.declared.part.Caught.{Caught}
 use Rattle.typing_rules.specs.declared.state.State.{State}
 use Rattle.pl_types.specs.declared.ty.Ty.TheVariants as ty
 use Rattle.typing_rules.specs.Outcomes.{Out, refuse, refusal}
-use Rattle.typing_rules.specs.State.{noted}
-use Rattle.typing_rules.specs.Doing.{Answer, Doing, ◌>>=◌, ◌>>◌, pure, and_then, setting}
+use Rattle.typing_rules.specs.Doing.{Answer, Doing, ◌>>=◌, pure, and_then}
 use Rattle.typing_rules.specs.Rules.Types.{type_of}
 use Rattle.typing_rules.specs.Rules.Statements.{loop_of, block_of, reached}
 use Rattle.typing_rules.specs.Typing as typing

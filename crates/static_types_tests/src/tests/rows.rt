@@ -325,7 +325,7 @@ pub const RANGES: [(&str, u8, u32); 12] = [
 ];
 
 /// What is not built.
-pub const NOT_BUILT: [(&str, u8, u32); 27] = [
+pub const NOT_BUILT: [(&str, u8, u32); 25] = [
     ("[1]", 19, 0),
     ("[1:2]", 19, 0),
     ("int[] x; 1", 19, 0),
@@ -347,8 +347,6 @@ pub const NOT_BUILT: [(&str, u8, u32); 27] = [
     ("new int[1]", 19, 0),
     ("new int[] {1}", 19, 0),
     ("1 instanceof int[]", 19, 13),
-    ("try { } catch (Exception e) { }", 19, 0),
-    ("try { } catch (List e) { }", 19, 15),
     ("def d = 1; d + 1", 19, 13),
     ("def d = 1; d < 1", 19, 13),
     ("def d = 1; 'a' - d", 19, 15),
@@ -378,6 +376,68 @@ pub const TYPES: [(&str, u8, u32); 6] = [
     ("int f(void a) { return 1 } 1", 6, 6),
     ("1 instanceof foo", 6, 13),
     ("foo x = y; 1", 6, 0),
+];
+
+/// Catches, and what is around them.
+pub const TRIES: [(&str, u8, u32); 30] = [
+    ("try { } catch (def e) { }", 9, 15),
+    ("try { } catch (int e) { }", 9, 15),
+    ("try { } catch (Exception[] e) { }", 9, 15),
+    ("try { } catch (Foo e) { }", 6, 15),
+    ("try { } catch (Object o) { String s = o; } 1", 9, 38),
+    ("int e = 1; try { } catch (Exception e) { } e", 5, 36),
+    ("try { } catch (Exception n) { } 1", 5, 25),
+    ("try { } catch (Exception e) { int e = 1; }", 5, 34),
+    ("try { } catch (Exception e) { } e", 4, 32),
+    ("try { e = null; } catch (Exception e) { }", 4, 6),
+    (
+        "try { } catch (Exception e) { } catch (Object o) { e = null; }",
+        4,
+        51,
+    ),
+    ("try { int x = 1; } catch (Exception e) { x = 2; }", 4, 41),
+    ("try { 1 } catch (Exception e) { }", 11, 6),
+    ("try { } catch (Exception e) { e }", 11, 30),
+    (
+        "try { return 1 } catch (Exception e) { return 2 } 3",
+        12,
+        50,
+    ),
+    (
+        "try { return 1 } catch (ArithmeticException a) { throw a } catch (Exception e) { return 2 } 3",
+        12,
+        92,
+    ),
+    (
+        "while (true) { try { break } catch (Exception e) { continue } int x = 1; }",
+        12,
+        62,
+    ),
+    ("while (true) { try { } catch (Exception e) { } } 1", 12, 49),
+    (
+        "int f() { try { return 1 } catch (Exception e) { } } f()",
+        13,
+        4,
+    ),
+    (
+        "int f() { try { } catch (Exception e) { return 1 } } f()",
+        13,
+        4,
+    ),
+    (
+        "int f() { try { return 1 } catch (ArithmeticException a) { return 2 } catch (Exception e) { } } f()",
+        13,
+        4,
+    ),
+    ("try { break } catch (Exception e) { }", 14, 6),
+    ("try { } catch (Exception e) { continue }", 14, 30),
+    ("try { } catch (Foo n) { }", 6, 15),
+    ("try { } catch (Foo e) { x }", 6, 15),
+    ("try { } catch (Exception n) { x }", 5, 25),
+    ("try { x } catch (Foo e) { }", 4, 6),
+    ("try { x } catch (Exception n) { }", 4, 6),
+    ("try { } catch (Exception e) { x } catch (Foo e) { }", 4, 30),
+    ("try { } catch (Foo e) { } catch (Exception e) { x }", 6, 15),
 ];
 
 /// Two broken rules, of which the first is told.
@@ -565,6 +625,26 @@ pub const TYPED: [&str; 116] = [
     "int f() { throw null } f()",
     "StringBuilder b = null; CharSequence c = b; 1",
     "(def)1",
+];
+
+/// Scripts with a `try` that break no rule.
+pub const TYPED_TRIES: [&str; 16] = [
+    "try { } catch (Exception e) { }",
+    "try { int x = 1; } catch (Exception e) { } int x = 2; x",
+    "int x = 1; try { x = 2; } catch (Exception e) { x = 3; } x",
+    "try { return 1 } catch (Exception e) { return 2 }",
+    "try { return 1 } catch (Exception e) { } 2",
+    "try { } catch (Exception e) { return 1 } 2",
+    "try { return 1 } catch (ArithmeticException a) { } catch (Exception e) { return 2 } 3",
+    "try { } catch (List l) { } 1",
+    "try { } catch (Object o) { o = 'a'; } 1",
+    "try { } catch (ArithmeticException e) { Exception other = e; } catch (Exception e) { throw e } 1",
+    "try { } catch (Exception e) { } Exception e = null; 1",
+    "int f() { try { return 1 } catch (Exception e) { throw e } } f()",
+    "try { try { throw null } catch (Exception e) { } } catch (Exception e) { } 1",
+    "while (true) { try { break } catch (Exception e) { } } 1",
+    "while (true) { try { } catch (Exception e) { break } } 1",
+    "for (int i = 0; i < 3; ++i) { try { continue } catch (Exception e) { continue } } 1",
 ];
 
 /// The worked examples: those that are typed.
