@@ -61,7 +61,7 @@ pub fn catches<'a>(
 /// A catch: its class, its name, which is in sight in its block, and the block.
 ///
 /// What `caught_class` refuses. AlreadyDefined (5): its name is in sight.
-#[tactic(auto, using(typing_tasks::proofs::Goings::catch_goes, typing_tasks::proofs::Goings::catch_refused, typing_tasks::proofs::Goings::name_refused))]
+#[tactic(auto, using(typing_tasks::proofs::Goings::catch_goes, typing_tasks::proofs::Goings::catch_refused, crate::proofs::Refused::name_fails))]
 pub fn catch<'a>(
     alloc: Global,
     _allow: &Allow,
