@@ -61,7 +61,7 @@ pub fn catches<'a>(
 /// A catch: its class, its name, which is in sight in its block, and the block.
 ///
 /// What `caught_class` refuses. AlreadyDefined (5): its name is in sight.
-#[tactic(auto, using(typing_tasks::proofs::Goings::catch_goes, typing_tasks::proofs::Goings::catch_refused, typing_tasks::proofs::Goings::name_refused))]
+#[tactic(auto, using(typing_tasks::proofs::Goings::catch_goes, typing_tasks::proofs::Goings::catch_refused))]
 pub fn catch<'a>(
     alloc: Global,
     _allow: &Allow,
@@ -74,15 +74,20 @@ pub fn catch<'a>(
 {
     let class = caught_class(&e.of)?;
     let names = config.state.scopes.len();
-    config
+    match config
         .state
-        .declare(alloc, e.name.at, &e.name.spelling, Ty::Class(class))?;
-    let height = config.steps.len();
-    tasks.push_four(
-        Task::Statement(StatementTask::Statements(&e.block.statements, 0, false, false)),
-        Task::DoStatement(StatementAct::Block(e.block.at, height)),
-        Task::Catch(CatchTask::Caught(e.at, class, &e.name.spelling)),
-        Task::DoStatement(StatementAct::Close(names)),
-    )?;
-    Ok(())
+        .declare(alloc, e.name.at, &e.name.spelling, Ty::Class(class))
+    {
+        Err(fail) => Err(fail),
+        Ok(()) => {
+            let height = config.steps.len();
+            tasks.push_four(
+                Task::Statement(StatementTask::Statements(&e.block.statements, 0, false, false)),
+                Task::DoStatement(StatementAct::Block(e.block.at, height)),
+                Task::Catch(CatchTask::Caught(e.at, class, &e.name.spelling)),
+                Task::DoStatement(StatementAct::Close(names)),
+            )?;
+            Ok(())
+        }
+    }
 }
