@@ -3,4 +3,5 @@ pub mod Placed
 pub mod Compiled
 pub mod Ends
 pub mod Runs
+pub mod Words
 pub mod Texts

@@ -37,10 +37,10 @@ fn words_in(
     let mut words = Elements::new(alloc);
     args.reverse();
     for kind in kinds {
-        let Some(value) = args.pop() else {
-            return Ok(words);
-        };
-        words.push(word_in(*kind, value))?;
+        match args.pop() {
+            Some(value) => words.push(word_in(*kind, value))?,
+            None => return Ok(words),
+        }
     }
     Ok(words)
 }
