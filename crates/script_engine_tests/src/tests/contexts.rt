@@ -50,13 +50,16 @@ fn variable(alloc: Global, name: &str, of: Ty) -> Result<Named, AllocError> {
     Ok(Named { name, of })
 }
 
-fn context(alloc: Global, result: Ty) -> Result<ContextTypes, AllocError> {
+fn context(alloc: Global, of: Ty) -> Result<ContextTypes, AllocError> {
     let mut variables = Items::new(alloc);
     variables.push(variable(alloc, "a", Ty::Prim(Primitive::Int))?)?;
     variables.push(variable(alloc, "b", Ty::Prim(Primitive::Long))?)?;
     variables.push(variable(alloc, "c", Ty::Prim(Primitive::Boolean))?)?;
     variables.push(variable(alloc, "d", Ty::Def)?)?;
-    Ok(ContextTypes { variables, result })
+    Ok(ContextTypes {
+        variables,
+        result: of,
+    })
 }
 
 fn arguments(alloc: Global) -> Result<Vec<Value>, AllocError> {
@@ -68,9 +71,9 @@ fn arguments(alloc: Global) -> Result<Vec<Value>, AllocError> {
     Ok(args)
 }
 
-fn ends(compiler: &Compiler, script: &str, result: Ty, wanted: &str) -> Result<bool, AllocError> {
+fn ends(compiler: &Compiler, script: &str, of: Ty, wanted: &str) -> Result<bool, AllocError> {
     let alloc = compiler.alloc();
-    let context = context(alloc, result)?;
+    let context = context(alloc, of)?;
     match compiler.compiled_in(script, &context) {
         Ok(compiled) => {
             let outcome = run(alloc, &compiled, arguments(alloc)?, USUAL)?;
@@ -82,10 +85,10 @@ fn ends(compiler: &Compiler, script: &str, result: Ty, wanted: &str) -> Result<b
 
 /// Each script ends as its line says.
 pub fn all_end(rt: &impl Abort, compiler: &Compiler) -> Result<(), AllocError> {
-    for (result, table) in rows() {
+    for (of, table) in rows() {
         for line in table.lines() {
             let (wanted, script) = line.split_once(": ").unwrap_or(("", line));
-            let good = ends(compiler, script, result.share(compiler.alloc())?, wanted)?;
+            let good = ends(compiler, script, of.share(compiler.alloc())?, wanted)?;
             assert!(rt; good, "{line}");
         }
     }
