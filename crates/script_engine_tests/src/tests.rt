@@ -1,5 +1,4 @@
 mod catches;
-mod contexts;
 mod operands;
 mod operators;
 mod references;
@@ -91,12 +90,5 @@ fn catches_end_within_bounds(rt: HostRuntime) -> Result<(), Fail> {
     for (bounds, table) in catches::BOUNDED {
         all_end(&rt, &compiler, bounds, table)?;
     }
-    Ok(())
-}
-
-#[test]
-fn contexts_with_variables(rt: HostRuntime) -> Result<(), Fail> {
-    let compiler = Compiler::new(rt.alloc())?;
-    contexts::all_end(&rt, &compiler)?;
     Ok(())
 }

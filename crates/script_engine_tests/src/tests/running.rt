@@ -43,31 +43,17 @@ impl Compiler {
         Ok(Compiler { alloc, allow })
     }
 
-    /// The script of a text by the variables and the result of a context.
-    pub fn compiled_in(&self, script: &str, context: &ContextTypes) -> Result<Script, Fail> {
-        compile(self.alloc, script, &self.allow, context)
-    }
-
     fn compiled(&self, script: &str) -> Result<Script, Fail> {
         let context = ContextTypes {
             variables: Items::new(self.alloc),
             result: Ty::Def,
         };
-        self.compiled_in(script, &context)
-    }
-
-    pub fn alloc(&self) -> Global {
-        self.alloc
+        compile(self.alloc, script, &self.allow, &context)
     }
 }
 
-/// Runs a script on arguments, within bounds.
-pub fn run(
-    alloc: Global,
-    script: &Script,
-    args: Vec<Value>,
-    bounds: Bounds,
-) -> Result<Outcome, AllocError> {
+fn run(alloc: Global, script: &Script, bounds: Bounds) -> Result<Outcome, AllocError> {
+    let args = Vec::new(alloc);
     let heap = Heap::new(alloc, bounds.room);
     let limits = Limits {
         loops: bounds.loops,
@@ -142,7 +128,7 @@ fn end_text(outcome: &Outcome) -> Result<String, AllocError> {
 }
 
 /// Whether a run ended as a row says: `END`, or `END, N ticks`.
-pub fn ended(outcome: &Outcome, wanted: &str) -> Result<bool, AllocError> {
+fn ended(outcome: &Outcome, wanted: &str) -> Result<bool, AllocError> {
     let alloc = outcome.heap.alloc();
     let text = end_text(outcome)?;
     let end = text.as_str();
@@ -160,8 +146,7 @@ fn ends(
 ) -> Result<bool, AllocError> {
     match compiler.compiled(script) {
         Ok(compiled) => {
-            let args = Vec::new(compiler.alloc);
-            let outcome = run(compiler.alloc, &compiled, args, bounds)?;
+            let outcome = run(compiler.alloc, &compiled, bounds)?;
             ended(&outcome, wanted)
         }
         Err(_) => Ok(false),
