@@ -1,7 +1,7 @@
 //! Which members are built, and the call of one.
 ghost use Rattle.std.specs.Prelude.{◌≡◌, ◌&&◌, length, nat_le, nat_lt};
 ghost use Rattle.object_heap.specs.Fits.{Rules, Fits, AllFit};
-ghost use Rattle.member_acts.specs.Answers.{AnswersIfBuilt, WantsMemoryOfTexts, CallFits};
+ghost use Rattle.member_acts.specs.Answers.{AnswersIfBuilt, WantsMemory, CallFits};
 ghost use Rattle.member_acts.specs.Members.{does, is_built, is_of_numbers, is_of_texts};
 
 use object_heap::{Answer, Heap};
@@ -40,10 +40,10 @@ pub fn is_built(member: u32) -> bool
 ///
 /// `Thrown`: by `docs/CATALOGUE.md`, as the member says. `Room`: the charge is above the room left; it is for a text its units
 /// and 1, for a new builder, array or exception its weight, and for a builder that changes what it grows by. `NoMemory`: there
-/// was none for what is made.
+/// was none for what is made; a member that gives what is there already takes none.
 pub fn call(member: u32, heap: &mut Heap, args: &[Value]) -> Option<Answer>
     ensures does { AnswersIfBuilt (does member args.now heap.old) heap.old heap.new result }
-    ensures memory { WantsMemoryOfTexts heap.old.objects member args.now result }
+    ensures memory { WantsMemory heap.old.objects member args.now result }
     ensures keeps { (rules : Rules) → Fits rules heap.old.objects → AllFit (length heap.old.objects) args.now → CallFits rules heap.new result }
 {
     if is_of_numbers(member) {

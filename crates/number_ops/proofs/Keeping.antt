@@ -51,7 +51,7 @@ use Rattle.number_ops.specs.Members as members
 use Rattle.number_ops.specs.Numbers as numbers
 use Rattle.number_ops.specs.Operators as operators
 use Rattle.number_ops.specs.Order as order
-use Rattle.number_ops.specs.Outcomes.{class_raised, effect, says}
+use Rattle.number_ops.specs.Outcomes.{class_raised, effect, is_text, says}
 
 -- a value that is given is there
 abbrev pub OutcomeFits : ℕ → Outcome → Type 0
@@ -129,7 +129,7 @@ unary_fits count objects o a (Some number) = calculated_fits count o (arith_of o
 pub operate_fits : (count : ℕ) (objects : List Object) (o : Op) (a b : Value) → OutcomeFits count (operators.operate objects o a b)
 operate_fits count objects o a b =
     chosen count (operators.is_sum o) _ _
-    (chosen count (operators.is_text a || operators.is_text b) _ _ (concatenated_fits count objects a b) (binary_fits count objects op.Add a b))
+    (chosen count (is_text a || is_text b) _ _ (concatenated_fits count objects a b) (binary_fits count objects op.Add a b))
     (chosen count (operators.is_unary o) _ _ (unary_fits count objects o a (operators.number_in a)) (binary_fits count objects o a b))
 
 -- casts

@@ -1,4 +1,5 @@
 pub mod Keeping
 pub mod KindsOf
+pub mod Needing
 pub mod Related
 pub mod TextOrder

@@ -16,7 +16,7 @@ use Rattle.object_walks.specs.declared.TheConstants.{VISITS}
 use Rattle.object_walks.specs.Texts.{Text, Wrote, TooDeep, TooLarge, text_of}
 use Rattle.number_ops.specs.declared.outcome.Outcome.{Outcome}
 use Rattle.number_ops.specs.declared.outcome.Outcome.TheVariants.{Gives, Makes}
-use Rattle.number_ops.specs.Outcomes.{null_error, zero_divisor, too_deep, too_large}
+use Rattle.number_ops.specs.Outcomes.{is_text, null_error, zero_divisor, too_deep, too_large}
 use Rattle.number_ops.specs.Names.{cannot_apply, cannot_apply_to_one}
 
 -- The number in a box, as an operator takes it: bytes, shorts and chars become ints
@@ -31,10 +31,6 @@ number_in value = None
 abbrev pub is_null : Value → Bool
 is_null v.Null = true
 is_null value = false
-
-abbrev pub is_text : Value → Bool
-is_text (v.Str text) = true
-is_text value = false
 
 -- an object is of a class or below it, if it has one
 abbrev pub has_class : ℕ → Object → Bool

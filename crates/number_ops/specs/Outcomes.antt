@@ -1,8 +1,11 @@
 -- What operators, casts and members come to, before it is paid.
-use Rattle.std.specs.Prelude.{◌≡◌, ℕ, Some, None, List, codes}
+use Rattle.std.specs.Prelude.{◌≡◌, ℕ, Bool, true, false, Some, None, List, codes}
 use Rattle.pl_units.specs.Utf16.{units}
 use Rattle.pl_types.specs.declared.classes.TheConstants.{ARITHMETIC_EXCEPTION, CLASS_CAST_EXCEPTION, ILLEGAL_STATE_EXCEPTION, NULL_POINTER_EXCEPTION, NUMBER_FORMAT_EXCEPTION}
+use Rattle.object_values.specs.declared.value.Value.{Value}
 use Rattle.object_values.specs.declared.value.Value.TheVariants as v
+use Rattle.object_heap.specs.declared.answer.Answer.{Answer}
+use Rattle.object_heap.specs.declared.answer.Answer.TheVariants as a
 use Rattle.object_heap.specs.Effects.{Effect, Gives, gives_text, throws}
 use Rattle.object_heap.specs.Store.{Store}
 use Rattle.number_ops.specs.declared.outcome.Raised.{Raised}
@@ -26,12 +29,31 @@ effect store (outcome.Makes text) = gives_text store text
 effect store (outcome.Throws raised message) = throws store (class_raised raised) message
 effect store outcome.NoMemory = Gives v.Null store
 
--- what a call answers is the outcome, unless there was no memory
+abbrev pub is_text : Value → Bool
+is_text (v.Str text) = true
+is_text value = false
+
+-- a value that is given is there already, and nothing is made for it; a text is copied
+abbrev pub NeedsMemory : Outcome → Type 0
+NeedsMemory (outcome.Gives value) = is_text value ≡ true
+NeedsMemory told = Unit {0}
+
+-- What a function says is the outcome. It may say that there is no memory where something is made or copied
 abbrev pub Tells : Outcome → Outcome → Type 0
-Tells told outcome.NoMemory = Unit {0}
+Tells told outcome.NoMemory = NeedsMemory told
 Tells told (outcome.Gives value) = told ≡ outcome.Gives value
 Tells told (outcome.Makes text) = told ≡ outcome.Makes text
 Tells told (outcome.Throws raised message) = told ≡ outcome.Throws raised message
+
+-- a call answers want of memory only where something is made or copied
+abbrev pub WantsMemory : Outcome → Answer → Type 0
+WantsMemory told a.NoMemory = NeedsMemory told
+WantsMemory told answer = Unit {0}
+
+-- there was memory for what a call answers
+abbrev pub IsAnswered : Answer → Type 0
+IsAnswered a.NoMemory = ⊥
+IsAnswered answer = Unit {0}
 
 -- what is nothing, where arguments are not of the kinds that are asked for
 abbrev pub nothing : Outcome

@@ -10,6 +10,7 @@ use Rattle.object_values.specs.declared.value.Value.{Value}
 use Rattle.object_values.specs.declared.value.Value.TheVariants as v
 use Rattle.object_heap.specs.Effects.{Effect, Gives, Throws}
 use Rattle.object_heap.specs.Fits.{kinds, has_type, is_primitive}
+use Rattle.object_heap.specs.Parts.{asked}
 use Rattle.object_heap.specs.Store.{Store}
 use Rattle.arithmetic.specs.declared.operator.Num.{Num}
 use Rattle.arithmetic.specs.Operators.{as_long}
@@ -55,6 +56,15 @@ unfoldable pub thrown : Store → Value → Effect
 thrown store v.Null = effect store null_error
 thrown store (v.Ref id) = thrown_if store id (slice_get store.objects id)
 thrown store value = no_exception store
+
+abbrev pub is_exception_object : Object → Bool
+is_exception_object (o.Exc class message) = true
+is_exception_object object = false
+
+-- whether a value is an exception: it is there already, and nothing is made where it is thrown
+abbrev pub is_exception : List Object → Value → Bool
+is_exception objects (v.Ref id) = asked is_exception_object false (slice_get objects id)
+is_exception objects value = false
 
 -- ---- laws
 

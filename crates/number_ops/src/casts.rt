@@ -4,7 +4,8 @@ ghost use Rattle.pl_types.specs.Casts.{reaches, narrows};
 ghost use Rattle.pl_types.specs.declared.ty.Ty.{out-Ty};
 ghost use Rattle.pl_types.specs.Types.{same_primitives};
 ghost use Rattle.object_heap.specs.Effects.{Answers};
-ghost use Rattle.number_ops.specs.Outcomes.{Tells, effect};
+ghost use Rattle.number_ops.specs.Outcomes.{Tells, WantsMemory, effect};
+ghost use Rattle.number_ops.specs.declared.outcome.Outcome.TheVariants.{Gives};
 ghost use Rattle.number_ops.specs.Operators as operators;
 ghost use Rattle.number_ops.specs.Casts as spec;
 ghost use Rattle.number_ops.specs.Casts.{cast_at_run_time, number_as, text_to_char, char_to_text};
@@ -65,7 +66,8 @@ impl Casted {
 /// text its units and 1 and of an exception the units of its message and 1, is above the room left. `NoMemory`: there was none
 /// for a text or an exception.
 pub fn to_type(heap: &mut Heap, value: &Value, to: &Ty, explicit: bool) -> Answer
-    ensures { Answers (effect heap.old (cast_at_run_time heap.old.objects value.now to.now explicit)) heap.old heap.new result }
+    ensures exact { Answers (effect heap.old (cast_at_run_time heap.old.objects value.now to.now explicit)) heap.old heap.new result }
+    ensures memory { WantsMemory (cast_at_run_time heap.old.objects value.now to.now explicit) result }
 {
     cast(heap, value, to, explicit).settle(heap)
 }
@@ -82,8 +84,24 @@ fn cast(heap: &Heap, value: &Value, to: &Ty, explicit: bool) -> Outcome
 fn kept(value: &Value) -> Outcome
     ensures { Tells (spec.kept value.now) result }
 {
-    match value.share() {
-        Ok(value) => Outcome::Gives(value),
+    match value {
+        Value::Null => Outcome::Gives(Value::Null),
+        Value::Bool(flag) => Outcome::Gives(Value::Bool(*flag)),
+        Value::Byte(number) => Outcome::Gives(Value::Byte(*number)),
+        Value::Short(number) => Outcome::Gives(Value::Short(*number)),
+        Value::Char(unit) => Outcome::Gives(Value::Char(*unit)),
+        Value::Int(number) => Outcome::Gives(Value::Int(*number)),
+        Value::Long(number) => Outcome::Gives(Value::Long(*number)),
+        Value::Str(text) => kept_text(text),
+        Value::Ref(id) => Outcome::Gives(Value::Ref(*id)),
+    }
+}
+
+fn kept_text(text: &UText) -> Outcome
+    ensures { Tells (Gives (Value.Str text.now)) result }
+{
+    match text.share() {
+        Ok(text) => Outcome::Gives(Value::Str(text)),
         Err(_) => Outcome::NoMemory,
     }
 }

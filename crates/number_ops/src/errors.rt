@@ -43,6 +43,7 @@ fn cast_message(heap: &Heap, value: &Value, to: &Ty) -> Result<String, AllocErro
 }
 
 /// A value that does not go to a type.
+#[tactic(auto, unfolding(crate::specs::Outcomes::says))]
 pub fn cannot_cast(heap: &Heap, value: &Value, to: &Ty) -> Outcome
     ensures { Tells (spec.cannot_cast heap.now.objects value.now to.now) result }
 {
@@ -64,6 +65,7 @@ fn one_message(heap: &Heap, op: Op, a: &Value) -> Result<String, AllocError>
 }
 
 /// An operand that an operator of one operand does not take.
+#[tactic(auto, unfolding(crate::specs::Outcomes::says))]
 pub fn cannot_apply_to_one(heap: &Heap, op: Op, a: &Value) -> Outcome
     ensures { Tells (spec.cannot_apply_to_one heap.now.objects op a.now) result }
 {
@@ -84,6 +86,7 @@ fn apply_message(heap: &Heap, op: Op, a: &Value, b: &Value) -> Result<String, Al
 }
 
 /// Operands that an operator does not take.
+#[tactic(auto, unfolding(crate::specs::Outcomes::says))]
 pub fn cannot_apply(heap: &Heap, op: Op, a: &Value, b: &Value) -> Outcome
     ensures { Tells (spec.cannot_apply heap.now.objects op a.now b.now) result }
 {
@@ -105,6 +108,7 @@ fn compare_message(heap: &Heap, a: &Value, b: &Value) -> Result<String, AllocErr
 }
 
 /// Values that natural order does not compare.
+#[tactic(auto, unfolding(crate::specs::Outcomes::says))]
 pub fn cannot_compare(heap: &Heap, a: &Value, b: &Value) -> Outcome
     ensures { Tells (spec.cannot_compare heap.now.objects a.now b.now) result }
 {

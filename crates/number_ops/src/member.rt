@@ -1,7 +1,7 @@
 //! The members of Object, Comparable, Number, Byte to Long, Character, Boolean and Math.
 ghost use Rattle.std.specs.Prelude.{◌≡◌};
 ghost use Rattle.object_heap.specs.Effects.{Answers};
-ghost use Rattle.number_ops.specs.Outcomes.{Tells, effect, nothing};
+ghost use Rattle.number_ops.specs.Outcomes.{Tells, WantsMemory, effect, nothing};
 ghost use Rattle.number_ops.specs.Members as spec;
 ghost use Rattle.number_ops.specs.Members.{does, does_numbered, members, numbered, number_value};
 
@@ -308,7 +308,8 @@ fn does_numbered(heap: &Heap, number: u32, args: &[Value]) -> Outcome
 /// `Thrown`: by `docs/CATALOGUE.md`, as the member says. `Room`: the charge, of a text its units and 1 and of an exception the
 /// units of its message and 1, is above the room left. `NoMemory`: there was none for a text or an exception.
 pub fn call(number: u32, heap: &mut Heap, args: &[Value]) -> Answer
-    ensures { Answers (effect heap.old (does_numbered heap.old.objects number args.now)) heap.old heap.new result }
+    ensures exact { Answers (effect heap.old (does_numbered heap.old.objects number args.now)) heap.old heap.new result }
+    ensures memory { WantsMemory (does_numbered heap.old.objects number args.now) result }
 {
     does_numbered(heap, number, args).settle(heap)
 }

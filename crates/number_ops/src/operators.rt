@@ -2,7 +2,7 @@
 ghost use Rattle.std.specs.Prelude.{◌≡◌};
 ghost use Rattle.object_heap.specs.Effects.{Answers};
 ghost use Rattle.number_ops.specs.Operators as spec;
-ghost use Rattle.number_ops.specs.Outcomes.{Tells, effect, too_deep, too_large, zero_divisor};
+ghost use Rattle.number_ops.specs.Outcomes.{Tells, WantsMemory, effect, too_deep, too_large, zero_divisor};
 ghost use Rattle.number_ops.specs.Operators.{calculated, operate, concatenated};
 ghost use Rattle.arithmetic.specs.Operators.{arith_of};
 
@@ -24,7 +24,8 @@ use pl_units::UText;
 /// and a text that is nested too deeply or too large IllegalStateException. `Room`: the charge, of a text its units and 1 and of
 /// an exception the units of its message and 1, is above the room left. `NoMemory`: there was none for the text or the exception.
 pub fn def_op(heap: &mut Heap, op: Op, a: &Value, b: &Value) -> Answer
-    ensures { Answers (effect heap.old (operate heap.old.objects op a.now b.now)) heap.old heap.new result }
+    ensures exact { Answers (effect heap.old (operate heap.old.objects op a.now b.now)) heap.old heap.new result }
+    ensures memory { WantsMemory (operate heap.old.objects op a.now b.now) result }
 {
     operate(heap, op, a, b).settle(heap)
 }
@@ -56,6 +57,7 @@ fn sum(heap: &Heap, a: &Value, b: &Value) -> Outcome
     }
 }
 
+#[tactic(auto, using(crate::proofs::Needing::concatenated_needs))]
 fn concatenated(heap: &Heap, a: &Value, b: &Value) -> Outcome
     ensures { Tells (concatenated heap.now.objects a.now b.now) result }
 {
@@ -69,6 +71,7 @@ fn concatenated(heap: &Heap, a: &Value, b: &Value) -> Outcome
 }
 
 // The text of a value behind another.
+#[tactic(auto, using(crate::proofs::Needing::after_needs))]
 fn followed(heap: &Heap, mut text: Vec<u16>, value: &Value) -> Outcome
     ensures { Tells (spec.after text.items heap.now.objects value.now) result }
 {

@@ -172,6 +172,7 @@ pub fn equals(heap: &Heap, a: &Value, b: &Value) -> Outcome
 }
 
 // The text of a value.
+#[tactic(auto, using(crate::proofs::Needing::text_needs))]
 pub fn to_text(heap: &Heap, value: &Value) -> Outcome
     ensures { Tells (to_text heap.now.objects value.now) result }
 {

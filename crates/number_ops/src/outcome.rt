@@ -1,7 +1,7 @@
 //! What operators, casts and members come to, and how that is paid.
 ghost use Rattle.std.specs.Prelude.{◌≡◌};
 ghost use Rattle.object_heap.specs.Effects.{Answers, gives_text};
-ghost use Rattle.number_ops.specs.Outcomes.{class_raised, effect, Tells};
+ghost use Rattle.number_ops.specs.Outcomes.{class_raised, effect, Tells, WantsMemory};
 ghost use Rattle.number_ops.specs.declared.outcome.Outcome.{Outcome};
 
 use object_heap::{Answer, Heap, HeapErr, throw};
@@ -76,7 +76,8 @@ fn pay_text(heap: &mut Heap, text: UText) -> Answer
 impl Outcome {
     /// Pays for it: a value is free, a text costs its units and 1, and an exception the units of its message and 1.
     pub fn settle(self, heap: &mut Heap) -> Answer
-        ensures { (told : Outcome) → Tells told self → Answers (effect heap.old told) heap.old heap.new result }
+        ensures exact { (told : Outcome) → Tells told self → Answers (effect heap.old told) heap.old heap.new result }
+        ensures memory { (told : Outcome) → Tells told self → WantsMemory told result }
     {
         match self {
             Outcome::Gives(value) => Answer::Value(value),

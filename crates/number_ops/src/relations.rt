@@ -1,10 +1,10 @@
 //! What is asked of values whose types are found at run time, and what is thrown.
-ghost use Rattle.std.specs.Prelude.{◌≡◌};
-ghost use Rattle.std.specs.Prelude.{slice_get};
+ghost use Rattle.std.specs.Prelude.{◌≡◌, false, slice_get, true};
 ghost use Rattle.pl_types.specs.declared.ty.Ty.{out-Ty};
 ghost use Rattle.object_heap.specs.Effects.{Answers};
 ghost use Rattle.object_heap.specs.Fits.{has_layer, is_primitive, kinds};
-ghost use Rattle.number_ops.specs.Outcomes.{effect, null_error, Tells};
+ghost use Rattle.object_heap.specs.Parts.{asked};
+ghost use Rattle.number_ops.specs.Outcomes.{effect, null_error, IsAnswered, Tells, WantsMemory};
 ghost use Rattle.number_ops.specs.Relations as spec;
 ghost use Rattle.number_ops.specs.Operators.{number_in};
 ghost use Rattle.number_ops.specs.declared.outcome.Outcome.{Outcome};
@@ -21,7 +21,8 @@ use pl_types::{Primitive, Ty};
 /// `Thrown`: the values are nested too deeply, or too large to walk. `Room`: the charge of that exception is above the room left.
 /// `NoMemory`: there was none for it.
 pub fn equal(heap: &mut Heap, a: &Value, b: &Value) -> Answer
-    ensures { Answers (effect heap.old (spec.equal heap.old.objects a.now b.now)) heap.old heap.new result }
+    ensures exact { Answers (effect heap.old (spec.equal heap.old.objects a.now b.now)) heap.old heap.new result }
+    ensures memory { WantsMemory (spec.equal heap.old.objects a.now b.now) result }
 {
     equality(heap, a, b).settle(heap)
 }
@@ -90,7 +91,8 @@ fn is_primitive(primitive: Primitive, value: &Value) -> bool
 /// `Room`: the charge of a new exception is above the room left. `NoMemory`: there was none for it.
 #[tactic(auto, unfolding(crate::specs::Relations::thrown))]
 pub fn throw_value(heap: &mut Heap, value: &Value) -> Answer
-    ensures { Answers (spec.thrown heap.old value.now) heap.old heap.new result }
+    ensures exact { Answers (spec.thrown heap.old value.now) heap.old heap.new result }
+    ensures memory { spec.is_exception heap.old.objects value.now ≡ true → IsAnswered result }
 {
     match value {
         Value::Null => throw_null(heap),
@@ -101,7 +103,8 @@ pub fn throw_value(heap: &mut Heap, value: &Value) -> Answer
 
 // Throws an object, which is to be an exception.
 fn throw_object(heap: &mut Heap, id: u32) -> Answer
-    ensures { Answers (spec.thrown_if heap.old id (slice_get heap.old.objects id)) heap.old heap.new result }
+    ensures exact { Answers (spec.thrown_if heap.old id (slice_get heap.old.objects id)) heap.old heap.new result }
+    ensures memory { asked spec.is_exception_object false (slice_get heap.old.objects id) ≡ true → IsAnswered result }
 {
     match heap.get(id) {
         Some(Object::Exc { .. }) => Answer::Thrown(id),

@@ -5,6 +5,7 @@ ghost use Rattle.object_heap.specs.Fits.{value_is_of, value_is_array, class_is_o
 ghost use Rattle.number_ops.specs.Operators as spec;
 ghost use Rattle.number_ops.specs.Operators.{boxed, truth_in, compares};
 ghost use Rattle.number_ops.specs.Casts.{primitive_in};
+ghost use Rattle.number_ops.specs.Outcomes.{is_text};
 
 use crate::names::class_of_view;
 use arithmetic::{Num, Op};
@@ -39,7 +40,7 @@ pub fn is_null(value: &Value) -> bool
 }
 
 pub fn is_text(value: &Value) -> bool
-    ensures { result ≡ spec.is_text value.now }
+    ensures { result ≡ is_text value.now }
 {
     match value {
         Value::Str(_) => true,

@@ -4,29 +4,35 @@ use Rattle.object_heap.proofs.Keeping.{answers_fit}
 use Rattle.number_ops.specs.Members.{does_numbered}
 use Rattle.number_ops.specs.Outcomes.{effect}
 use Rattle.member_acts.specs.Answers.{AnswersIfBuilt}
-use Rattle.member_acts.proofs.Built.{apart}
 use Rattle.member_acts.proofs.Doing.{does_of_numbers, does_of_texts, does_of_others}
 use Rattle.member_acts.proofs.Keeping.{number_fits}
+use Rattle.member_acts.proofs.Needing.{numbers_want, texts_want}
 use Rattle.member_acts.proofs.member.call.Goals as goal
 
 pub returns-then-is_of_numbers-clause-does : goal.returns-then-is_of_numbers-clause-does
 returns-then-is_of_numbers-clause-does c =
     subst (λ (e : Option Effect). AnswersIfBuilt e c.args.heap.now c.call.new.heap (Some c.call.result))
-    (sym (does_of_numbers c.args.member c.args.args.now c.args.heap.now (sym c.is_of_numbers.ensures ∙ c.if-is_of_numbers.true))) c.call.ensures
+    (sym (does_of_numbers c.args.member c.args.args.now c.args.heap.now (sym c.is_of_numbers.ensures ∙ c.if-is_of_numbers.true))) c.call.ensures.exact
 
 pub returns-then-is_of_numbers-clause-memory : goal.returns-then-is_of_numbers-clause-memory
-returns-then-is_of_numbers-clause-memory c = λ t. absurd (apart c.args.member (sym c.is_of_numbers.ensures ∙ c.if-is_of_numbers.true) t)
+returns-then-is_of_numbers-clause-memory c =
+    numbers_want c.args.heap.now.objects c.args.member c.args.args.now c.call.result (sym c.is_of_numbers.ensures ∙ c.if-is_of_numbers.true) c.call.ensures.memory
 
 pub returns-then-is_of_numbers-clause-keeps : goal.returns-then-is_of_numbers-clause-keeps
 returns-then-is_of_numbers-clause-keeps c = λ rules f h.
     answers_fit rules (effect c.args.heap.now (does_numbered c.args.heap.now.objects c.args.member c.args.args.now)) c.args.heap.now c.call.new.heap c.call.result
-    c.call.ensures f (number_fits rules c.args.heap.now c.args.member c.args.args.now f)
+    c.call.ensures.exact f (number_fits rules c.args.heap.now c.args.member c.args.args.now f)
 
 pub returns-then-is_of_texts-clause-does : goal.returns-then-is_of_texts-clause-does
 returns-then-is_of_texts-clause-does c =
     subst (λ (e : Option Effect). AnswersIfBuilt e c.args.heap.now c.call-then-is_of_texts.new.heap (Some c.call-then-is_of_texts.result))
     (sym (does_of_texts c.args.member c.args.args.now c.args.heap.now (sym c.is_of_numbers.ensures ∙ c.if-is_of_numbers.false)
     (sym c.is_of_texts.ensures ∙ c.if-is_of_texts.true))) c.call-then-is_of_texts.ensures.does
+
+pub returns-then-is_of_texts-clause-memory : goal.returns-then-is_of_texts-clause-memory
+returns-then-is_of_texts-clause-memory c =
+    texts_want c.args.heap.now.objects c.args.member c.args.args.now c.call-then-is_of_texts.result (sym c.is_of_texts.ensures ∙ c.if-is_of_texts.true)
+    c.call-then-is_of_texts.ensures.memory
 
 pub returns-else-is_of_texts-clause-does : goal.returns-else-is_of_texts-clause-does
 returns-else-is_of_texts-clause-does c =
