@@ -1,5 +1,5 @@
 -- Nodes of which no two have one stack, and one more of them.
-use Rattle.std.proofs.Common.{◌≡◌, ℕ, zero, suc, Some, ◌+◌, ◌<◌, Bool, true, false, cond, eqb, List, [], ◌∷◌, ◌++◌, length, map, get_or, refl, sym, ap, ◌∙◌, subst, arith, inl, inr}
+use Rattle.std.proofs.Common.{◌≡◌, ℕ, zero, suc, Some, ◌+◌, ◌<◌, Bool, true, false, cond, eqb, List, [], ◌∷◌, ◌++◌, length, map, get_or, refl, sym, ap, ◌∙◌, subst, add-one, arith, inl, inr}
 use Rattle.std.proofs.Math.ListN.{get_or-append, get_or-map, set}
 use Rattle.std.proofs.Math.Seq.{map-set_same}
 use Rattle.std.proofs.lemmas.List.{get_or_push, length-append, length-set, get_or-set_same, get_or-set_other, get_or_default}
@@ -9,7 +9,7 @@ use Rattle.pl_code.specs.declared.kinds.Slot.TheVariants.{I, J, R}
 use Rattle.code_shapes.specs.Effects.{same_slots}
 use Rattle.shape_table.specs.Shapes.{same_kinds}
 use Rattle.shape_table.specs.declared.node.Node.{Node}
-use Rattle.shape_table.specs.Nodes.{stack_at, part_of, stacks_of, fresh, root, node_at, link_of, with_link, IsLinked, LeadsTo, AreLinked}
+use Rattle.shape_table.specs.Nodes.{stack_at, part_of, stacks_of, fresh, root, node_at, link_of, with_link, IsLinked, LeadsTo, AreLinked, HaveHeights}
 use Rattle.shape_table.specs.Grows.{Grows, HasTop}
 use Rattle.shape_table.proofs.SameKinds.{slot_itself, one_slot, kinds_themselves, one_list}
 use Rattle.shape_table.proofs.Unwound.{length-stacks, first_stack, stack_is, one_more, same_parts}
@@ -55,6 +55,32 @@ same_test nodes l a b ha hb =
       | inr e ↦ e.0 ∙ differ nodes l a b ha hb e.1 _ refl
     ]
 
+-- ---- the empty stack alone
+
+root_links : (from : ℕ) (kind : Slot) → link_of (node_at (root ∷ []) from) kind ≡ 0
+root_links zero I = refl
+root_links zero J = refl
+root_links zero R = refl
+root_links (suc from) I = refl
+root_links (suc from) J = refl
+root_links (suc from) R = refl
+
+pub root_linked : AreLinked (root ∷ [])
+root_linked =
+    record {
+      some = omega arith;
+      each = λ at s h. absurd (omega (arith, s, h));
+      links = λ from kind h s. let none = root_links from kind in absurd (omega (arith, none, s));
+    }
+
+root_height : (at : ℕ) → at < length (root ∷ []) → (node_at (root ∷ []) at).height ≡ length (stack_at (stacks_of (root ∷ [])) at)
+unfolding stacks_of
+root_height zero h = refl
+root_height (suc at) h = absurd (omega arith)
+
+pub root_high : HaveHeights (root ∷ [])
+root_high = record { each = root_height }
+
 -- ---- a stack that is there already
 
 pub linked : (nodes : List Node) → AreLinked nodes → (at : ℕ) (kind : Slot) (to : ℕ) → at < length nodes → link_of (node_at nodes at) kind ≡ to → ¬ (to ≡ 0)
@@ -88,14 +114,19 @@ part_is n I to = refl
 part_is n J to = refl
 part_is n R to = refl
 
-no_link : (kind k : Slot) (at : ℕ) → link_of (fresh kind at) k ≡ 0
-no_link kind I at = refl
-no_link kind J at = refl
-no_link kind R at = refl
+height_is : (n : Node) (kind : Slot) (to : ℕ) → (with_link n kind to).height ≡ n.height
+height_is n I to = refl
+height_is n J to = refl
+height_is n R to = refl
 
-module _ (nodes : List Node) (at : ℕ) (kind : Slot) where
+no_link : (kind k : Slot) (at height : ℕ) → link_of (fresh kind at height) k ≡ 0
+no_link kind I at height = refl
+no_link kind J at height = refl
+no_link kind R at height = refl
+
+module _ (nodes : List Node) (at : ℕ) (kind : Slot) (height : ℕ) where
   with_node : List Node
-  with_node = nodes ++ fresh kind at ∷ []
+  with_node = nodes ++ fresh kind at height ∷ []
 
   changed : Node
   changed = with_link (node_at nodes at) kind (length nodes)
@@ -106,7 +137,7 @@ module _ (nodes : List Node) (at : ℕ) (kind : Slot) where
   module _ (l : AreLinked nodes) (h : at < length nodes) (none : link_of (node_at nodes at) kind ≡ 0) where
     length-with : length with_node ≡ length nodes + 1
     unfolding with_node
-    length-with = length-append nodes (fresh kind at ∷ [])
+    length-with = length-append nodes (fresh kind at height ∷ [])
 
     length-after : length after_push ≡ length nodes + 1
     unfolding after_push
@@ -114,11 +145,11 @@ module _ (nodes : List Node) (at : ℕ) (kind : Slot) where
 
     old_node : (c : ℕ) → c < length nodes → node_at with_node c ≡ node_at nodes c
     unfolding with_node
-    old_node c b = get_or-append nodes (fresh kind at ∷ []) root c b
+    old_node c b = get_or-append nodes (fresh kind at height ∷ []) root c b
 
-    new_node : node_at with_node (length nodes) ≡ fresh kind at
+    new_node : node_at with_node (length nodes) ≡ fresh kind at height
     unfolding with_node
-    new_node = get_or_push nodes (fresh kind at) root (length nodes) refl
+    new_node = get_or_push nodes (fresh kind at height) root (length nodes) refl
 
     parts_same : map part_of after_push ≡ map part_of with_node
     unfolding after_push changed
@@ -147,7 +178,7 @@ module _ (nodes : List Node) (at : ℕ) (kind : Slot) where
 
     stacks_after : stacks_of after_push ≡ stacks_of nodes ++ (kind ∷ stack_at (stacks_of nodes) at) ∷ []
     unfolding with_node
-    stacks_after = same_parts after_push with_node parts_same (omega (arith, length-after)) (omega (arith, length-with)) ∙ one_more nodes (fresh kind at) l.some
+    stacks_after = same_parts after_push with_node parts_same (omega (arith, length-after)) (omega (arith, length-with)) ∙ one_more nodes (fresh kind at height) l.some
 
     pub grows : Grows (stacks_of nodes) (stacks_of after_push) (length nodes) (kind ∷ stack_at (stacks_of nodes) at)
     grows =
@@ -158,6 +189,25 @@ module _ (nodes : List Node) (at : ℕ) (kind : Slot) where
           is = ap (λ ss. stack_at ss (length nodes)) stacks_after ∙ get_or_push (stacks_of nodes) (kind ∷ stack_at (stacks_of nodes) at) [] (length nodes) s;
           longer = λ k b. omega (arith, more, b);
           kept = λ k b. ap (λ ss. stack_at ss k) stacks_after ∙ get_or-append (stacks_of nodes) ((kind ∷ stack_at (stacks_of nodes) at) ∷ []) [] k b;
+        }
+
+    height_after : (c : ℕ) → (node_at after_push c).height ≡ (node_at with_node c).height
+    unfolding after_push changed
+    height_after c =
+        let heights : map (λ (n : Node). n.height) after_push ≡ map (λ (n : Node). n.height) with_node =
+        map-set_same (λ (n : Node). n.height) with_node at changed root (height_is (node_at nodes at) kind (length nodes) ∙ sym (ap (λ (n : Node). n.height) (old_node at h))) in
+        sym (get_or-map (λ (n : Node). n.height) after_push c root) ∙ ap (λ ns. get_or ns c 0) heights ∙ get_or-map (λ (n : Node). n.height) with_node c root
+
+    pub still_high : HaveHeights nodes → height ≡ length (stack_at (stacks_of nodes) at) + 1 → HaveHeights after_push
+    still_high heights is =
+        record {
+          each = λ c b.
+              elim (eqb_tells c (length nodes)) [
+                | inl q ↦ subst (λ c. (node_at after_push c).height ≡ length (stack_at (stacks_of after_push) c)) (sym q.1)
+                    (height_after (length nodes) ∙ ap (λ (n : Node). n.height) new_node ∙ is ∙ add-one (length (stack_at (stacks_of nodes) at)) ∙ sym (ap length grows.is))
+                | inr q ↦ let n : ¬ (c ≡ length nodes) = q.1 in let w : c < length nodes = omega (arith, length-after, n) in
+                    height_after c ∙ ap (λ (n : Node). n.height) (old_node c w) ∙ heights.each c w ∙ sym (ap length (grows.kept c (omega (arith, length-stacks nodes l.some))))
+              ];
         }
 
     -- what led to an old node still does
@@ -233,7 +283,7 @@ module _ (nodes : List Node) (at : ℕ) (kind : Slot) where
     from_new : (k : Slot) → 0 < link_of (node_at after_push (length nodes)) k → ⊥
     from_new k s =
         let n : ¬ (length nodes ≡ at) = λ e. absurd (omega arith) in
-        let e : link_of (node_at after_push (length nodes)) k ≡ 0 = ap (λ n. link_of n k) (node_other (length nodes) n ∙ new_node) ∙ no_link kind k at in
+        let e : link_of (node_at after_push (length nodes)) k ≡ 0 = ap (λ n. link_of n k) (node_other (length nodes) n ∙ new_node) ∙ no_link kind k at height in
         absurd (omega (arith, e))
 
     from_each : (from : ℕ) (k : Slot) → from < length after_push → 0 < link_of (node_at after_push from) k → LeadsTo after_push from k (link_of (node_at after_push from) k)
@@ -253,6 +303,14 @@ module _ (nodes : List Node) (at : ℕ) (kind : Slot) where
 
 pub shown_length : (nodes : List Node) (stacks : List (List Slot)) → AreLinked nodes → stacks_of nodes ≡ stacks → length stacks ≡ length nodes
 shown_length nodes stacks l e = sym (ap length e) ∙ length-stacks nodes l.some
+
+pub shown_height : (nodes : List Node) (stacks : List (List Slot)) → AreLinked nodes → HaveHeights nodes → stacks_of nodes ≡ stacks → (at : ℕ) (n : Node) → at < length stacks → n ≡ get_or nodes at n
+    → n.height ≡ length (stack_at stacks at)
+shown_height nodes stacks l heights e at n h is =
+    let s = shown_length nodes stacks l e in
+    let w : at < length nodes = omega (arith, s) in
+    let same : node_at nodes at ≡ n = get_or_default nodes at root n w ∙ sym is in
+    sym (ap (λ (n : Node). n.height) same) ∙ heights.each at w ∙ ap (λ ss. length (stack_at ss at)) e
 
 pub shown_test : (nodes : List Node) (stacks : List (List Slot)) → AreLinked nodes → stacks_of nodes ≡ stacks → (a b : ℕ) → a < length stacks → b < length stacks → eqb a b ≡ same_kinds (stack_at stacks a) (stack_at stacks b)
 shown_test nodes stacks l e a b ha hb =
@@ -283,19 +341,20 @@ grown_along a b x y m n at kind e f q g =
     subst (λ y. Grows b y n (kind ∷ stack_at b at)) f (subst (λ n. Grows b x n (kind ∷ stack_at b at)) q (subst (λ b. Grows b x m (kind ∷ stack_at b at)) e g))
 
 -- a node that was put there, and linked
-pub shown_pushed : (nodes with_it : List Node) (stacks : List (List Slot)) → AreLinked nodes → stacks_of nodes ≡ stacks → (at : ℕ) (kind : Slot) (n before now : Node) (to new : ℕ)
-    → at < length stacks → n ≡ get_or nodes at n → to ≡ link_of n kind → to ≡ 0 → new ≡ length nodes → with_it ≡ nodes ++ fresh kind at ∷ [] → before ≡ get_or with_it at before → now ≡ with_link before kind new
-    → AreLinked (set with_it at now) × Grows stacks (stacks_of (set with_it at now)) new (kind ∷ stack_at stacks at)
+pub shown_pushed : (nodes with_it : List Node) (stacks : List (List Slot)) → AreLinked nodes → HaveHeights nodes → stacks_of nodes ≡ stacks → (at : ℕ) (kind : Slot) (height : ℕ) (n before now : Node) (to new : ℕ)
+    → at < length stacks → n ≡ get_or nodes at n → to ≡ link_of n kind → to ≡ 0 → height ≡ n.height + 1 → new ≡ length nodes → with_it ≡ nodes ++ fresh kind at height ∷ [] → before ≡ get_or with_it at before → now ≡ with_link before kind new
+    → AreLinked (set with_it at now) × HaveHeights (set with_it at now) × Grows stacks (stacks_of (set with_it at now)) new (kind ∷ stack_at stacks at)
 unfolding after_push with_node changed
-shown_pushed nodes with_it stacks l e at kind n before now to new h is t none is_new is_with is_before is_now =
+shown_pushed nodes with_it stacks l heights e at kind height n before now to new h is t none is_height is_new is_with is_before is_now =
     let s = shown_length nodes stacks l e in
     let w : at < length nodes = omega (arith, s) in
     let same : node_at nodes at ≡ n = get_or_default nodes at root n w ∙ sym is in
     let z : link_of (node_at nodes at) kind ≡ 0 = ap (λ n. link_of n kind) same ∙ sym t ∙ none in
-    let more : length (nodes ++ fresh kind at ∷ []) ≡ length nodes + 1 = length-append nodes (fresh kind at ∷ []) in
-    let old : before ≡ node_at nodes at = is_before ∙ ap (λ ns. get_or ns at before) is_with ∙ get_or-append nodes (fresh kind at ∷ []) before at w ∙ get_or_default nodes at before root w in
-    let made : changed nodes at kind ≡ now = sym (is_now ∙ (λ i. with_link (old i) kind (is_new i))) in
-    let list : after_push nodes at kind ≡ set with_it at now = (λ i. set (sym is_with i) at (made i)) in (
-      subst AreLinked list (still_linked nodes at kind l w z),
-      grown_along (stacks_of nodes) stacks (stacks_of (after_push nodes at kind)) (stacks_of (set with_it at now)) (length nodes) new at kind e (ap stacks_of list) (sym is_new) (grows nodes at kind l w z),
+    let more : length (nodes ++ fresh kind at height ∷ []) ≡ length nodes + 1 = length-append nodes (fresh kind at height ∷ []) in
+    let old : before ≡ node_at nodes at = is_before ∙ ap (λ ns. get_or ns at before) is_with ∙ get_or-append nodes (fresh kind at height ∷ []) before at w ∙ get_or_default nodes at before root w in
+    let made : changed nodes at kind height ≡ now = sym (is_now ∙ (λ i. with_link (old i) kind (is_new i))) in
+    let list : after_push nodes at kind height ≡ set with_it at now = (λ i. set (sym is_with i) at (made i)) in (
+      subst AreLinked list (still_linked nodes at kind height l w z),
+      subst HaveHeights list (still_high nodes at kind height l w z heights (is_height ∙ ap (λ m. m + 1) (sym (ap (λ (n : Node). n.height) same) ∙ heights.each at w))),
+      grown_along (stacks_of nodes) stacks (stacks_of (after_push nodes at kind height)) (stacks_of (set with_it at now)) (length nodes) new at kind e (ap stacks_of list) (sym is_new) (grows nodes at kind height l w z),
     )

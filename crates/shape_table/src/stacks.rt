@@ -19,18 +19,19 @@ pub(crate) struct Stacks {
 impl Model for Stacks {
     ghost use Rattle.std.specs.Prelude.{List};
     ghost use Rattle.pl_code.specs.declared.kinds.Slot.{Slot as SlotData};
-    ghost use Rattle.shape_table.specs.Nodes.{stacks_of, AreLinked};
+    ghost use Rattle.shape_table.specs.Nodes.{stacks_of, AreLinked, HaveHeights};
 
     ghost Value = { List (List SlotData) };
 
     ghost view = { λ s. stacks_of s.nodes.items };
 
-    ghost invariant = { λ s. AreLinked s.nodes.items };
+    ghost invariant = { λ s. AreLinked s.nodes.items × HaveHeights s.nodes.items };
 }
 
 const ROOT: Node = Node {
     kind: Slot::R,
     below: 0,
+    height: 0,
     with_int: 0,
     with_long: 0,
     with_reference: 0,
@@ -97,20 +98,33 @@ impl Stacks {
         a == b
     }
 
+    /// How many kinds a stack has.
+    pub(crate) fn height(&self, at: usize) -> usize
+        requires { at < length self.now }
+        ensures { result ≡ length (stack_at self.now at) }
+    {
+        self.nodes[at].height
+    }
+
     /// The place of a stack with one more kind on top.
     pub(crate) fn with(&mut self, at: usize, kind: Slot) -> Result<usize, AllocError>
         requires { at < length self.old }
         ensures ok { IfOk result (λ new. Grows self.old self.new new (kind ∷ stack_at self.old at)) }
         ensures err { OnErr result (self.new ≡ self.old) }
     {
-        let linked = link_of(&self.nodes[at], kind);
+        let node = self.nodes[at];
+        let linked = link_of(&node, kind);
         if linked != 0 {
             return Ok(linked);
         }
+        let Some(height) = node.height.checked_add(1) else {
+            return Err(AllocError);
+        };
         let new = self.nodes.len();
         self.nodes.push(Node {
             kind,
             below: at,
+            height,
             with_int: 0,
             with_long: 0,
             with_reference: 0,

@@ -52,6 +52,13 @@ impl ShapeTable {
         self.top = self.stacks.empty();
     }
 
+    /// How many kinds lie on the stack. It takes the same time however many do.
+    pub fn height(&self) -> usize
+        ensures { result ≡ length self.now.stack }
+    {
+        self.stacks.height(self.top)
+    }
+
     /// Takes the top off. `None` where nothing lies there.
     pub fn take(&mut self) -> Option<Slot>
         ensures stack { MatchOption result ((self.old.stack ≡ []) × (self.new.stack ≡ [])) (λ kind. self.old.stack ≡ kind ∷ self.new.stack) }

@@ -8,3 +8,4 @@ pub mod Shaping
 pub mod Standing
 pub mod Whole
 pub mod Steps
+pub mod Counted

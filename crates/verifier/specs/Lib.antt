@@ -4,4 +4,5 @@ pub mod Faults
 pub mod Shaped
 pub mod Fits
 pub mod Laws
+pub mod Words
 pub mod Verified

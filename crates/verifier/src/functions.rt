@@ -1,8 +1,9 @@
 //! The functions of code.
 
-ghost use Rattle.std.specs.Prelude.{◌≡◌, ◌+◌, ◌<◌, ℕ, length, option_map, IfOk};
+ghost use Rattle.std.specs.Prelude.{◌≡◌, ◌+◌, ◌<◌, ◌≤◌, ℕ, length, option_map, IfOk, None};
 ghost use Rattle.pl_code.specs.Reading.{told};
 ghost use Rattle.verifier.specs.Faults.{trap_fault, traps_fault, function_fault, code_fault, behind, told_fault, line_count};
+ghost use Rattle.verifier.specs.Words.{LineWords, FunctionWords};
 
 use crate::fault::FaultKind;
 use crate::pass::lines_fault;
@@ -52,15 +53,19 @@ fn behind(line: u32, more: usize) -> u32
     }
 }
 
-/// The first fault of a function whose line `fun` is this one.
+/// The first fault of a function whose line `fun` is this one. Where there is none, a frame of the function has so many words at
+/// most.
 fn function_fault(
     alloc: Global,
     allow: &Allow,
     functions: &[FunCode],
     function: &FunCode,
     first: u32,
+    most: &mut usize,
 ) -> Result<Option<(u32, FaultKind)>, AllocError>
-    ensures { IfOk result (λ found. (n : ℕ) → first ≡ told n → found ≡ option_map told_fault (behind n (function_fault allow.now functions.now function.now))) }
+    ensures rises { most.old ≤ most.new }
+    ensures words { IfOk result (λ found. found ≡ None → LineWords allow.now functions.now function.now (length function.now.lines) most.new) }
+    ensures fault { IfOk result (λ found. (n : ℕ) → first ≡ told n → found ≡ option_map told_fault (behind n (function_fault allow.now functions.now function.now))) }
 {
     if function.lines.is_empty() {
         return Ok(Some((first, FaultKind::BadShape)));
@@ -69,7 +74,7 @@ fn function_fault(
     let traps = function.traps.as_slice();
     match traps_fault(function.lines.len(), traps) {
         Some((at, kind)) => Ok(Some((behind(next, at), kind))),
-        None => match lines_fault(alloc, allow, functions, function)? {
+        None => match lines_fault(alloc, allow, functions, function, most)? {
             Some((at, kind)) => {
                 let later = behind(next, traps.len());
                 Ok(Some((behind(later, at), kind)))
@@ -89,20 +94,23 @@ fn behind_function(first: u32, function: &FunCode) -> u32
     )
 }
 
-/// The first line of the listing of functions, counted from 1, at which they break, and what breaks there.
+/// The first line of the listing of functions, counted from 1, at which they break, and what breaks there. Where they
+/// do nowhere, a frame of theirs has so many words at most.
 pub(crate) fn code_fault(
     alloc: Global,
     allow: &Allow,
     functions: &[FunCode],
+    most: &mut usize,
 ) -> Result<Option<(u32, FaultKind)>, AllocError>
-    ensures { IfOk result (λ found. found ≡ option_map told_fault (code_fault allow.now functions.now)) }
+    ensures words { IfOk result (λ found. found ≡ None → FunctionWords allow.now functions.now (length functions.now) most.new) }
+    ensures fault { IfOk result (λ found. found ≡ option_map told_fault (code_fault allow.now functions.now)) }
 {
     if functions.is_empty() {
         return Ok(Some((1, FaultKind::BadTarget)));
     }
     let mut first = 2;
     for function in functions {
-        match function_fault(alloc, allow, functions, function, first)? {
+        match function_fault(alloc, allow, functions, function, first, most)? {
             None => {}
             Some(found) => return Ok(Some(found)),
         }

@@ -1,8 +1,11 @@
 //! The pass over a function's lines.
 
-ghost use Rattle.std.specs.Prelude.{◌≡◌, IfOk};
-ghost use Rattle.verifier.specs.Acts.{Caught, Turned, Begins};
+ghost use Rattle.std.specs.Prelude.{◌≡◌, ◌+◌, ◌≤◌, List, length, IfOk, OnOk, None};
+ghost use Rattle.pl_code.specs.declared.kinds.Slot.{Slot as SlotData};
+ghost use Rattle.shape_table.specs.Shapes.{Known};
+ghost use Rattle.verifier.specs.Acts.{at_line, Caught, Turned, Begins};
 ghost use Rattle.verifier.specs.Faults.{lines_fault};
+ghost use Rattle.verifier.specs.Words.{LineWords};
 
 use crate::fault::FaultKind;
 use crate::lead::{lead_to, turn_back};
@@ -42,19 +45,66 @@ fn begin(alloc: Global, function: &FunCode) -> Result<ShapeTable, AllocError>
     Ok(table)
 }
 
-/// The first line of a function whose instruction breaks, and what breaks there.
+/// Raises a number to another, where that is greater.
+fn raise(most: &mut usize, words: usize)
+    ensures rises { most.old ≤ most.new }
+    ensures covers { words ≤ most.new }
+{
+    if words > *most {
+        *most = words;
+    }
+}
+
+/// Counts the words of a frame at a line: its locals, and what stands there.
+fn count_words(
+    table: &mut ShapeTable,
+    locals: usize,
+    line: usize,
+    most: &mut usize,
+) -> Result<(), AllocError>
+    ensures lines { table.new.lines ≡ table.old.lines }
+    ensures rises { most.old ≤ most.new }
+    ensures covers { OnOk result ((kinds : List SlotData) → at_line table.old line ≡ Known kinds → locals + length kinds ≤ most.new) }
+{
+    if !table.stand(line) {
+        return Ok(());
+    }
+    let Some(words) = locals.checked_add(table.height()) else {
+        return Err(AllocError);
+    };
+    raise(most, words);
+    Ok(())
+}
+
+/// How many locals a function has.
+fn local_count(function: &FunCode) -> Result<usize, AllocError>
+    ensures { IfOk result (λ count. count ≡ length function.now.params + length function.now.locals) }
+{
+    match function.params.len().checked_add(function.locals.len()) {
+        Some(count) => Ok(count),
+        None => Err(AllocError),
+    }
+}
+
+/// The first line of a function whose instruction breaks, and what breaks there. Where none does, a frame of the function has so
+/// many words at most.
 #[tactic(auto, unfolding(crate::specs::Faults::lines_fault))]
 pub(crate) fn lines_fault(
     alloc: Global,
     allow: &Allow,
     functions: &[FunCode],
     function: &FunCode,
+    most: &mut usize,
 ) -> Result<Option<(usize, FaultKind)>, AllocError>
-    ensures { IfOk result (λ found. found ≡ lines_fault allow.now functions.now function.now) }
+    ensures rises { most.old ≤ most.new }
+    ensures words { IfOk result (λ found. found ≡ None → LineWords allow.now functions.now function.now (length function.now.lines) most.new) }
+    ensures fault { IfOk result (λ found. found ≡ lines_fault allow.now functions.now function.now) }
 {
+    let locals = local_count(function)?;
     let mut table = begin(alloc, function)?;
     let lines = function.lines.as_slice();
     for line in 0..lines.len() {
+        count_words(&mut table, locals, line, most)?;
         let found = instruction_fault(&mut table, allow, functions, function, line, &lines[line])?;
         match found {
             None => {}

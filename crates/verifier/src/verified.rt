@@ -3,7 +3,7 @@
 ghost use Rattle.std.specs.Prelude.{◌≡◌, None, IfOk, MatchResult};
 ghost use Rattle.verifier.specs.Faults.{shape_fault};
 ghost use Rattle.verifier.specs.Shaped.{IsWellShapedCode};
-ghost use Rattle.verifier.specs.Verified.{IsSound, Refuses};
+ghost use Rattle.verifier.specs.Verified.{IsSound, FrameWords, Refuses};
 
 use crate::fault::VerifyErr;
 use crate::functions::code_fault;
@@ -18,16 +18,17 @@ use std::marker::Model;
 pub struct Verified {
     kept: Code,
     under: Allow,
+    words: usize,
 }
 
 impl Model for Verified {
-    ghost use Rattle.verifier.specs.Verified.{CodeUnder, IsSound};
+    ghost use Rattle.verifier.specs.Verified.{CodeUnder, IsSound, FrameWords};
 
     ghost Value = { CodeUnder };
 
     ghost view = { λ v. record { code = v.kept; allow = v.under } };
 
-    ghost invariant = { λ v. IsSound (record { code = v.kept; allow = v.under }) };
+    ghost invariant = { λ v. IsSound (record { code = v.kept; allow = v.under }) × FrameWords v.words (record { code = v.kept; allow = v.under }) };
 }
 
 impl Verified {
@@ -48,6 +49,25 @@ impl Verified {
     {
         &self.under
     }
+
+    /// How many words a frame of the code has at most: its locals, and the operands at any of its lines.
+    pub fn frame_words(&self) -> usize
+        ensures { FrameWords result self.now }
+    {
+        self.words
+    }
+
+    /// The code, without the list.
+    pub fn into_code(self) -> Code
+        ensures { result ≡ self.code }
+    {
+        let Verified {
+            kept,
+            under: _under,
+            words: _words,
+        } = self;
+        kept
+    }
 }
 
 /// Code that may run under a list: it breaks nowhere. Else the code is handed back, with the first line of its listing, counted
@@ -63,12 +83,17 @@ pub fn verify(alloc: Global, allow: &Allow, code: Code) -> Result<Verified, (Cod
     ensures exact { MatchResult result (λ verified. shape_fault allow.now code ≡ None) (λ refused. Refuses refused.1 (shape_fault allow.now code)) }
 {
     shape_laws();
-    match code_fault(alloc, allow, code.functions.as_slice()) {
+    let mut words = 0;
+    match code_fault(alloc, allow, code.functions.as_slice(), &mut words) {
         Err(_) => Err((code, VerifyErr::NoMemory)),
         Ok(Some((line, kind))) => Err((code, kind.at(line))),
         Ok(None) => match allow.share(alloc) {
             Err(_) => Err((code, VerifyErr::NoMemory)),
-            Ok(under) => Ok(Verified { kept: code, under }),
+            Ok(under) => Ok(Verified {
+                kept: code,
+                under,
+                words,
+            }),
         },
     }
 }

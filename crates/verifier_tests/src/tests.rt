@@ -335,7 +335,57 @@ fn what_is_handed_back_and_kept_is_the_code(rt: HostRuntime) -> Result<(), Fail>
             let written = listing(rt.alloc(), verified.code())?;
             assert!(rt; written.as_str() == text);
             assert!(rt; verified.allow().allows(0));
+            let code = verified.into_code();
+            let again = listing(rt.alloc(), &code)?;
+            assert!(rt; again.as_str() == text);
         }
+    }
+    Ok(())
+}
+
+fn has_frame_words(
+    alloc: Global,
+    allow: &Allow,
+    head: &str,
+    lines: &str,
+    wanted: usize,
+) -> Result<bool, AllocError> {
+    let text = text_of(alloc, head, lines)?;
+    match code_of(alloc, text.as_str())? {
+        None => Ok(false),
+        Some(code) => match verify(alloc, allow, code) {
+            Ok(verified) => Ok(verified.frame_words() == wanted),
+            Err((_code, _refused)) => Ok(false),
+        },
+    }
+}
+
+/// How many words a frame has at most: the locals of its function and the most operands at a line, in the function that has the
+/// most of both.
+const FRAME_WORDS: [(&str, &str, usize); 7] = [
+    ("V - -", "ret", 0),
+    ("R - -", "i 6|i 7|mul.i|box int|ret", 2),
+    ("V - -", "i 1|j 1|dup2|neg.j|pop|neg.i|pop|pop|pop|ret", 4),
+    (
+        "V IJ R",
+        "load 0|store 0|load 1|store 1|load 2|store 2|ret",
+        4,
+    ),
+    ("V - -", "trap 0 1 1 java.lang.Exception|ret|throw", 1),
+    (
+        "V - -",
+        "i 1|j 2|call 1|iter|pop|ret|end|fun 1 loop R IJ -|null|ret",
+        3,
+    ),
+    ("V - RRR", "call 1|ret|end|fun 1 loop V - -|ret", 3),
+];
+
+#[test]
+fn a_frame_has_its_locals_and_operands(rt: HostRuntime) -> Result<(), Fail> {
+    let allow = Catalogue::full(rt.alloc())?;
+    for (head, lines, wanted) in FRAME_WORDS {
+        let right = has_frame_words(rt.alloc(), &allow, head, lines, wanted)?;
+        assert!(rt; right);
     }
     Ok(())
 }

@@ -1,7 +1,11 @@
-use Rattle.std.proofs.Common.{[], ◌∷◌, ◌++◌, ap, ◌∙◌}
-use Rattle.shape_table.specs.Nodes.{stacks_of, root}
+use Rattle.std.proofs.Common.{[], ◌∷◌, ◌++◌, sym, ap, ◌∙◌, subst}
+use Rattle.shape_table.specs.Nodes.{stacks_of, root, AreLinked, HaveHeights}
+use Rattle.shape_table.proofs.Linked.{root_linked, root_high}
 use Rattle.shape_table.proofs.stacks.Stacks.new.Goals as goal
 
 pub returns : goal.returns
 unfolding stacks_of
 returns c = ap stacks_of (c.in_ok-push.ensures.items ∙ ap (λ ns. ns ++ root ∷ []) c.new-nodes.ensures.items)
+
+pub invariant_of-result : goal.invariant_of-result
+invariant_of-result c = subst (λ ns. AreLinked ns × HaveHeights ns) (sym (c.in_ok-push.ensures.items ∙ ap (λ ns. ns ++ root ∷ []) c.new-nodes.ensures.items)) (root_linked, root_high)
