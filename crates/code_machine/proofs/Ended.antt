@@ -24,13 +24,13 @@ not_more : (steps : ℕ) → steps < 2 ^ 64 → steps ≡ counted (steps + 0)
 not_more steps h = omega (arith)
 
 -- more instructions leave it as it is
-pub still : (code : List FunCode) (limits : Limits) (allow : AllowList) (q : ℕ) (c : Configuration) (last : Step) (steps : ℕ) → goes last ≡ false → steps < 2 ^ 64
-    → (a : Activation) → a ≡ record { code = code; limits = limits; allow = allow; now = now_of last c; steps = steps } → Turned q a a (turn_of last)
-still code limits allow q c said.Goes steps none fits a is = absurd (cc)
-still code limits allow q c said.NoMemory steps none fits a is = subst (λ a. Turned q a a (turn_of said.NoMemory)) (sym is) refl
-still code limits allow q c (said.Ends e) steps none fits a is =
+pub still : (code : List FunCode) (limits : Limits) (allow : AllowList) (frame q : ℕ) (c : Configuration) (last : Step) (steps : ℕ) → goes last ≡ false → steps < 2 ^ 64
+    → (a : Activation) → a ≡ record { code = code; limits = limits; allow = allow; frame = frame; now = now_of last c; steps = steps } → Turned q a a (turn_of last)
+still code limits allow frame q c said.Goes steps none fits a is = absurd (cc)
+still code limits allow frame q c said.NoMemory steps none fits a is = subst (λ a. Turned q a a (turn_of said.NoMemory)) (sym is) refl
+still code limits allow frame q c (said.Ends e) steps none fits a is =
     let w = world_of c.world in
-    let at : ℕ → Option Next → Activation = λ n now. record { code = code; limits = limits; allow = allow; now = now; steps = n } in
+    let at : ℕ → Option Next → Activation = λ n now. record { code = code; limits = limits; allow = allow; frame = frame; now = now; steps = n } in
     let same : at steps (Some (ended e w)) ≡ later q (at steps (Some (ended e w))) =
     ap (λ n. at steps (Some n)) (sym (stays code (limits_of limits allow) q e w))
     ∙ ap (λ n. at n (Some (after code (limits_of limits allow) q (ended e w)))) (not_more steps fits ∙ ap (λ k. counted (steps + k)) (sym (none_taken code (limits_of limits allow) q e w))) in

@@ -7,8 +7,12 @@ pub mod Rows
 pub mod Reaching
 pub mod Given
 pub mod Landing
+pub mod Linked
 pub mod Taking
 pub mod Places
 pub mod Entering
 pub mod Spared
 pub mod Most
+pub mod Distinct
+pub mod Spaces
+pub mod Found

@@ -1,12 +1,13 @@
 -- Words of the frames that lie one on the other.
-use Rattle.std.proofs.Common.{◌≡◌, ℕ, zero, suc, ◌+◌, ◌<◌, List, [], ◌∷◌, length, slice_set, arith, refl, ap, ◌∙◌}
+use Rattle.std.proofs.Common.{◌≡◌, ℕ, zero, suc, ◌+◌, ◌<◌, ◌≤◌, List, [], ◌∷◌, length, slice_set, arith, refl, ap, sym, subst, ◌∙◌}
 use Rattle.std.specs.Prelude.{take, drop, reverse}
-use Rattle.std.proofs.lemmas.List.{drop-take, length-reverse, drop-set-lt, drop-set-add, take-set-le}
+use Rattle.std.proofs.lemmas.List.{drop-take, length-drop, length-reverse, length-take, drop-set-lt, drop-set-add, take-set-le}
 use Rattle.std.proofs.Math.Seq.{take-set-lt, take-length, drop-length}
 use Rattle.code_meaning.specs.declared.word.Word.{Word}
 use Rattle.code_meaning.specs.Machine.{depth_of}
 use Rattle.code_machine.specs.declared.frames.Held.{Held}
-use Rattle.code_machine.specs.Frames.{lie}
+use Rattle.code_meaning.specs.Sizes.{frame_words, words_in}
+use Rattle.code_machine.specs.Frames.{Within, own, lie}
 
 pub written : {X : Type 0} (base locals number : ℕ) (xs : List X) (x : X) → number < locals
     → take locals (drop base (slice_set xs (base + number) x)) ≡ slice_set (take locals (drop base xs)) number x
@@ -61,3 +62,22 @@ no_words xs = ap (λ k. drop k xs) {x = 0 + length xs} {y = length xs} (omega ar
 
 pub reversed_length : {X : Type 0} (xs : List X) → length (reverse xs) ≡ length xs
 reversed_length xs = length-reverse xs
+
+module _ (h : Held) (xs : List Word) (fits : h.base + h.locals ≤ length xs) where
+  short : length (take h.base xs) ≡ h.base
+  short = omega (arith, length-take h.base xs)
+
+  own_words : h.base + frame_words (own h xs) ≡ length xs
+  own_words =
+      omega (arith, length-take h.locals (drop h.base xs), length-drop h.base xs, length-reverse (drop (h.base + h.locals) xs), length-drop (h.base + h.locals) xs)
+
+lie_counted : (hs : List Held) (xs : List Word) (n : ℕ) → n ≡ length xs → Within hs n → words_in (lie hs xs) ≡ length xs
+lie_counted [] xs n e none = sym none ∙ e
+lie_counted (h ∷ hs) xs n e within =
+    let fits : h.base + h.locals ≤ length xs = subst (λ k. h.base + h.locals ≤ k) e within.0 in
+    let lower = lie_counted hs (take h.base xs) h.base (sym (short h xs fits)) within.1 in
+    omega (arith, lower, short h xs fits, own_words h xs fits)
+
+-- the words are those of the frames
+pub all_counted : (top : Held) (below : List Held) (xs : List Word) → Within (top ∷ below) (length xs) → length xs ≡ words_in (own top xs ∷ lie below (take top.base xs))
+all_counted top below xs within = sym (lie_counted (top ∷ below) xs (length xs) refl within)

@@ -1,8 +1,8 @@
--- Calls of members that take no memory.
+-- Operations on the heap that take no memory.
 use Rattle.object_heap.specs.declared.answer.Answer.{Answer}
 use Rattle.object_heap.specs.declared.answer.Answer.TheVariants as a
-use Rattle.api_text.specs.declared.outcome.Outcome.{Outcome}
-use Rattle.api_text.specs.Outcomes.{NeedsMemory, WantsMemory}
+use Rattle.number_ops.specs.declared.outcome.Outcome.{Outcome}
+use Rattle.number_ops.specs.Outcomes.{NeedsMemory, WantsMemory}
 use Rattle.code_machine.specs.Memory.{IsAnswered}
 
 pub is_answered : (told : Outcome) (answer : Answer) → WantsMemory told answer → (NeedsMemory told → ⊥) → IsAnswered answer

@@ -54,7 +54,7 @@ of_sum steps first second sum e = ap (λ n. counted (steps + n)) e ∙ counted_t
 
 module _ (a : Activation) (first second : ℕ) where
   abbrev made : ℕ → Option Next → Activation
-  made steps now = record { code = a.code; limits = a.limits; allow = a.allow; now = now; steps = steps }
+  made steps now = record { code = a.code; limits = a.limits; allow = a.allow; frame = a.frame; now = now; steps = steps }
 
   by_now : (now : Option Next) → a.now ≡ now → later (first + second) a ≡ later second (later first a)
   by_now None e = subst (λ now. later (first + second) (made a.steps now) ≡ later second (later first (made a.steps now))) (sym e) refl
@@ -77,4 +77,4 @@ comes_to_its_end a from steps q end stands ends h =
     let limits = limits_of a.limits a.allow in
     let there : after code limits q from ≡ Ends end =
     ap (λ n. after code limits n from) (the_rest steps q h) ∙ adds code limits steps (q - steps) from ∙ ap (after code limits (q - steps)) ends ∙ end_stays code limits (q - steps) end in
-    ap (λ now. (later q (record { code = a.code; limits = a.limits; allow = a.allow; now = now; steps = a.steps })).now) stands ∙ ap (λ next. Some next) there
+    ap (λ now. (later q (record { code = a.code; limits = a.limits; allow = a.allow; frame = a.frame; now = now; steps = a.steps })).now) stands ∙ ap (λ next. Some next) there

@@ -1,8 +1,10 @@
 -- Activations: runs that stop between any two instructions and go on.
-use Rattle.std.specs.Prelude.{◌≡◌, ℕ, ◌+◌, ◌-◌, ◌^◌, min, Bool, true, false, List, Option, Some, None, option_map, IsTrue, IsNone}
+use Rattle.std.specs.Prelude.{◌≡◌, ◌<◌, ℕ, ◌+◌, ◌-◌, ◌^◌, min, Bool, true, false, List, Option, Some, None, option_map, IsTrue, IsNone}
 use Rattle.allowlist.specs.Allow.{AllowList}
 use Rattle.pl_code.specs.declared.code.FunCode.{FunCode}
-use Rattle.code_meaning.specs.Machine.{Next, Goes, Ends, Stuck, after}
+use Rattle.code_meaning.specs.Machine.{Config, Next, Goes, Ends, Stuck, after}
+use Rattle.code_meaning.specs.Sizes.{IsWithin}
+use Rattle.code_machine.specs.Sparing.{Spares}
 use Rattle.task_core.specs.declared.task.Turn.{Turn}
 use Rattle.task_core.specs.declared.task.Turn.TheVariants as turn
 use Rattle.code_machine.specs.declared.configuration.Configuration.{Configuration}
@@ -18,6 +20,8 @@ pub record Activation : Type 0 where
   pub limits : Limits
   -- the members that may be called
   pub allow : AllowList
+  -- for how many words there is memory in each frame
+  pub frame : ℕ
   -- where it stands; nothing after want of memory
   pub now : Option Next
   -- how many instructions were taken, as far as 64 bits count them
@@ -37,7 +41,7 @@ steps_from a q (Some n) = counted (a.steps + steps_taken a.code (limits_of a.lim
 
 -- an activation after so many instructions more
 abbrev pub later : ℕ → Activation → Activation
-later q a = record { code = a.code; limits = a.limits; allow = a.allow; now = option_map (after a.code (limits_of a.limits a.allow) q) a.now; steps = steps_from a q a.now }
+later q a = record { code = a.code; limits = a.limits; allow = a.allow; frame = a.frame; now = option_map (after a.code (limits_of a.limits a.allow) q) a.now; steps = steps_from a q a.now }
 
 abbrev pub goes : Option Next → Bool
 goes None = false
@@ -56,6 +60,18 @@ abbrev pub Turned : ℕ → Activation → Activation → Turn → Type 0
 Turned q old new turn.More = (new ≡ later q old) × IsTrue (goes new.now)
 Turned q old new turn.Done = (new ≡ later q old) × IsTrue (is_over new.now)
 Turned q old new turn.NoMemory = IsNone new.now
+
+-- The next instructions, so many at most, take no memory, in frames that are within what was taken at the start.
+pub record SparesFor (q : ℕ) (a : Activation) : Type 0 where
+  pub next : Next
+  pub stands : a.now ≡ Some next
+  pub spares : (k : ℕ) (c : Config) → k < q → after a.code (limits_of a.limits a.allow) k next ≡ Goes c → Spares a.code a.allow c × IsWithin a.frame a.limits.depth a.code c
+
+-- a turn found memory
+abbrev pub HasTurned : Turn → Type 0
+HasTurned turn.More = Unit {0}
+HasTurned turn.Done = Unit {0}
+HasTurned turn.NoMemory = ⊥
 
 abbrev pub turn_of : Step → Turn
 turn_of step.Goes = turn.More

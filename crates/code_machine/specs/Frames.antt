@@ -1,5 +1,5 @@
 -- Frames that lie one on the other in one list of words.
-use Rattle.std.specs.Prelude.{Option, Some, None, ◌++◌, map, ◌≡◌, Bool, true, false, ℕ, ◌+◌, ◌≤◌, List, [], ◌∷◌, reverse, take, drop}
+use Rattle.std.specs.Prelude.{Option, Some, None, ◌++◌, map, ◌≡◌, Bool, true, false, ℕ, suc, ◌+◌, ◌^◌, ◌≤◌, ◌<◌, List, [], ◌∷◌, reverse, take, drop}
 use Rattle.code_meaning.specs.declared.word.Word.{Word}
 use Rattle.pl_code.specs.declared.kinds.Slot.{Slot}
 use Rattle.code_meaning.specs.Machine.{Frame}
@@ -16,12 +16,17 @@ abbrev pub lie : List Held → List Word → List Frame
 lie [] words = []
 lie (h ∷ hs) words = own h words ∷ lie hs (take h.base words)
 
--- their places are within so many words
+-- their places are within so many words, and the lowest begins with the first of them
 abbrev pub Within : List Held → ℕ → Type 0
-Within [] n = Unit {0}
+Within [] n = n ≡ 0
 Within (h ∷ hs) n = (h.base + h.locals ≤ n) × Within hs h.base
 
--- the newest frame and those below it, how many words there are, and for how many words and frames there is memory
+-- each of them waits at a line behind which there is a number for the next one
+abbrev pub Wait : List Held → Type 0
+Wait [] = Unit {0}
+Wait (h ∷ hs) = (suc h.line < 2 ^ 64) × Wait hs
+
+-- the newest frame and those below it, how many words there are, and for how many words and frames below there is memory
 pub record Laid : Type 0 where
   pub top : Frame
   pub below : List Frame

@@ -1,9 +1,11 @@
 pub mod Frames
-pub mod Piles
+pub mod Rooms
 pub mod Seen
 pub mod Rows
 pub mod Memory
 pub mod Members
+pub mod Links
+pub mod Sparing
 pub mod Runs
 pub mod Activations
 pub mod Laws

@@ -8,6 +8,7 @@ use Rattle.code_meaning.specs.declared.word.Word.{Word}
 use Rattle.code_meaning.specs.declared.word.Word.TheVariants.{I, J}
 use Rattle.code_meaning.specs.Machine.{Config, Next, Goes, Ends, Stuck}
 pub use Rattle.code_machine.specs.Frames.{with_stack}
+use Rattle.code_machine.specs.Rooms as rooms
 use Rattle.code_machine.specs.declared.configuration.World as held_world
 use Rattle.code_machine.specs.declared.configuration.Limits as held_limits
 use Rattle.code_machine.specs.declared.configuration.Configuration.{Configuration}
@@ -17,10 +18,14 @@ use Rattle.code_machine.specs.declared.configuration.Step.{Step}
 use Rattle.code_machine.specs.declared.configuration.Step.TheVariants as step
 
 abbrev pub world_of : held_world.World → World
-world_of w = record { store = w.heap; ticks = w.ticks; reached = w.reached }
+world_of w = record { store = w.heap; ticks = w.ticks; reached = w.reached.numbers }
 
 abbrev pub configuration_of : Configuration → Config
 configuration_of c = record { top = c.frames.top; below = c.frames.below; world = world_of c.world }
+
+-- what memory there is for it
+abbrev pub room_of : Configuration → rooms.Room
+room_of c = record { words = c.frames.words; frames = c.frames.depth; taken = c.words.room; values = c.values.room; reached = c.world.reached.room }
 
 abbrev pub limits_of : held_limits.Limits → AllowList → Limits
 limits_of l allow = record { loop = l.loops; depth = l.depth; allowed = allow }

@@ -1,19 +1,25 @@
 //! A run of code that stops between any two instructions and goes on.
-ghost use Rattle.std.specs.Prelude.{◌≡◌, [], Some, IfOk};
+ghost use Rattle.std.specs.Prelude.{◌≡◌, ◌≤◌, ◌++◌, [], map, Some, IfOk};
+ghost use Rattle.object_values.specs.declared.object.Owner.TheVariants.{Script};
 ghost use Rattle.code_meaning.specs.Machine.{start};
-ghost use Rattle.code_machine.specs.Activations.{Turned, Leaves, turn_of};
+ghost use Rattle.code_meaning.specs.Words.{start_of};
+ghost use Rattle.code_machine.specs.Activations.{HasTurned, Leaves, SparesFor, Turned, turn_of};
+ghost use Rattle.code_machine.specs.Seen.{configuration_of};
 
 use crate::configuration::{Configuration, End, Limits, Step, World};
+use crate::executable::Executable;
 use crate::frames::Frames;
-use crate::reserve::Reserve;
+use crate::reached::Reached;
+use crate::reserve::words_for;
 use crate::rules::Rules;
 use crate::running::{Ran, run_on};
 use crate::stack::Stack;
-use allowlist::{Allow, MEMBER_COUNT};
+use crate::values::Values;
+use allowlist::MEMBER_COUNT;
 use code_meaning::Word;
 use object_heap::Heap;
 use object_values::Elements;
-use pl_code::{Code, Slot};
+use pl_code::Slot;
 use std::alloc::AllocError;
 use std::marker::Model;
 use task_core::Turn;
@@ -21,8 +27,7 @@ use task_core::Turn;
 /// A run of code.
 #[derive(Drop)]
 pub struct Activation<'c> {
-    code: &'c Code,
-    allow: &'c Allow,
+    executable: &'c Executable,
     limits: Limits,
     run: Configuration,
     last: Step,
@@ -44,6 +49,8 @@ pub struct Outcome {
 
 impl<'c> Model for Activation<'c> {
     ghost use Rattle.code_machine.specs.Activations.{Activation, now_of};
+    ghost use Rattle.code_machine.specs.Rooms.{IsEnough};
+    ghost use Rattle.code_machine.specs.Seen.{room_of};
     ghost use Rattle.pl_types.specs.contracts.ty.Ty as ty;
     ghost use Rattle.std.specs.Coded.{codes};
     ghost use Rattle.std.specs.Prelude.{◌<◌, ◌^◌};
@@ -52,51 +59,40 @@ impl<'c> Model for Activation<'c> {
 
     ghost coded = { Prim.hlevel (codes, ty.the_row.coded) };
 
-    ghost view = { λ a. record { code = a.code.now.functions; limits = a.limits; allow = a.allow.now; now = now_of a.last a.run; steps = a.steps } };
+    ghost view = { λ a. record { code = a.executable.now.code.functions; limits = a.limits; allow = a.executable.now.allow; frame = a.executable.now.frame; now = now_of a.last a.run; steps = a.steps } };
 
-    ghost invariant = { λ a. a.steps < 2 ^ 64 };
+    ghost invariant = { λ a. (a.steps < 2 ^ 64) × IsEnough a.executable.now.frame a.limits.depth (room_of a.run) };
 }
 
 impl<'c> Activation<'c> {
-    /// A run of function 0 of this code on these arguments, which calls the members of this list and no others. Where there is no
-    /// such function the run is stuck.
+    /// A run of function 0 on these arguments. Where there is no such function the run is stuck.
     ///
-    /// Memory is taken here for the words and the frames of calls as deep as the limit, for a call of a member, and for the list of
-    /// members that were called: see [`Reserve`].
+    /// Memory is taken here for frames of calls as deep as the limit, each of as many words as the executable tells, for a call of a
+    /// member, and for the list of members that were called. What goes past it finds no memory.
+    ///
+    /// # Errors
+    ///
+    /// Want of memory.
     pub fn start(
-        code: &'c Code,
-        allow: &'c Allow,
+        executable: &'c Executable,
         heap: Heap,
         args: Elements<Word>,
         limits: Limits,
     ) -> Result<Activation<'c>, AllocError>
-        ensures { IfOk result (λ a. a ≡ record { code = code.now.functions; limits = limits; allow = allow.now; now = Some (start code.now.functions args (record { store = heap; ticks = limits.ticks; reached = [] })); steps = 0 }) }
+        ensures { IfOk result (λ a. a ≡ record { code = executable.now.code.functions; limits = limits; allow = executable.now.allow; frame = executable.now.frame; now = Some (start executable.now.code.functions args (record { store = heap; ticks = limits.ticks; reached = [] })); steps = 0 }) }
     {
-        let (slots, last) = match code.functions.get(0) {
+        let (slots, last) = match executable.code().functions.get(0) {
             Some(main) => (main.locals.as_slice(), Step::Goes),
             None => (&[] as &[Slot], Step::Ends(End::Stuck)),
         };
-        let alloc = heap.alloc();
-        let reserve = Reserve::of(code, allow, limits.depth);
-        let frames = Frames::start(alloc, args, slots, reserve.frames, reserve.words)?;
-        let words = Stack::with_capacity(alloc, reserve.arguments)?;
-        let values = Vec::with_capacity(alloc, reserve.arguments)?;
-        let reached = Vec::with_capacity(alloc, MEMBER_COUNT as usize)?;
-        let world = World {
-            heap,
-            ticks: limits.ticks,
-            reached: Elements::from_vec(reached),
+        let Some(words) = words_for(executable.frame(), limits.depth) else {
+            return Err(AllocError);
         };
+        let run = configuration(executable.arguments(), heap, args, slots, limits, words)?;
         Ok(Activation {
-            code,
-            allow,
+            executable,
             limits,
-            run: Configuration {
-                frames,
-                world,
-                words,
-                values,
-            },
+            run,
             last,
             steps: 0,
         })
@@ -107,11 +103,13 @@ impl<'c> Activation<'c> {
     /// More: they were taken, and the run goes on. Done: it has ended. NoMemory: there was none, and there is none at every later
     /// turn.
     pub fn turn(&mut self, q: u64) -> Turn
-        ensures { Turned q self.old self.new result }
+        ensures exact { Turned q self.old self.new result }
+        // No memory is taken where each instruction makes no object and lets none grow, and neither makes nor copies a text.
+        ensures memory { SparesFor q self.old → HasTurned result }
     {
         if self.last.goes() {
-            let rules = Rules::new(self.limits, self.allow);
-            let Ran { last, steps } = run_on(&mut self.run, self.code, &rules, q);
+            let rules = Rules::new(self.limits, self.executable.allow());
+            let Ran { last, steps } = run_on(&mut self.run, self.executable, &rules, q);
             self.last = last;
             self.steps = self.steps.saturating_add(steps);
             turn_of(&self.last)
@@ -125,8 +123,7 @@ impl<'c> Activation<'c> {
         ensures { Leaves self.entry result }
     {
         let Activation {
-            code: _,
-            allow: _,
+            executable: _,
             limits,
             run,
             last,
@@ -149,11 +146,41 @@ impl<'c> Activation<'c> {
                 heap,
                 ticks: limits.ticks.saturating_sub(ticks),
                 steps,
-                reached,
+                reached: reached.into_elements(),
             }),
             None => None,
         }
     }
+}
+
+// Where a run begins, with memory for so many words of its frames, and of calls of members.
+fn configuration(
+    arguments: usize,
+    heap: Heap,
+    args: Elements<Word>,
+    slots: &[Slot],
+    limits: Limits,
+    words: usize,
+) -> Result<Configuration, AllocError>
+    ensures stands { IfOk result (λ c. configuration_of c ≡ record { top = record { text = Script; fun = 0; line = 0; locals = args ++ map start_of slots.now; stack = []; turns = 0; due = [] }; below = []; world = record { store = heap; ticks = limits.ticks; reached = [] } }) }
+    ensures frames { IfOk result (λ c. (words ≤ c.frames.words) × (limits.depth ≤ c.frames.depth)) }
+    ensures calls { IfOk result (λ c. (c.words.room ≡ arguments) × (c.values.room ≡ arguments) × (c.world.reached.room ≡ 228)) }
+{
+    let alloc = heap.alloc();
+    let frames = Frames::start(alloc, args, slots, limits.depth as usize, words)?;
+    let words = Stack::with_room(alloc, arguments)?;
+    let values = Values::with_room(alloc, arguments)?;
+    let reached = Reached::with_room(alloc, MEMBER_COUNT as usize)?;
+    Ok(Configuration {
+        frames,
+        world: World {
+            heap,
+            ticks: limits.ticks,
+            reached,
+        },
+        words,
+        values,
+    })
 }
 
 // What comes of a turn whose last instruction came to this.

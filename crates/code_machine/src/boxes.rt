@@ -9,7 +9,9 @@ ghost use Rattle.code_meaning.specs.Words as words;
 ghost use Rattle.code_meaning.specs.declared.word.Word.{Word};
 ghost use Rattle.code_meaning.specs.declared.word.Word.TheVariants.{R};
 ghost use Rattle.code_meaning.specs.Machine.{on_top, on_value, on_reference, on_outcome, to_line, is_written};
-ghost use Rattle.code_machine.specs.Seen.{Comes, with_stack, world_of};
+ghost use Rattle.code_machine.specs.Seen.{Comes, room_of, with_stack, world_of};
+ghost use Rattle.number_ops.specs.Outcomes.{WantsMemory};
+ghost use Rattle.code_machine.specs.Sparing.{CastSpares, OnReference, OnValue};
 ghost use Rattle.code_machine.specs.Memory.{HasMemory};
 
 use crate::configuration::{Configuration, End, Step};
@@ -27,6 +29,7 @@ use pl_types::{Primitive, Ty};
 pub fn box_number(run: &mut Configuration, primitive: Primitive) -> Step
     ensures exact { Comes (on_top run.old.frames.top.stack (λ word stack. on_value (words.boxed primitive word) (λ value. to_line run.old.frames.top run.old.frames.below (world_of run.old.world) (suc run.old.frames.top.line) (R value ∷ stack)))) result run.new }
     ensures memory { suc run.old.frames.top.line < 2 ^ 64 → HasMemory result }
+    ensures room { room_of run.new ≡ room_of run.old }
 {
     match run.frames.pop() {
         Some(word) => match boxed(primitive, &word) {
@@ -78,7 +81,9 @@ pub fn unbox(
     primitive: Primitive,
     way: Way,
 ) -> Step
-    ensures { Comes (on_top run.old.frames.top.stack (λ word stack. on_reference word (λ value. on_outcome code.now.functions limits.now (acts_in (world_of run.old.world) (effect run.old.world.heap (cast_at_run_time run.old.world.heap.objects value (ty.Prim primitive) (is_written way)))) words.unboxed run.old.frames.top run.old.frames.below (world_of run.old.world) stack))) result run.new }
+    ensures exact { Comes (on_top run.old.frames.top.stack (λ word stack. on_reference word (λ value. on_outcome code.now.functions limits.now (acts_in (world_of run.old.world) (effect run.old.world.heap (cast_at_run_time run.old.world.heap.objects value (ty.Prim primitive) (is_written way)))) words.unboxed run.old.frames.top run.old.frames.below (world_of run.old.world) stack))) result run.new }
+    ensures memory { OnValue run.old.frames.top.stack (CastSpares run.old.world.heap.objects (ty.Prim primitive) (is_written way)) → suc run.old.frames.top.line < 2 ^ 64 → HasMemory result }
+    ensures room { room_of run.new ≡ room_of run.old }
 {
     match run.frames.pop() {
         Some(word) => unbox_word(run, code, limits, &word, primitive, way),
@@ -95,7 +100,9 @@ fn unbox_word(
     primitive: Primitive,
     way: Way,
 ) -> Step
-    ensures { (stack : List Word) → Comes (on_reference word.now (λ value. on_outcome code.now.functions limits.now (acts_in (world_of run.old.world) (effect run.old.world.heap (cast_at_run_time run.old.world.heap.objects value (ty.Prim primitive) (is_written way)))) words.unboxed (with_stack run.old.frames.top stack) run.old.frames.below (world_of run.old.world) run.old.frames.top.stack)) result run.new }
+    ensures exact { (stack : List Word) → Comes (on_reference word.now (λ value. on_outcome code.now.functions limits.now (acts_in (world_of run.old.world) (effect run.old.world.heap (cast_at_run_time run.old.world.heap.objects value (ty.Prim primitive) (is_written way)))) words.unboxed (with_stack run.old.frames.top stack) run.old.frames.below (world_of run.old.world) run.old.frames.top.stack)) result run.new }
+    ensures memory { OnReference word.now (CastSpares run.old.world.heap.objects (ty.Prim primitive) (is_written way)) → run.old.frames.count < run.old.frames.words → suc run.old.frames.top.line < 2 ^ 64 → HasMemory result }
+    ensures room { room_of run.new ≡ room_of run.old }
 {
     match word {
         Word::R(value) => {
@@ -107,7 +114,8 @@ fn unbox_word(
 }
 
 fn cast(heap: &mut Heap, value: &Value, primitive: Primitive, way: Way) -> Answer
-    ensures { Answers (effect heap.old (cast_at_run_time heap.old.objects value.now (ty.Prim primitive) (is_written way))) heap.old heap.new result }
+    ensures exact { Answers (effect heap.old (cast_at_run_time heap.old.objects value.now (ty.Prim primitive) (is_written way))) heap.old heap.new result }
+    ensures memory { WantsMemory (cast_at_run_time heap.old.objects value.now (ty.Prim primitive) (is_written way)) result }
 {
     to_type(heap, value, &Ty::Prim(primitive), is_written(way))
 }

@@ -1,14 +1,14 @@
 //! Calls and returns.
-ghost use Rattle.std.specs.Prelude.{◌≤◌, ◌≡◌, ◌∷◌, ◌++◌, [], Some, None, List, map, length, slice_get, IfOk, OnOk};
+ghost use Rattle.std.specs.Prelude.{◌≤◌, ◌<◌, ◌+◌, ◌^◌, ◌≡◌, ◌∷◌, ◌++◌, [], suc, Some, None, List, map, length, slice_get, IsNone};
 ghost use Rattle.pl_code.specs.declared.code.FunCode.{FunCode};
 ghost use Rattle.run_world.specs.World.{enter};
 ghost use Rattle.code_meaning.specs.Words as words;
 ghost use Rattle.code_meaning.specs.declared.word.Word.{Word};
 ghost use Rattle.code_meaning.specs.Machine as spec;
 ghost use Rattle.code_meaning.specs.Machine.{Goes, depth_of};
-ghost use Rattle.code_machine.specs.Seen.{Comes, with_stack, world_of};
+ghost use Rattle.code_machine.specs.Seen.{Comes, room_of, with_stack, world_of};
 ghost use Rattle.code_machine.specs.Rows.{CountsTo};
-ghost use Rattle.code_machine.specs.Memory.{CallFinds, HasMemory, Returns, RoomFor};
+ghost use Rattle.code_machine.specs.Memory.{CallFinds, HasMemory, RoomFor};
 
 use crate::configuration::{Configuration, End, Step, World};
 use crate::rules::Rules;
@@ -20,7 +20,8 @@ use pl_code::{Code, FunCode, Slot};
 /// Calls the function of this number.
 pub fn call(run: &mut Configuration, code: &Code, limits: &Rules<'_>, number: u32) -> Step
     ensures exact { Comes (spec.on_call code.now.functions limits.now (slice_get code.now.functions number) number run.old.frames.top run.old.frames.below (world_of run.old.world)) result run.new }
-    ensures memory { CallFinds (slice_get code.now.functions number) run.old.frames → HasMemory result }
+    ensures memory { CallFinds limits.now.depth (slice_get code.now.functions number) run.old.frames → suc run.old.frames.top.line < 2 ^ 64 → HasMemory result }
+    ensures room { room_of run.new ≡ room_of run.old }
 {
     match code.functions.get(number as usize) {
         Some(function) => call_function(run, code, limits, function, number),
@@ -37,7 +38,8 @@ fn call_function(
     number: u32,
 ) -> Step
     ensures exact { Comes (spec.on_call code.now.functions limits.now (Some function.now) number run.old.frames.top run.old.frames.below (world_of run.old.world)) result run.new }
-    ensures memory { CallFinds (Some function.now) run.old.frames → HasMemory result }
+    ensures memory { CallFinds limits.now.depth (Some function.now) run.old.frames → suc run.old.frames.top.line < 2 ^ 64 → HasMemory result }
+    ensures room { room_of run.new ≡ room_of run.old }
 {
     if !run.frames.has(function.params.len()) {
         return Step::Ends(End::Stuck);
@@ -62,7 +64,9 @@ pub fn start_of(slot: Slot) -> Word
 // Pays a call from a frame with so many below it: the tick is paid before the depth is tried.
 #[tactic(auto, unfolding(run_world::specs::World::enter, run_world::specs::World::pay_tick, run_world::specs::World::goes_deeper))]
 fn count_call(world: &mut World, limits: &Rules<'_>, depth: usize) -> Option<Which>
-    ensures { CountsTo (enter limits.now depth (world_of world.old)) (world_of world.new) result }
+    ensures exact { CountsTo (enter limits.now depth (world_of world.old)) (world_of world.new) result }
+    ensures deeper { IsNone result → depth < limits.now.depth }
+    ensures room { world.new.reached.room ≡ world.old.reached.room }
 {
     if world.ticks == 0 {
         return Some(Which::Ticks);
@@ -77,7 +81,8 @@ fn count_call(world: &mut World, limits: &Rules<'_>, depth: usize) -> Option<Whi
 fn push_frame(run: &mut Configuration, number: u32, function: &FunCode) -> Step
     requires { length function.now.params ≤ length run.old.frames.top.stack }
     ensures exact { Comes (spec.on_words (spec.take_words (length function.now.params) run.old.frames.top.stack []) (λ args stack. Goes (record { top = record { text = run.old.frames.top.text; fun = number; line = 0; locals = args ++ map words.start_of function.now.locals; stack = []; turns = 0; due = [] }; below = with_stack run.old.frames.top stack ∷ run.old.frames.below; world = world_of run.old.world }))) result run.new }
-    ensures memory { CallFinds (Some function.now) run.old.frames → HasMemory result }
+    ensures memory { run.old.frames.count + length function.now.locals ≤ run.old.frames.words → depth_of run.old.frames.below < run.old.frames.depth → suc run.old.frames.top.line < 2 ^ 64 → HasMemory result }
+    ensures room { room_of run.new ≡ room_of run.old }
 {
     match run
         .frames
@@ -91,7 +96,8 @@ fn push_frame(run: &mut Configuration, number: u32, function: &FunCode) -> Step
 /// Returns.
 pub fn ret(run: &mut Configuration, code: &Code, limits: &Rules<'_>) -> Step
     ensures exact { Comes (spec.returns code.now.functions limits.now (slice_get code.now.functions run.old.frames.top.fun) run.old.frames.top.stack (λ result. spec.gives_back code.now.functions limits.now run.old.frames.below run.old.frames.top.due result (world_of run.old.world))) result run.new }
-    ensures memory { Returns run.old.frames.below → HasMemory result }
+    ensures memory { HasMemory result }
+    ensures room { room_of run.new ≡ room_of run.old }
 {
     match code.functions.get(run.frames.fun() as usize) {
         Some(function) => match function.result {
@@ -107,7 +113,8 @@ pub fn ret(run: &mut Configuration, code: &Code, limits: &Rules<'_>) -> Step
 
 fn give_back(run: &mut Configuration, code: &Code, limits: &Rules<'_>, word: Option<Word>) -> Step
     ensures exact { Comes (spec.gives_back code.now.functions limits.now run.old.frames.below run.old.frames.top.due word (world_of run.old.world)) result run.new }
-    ensures memory { RoomFor word run.old.frames → Returns run.old.frames.below → HasMemory result }
+    ensures memory { RoomFor word run.old.frames → HasMemory result }
+    ensures room { room_of run.new ≡ room_of run.old }
 {
     if run.frames.leave() {
         match word {

@@ -1,21 +1,22 @@
 //! Where a run stands.
 ghost use Rattle.std.specs.Prelude.{◌≡◌, ◌<◌, ◌^◌, suc, ◌∷◌};
 ghost use Rattle.code_meaning.specs.Machine.{to_line};
-ghost use Rattle.code_machine.specs.Seen.{Comes, end_in, goes, world_of};
+ghost use Rattle.code_machine.specs.Seen.{Comes, end_in, goes, room_of, world_of};
 ghost use Rattle.code_machine.specs.Memory.{HasMemory};
 
 use crate::frames::Frames;
+use crate::reached::Reached;
 use crate::stack::Stack;
+use crate::values::Values;
 use code_meaning::Word;
 use object_heap::{Heap, Which};
-use object_values::{Elements, Value};
 
 /// What a run may take.
 #[derive(Clone, Copy, Debug, PartialEq, Eq)]
 pub struct Limits {
     /// Turns of one frame.
     pub loops: u64,
-    /// Frames on top of one another, the first left out.
+    /// Frames on top of one another, the first left out. Memory for so many is taken at the start of a run.
     pub depth: u32,
     /// Calls and turns that are paid.
     pub ticks: u64,
@@ -28,7 +29,7 @@ pub struct World {
     /// Calls and turns that may still be paid.
     pub ticks: u64,
     /// The members that were called.
-    pub reached: Elements<u32>,
+    pub reached: Reached,
 }
 
 /// A run between two instructions.
@@ -40,7 +41,7 @@ pub struct Configuration {
     /// The words that a call of a member takes off the operands, the deepest on the top. Each call fills it anew.
     pub words: Stack,
     /// What a call of a member is called with. Each call fills it anew.
-    pub values: Vec<Value>,
+    pub values: Values,
 }
 
 /// How a run ends.
@@ -113,6 +114,7 @@ impl Configuration {
     pub(crate) fn goes_on(&mut self) -> Step
         ensures exact { Comes (to_line self.old.frames.top self.old.frames.below (world_of self.old.world) (suc self.old.frames.top.line) self.old.frames.top.stack) result self.new }
         ensures memory { suc self.old.frames.top.line < 2 ^ 64 → HasMemory result }
+        ensures room { room_of self.new ≡ room_of self.old }
     {
         match self.frames.line().checked_add(1) {
             Some(line) => {
@@ -127,6 +129,7 @@ impl Configuration {
     pub(crate) fn push(&mut self, word: Word) -> Step
         ensures exact { Comes (to_line self.old.frames.top self.old.frames.below (world_of self.old.world) (suc self.old.frames.top.line) (word ∷ self.old.frames.top.stack)) result self.new }
         ensures memory { self.old.frames.count < self.old.frames.words → suc self.old.frames.top.line < 2 ^ 64 → HasMemory result }
+        ensures room { room_of self.new ≡ room_of self.old }
     {
         match self.frames.push(word) {
             Ok(()) => self.goes_on(),
@@ -138,6 +141,7 @@ impl Configuration {
     pub(crate) fn goes_to(&mut self, line: u32) -> Step
         ensures exact { Comes (to_line self.old.frames.top self.old.frames.below (world_of self.old.world) line self.old.frames.top.stack) result self.new }
         ensures memory { HasMemory result }
+        ensures room { room_of self.new ≡ room_of self.old }
     {
         self.frames.set_line(line as usize);
         Step::Goes

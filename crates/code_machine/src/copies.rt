@@ -1,7 +1,7 @@
 //! Copies of words.
 ghost use Rattle.std.specs.Prelude.{◌≡◌, false, IfOk, IsOk};
 ghost use Rattle.code_meaning.specs.declared.word.Word.TheVariants.{R};
-ghost use Rattle.code_machine.specs.Memory.{is_text};
+ghost use Rattle.code_machine.specs.Sparing.{is_text};
 
 use code_meaning::Word;
 use object_values::Value;

@@ -1,9 +1,10 @@
 //! Frames that lie one on the other in one vector of words, for which memory is taken once.
-ghost use Rattle.std.specs.Prelude.{◌+◌, ◌++◌, map, nat_le, ◌≡◌, ◌≤◌, ◌<◌, suc, [], ◌∷◌, length, slice_get, slice_set, MatchOption, OnOk, OnErr, IsOk, IfOk};
+ghost use Rattle.std.specs.Prelude.{◌+◌, ◌^◌, ◌++◌, map, nat_le, ◌≡◌, ◌≤◌, ◌<◌, ◌↔◌, true, suc, [], ◌∷◌, length, slice_get, slice_set, IsTrue, MatchOption, OnOk, OnErr, IsOk, IfOk};
 ghost use Rattle.std.specs.Option.{option_copied};
 ghost use Rattle.std.specs.Vec.{vec_capacity};
 ghost use Rattle.code_meaning.specs.Machine.{depth_of, take_words};
 ghost use Rattle.code_meaning.specs.Words.{start_of};
+ghost use Rattle.code_meaning.specs.Sizes.{words_in};
 ghost use Rattle.code_machine.specs.Frames.{Enters, Leaves, at_line, with_turns};
 ghost use Rattle.code_machine.specs.Frames.{with_stack, with_words};
 ghost use Rattle.object_values.specs.declared.object.Owner.TheVariants.{Script};
@@ -28,18 +29,22 @@ pub struct Held {
     pub locals: usize,
 }
 
-/// The frames of a run.
+/// The frames of a run. What they may take is fixed where they begin: memory for so many words and so many frames.
 #[derive(Drop)]
 pub struct Frames {
     top: Held,
     below: Vec<Held>,
     words: Vec<Word>,
+    /// How many frames there may be below the newest one.
+    most_frames: usize,
+    /// How many words there may be.
+    most_words: usize,
 }
 
 impl Model for Frames {
-    ghost use Rattle.std.specs.Prelude.{◌∷◌, length, reverse, take};
+    ghost use Rattle.std.specs.Prelude.{◌∷◌, ◌≤◌, length, reverse, take};
     ghost use Rattle.std.specs.Vec.{vec_capacity};
-    ghost use Rattle.code_machine.specs.Frames.{Laid, Within, own, lie};
+    ghost use Rattle.code_machine.specs.Frames.{Laid, Wait, Within, own, lie};
     ghost use Rattle.std.specs.Coded.{codes};
     ghost use Rattle.pl_types.specs.contracts.ty.Ty as ty;
 
@@ -47,9 +52,9 @@ impl Model for Frames {
 
     ghost coded = { Prim.hlevel (codes, ty.the_row.coded) };
 
-    ghost view = { λ s. record { top = own s.top s.words.items; below = lie (reverse s.below.items) (take s.top.base s.words.items); count = length s.words.items; words = vec_capacity s.words; depth = vec_capacity s.below } };
+    ghost view = { λ s. record { top = own s.top s.words.items; below = lie (reverse s.below.items) (take s.top.base s.words.items); count = length s.words.items; words = s.most_words; depth = s.most_frames } };
 
-    ghost invariant = { λ s. Within (s.top ∷ reverse s.below.items) (length s.words.items) };
+    ghost invariant = { λ s. Within (s.top ∷ reverse s.below.items) (length s.words.items) × Wait (reverse s.below.items) × (length s.words.items ≤ s.most_words) × (s.most_words ≤ vec_capacity s.words) × (s.most_frames ≤ vec_capacity s.below) };
 }
 
 impl Frames {
@@ -68,35 +73,42 @@ impl Frames {
         ensures words { IfOk result (λ frames. words ≤ frames.words) }
         ensures depth { IfOk result (λ frames. depth ≤ frames.depth) }
     {
-        let room = words;
+        let most_words = words;
         let mut words = args.into_vec();
-        words.reserve(room)?;
+        words.reserve(most_words)?;
         push_starts(&mut words, slots)?;
+        let locals = words.len();
         let top = Held {
             text: Owner::Script,
             fun: 0,
             line: 0,
             turns: 0,
             base: 0,
-            locals: words.len(),
+            locals,
         };
         Ok(Frames {
             top,
             below: Vec::with_capacity(alloc, depth)?,
             words,
+            most_frames: depth,
+            most_words: most_words.max(locals),
         })
     }
 
-    /// Puts an operand on the newest frame's.
+    /// Puts an operand on the newest frame's, if there is room for it.
     #[tactic(auto)]
     pub fn push(&mut self, word: Word) -> Result<(), AllocError>
         ensures stack { OnOk result (self.new.top.stack ≡ word ∷ self.old.top.stack) }
         ensures top { self.new.top ≡ with_stack self.old.top self.new.top.stack }
         ensures below { self.new.below ≡ self.old.below }
         ensures count { OnOk result (self.new.count ≡ suc self.old.count) }
-        ensures words { self.old.words ≤ self.new.words }
+        ensures words { self.new.words ≡ self.old.words }
+        ensures depth { self.new.depth ≡ self.old.depth }
         ensures full { OnErr result (self.old.words ≤ self.old.count) }
     {
+        if self.words.len() >= self.most_words {
+            return Err(AllocError);
+        }
         match self.words.push(word) {
             Ok(()) => Ok(()),
             Err(_) => Err(AllocError),
@@ -207,10 +219,12 @@ impl Frames {
         self.below.len()
     }
 
-    /// Drops the newest frame with its words, if there is one below it.
+    /// Drops the newest frame with its words, if there is one below it. That one waits at a line behind which there is a number for
+    /// the next one.
     pub fn leave(&mut self) -> bool
         ensures due { self.old.top.due ≡ [] }
         ensures frames { Leaves self.old.top self.old.below self.new.top self.new.below result }
+        ensures waits { result ≡ true → suc self.new.top.line < 2 ^ 64 }
         ensures count { self.new.count ≤ self.old.count }
         ensures words { self.new.words ≡ self.old.words }
         ensures depth { self.new.depth ≡ self.old.depth }
@@ -233,13 +247,26 @@ impl Frames {
         count <= self.words.len() - self.top.base - self.top.locals
     }
 
+    /// The words are those of the frames: nothing else lies among them. (This does nothing. Its contract is a law.)
+    #[tactic(auto, using(crate::proofs::Places::all_counted))]
+    pub fn are_counted(&self)
+        ensures { self.now.count ≡ words_in (self.now.top ∷ self.now.below) }
+    {
+        let _count = self.words.len();
+    }
+
     /// A new frame of a function, whose first locals are so many operands of the newest frame. The others begin with these.
     #[tactic(auto, using(crate::proofs::Places::frames_below))]
     pub fn enter(&mut self, fun: u32, params: usize, slots: &[Slot]) -> Result<(), AllocError>
         requires { params ≤ length self.old.top.stack }
         ensures frame { OnOk result (Enters (take_words params self.old.top.stack []) fun slots.now self.old.top self.old.below self.new.top self.new.below) }
-        ensures memory { self.old.count + length slots.now ≤ self.old.words → depth_of self.old.below < self.old.depth → IsOk result }
+        ensures words { self.new.words ≡ self.old.words }
+        ensures depth { self.new.depth ≡ self.old.depth }
+        ensures memory { self.old.count + length slots.now ≤ self.old.words → depth_of self.old.below < self.old.depth → suc self.old.top.line < 2 ^ 64 → IsOk result }
     {
+        if !self.has_room(slots.len()) {
+            return Err(AllocError);
+        }
         let base = self.words.len() - params;
         push_starts(&mut self.words, slots)?;
         self.below.push(self.top)?;
@@ -252,6 +279,18 @@ impl Frames {
             locals: params + slots.len(),
         };
         Ok(())
+    }
+}
+
+impl Frames {
+    // Whether there is room for one more frame and so many words, and a number for the line behind the newest frame's.
+    #[tactic(auto, using(crate::proofs::Places::frames_below))]
+    fn has_room(&self, words: usize) -> bool
+        ensures { IsTrue result ↔ ((self.now.count + words ≤ self.now.words) × (depth_of self.now.below < self.now.depth) × (suc self.now.top.line < 2 ^ 64)) }
+    {
+        self.most_words - self.words.len() >= words
+            && self.below.len() < self.most_frames
+            && self.top.line < usize::MAX
     }
 }
 

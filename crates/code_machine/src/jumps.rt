@@ -2,8 +2,9 @@
 ghost use Rattle.std.specs.Prelude.{◌≡◌, ◌<◌, ◌^◌, [], ◌∷◌, suc, slice_get, slice_set};
 ghost use Rattle.code_meaning.specs.Machine.{numbered_act, on_local, on_top, on_turn, to_line, Goes};
 ghost use Rattle.run_world.specs.World.{take_turn};
-ghost use Rattle.code_machine.specs.Seen.{Comes, world_of};
-ghost use Rattle.code_machine.specs.Memory.{HasMemory, LocalBare, NumberedFinds};
+ghost use Rattle.code_machine.specs.Seen.{Comes, room_of, world_of};
+ghost use Rattle.code_machine.specs.Sparing.{LocalBare, NumberedSpares};
+ghost use Rattle.code_machine.specs.Memory.{CallFinds, HasMemory};
 
 use crate::calls::call;
 use crate::configuration::{Configuration, End, Step};
@@ -24,7 +25,8 @@ pub fn numbered(
     number: u32,
 ) -> Step
     ensures exact { Comes (numbered_act code.now.functions limits.now kind number run.old.frames.top run.old.frames.below (world_of run.old.world)) result run.new }
-    ensures memory { NumberedFinds code.now.functions kind number run.old.frames → suc run.old.frames.top.line < 2 ^ 64 → HasMemory result }
+    ensures memory { NumberedSpares kind number run.old.frames.top.locals → CallFinds limits.now.depth (slice_get code.now.functions number) run.old.frames → run.old.frames.count < run.old.frames.words → suc run.old.frames.top.line < 2 ^ 64 → HasMemory result }
+    ensures room { room_of run.new ≡ room_of run.old }
 {
     match kind {
         Numbered::Load => load(run, number),
@@ -55,6 +57,7 @@ pub fn numbered(
 fn load(run: &mut Configuration, number: u32) -> Step
     ensures exact { Comes (on_local (slice_get run.old.frames.top.locals number) (λ word. to_line run.old.frames.top run.old.frames.below (world_of run.old.world) (suc run.old.frames.top.line) (word ∷ run.old.frames.top.stack))) result run.new }
     ensures memory { run.old.frames.count < run.old.frames.words → LocalBare (slice_get run.old.frames.top.locals number) → suc run.old.frames.top.line < 2 ^ 64 → HasMemory result }
+    ensures room { room_of run.new ≡ room_of run.old }
 {
     match run.frames.local(number as usize) {
         Some(word) => match copy_of(word) {
@@ -68,6 +71,7 @@ fn load(run: &mut Configuration, number: u32) -> Step
 fn store(run: &mut Configuration, number: u32) -> Step
     ensures exact { Comes (on_top run.old.frames.top.stack (λ word stack. Goes (record { top = record { text = run.old.frames.top.text; fun = run.old.frames.top.fun; line = suc run.old.frames.top.line; locals = slice_set run.old.frames.top.locals number word; stack = stack; turns = run.old.frames.top.turns; due = run.old.frames.top.due }; below = run.old.frames.below; world = world_of run.old.world }))) result run.new }
     ensures memory { suc run.old.frames.top.line < 2 ^ 64 → HasMemory result }
+    ensures room { room_of run.new ≡ room_of run.old }
 {
     match run.frames.pop() {
         Some(word) => {
@@ -83,6 +87,7 @@ fn store(run: &mut Configuration, number: u32) -> Step
 fn turn(run: &mut Configuration, code: &Code, limits: &Rules<'_>, line: u32) -> Step
     ensures exact { Comes (on_turn code.now.functions limits.now (take_turn limits.now run.old.frames.top.turns (world_of run.old.world)) line run.old.frames.top run.old.frames.below (world_of run.old.world) run.old.frames.top.stack) result run.new }
     ensures memory { HasMemory result }
+    ensures room { room_of run.new ≡ room_of run.old }
 {
     let turns = run.frames.turns();
     if turns >= limits.loops() {

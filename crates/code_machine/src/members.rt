@@ -1,20 +1,22 @@
 //! Members: calls, what is made by constructors, and fields.
 ghost use Rattle.std.specs.Prelude.{◌≡◌, ◌≤◌, ◌<◌, ◌+◌, ◌^◌, suc, length, true, List, [], Some, IfOk, IsOk};
 ghost use Rattle.member_acts.specs.Members.{does};
-ghost use Rattle.code_shapes.specs.Members.{method_of, constructor_of, field_of};
+ghost use Rattle.member_acts.specs.Answers.{NeedsMemory};
+ghost use Rattle.code_machine.specs.Sparing.{CallSpares, MemberSpares, ReceivingSpares};
+ghost use Rattle.code_machine.specs.Links.{member_in};
 ghost use Rattle.code_meaning.specs.declared.word.Word.{Word};
 ghost use Rattle.number_ops.specs.Outcomes.{effect, null_error};
 ghost use Rattle.run_world.specs.World.{acts_in, pay_member};
 ghost use Rattle.code_meaning.specs.Members.{Receives, count_of, given_as, received};
-ghost use Rattle.std.specs.Vec.{vec_capacity};
 ghost use Rattle.allowlist.specs.Index.{member_at};
-ghost use Rattle.code_machine.specs.Memory.{HasMemory, InvokeFinds, MemberCall, MemberFinds, MemberGives, WordsFind};
+ghost use Rattle.code_machine.specs.Memory.{HasMemory, HasSpace};
 ghost use Rattle.code_meaning.specs.Machine as spec;
-ghost use Rattle.code_machine.specs.Seen.{Comes, with_stack, world_of};
+ghost use Rattle.code_machine.specs.Seen.{Comes, room_of, with_stack, world_of};
 ghost use Rattle.code_machine.specs.Rows.{beside};
 ghost use Rattle.code_machine.specs.Members.{filled, receiving_of};
 
 use crate::configuration::{Configuration, End, Step};
+use crate::executable::Link;
 use crate::frames::Frames;
 use crate::paying::pay_member;
 use crate::receiving::{Receiving, received};
@@ -23,54 +25,29 @@ use crate::stack::Stack;
 use crate::throwing::answered_as;
 use allowlist::{MemberKind, MemberType};
 use code_meaning::Word;
-use code_shapes::{constructor_of, field_of, method_of};
-use listing_parts::{ConstructorName, FieldName, MethodName};
 use object_heap::throw;
 use pl_code::Code;
 use pl_types::classes::NULL_POINTER_EXCEPTION;
 use std::alloc::AllocError;
 
-/// Calls the method that a text names.
-pub fn invoke(run: &mut Configuration, code: &Code, limits: &Rules<'_>, method: &MethodName) -> Step
-    ensures exact { Comes (spec.member_act code.now.functions limits.now (method_of limits.now.allowed method.now) run.old.frames.top run.old.frames.below (world_of run.old.world)) result run.new }
-    ensures memory { InvokeFinds (method_of limits.now.allowed method.now) run.old → suc run.old.frames.top.line < 2 ^ 64 → HasMemory result }
+/// What a member does that a link names: a method is called, a value made by a constructor, or a field read.
+pub fn named(run: &mut Configuration, code: &Code, limits: &Rules<'_>, link: &Link) -> Step
+    ensures exact { Comes (spec.member_act code.now.functions limits.now (member_in link.now) run.old.frames.top run.old.frames.below (world_of run.old.world)) result run.new }
+    ensures memory { MemberSpares (member_in link.now) run.old.frames.top.stack run.old.world.heap.objects → HasSpace code.now.functions limits.now.depth run.old → suc run.old.frames.top.line < 2 ^ 64 → HasMemory result }
+    ensures room { room_of run.new ≡ room_of run.old }
 {
-    match method_of(limits.allow(), method) {
-        Some(number) => member(run, code, limits, number),
-        None => Step::Ends(End::Stuck),
-    }
-}
-
-/// Makes a value by the constructor that a text names.
-pub fn make(
-    run: &mut Configuration,
-    code: &Code,
-    limits: &Rules<'_>,
-    constructor: &ConstructorName,
-) -> Step
-    ensures { Comes (spec.member_act code.now.functions limits.now (constructor_of limits.now.allowed constructor.now) run.old.frames.top run.old.frames.below (world_of run.old.world)) result run.new }
-{
-    match constructor_of(limits.allow(), constructor) {
-        Some(number) => member(run, code, limits, number),
-        None => Step::Ends(End::Stuck),
-    }
-}
-
-/// Reads the field that a text names.
-pub fn read(run: &mut Configuration, code: &Code, limits: &Rules<'_>, field: &FieldName) -> Step
-    ensures { Comes (spec.member_act code.now.functions limits.now (field_of limits.now.allowed field.now) run.old.frames.top run.old.frames.below (world_of run.old.world)) result run.new }
-{
-    match field_of(limits.allow(), field) {
-        Some(number) => member(run, code, limits, number),
-        None => Step::Ends(End::Stuck),
+    match link {
+        Link::Member(member) => call_numbered(run, code, limits, member.number()),
+        _ => Step::Ends(End::Stuck),
     }
 }
 
 // The member of this number.
-fn member(run: &mut Configuration, code: &Code, limits: &Rules<'_>, number: u32) -> Step
+fn call_numbered(run: &mut Configuration, code: &Code, limits: &Rules<'_>, number: u32) -> Step
     requires { number < 228 }
     ensures exact { Comes (spec.member_act code.now.functions limits.now (Some number) run.old.frames.top run.old.frames.below (world_of run.old.world)) result run.new }
-    ensures memory { MemberCall number (member_at number) run.old → suc run.old.frames.top.line < 2 ^ 64 → HasMemory result }
+    ensures memory { CallSpares (spec.take_words (count_of (member_at number)) run.old.frames.top.stack []) (member_at number) number run.old.world.heap.objects → HasSpace code.now.functions limits.now.depth run.old → suc run.old.frames.top.line < 2 ^ 64 → HasMemory result }
+    ensures room { room_of run.new ≡ room_of run.old }
 {
     let called = limits.allow().member_type(number);
     call_member(run, code, limits, number, called)
@@ -83,8 +60,10 @@ fn call_member(
     number: u32,
     called: &MemberType,
 ) -> Step
+    requires { number < 228 }
     ensures exact { Comes (spec.on_words (spec.take_words (count_of called.now) run.old.frames.top.stack []) (λ words stack. spec.on_received code.now.functions limits.now (received called.now words) number called.now run.old.frames.top run.old.frames.below (world_of run.old.world) stack)) result run.new }
-    ensures memory { WordsFind (spec.take_words (count_of called.now) run.old.frames.top.stack []) number called.now run.old.world.heap.objects run.old.world.reached → count_of called.now ≤ run.old.words.room → count_of called.now ≤ vec_capacity run.old.values → run.old.frames.count < run.old.frames.words → suc run.old.frames.top.line < 2 ^ 64 → HasMemory result }
+    ensures memory { CallSpares (spec.take_words (count_of called.now) run.old.frames.top.stack []) called.now number run.old.world.heap.objects → count_of called.now ≤ run.old.words.room → count_of called.now ≤ run.old.values.room → 228 ≤ run.old.world.reached.room → run.old.frames.count < run.old.frames.words → suc run.old.frames.top.line < 2 ^ 64 → HasMemory result }
+    ensures room { room_of run.new ≡ room_of run.old }
 {
     match words_of(&mut run.frames, &mut run.words, called) {
         Ok(true) => call_with(run, code, limits, number, called),
@@ -97,7 +76,7 @@ fn call_member(
 fn words_of(frames: &mut Frames, taken: &mut Stack, called: &MemberType) -> Result<bool, AllocError>
     ensures words { IfOk result (λ enough. beside frames.new.top.stack (filled enough taken.new.items) ≡ spec.take_words (count_of called.now) frames.old.top.stack []) }
     ensures memory { count_of called.now ≤ taken.old.room → IsOk result }
-    ensures room { (frames.new.count ≤ frames.old.count) × (frames.new.words ≡ frames.old.words) }
+    ensures room { (frames.new.count ≤ frames.old.count) × (frames.new.words ≡ frames.old.words) × (frames.new.depth ≡ frames.old.depth) × (taken.new.room ≡ taken.old.room) }
     ensures taken { IfOk result (λ enough. enough ≡ true → length taken.new.items ≡ count_of called.now) }
     ensures top { IfOk result (λ enough. frames.new.top ≡ with_stack frames.old.top frames.new.top.stack) }
     ensures below { IfOk result (λ enough. frames.new.below ≡ frames.old.below) }
@@ -110,7 +89,7 @@ fn words_of(frames: &mut Frames, taken: &mut Stack, called: &MemberType) -> Resu
 fn take_words(frames: &mut Frames, count: usize, taken: &mut Stack) -> Result<bool, AllocError>
     ensures words { IfOk result (λ enough. beside frames.new.top.stack (filled enough taken.new.items) ≡ spec.take_words count frames.old.top.stack taken.old.items) }
     ensures memory { length taken.old.items + count ≤ taken.old.room → IsOk result }
-    ensures room { (frames.new.count ≤ frames.old.count) × (frames.new.words ≡ frames.old.words) }
+    ensures room { (frames.new.count ≤ frames.old.count) × (frames.new.words ≡ frames.old.words) × (frames.new.depth ≡ frames.old.depth) × (taken.new.room ≡ taken.old.room) }
     ensures taken { IfOk result (λ enough. enough ≡ true → length taken.new.items ≡ length taken.old.items + count) }
     ensures top { IfOk result (λ enough. frames.new.top ≡ with_stack frames.old.top frames.new.top.stack) }
     ensures below { IfOk result (λ enough. frames.new.below ≡ frames.old.below) }
@@ -145,8 +124,10 @@ fn call_with(
     number: u32,
     called: &MemberType,
 ) -> Step
+    requires { number < 228 }
     ensures exact { (stack : List Word) → Comes (spec.on_received code.now.functions limits.now (received called.now run.old.words.items) number called.now (with_stack run.old.frames.top stack) run.old.frames.below (world_of run.old.world) run.old.frames.top.stack) result run.new }
-    ensures memory { MemberFinds (received called.now run.old.words.items) number run.old.world.heap.objects run.old.world.reached → length run.old.words.items ≤ vec_capacity run.old.values → run.old.frames.count < run.old.frames.words → suc run.old.frames.top.line < 2 ^ 64 → HasMemory result }
+    ensures memory { ReceivingSpares (received called.now run.old.words.items) number run.old.world.heap.objects → length run.old.words.items ≤ run.old.values.room → 228 ≤ run.old.world.reached.room → run.old.frames.count < run.old.frames.words → suc run.old.frames.top.line < 2 ^ 64 → HasMemory result }
+    ensures room { room_of run.new ≡ room_of run.old }
 {
     match received(called, &mut run.words, &mut run.values) {
         Ok(receiving) => call_on(run, code, limits, number, called, receiving),
@@ -163,8 +144,10 @@ fn call_on(
     called: &MemberType,
     receiving: Receiving,
 ) -> Step
+    requires { number < 228 }
     ensures exact { (stack : List Word) → Comes (spec.on_received code.now.functions limits.now (receiving_of receiving run.old.values.items) number called.now (with_stack run.old.frames.top stack) run.old.frames.below (world_of run.old.world) run.old.frames.top.stack) result run.new }
-    ensures memory { MemberFinds (receiving_of receiving run.old.values.items) number run.old.world.heap.objects run.old.world.reached → run.old.frames.count < run.old.frames.words → suc run.old.frames.top.line < 2 ^ 64 → HasMemory result }
+    ensures memory { ReceivingSpares (receiving_of receiving run.old.values.items) number run.old.world.heap.objects → 228 ≤ run.old.world.reached.room → run.old.frames.count < run.old.frames.words → suc run.old.frames.top.line < 2 ^ 64 → HasMemory result }
+    ensures room { room_of run.new ≡ room_of run.old }
 {
     match receiving {
         Receiving::Unfit => Step::Ends(End::Stuck),
@@ -178,7 +161,8 @@ fn call_on(
 }
 
 fn on_null(run: &mut Configuration, code: &Code, limits: &Rules<'_>, called: &MemberType) -> Step
-    ensures { (stack : List Word) → Comes (spec.on_outcome code.now.functions limits.now (acts_in (world_of run.old.world) (effect run.old.world.heap null_error)) (given_as called.now.result) (with_stack run.old.frames.top stack) run.old.frames.below (world_of run.old.world) run.old.frames.top.stack) result run.new }
+    ensures exact { (stack : List Word) → Comes (spec.on_outcome code.now.functions limits.now (acts_in (world_of run.old.world) (effect run.old.world.heap null_error)) (given_as called.now.result) (with_stack run.old.frames.top stack) run.old.frames.below (world_of run.old.world) run.old.frames.top.stack) result run.new }
+    ensures room { room_of run.new ≡ room_of run.old }
 {
     let answer = throw(&mut run.world.heap, NULL_POINTER_EXCEPTION, None);
     answered_as(run, code, limits, &called.result, answer)
@@ -191,8 +175,10 @@ fn pay_and_act(
     number: u32,
     called: &MemberType,
 ) -> Step
+    requires { number < 228 }
     ensures exact { (stack : List Word) → Comes (spec.on_paid code.now.functions limits.now (pay_member number (world_of run.old.world)) number run.old.values.items called.now (with_stack run.old.frames.top stack) run.old.frames.below run.old.frames.top.stack) result run.new }
-    ensures memory { MemberFinds (Receives run.old.values.items) number run.old.world.heap.objects run.old.world.reached → run.old.frames.count < run.old.frames.words → suc run.old.frames.top.line < 2 ^ 64 → HasMemory result }
+    ensures memory { (NeedsMemory run.old.world.heap.objects number run.old.values.items → ⊥) → 228 ≤ run.old.world.reached.room → run.old.frames.count < run.old.frames.words → suc run.old.frames.top.line < 2 ^ 64 → HasMemory result }
+    ensures room { room_of run.new ≡ room_of run.old }
 {
     match pay_member(&mut run.world, number) {
         Ok(None) => act(run, code, limits, number, called),
@@ -211,7 +197,8 @@ fn act(
     called: &MemberType,
 ) -> Step
     ensures exact { (stack : List Word) → Comes (spec.on_act code.now.functions limits.now (does number run.old.values.items run.old.world.heap) called.now (with_stack run.old.frames.top stack) run.old.frames.below (world_of run.old.world) run.old.frames.top.stack) result run.new }
-    ensures memory { MemberGives number run.old.values.items run.old.world.heap.objects → run.old.frames.count < run.old.frames.words → suc run.old.frames.top.line < 2 ^ 64 → HasMemory result }
+    ensures memory { (NeedsMemory run.old.world.heap.objects number run.old.values.items → ⊥) → run.old.frames.count < run.old.frames.words → suc run.old.frames.top.line < 2 ^ 64 → HasMemory result }
+    ensures room { room_of run.new ≡ room_of run.old }
 {
     match member_acts::call(number, &mut run.world.heap, run.values.as_slice()) {
         Some(answer) => answered_as(run, code, limits, &called.result, answer),

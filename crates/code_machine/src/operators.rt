@@ -5,9 +5,10 @@ ghost use Rattle.arithmetic.specs.Operators.{of_type, as_long};
 ghost use Rattle.arithmetic.specs.declared.operator.Num.TheVariants as n;
 ghost use Rattle.code_meaning.specs.Machine.{on_calculation};
 ghost use Rattle.code_meaning.specs.Words as words;
-ghost use Rattle.code_machine.specs.Seen.{Comes, with_stack, world_of};
+ghost use Rattle.code_machine.specs.Seen.{Comes, room_of, with_stack, world_of};
 ghost use Rattle.code_machine.specs.Rows.{CalculatesTo, calculated_of};
-ghost use Rattle.code_machine.specs.Memory.{HasMemory, HasRoom, NoZero};
+ghost use Rattle.code_machine.specs.Sparing.{NoZero};
+ghost use Rattle.code_machine.specs.Memory.{HasMemory, HasRoom};
 
 use crate::configuration::{Configuration, End, Step};
 use crate::frames::Frames;
@@ -37,6 +38,7 @@ pub fn arithmetic(
 ) -> Step
     ensures exact { Comes (on_calculation code.now.functions limits.now (words.calculation op width run.old.frames.top.stack) run.old.frames.top run.old.frames.below (world_of run.old.world)) result run.new }
     ensures memory { NoZero (words.calculation op width run.old.frames.top.stack) → suc run.old.frames.top.line < 2 ^ 64 → HasMemory result }
+    ensures room { room_of run.new ≡ room_of run.old }
 {
     match calculated(&mut run.frames, op, width) {
         Operated::NoRow => Step::Ends(End::Stuck),
@@ -59,6 +61,7 @@ fn calculated(frames: &mut Frames, op: ArithmeticOp, width: Width) -> Operated
     ensures room { HasRoom result frames.new }
     ensures top { frames.new.top ≡ with_stack frames.old.top frames.new.top.stack }
     ensures below { frames.new.below ≡ frames.old.below }
+    ensures kept { (frames.new.words ≡ frames.old.words) × (frames.new.depth ≡ frames.old.depth) }
 {
     match width {
         Width::Int => ints(frames, op),
@@ -71,6 +74,7 @@ fn ints(frames: &mut Frames, op: ArithmeticOp) -> Operated
     ensures room { HasRoom result frames.new }
     ensures top { frames.new.top ≡ with_stack frames.old.top frames.new.top.stack }
     ensures below { frames.new.below ≡ frames.old.below }
+    ensures kept { (frames.new.words ≡ frames.old.words) × (frames.new.depth ≡ frames.old.depth) }
 {
     if takes_one(op) {
         one_int(frames, op_of(op))
@@ -84,6 +88,7 @@ fn longs(frames: &mut Frames, op: ArithmeticOp) -> Operated
     ensures room { HasRoom result frames.new }
     ensures top { frames.new.top ≡ with_stack frames.old.top frames.new.top.stack }
     ensures below { frames.new.below ≡ frames.old.below }
+    ensures kept { (frames.new.words ≡ frames.old.words) × (frames.new.depth ≡ frames.old.depth) }
 {
     if takes_one(op) {
         one_long(frames, op_of(op))
@@ -115,6 +120,7 @@ fn one_int(frames: &mut Frames, op: Op) -> Operated
     ensures room { HasRoom result frames.new }
     ensures top { frames.new.top ≡ with_stack frames.old.top frames.new.top.stack }
     ensures below { frames.new.below ≡ frames.old.below }
+    ensures kept { (frames.new.words ≡ frames.old.words) × (frames.new.depth ≡ frames.old.depth) }
 {
     match pop_int(frames) {
         Some(a) => given(on_ints(op, a, a)),
@@ -128,6 +134,7 @@ fn two_ints(frames: &mut Frames, op: Op) -> Operated
     ensures room { HasRoom result frames.new }
     ensures top { frames.new.top ≡ with_stack frames.old.top frames.new.top.stack }
     ensures below { frames.new.below ≡ frames.old.below }
+    ensures kept { (frames.new.words ≡ frames.old.words) × (frames.new.depth ≡ frames.old.depth) }
 {
     match pop_int(frames) {
         Some(b) => match pop_int(frames) {
@@ -144,6 +151,7 @@ fn one_long(frames: &mut Frames, op: Op) -> Operated
     ensures room { HasRoom result frames.new }
     ensures top { frames.new.top ≡ with_stack frames.old.top frames.new.top.stack }
     ensures below { frames.new.below ≡ frames.old.below }
+    ensures kept { (frames.new.words ≡ frames.old.words) × (frames.new.depth ≡ frames.old.depth) }
 {
     match pop_long(frames) {
         Some(a) => given(on_longs(op, a, Num::Long(a))),
@@ -157,6 +165,7 @@ fn long_and_int(frames: &mut Frames, op: Op) -> Operated
     ensures room { HasRoom result frames.new }
     ensures top { frames.new.top ≡ with_stack frames.old.top frames.new.top.stack }
     ensures below { frames.new.below ≡ frames.old.below }
+    ensures kept { (frames.new.words ≡ frames.old.words) × (frames.new.depth ≡ frames.old.depth) }
 {
     match pop_int(frames) {
         Some(b) => match pop_long(frames) {
@@ -173,6 +182,7 @@ fn two_longs(frames: &mut Frames, op: Op) -> Operated
     ensures room { HasRoom result frames.new }
     ensures top { frames.new.top ≡ with_stack frames.old.top frames.new.top.stack }
     ensures below { frames.new.below ≡ frames.old.below }
+    ensures kept { (frames.new.words ≡ frames.old.words) × (frames.new.depth ≡ frames.old.depth) }
 {
     match pop_long(frames) {
         Some(b) => match pop_long(frames) {

@@ -1,6 +1,5 @@
 //! What a member is called with: the words of its call as values.
 ghost use Rattle.std.specs.Prelude.{◌≡◌, ◌≤◌, ◌<◌, ◌+◌, List, length, Some, IfOk, IsOk};
-ghost use Rattle.std.specs.Vec.{vec_capacity};
 ghost use Rattle.allowlist.specs.declared.member.MemberKind.TheVariants as kind;
 ghost use Rattle.object_values.specs.declared.value.Value.{Value};
 ghost use Rattle.code_meaning.specs.Members as members;
@@ -8,6 +7,7 @@ ghost use Rattle.code_machine.specs.Members.{behind, filled, is_null, received_w
 
 use crate::boxes::boxed;
 use crate::stack::Stack;
+use crate::values::Values;
 use allowlist::{MemberKind, MemberType};
 use code_meaning::Word;
 use object_values::Value;
@@ -33,10 +33,11 @@ pub enum Receiving {
 pub fn received(
     called: &MemberType,
     words: &mut Stack,
-    values: &mut Vec<Value>,
+    values: &mut Values,
 ) -> Result<Receiving, AllocError>
     ensures exact { IfOk result (λ r. receiving_of r values.new.items ≡ members.received called.now words.old.items) }
-    ensures memory { length words.old.items ≤ vec_capacity values.old → IsOk result }
+    ensures memory { length words.old.items ≤ values.old.room → IsOk result }
+    ensures room { (words.new.room ≡ words.old.room) × (values.new.room ≡ values.old.room) }
 {
     match called.kind {
         MemberKind::Instance => received_on(called.params.as_slice(), words, values),
@@ -55,10 +56,11 @@ pub fn received(
 fn received_all(
     params: &[Ty],
     words: &mut Stack,
-    values: &mut Vec<Value>,
+    values: &mut Values,
 ) -> Result<Receiving, AllocError>
     ensures exact { IfOk result (λ r. receiving_of r values.new.items ≡ members.receives (members.taken_all params.now words.old.items)) }
-    ensures memory { length words.old.items ≤ vec_capacity values.old → IsOk result }
+    ensures memory { length words.old.items ≤ values.old.room → IsOk result }
+    ensures room { (words.new.room ≡ words.old.room) × (values.new.room ≡ values.old.room) }
 {
     values.clear();
     if take_arguments(params, words, values)? {
@@ -71,10 +73,11 @@ fn received_all(
 fn received_on(
     params: &[Ty],
     words: &mut Stack,
-    values: &mut Vec<Value>,
+    values: &mut Values,
 ) -> Result<Receiving, AllocError>
     ensures exact { IfOk result (λ r. receiving_of r values.new.items ≡ members.received_by kind.Instance params.now words.old.items) }
-    ensures memory { length words.old.items ≤ vec_capacity values.old → IsOk result }
+    ensures memory { length words.old.items ≤ values.old.room → IsOk result }
+    ensures room { (words.new.room ≡ words.old.room) × (values.new.room ≡ values.old.room) }
 {
     match words.pop() {
         Some(word) => match reference_in(word) {
@@ -88,11 +91,12 @@ fn received_on(
 fn received_by(
     params: &[Ty],
     words: &mut Stack,
-    values: &mut Vec<Value>,
+    values: &mut Values,
     receiver: Value,
 ) -> Result<Receiving, AllocError>
     ensures exact { IfOk result (λ r. receiving_of r values.new.items ≡ members.receives_on (Some receiver) (members.taken_all params.now words.old.items)) }
-    ensures memory { length words.old.items < vec_capacity values.old → IsOk result }
+    ensures memory { length words.old.items < values.old.room → IsOk result }
+    ensures room { (words.new.room ≡ words.old.room) × (values.new.room ≡ values.old.room) }
 {
     let null = is_null(&receiver);
     values.clear();
@@ -121,13 +125,10 @@ fn is_null(value: &Value) -> bool
 }
 
 // The arguments of these types, behind values that are there. It is false where the words do not fit.
-fn take_arguments(
-    params: &[Ty],
-    words: &mut Stack,
-    values: &mut Vec<Value>,
-) -> Result<bool, AllocError>
+fn take_arguments(params: &[Ty], words: &mut Stack, values: &mut Values) -> Result<bool, AllocError>
     ensures exact { IfOk result (λ fit. filled fit values.new.items ≡ behind values.old.items (members.taken_all params.now words.old.items)) }
-    ensures memory { length values.old.items + length words.old.items ≤ vec_capacity values.old → IsOk result }
+    ensures memory { length values.old.items + length words.old.items ≤ values.old.room → IsOk result }
+    ensures room { (words.new.room ≡ words.old.room) × (values.new.room ≡ values.old.room) }
 {
     let mut rest = params;
     'params: while let [of, others @ ..] = rest {

@@ -2,9 +2,9 @@
 ghost use Rattle.std.specs.Prelude.{◌≡◌, ◌<◌, ◌^◌, List, ◌∷◌, suc};
 ghost use Rattle.code_meaning.specs.declared.word.Word.{Word};
 ghost use Rattle.code_meaning.specs.Machine.{quoted_act, on_reference, on_top, if_null, to_line};
-ghost use Rattle.code_machine.specs.Seen.{Comes, with_stack, world_of};
-ghost use Rattle.code_machine.specs.declared.references.Pairing.TheVariants as pairing;
-ghost use Rattle.code_machine.specs.Memory.{HasMemory};
+ghost use Rattle.code_machine.specs.Seen.{Comes, room_of, with_stack, world_of};
+ghost use Rattle.code_machine.specs.Sparing.{OnReference, OnValues};
+ghost use Rattle.code_machine.specs.Memory.{HasMemory, PairSpares};
 ghost use Rattle.code_machine.specs.Rows.{null_in, on_pair, on_references, paired, text_act};
 
 use crate::configuration::{Configuration, End, Step};
@@ -25,7 +25,8 @@ pub fn quoted(
     kind: Quoting,
     text: &Text,
 ) -> Step
-    ensures { Comes (quoted_act code.now.functions limits.now kind text.now run.old.frames.top run.old.frames.below (world_of run.old.world)) result run.new }
+    ensures exact { Comes (quoted_act code.now.functions limits.now kind text.now run.old.frames.top run.old.frames.below (world_of run.old.world)) result run.new }
+    ensures room { room_of run.new ≡ room_of run.old }
 {
     match kind {
         Quoting::Constant => constant(run, text),
@@ -34,7 +35,8 @@ pub fn quoted(
 }
 
 fn constant(run: &mut Configuration, text: &Text) -> Step
-    ensures { Comes (text_act text.now run.old.frames.top run.old.frames.below (world_of run.old.world)) result run.new }
+    ensures exact { Comes (text_act text.now run.old.frames.top run.old.frames.below (world_of run.old.world)) result run.new }
+    ensures room { room_of run.new ≡ room_of run.old }
 {
     match UText::from_utf8(run.world.heap.alloc(), text.as_str()) {
         Ok(text) => run.push(Word::R(Value::Str(text))),
@@ -56,7 +58,8 @@ pub enum Pairing {
 /// An instruction on two references, which are taken off the stack.
 pub fn pair(run: &mut Configuration, code: &Code, limits: &Rules<'_>, kind: Pairing) -> Step
     ensures exact { Comes (on_pair run.old.frames.top.stack (λ a b stack. paired code.now.functions limits.now kind a b run.old.frames.top run.old.frames.below (world_of run.old.world) stack)) result run.new }
-    ensures memory { kind ≡ pairing.Same → suc run.old.frames.top.line < 2 ^ 64 → HasMemory result }
+    ensures memory { OnValues run.old.frames.top.stack (PairSpares kind run.old.world.heap.objects) → suc run.old.frames.top.line < 2 ^ 64 → HasMemory result }
+    ensures room { room_of run.new ≡ room_of run.old }
 {
     match run.frames.pop() {
         Some(upper) => match run.frames.pop() {
@@ -77,7 +80,8 @@ fn pair_words(
     upper: &Word,
 ) -> Step
     ensures exact { (stack : List Word) → Comes (on_references lower.now upper.now (λ a b. paired code.now.functions limits.now kind a b (with_stack run.old.frames.top stack) run.old.frames.below (world_of run.old.world) run.old.frames.top.stack)) result run.new }
-    ensures memory { kind ≡ pairing.Same → run.old.frames.count < run.old.frames.words → suc run.old.frames.top.line < 2 ^ 64 → HasMemory result }
+    ensures memory { OnReference upper.now (λ b. OnReference lower.now (λ a. PairSpares kind run.old.world.heap.objects a b)) → run.old.frames.count < run.old.frames.words → suc run.old.frames.top.line < 2 ^ 64 → HasMemory result }
+    ensures room { room_of run.new ≡ room_of run.old }
 {
     match upper {
         Word::R(b) => match lower {
@@ -97,7 +101,8 @@ fn pair_values(
     b: &Value,
 ) -> Step
     ensures exact { (stack : List Word) → Comes (paired code.now.functions limits.now kind a.now b.now (with_stack run.old.frames.top stack) run.old.frames.below (world_of run.old.world) run.old.frames.top.stack) result run.new }
-    ensures memory { kind ≡ pairing.Same → run.old.frames.count < run.old.frames.words → suc run.old.frames.top.line < 2 ^ 64 → HasMemory result }
+    ensures memory { PairSpares kind run.old.world.heap.objects a.now b.now → run.old.frames.count < run.old.frames.words → suc run.old.frames.top.line < 2 ^ 64 → HasMemory result }
+    ensures room { room_of run.new ≡ room_of run.old }
 {
     match kind {
         Pairing::Concat => {
@@ -116,6 +121,7 @@ fn pair_values(
 pub fn jump_if_null(run: &mut Configuration, line: u32) -> Step
     ensures exact { Comes (on_top run.old.frames.top.stack (λ word stack. on_reference word (λ value. if_null value (to_line run.old.frames.top run.old.frames.below (world_of run.old.world) line stack) (to_line run.old.frames.top run.old.frames.below (world_of run.old.world) (suc run.old.frames.top.line) stack)))) result run.new }
     ensures memory { suc run.old.frames.top.line < 2 ^ 64 → HasMemory result }
+    ensures room { room_of run.new ≡ room_of run.old }
 {
     match run.frames.pop() {
         Some(word) => match null_in(&word) {

@@ -1,10 +1,13 @@
 //! Instructions one after the other.
+ghost use Rattle.std.specs.Prelude.{◌≡◌};
+ghost use Rattle.code_machine.specs.Memory.{HasMemory, RunSpares};
 ghost use Rattle.code_machine.specs.Runs.{RanOn};
+ghost use Rattle.code_machine.specs.Seen.{configuration_of, room_of};
 
 use crate::configuration::{Configuration, Step};
+use crate::executable::Executable;
 use crate::rules::Rules;
 use crate::step::step;
-use pl_code::Code;
 
 /// How far a run has come.
 #[derive(Drop)]
@@ -16,11 +19,20 @@ pub struct Ran {
 }
 
 /// Takes so many instructions, or fewer where the run ends.
-pub fn run_on(run: &mut Configuration, code: &Code, limits: &Rules<'_>, count: u64) -> Ran
-    ensures { RanOn code.now.functions limits.now count run.old result run.new }
+pub fn run_on(
+    run: &mut Configuration,
+    executable: &Executable,
+    limits: &Rules<'_>,
+    count: u64,
+) -> Ran
+    requires { limits.now.allowed ≡ executable.now.allow }
+    ensures exact { RanOn executable.now.code.functions limits.now count run.old result run.new }
+    ensures memory { RunSpares executable.now.code.functions limits.now executable.now.frame count run.old → HasMemory result.last }
+    ensures room { room_of run.new ≡ room_of run.old }
 {
     'instructions: for taken in 0..count {
-        let last = step(run, code, limits);
+        run.frames.are_counted();
+        let last = step(run, executable, limits);
         if !last.goes() {
             return Ran {
                 last,

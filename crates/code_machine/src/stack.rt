@@ -9,12 +9,13 @@ use std::marker::Model;
 #[derive(Drop)]
 pub struct Stack {
     items: Vec<Word>,
+    room: usize,
 }
 
 impl Model for Stack {
-    ghost use Rattle.std.specs.Prelude.{reverse};
+    ghost use Rattle.std.specs.Prelude.{◌≤◌, reverse};
     ghost use Rattle.std.specs.Vec.{vec_capacity};
-    ghost use Rattle.code_machine.specs.Piles.{Pile};
+    ghost use Rattle.code_machine.specs.Rooms.{Pile};
     ghost use Rattle.std.specs.Coded.{codes};
     ghost use Rattle.pl_types.specs.contracts.ty.Ty as ty;
 
@@ -22,17 +23,20 @@ impl Model for Stack {
 
     ghost coded = { Prim.hlevel (codes, ty.the_row.coded) };
 
-    ghost view = { λ s. record { items = reverse s.items.items; room = vec_capacity s.items } };
+    ghost view = { λ s. record { items = reverse s.items.items; room = s.room } };
+
+    ghost invariant = { λ s. s.room ≤ vec_capacity s.items };
 }
 
 impl Stack {
     /// An empty stack with memory for so many words.
-    pub fn with_capacity(alloc: Global, capacity: usize) -> Result<Stack, AllocError>
+    pub fn with_room(alloc: Global, room: usize) -> Result<Stack, AllocError>
         ensures empty { IfOk result (λ stack. stack.items ≡ []) }
-        ensures room { IfOk result (λ stack. capacity ≤ stack.room) }
+        ensures room { IfOk result (λ stack. stack.room ≡ room) }
     {
         Ok(Stack {
-            items: Vec::with_capacity(alloc, capacity)?,
+            items: Vec::with_capacity(alloc, room)?,
+            room,
         })
     }
 
@@ -63,7 +67,7 @@ impl Stack {
     #[tactic(auto, using(crate::proofs::Places::reversed_length))]
     pub fn push(&mut self, word: Word) -> Result<(), AllocError>
         ensures ok { OnOk result (self.new.items ≡ word ∷ self.old.items) }
-        ensures room { self.old.room ≤ self.new.room }
+        ensures room { self.new.room ≡ self.old.room }
         ensures memory { length self.old.items < self.old.room → IsOk result }
     {
         self.items.push(word)?;

@@ -4,9 +4,10 @@ ghost use Rattle.pl_code.specs.declared.kinds.Plain.TheVariants as plains;
 ghost use Rattle.code_meaning.specs.declared.word.Word.TheVariants.{I, J};
 ghost use Rattle.code_meaning.specs.Machine as spec;
 ghost use Rattle.code_meaning.specs.Machine.{plain_act, on_stack, to_line};
-ghost use Rattle.code_machine.specs.Seen.{Comes, int_of, long_of, with_stack, world_of};
+ghost use Rattle.code_machine.specs.Seen.{Comes, int_of, long_of, room_of, with_stack, world_of};
 ghost use Rattle.code_machine.specs.Rows.{Copies};
-ghost use Rattle.code_machine.specs.Memory.{HasMemory, IsCopied, OneBare, PlainFinds, TwoBare, is_text};
+ghost use Rattle.code_machine.specs.Sparing.{CopySpares, OneBare, PlainSpares, TwoBare, is_text};
+ghost use Rattle.code_machine.specs.Memory.{HasMemory, IsCopied};
 
 use crate::calls::ret;
 use crate::configuration::{Configuration, End, Step};
@@ -24,7 +25,8 @@ use pl_code::{Code, Plain};
 #[tactic(auto, using(crate::proofs::Rows::no_int, crate::proofs::Rows::no_long))]
 pub fn plain(run: &mut Configuration, code: &Code, limits: &Rules<'_>, kind: Plain) -> Step
     ensures exact { Comes (plain_act code.now.functions limits.now kind run.old.frames.top run.old.frames.below (world_of run.old.world)) result run.new }
-    ensures memory { PlainFinds kind run.old.frames → suc run.old.frames.top.line < 2 ^ 64 → HasMemory result }
+    ensures memory { PlainSpares kind run.old.frames.top.stack run.old.world.heap.objects → run.old.frames.count + 2 ≤ run.old.frames.words → suc run.old.frames.top.line < 2 ^ 64 → HasMemory result }
+    ensures room { room_of run.new ≡ room_of run.old }
 {
     match kind {
         Plain::Null => run.push(Word::R(Value::Null)),
@@ -63,6 +65,7 @@ pub fn pop_int(frames: &mut Frames) -> Option<i32>
     ensures room { MatchOption result (Unit {0}) (λ a. frames.new.count < frames.new.words) }
     ensures top { frames.new.top ≡ with_stack frames.old.top frames.new.top.stack }
     ensures below { frames.new.below ≡ frames.old.below }
+    ensures kept { (frames.new.words ≡ frames.old.words) × (frames.new.depth ≡ frames.old.depth) }
 {
     match &frames.pop() {
         Some(Word::I(a)) => Some(*a),
@@ -76,6 +79,7 @@ pub fn pop_long(frames: &mut Frames) -> Option<i64>
     ensures room { MatchOption result (Unit {0}) (λ a. frames.new.count < frames.new.words) }
     ensures top { frames.new.top ≡ with_stack frames.old.top frames.new.top.stack }
     ensures below { frames.new.below ≡ frames.old.below }
+    ensures kept { (frames.new.words ≡ frames.old.words) × (frames.new.depth ≡ frames.old.depth) }
 {
     match &frames.pop() {
         Some(Word::J(a)) => Some(*a),
@@ -94,7 +98,8 @@ pub enum Copying {
 // An instruction that copies words of the stack, or takes the top off.
 fn copy(run: &mut Configuration, kind: Plain) -> Step
     ensures exact { Comes (on_stack (spec.copied kind run.old.frames.top.stack) (λ stack. to_line run.old.frames.top run.old.frames.below (world_of run.old.world) (suc run.old.frames.top.line) stack)) result run.new }
-    ensures memory { PlainFinds kind run.old.frames → suc run.old.frames.top.line < 2 ^ 64 → HasMemory result }
+    ensures memory { CopySpares kind run.old.frames.top.stack → run.old.frames.count + 2 ≤ run.old.frames.words → suc run.old.frames.top.line < 2 ^ 64 → HasMemory result }
+    ensures room { room_of run.new ≡ room_of run.old }
 {
     match copied(&mut run.frames, kind) {
         Copying::Done => run.goes_on(),
@@ -105,9 +110,10 @@ fn copy(run: &mut Configuration, kind: Plain) -> Step
 
 fn copied(frames: &mut Frames, kind: Plain) -> Copying
     ensures stack { Copies (spec.copied kind frames.old.top.stack) frames.new.top.stack result }
-    ensures memory { PlainFinds kind frames.old → IsCopied result }
+    ensures memory { CopySpares kind frames.old.top.stack → frames.old.count + 2 ≤ frames.old.words → IsCopied result }
     ensures top { frames.new.top ≡ with_stack frames.old.top frames.new.top.stack }
     ensures below { frames.new.below ≡ frames.old.below }
+    ensures kept { (frames.new.words ≡ frames.old.words) × (frames.new.depth ≡ frames.old.depth) }
 {
     match kind {
         Plain::Pop => pop(frames),
@@ -124,6 +130,7 @@ fn pop(frames: &mut Frames) -> Copying
     ensures memory { IsCopied result }
     ensures top { frames.new.top ≡ with_stack frames.old.top frames.new.top.stack }
     ensures below { frames.new.below ≡ frames.old.below }
+    ensures kept { (frames.new.words ≡ frames.old.words) × (frames.new.depth ≡ frames.old.depth) }
 {
     match frames.pop() {
         Some(_top) => Copying::Done,
@@ -137,6 +144,7 @@ fn put_two(frames: &mut Frames, first: Word, second: Word) -> Copying
     ensures memory { frames.old.count + 2 ≤ frames.old.words → IsCopied result }
     ensures top { frames.new.top ≡ with_stack frames.old.top frames.new.top.stack }
     ensures below { frames.new.below ≡ frames.old.below }
+    ensures kept { (frames.new.words ≡ frames.old.words) × (frames.new.depth ≡ frames.old.depth) }
 {
     match frames.push(first) {
         Ok(()) => match frames.push(second) {
@@ -152,6 +160,7 @@ fn put_three(frames: &mut Frames, first: Word, second: Word, third: Word) -> Cop
     ensures memory { frames.old.count + 3 ≤ frames.old.words → IsCopied result }
     ensures top { frames.new.top ≡ with_stack frames.old.top frames.new.top.stack }
     ensures below { frames.new.below ≡ frames.old.below }
+    ensures kept { (frames.new.words ≡ frames.old.words) × (frames.new.depth ≡ frames.old.depth) }
 {
     match frames.push(first) {
         Ok(()) => put_two(frames, second, third),
@@ -164,6 +173,7 @@ fn put_four(frames: &mut Frames, first: Word, second: Word, third: Word, fourth:
     ensures memory { frames.old.count + 4 ≤ frames.old.words → IsCopied result }
     ensures top { frames.new.top ≡ with_stack frames.old.top frames.new.top.stack }
     ensures below { frames.new.below ≡ frames.old.below }
+    ensures kept { (frames.new.words ≡ frames.old.words) × (frames.new.depth ≡ frames.old.depth) }
 {
     match frames.push(first) {
         Ok(()) => put_three(frames, second, third, fourth),
@@ -176,6 +186,7 @@ fn dup(frames: &mut Frames) -> Copying
     ensures memory { frames.old.count < frames.old.words → OneBare frames.old.top.stack → IsCopied result }
     ensures top { frames.new.top ≡ with_stack frames.old.top frames.new.top.stack }
     ensures below { frames.new.below ≡ frames.old.below }
+    ensures kept { (frames.new.words ≡ frames.old.words) × (frames.new.depth ≡ frames.old.depth) }
 {
     match frames.pop() {
         Some(z) => match copy_of(&z) {
@@ -191,6 +202,7 @@ fn dup_two(frames: &mut Frames) -> Copying
     ensures memory { frames.old.count + 2 ≤ frames.old.words → TwoBare frames.old.top.stack → IsCopied result }
     ensures top { frames.new.top ≡ with_stack frames.old.top frames.new.top.stack }
     ensures below { frames.new.below ≡ frames.old.below }
+    ensures kept { (frames.new.words ≡ frames.old.words) × (frames.new.depth ≡ frames.old.depth) }
 {
     match frames.pop() {
         Some(z) => match frames.pop() {
@@ -207,6 +219,7 @@ fn share_two(frames: &mut Frames, z: Word, y: Word) -> Copying
     ensures memory { frames.old.count + 4 ≤ frames.old.words → is_text z ≡ false → is_text y ≡ false → IsCopied result }
     ensures top { frames.new.top ≡ with_stack frames.old.top frames.new.top.stack }
     ensures below { frames.new.below ≡ frames.old.below }
+    ensures kept { (frames.new.words ≡ frames.old.words) × (frames.new.depth ≡ frames.old.depth) }
 {
     match copy_of(&z) {
         Ok(upper) => match copy_of(&y) {
@@ -222,6 +235,7 @@ fn dup_below_one(frames: &mut Frames) -> Copying
     ensures memory { frames.old.count < frames.old.words → OneBare frames.old.top.stack → IsCopied result }
     ensures top { frames.new.top ≡ with_stack frames.old.top frames.new.top.stack }
     ensures below { frames.new.below ≡ frames.old.below }
+    ensures kept { (frames.new.words ≡ frames.old.words) × (frames.new.depth ≡ frames.old.depth) }
 {
     match frames.pop() {
         Some(z) => match frames.pop() {
@@ -237,6 +251,7 @@ fn share_below_one(frames: &mut Frames, z: Word, y: Word) -> Copying
     ensures memory { frames.old.count + 3 ≤ frames.old.words → is_text z ≡ false → IsCopied result }
     ensures top { frames.new.top ≡ with_stack frames.old.top frames.new.top.stack }
     ensures below { frames.new.below ≡ frames.old.below }
+    ensures kept { (frames.new.words ≡ frames.old.words) × (frames.new.depth ≡ frames.old.depth) }
 {
     match copy_of(&z) {
         Ok(copy) => put_three(frames, copy, y, z),
@@ -249,6 +264,7 @@ fn dup_below_two(frames: &mut Frames) -> Copying
     ensures memory { frames.old.count < frames.old.words → OneBare frames.old.top.stack → IsCopied result }
     ensures top { frames.new.top ≡ with_stack frames.old.top frames.new.top.stack }
     ensures below { frames.new.below ≡ frames.old.below }
+    ensures kept { (frames.new.words ≡ frames.old.words) × (frames.new.depth ≡ frames.old.depth) }
 {
     match frames.pop() {
         Some(z) => match frames.pop() {
@@ -267,6 +283,7 @@ fn share_below_two(frames: &mut Frames, z: Word, y: Word, x: Word) -> Copying
     ensures memory { frames.old.count + 4 ≤ frames.old.words → is_text z ≡ false → IsCopied result }
     ensures top { frames.new.top ≡ with_stack frames.old.top frames.new.top.stack }
     ensures below { frames.new.below ≡ frames.old.below }
+    ensures kept { (frames.new.words ≡ frames.old.words) × (frames.new.depth ≡ frames.old.depth) }
 {
     match copy_of(&z) {
         Ok(copy) => put_four(frames, copy, x, y, z),

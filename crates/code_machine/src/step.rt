@@ -1,45 +1,34 @@
 //! One instruction.
 ghost use Rattle.code_meaning.specs.Machine.{act, step};
-ghost use Rattle.std.specs.Prelude.{◌≡◌, ◌<◌, ◌^◌, suc, slice_get, IsSome};
-ghost use Rattle.std.specs.Option.{option_copied};
-ghost use Rattle.code_machine.specs.Memory.{Finds, HasMemory, NextFinds};
-ghost use Rattle.code_machine.specs.Seen.{Comes, configuration_of, world_of};
+ghost use Rattle.std.specs.Prelude.{◌≡◌, ◌<◌, ◌^◌, suc};
+ghost use Rattle.code_machine.specs.Links.{link_of};
+ghost use Rattle.code_machine.specs.Memory.{HasMemory, HasSpace};
+ghost use Rattle.code_machine.specs.Seen.{Comes, configuration_of, room_of, world_of};
+ghost use Rattle.code_machine.specs.Sparing.{InstructionSpares, Spares};
 
 use crate::boxes::{box_number, unbox};
 use crate::configuration::{Configuration, End, Step};
+use crate::executable::{Executable, Link};
 use crate::jumps::numbered;
-use crate::members::{invoke, make, read};
+use crate::members::named;
 use crate::operators::arithmetic;
 use crate::references::quoted;
 use crate::rules::Rules;
 use crate::stacks::plain;
 use crate::typed::{cast, typed};
 use code_meaning::Word;
-use pl_code::{Code, FunCode, Instruction};
+use pl_code::{Code, Instruction};
 
 /// Does the instruction at the line of the newest frame.
-pub fn step(run: &mut Configuration, code: &Code, limits: &Rules<'_>) -> Step
-    ensures exact { Comes (step code.now.functions limits.now (configuration_of run.old)) result run.new }
-    ensures memory { NextFinds code.now.functions limits.now.allowed run.old → HasMemory result }
+pub fn step(run: &mut Configuration, executable: &Executable, limits: &Rules<'_>) -> Step
+    requires { limits.now.allowed ≡ executable.now.allow }
+    ensures exact { Comes (step executable.now.code.functions limits.now (configuration_of run.old)) result run.new }
+    ensures memory { Spares executable.now.code.functions limits.now.allowed (configuration_of run.old) → HasSpace executable.now.code.functions limits.now.depth run.old → HasMemory result }
+    ensures room { room_of run.new ≡ room_of run.old }
 {
-    match code.functions.get(run.frames.fun() as usize) {
-        Some(function) => match instruction_at(function, run.frames.line()) {
-            Some(instruction) => execute(run, code, limits, instruction),
-            None => Step::Ends(End::Stuck),
-        },
+    match executable.at(run.frames.fun() as usize, run.frames.line()) {
+        Some((instruction, link)) => execute(run, executable.code(), limits, instruction, link),
         None => Step::Ends(End::Stuck),
-    }
-}
-
-// The instruction of a line. Where there is one, there is a number for the next line.
-fn instruction_at(function: &FunCode, line: usize) -> Option<&Instruction>
-    ensures instruction { option_copied result ≡ slice_get function.now.lines line }
-    ensures next { IsSome result → suc line < 2 ^ 64 }
-{
-    if line < function.lines.len() {
-        function.lines.get(line)
-    } else {
-        None
     }
 }
 
@@ -48,9 +37,12 @@ fn execute(
     code: &Code,
     limits: &Rules<'_>,
     instruction: &Instruction,
+    link: &Link,
 ) -> Step
+    requires { link.now ≡ link_of limits.now.allowed instruction.now }
     ensures exact { Comes (act code.now.functions limits.now instruction.now run.old.frames.top run.old.frames.below (world_of run.old.world)) result run.new }
-    ensures memory { Finds code.now.functions limits.now.allowed instruction.now run.old → suc run.old.frames.top.line < 2 ^ 64 → HasMemory result }
+    ensures memory { InstructionSpares limits.now.allowed instruction.now run.old.frames.top run.old.world.heap.objects → HasSpace code.now.functions limits.now.depth run.old → suc run.old.frames.top.line < 2 ^ 64 → HasMemory result }
+    ensures room { room_of run.new ≡ room_of run.old }
 {
     match instruction {
         Instruction::Plain(kind) => plain(run, code, limits, *kind),
@@ -61,11 +53,11 @@ fn execute(
         Instruction::Boxing(primitive) => box_number(run, *primitive),
         Instruction::Unboxing(primitive, way) => unbox(run, code, limits, *primitive, *way),
         Instruction::Quoted(kind, text) => quoted(run, code, limits, *kind, text),
-        Instruction::Typed(kind, of) => typed(run, code, limits, *kind, of),
-        Instruction::Cast(to, way) => cast(run, code, limits, to, *way),
-        Instruction::Invoke(method) => invoke(run, code, limits, method),
-        Instruction::New(constructor) => make(run, code, limits, constructor),
-        Instruction::Field(field) => read(run, code, limits, field),
+        Instruction::Typed(kind, _) => typed(run, code, limits, *kind, link),
+        Instruction::Cast(_, way) => cast(run, code, limits, link, *way),
+        Instruction::Invoke(_) => named(run, code, limits, link),
+        Instruction::New(_) => named(run, code, limits, link),
+        Instruction::Field(_) => named(run, code, limits, link),
         _ => Step::Ends(End::Stuck),
     }
 }

@@ -1,5 +1,5 @@
 //! What comes of operations on the heap: their values, and exceptions, each of which goes on at the trap that catches it.
-ghost use Rattle.std.specs.Prelude.{◌≡◌, ◌<◌, ◌^◌, suc, List, ◌∷◌, Some, None, find, slice_get};
+ghost use Rattle.std.specs.Prelude.{◌≡◌, ◌<◌, ◌^◌, suc, true, List, ◌∷◌, Some, None, find, slice_get};
 ghost use Rattle.std.specs.Option.{option_copied};
 ghost use Rattle.object_heap.specs.Effects.{Effect, Answers};
 ghost use Rattle.object_heap.specs.Store.{Store};
@@ -12,7 +12,9 @@ ghost use Rattle.code_meaning.specs.declared.word.Word.{Word};
 ghost use Rattle.code_meaning.specs.declared.word.Word.TheVariants.{R};
 ghost use Rattle.code_meaning.specs.Machine as spec;
 ghost use Rattle.code_meaning.specs.Machine.{Next, on_outcome, on_reference, on_thrown, on_top};
-ghost use Rattle.code_machine.specs.Seen.{Comes, with_stack, world_of};
+ghost use Rattle.code_machine.specs.Seen.{Comes, room_of, with_stack, world_of};
+ghost use Rattle.number_ops.specs.Relations.{is_exception};
+ghost use Rattle.code_machine.specs.Sparing.{OnReference, OnValue};
 ghost use Rattle.code_machine.specs.Memory.{HasMemory, IsAnswered};
 ghost use Rattle.code_machine.specs.Rows.{bare, catches, landing, landed, line_of};
 
@@ -30,7 +32,9 @@ use pl_units::UText;
 
 /// What an operation on the heap gives goes on the stack. The operands have been taken off it.
 pub fn answered(run: &mut Configuration, code: &Code, limits: &Rules<'_>, answer: Answer) -> Step
-    ensures { (effect : Effect) (old : Store) (stack : List Word) → Answers effect old run.old.world.heap answer → Comes (on_outcome code.now.functions limits.now (acts_in (with_store (world_of run.old.world) old) effect) words.unboxed (with_stack run.old.frames.top stack) run.old.frames.below (with_store (world_of run.old.world) old) run.old.frames.top.stack) result run.new }
+    ensures exact { (effect : Effect) (old : Store) (stack : List Word) → Answers effect old run.old.world.heap answer → Comes (on_outcome code.now.functions limits.now (acts_in (with_store (world_of run.old.world) old) effect) words.unboxed (with_stack run.old.frames.top stack) run.old.frames.below (with_store (world_of run.old.world) old) run.old.frames.top.stack) result run.new }
+    ensures memory { IsAnswered answer → run.old.frames.count < run.old.frames.words → suc run.old.frames.top.line < 2 ^ 64 → HasMemory result }
+    ensures room { room_of run.new ≡ room_of run.old }
 {
     match answer {
         Answer::Value(value) => run.push(unboxed(value)),
@@ -47,7 +51,9 @@ pub fn answered_whole(
     limits: &Rules<'_>,
     answer: Answer,
 ) -> Step
-    ensures { (effect : Effect) (old : Store) (stack : List Word) → Answers effect old run.old.world.heap answer → Comes (on_outcome code.now.functions limits.now (acts_in (with_store (world_of run.old.world) old) effect) R (with_stack run.old.frames.top stack) run.old.frames.below (with_store (world_of run.old.world) old) run.old.frames.top.stack) result run.new }
+    ensures exact { (effect : Effect) (old : Store) (stack : List Word) → Answers effect old run.old.world.heap answer → Comes (on_outcome code.now.functions limits.now (acts_in (with_store (world_of run.old.world) old) effect) R (with_stack run.old.frames.top stack) run.old.frames.below (with_store (world_of run.old.world) old) run.old.frames.top.stack) result run.new }
+    ensures memory { IsAnswered answer → run.old.frames.count < run.old.frames.words → suc run.old.frames.top.line < 2 ^ 64 → HasMemory result }
+    ensures room { room_of run.new ≡ room_of run.old }
 {
     match answer {
         Answer::Value(value) => run.push(Word::R(value)),
@@ -67,6 +73,7 @@ pub fn answered_as(
 ) -> Step
     ensures exact { (effect : Effect) (old : Store) (stack : List Word) → Answers effect old run.old.world.heap answer → Comes (on_outcome code.now.functions limits.now (acts_in (with_store (world_of run.old.world) old) effect) (given_as of.now) (with_stack run.old.frames.top stack) run.old.frames.below (with_store (world_of run.old.world) old) run.old.frames.top.stack) result run.new }
     ensures memory { IsAnswered answer → run.old.frames.count < run.old.frames.words → suc run.old.frames.top.line < 2 ^ 64 → HasMemory result }
+    ensures room { room_of run.new ≡ room_of run.old }
 {
     match answer {
         Answer::Value(value) => run.push(given_as(of, value)),
@@ -118,7 +125,8 @@ fn bare(value: &Value) -> Option<Word>
 /// Throws the exception of a zero divisor.
 #[tactic(auto, unfolding(number_ops::specs::Outcomes::says))]
 pub fn throw_zero_divisor(run: &mut Configuration, code: &Code, limits: &Rules<'_>) -> Step
-    ensures { Comes (on_outcome code.now.functions limits.now (acts_in (world_of run.old.world) (effect run.old.world.heap zero_divisor)) words.unboxed run.old.frames.top run.old.frames.below (world_of run.old.world) run.old.frames.top.stack) result run.new }
+    ensures exact { Comes (on_outcome code.now.functions limits.now (acts_in (world_of run.old.world) (effect run.old.world.heap zero_divisor)) words.unboxed run.old.frames.top run.old.frames.below (world_of run.old.world) run.old.frames.top.stack) result run.new }
+    ensures room { room_of run.new ≡ room_of run.old }
 {
     match UText::from_utf8(run.world.heap.alloc(), "/ by zero") {
         Ok(message) => {
@@ -131,7 +139,9 @@ pub fn throw_zero_divisor(run: &mut Configuration, code: &Code, limits: &Rules<'
 
 /// Throws the reference on the stack.
 pub fn throw_top(run: &mut Configuration, code: &Code, limits: &Rules<'_>) -> Step
-    ensures { Comes (on_top run.old.frames.top.stack (λ word stack. on_reference word (λ value. on_thrown code.now.functions limits.now (acts_in (world_of run.old.world) (thrown run.old.world.heap value)) run.old.frames.top run.old.frames.below (world_of run.old.world)))) result run.new }
+    ensures exact { Comes (on_top run.old.frames.top.stack (λ word stack. on_reference word (λ value. on_thrown code.now.functions limits.now (acts_in (world_of run.old.world) (thrown run.old.world.heap value)) run.old.frames.top run.old.frames.below (world_of run.old.world)))) result run.new }
+    ensures memory { OnValue run.old.frames.top.stack (λ value. is_exception run.old.world.heap.objects value ≡ true) → HasMemory result }
+    ensures room { room_of run.new ≡ room_of run.old }
 {
     match run.frames.pop() {
         Some(word) => throw_word(run, code, limits, &word),
@@ -141,7 +151,9 @@ pub fn throw_top(run: &mut Configuration, code: &Code, limits: &Rules<'_>) -> St
 
 // The same of a word that was taken off the stack.
 fn throw_word(run: &mut Configuration, code: &Code, limits: &Rules<'_>, word: &Word) -> Step
-    ensures { (stack : List Word) → Comes (on_reference word.now (λ value. on_thrown code.now.functions limits.now (acts_in (world_of run.old.world) (thrown run.old.world.heap value)) (with_stack run.old.frames.top stack) run.old.frames.below (world_of run.old.world))) result run.new }
+    ensures exact { (stack : List Word) → Comes (on_reference word.now (λ value. on_thrown code.now.functions limits.now (acts_in (world_of run.old.world) (thrown run.old.world.heap value)) (with_stack run.old.frames.top stack) run.old.frames.below (world_of run.old.world))) result run.new }
+    ensures memory { OnReference word.now (λ value. is_exception run.old.world.heap.objects value ≡ true) → run.old.frames.count < run.old.frames.words → HasMemory result }
+    ensures room { room_of run.new ≡ room_of run.old }
 {
     match word {
         Word::R(value) => {
@@ -154,7 +166,9 @@ fn throw_word(run: &mut Configuration, code: &Code, limits: &Rules<'_>, word: &W
 
 // What is thrown goes on at the trap that catches it. What gives a value throws nothing.
 fn answered_throw(run: &mut Configuration, code: &Code, limits: &Rules<'_>, answer: Answer) -> Step
-    ensures { (effect : Effect) (old : Store) (stack : List Word) → Answers effect old run.old.world.heap answer → Comes (on_thrown code.now.functions limits.now (acts_in (with_store (world_of run.old.world) old) effect) (with_stack run.old.frames.top stack) run.old.frames.below (with_store (world_of run.old.world) old)) result run.new }
+    ensures exact { (effect : Effect) (old : Store) (stack : List Word) → Answers effect old run.old.world.heap answer → Comes (on_thrown code.now.functions limits.now (acts_in (with_store (world_of run.old.world) old) effect) (with_stack run.old.frames.top stack) run.old.frames.below (with_store (world_of run.old.world) old)) result run.new }
+    ensures memory { IsAnswered answer → run.old.frames.count < run.old.frames.words → HasMemory result }
+    ensures room { room_of run.new ≡ room_of run.old }
 {
     match answer {
         Answer::Value(_value) => Step::Ends(End::Stuck),
@@ -168,6 +182,7 @@ fn answered_throw(run: &mut Configuration, code: &Code, limits: &Rules<'_>, answ
 fn unwind(run: &mut Configuration, code: &Code, id: u32) -> Step
     ensures exact { Comes (spec.unwind code.now.functions (run.old.frames.top ∷ run.old.frames.below) id (world_of run.old.world)) result run.new }
     ensures memory { run.old.frames.count < run.old.frames.words → HasMemory result }
+    ensures room { room_of run.new ≡ room_of run.old }
 {
     'frames: loop {
         match landing(code, &run.frames, id, &run.world) {
@@ -185,6 +200,7 @@ fn unwind(run: &mut Configuration, code: &Code, id: u32) -> Step
 fn land(run: &mut Configuration, line: u32, id: u32) -> Step
     ensures exact { (further : Next) → Comes (landed (Some line) run.old.frames.top run.old.frames.below id (world_of run.old.world) further) result run.new }
     ensures memory { run.old.frames.count < run.old.frames.words → HasMemory result }
+    ensures room { room_of run.new ≡ room_of run.old }
 {
     run.frames.clear();
     match run.frames.push(Word::R(Value::Ref(id))) {

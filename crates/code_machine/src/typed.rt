@@ -1,6 +1,5 @@
 //! Casts of references to types, and instances of types.
-ghost use Rattle.std.specs.Prelude.{◌≡◌, List, ◌∷◌, suc};
-ghost use Rattle.pl_types.specs.Texts.{type_of_full};
+ghost use Rattle.std.specs.Prelude.{◌≡◌, ◌<◌, ◌^◌, List, ◌∷◌, suc};
 ghost use Rattle.number_ops.specs.Outcomes.{effect};
 ghost use Rattle.number_ops.specs.Casts.{cast_at_run_time};
 ghost use Rattle.number_ops.specs.Relations as relations;
@@ -9,37 +8,37 @@ ghost use Rattle.code_meaning.specs.Words as words;
 ghost use Rattle.code_meaning.specs.declared.word.Word.{Word};
 ghost use Rattle.code_meaning.specs.declared.word.Word.TheVariants.{I, R};
 ghost use Rattle.code_meaning.specs.Machine.{cast_act, typed_act, on_type, on_top, on_reference, on_outcome, to_line, is_written};
-ghost use Rattle.code_machine.specs.Seen.{Comes, with_stack, world_of};
+ghost use Rattle.code_machine.specs.Sparing.{CastSpares, OnReference, OnType, OnValue};
+ghost use Rattle.code_machine.specs.Links.{type_in};
+ghost use Rattle.code_machine.specs.Memory.{HasMemory};
+ghost use Rattle.code_machine.specs.Seen.{Comes, room_of, with_stack, world_of};
 
 use crate::boxes::is_written;
 use crate::configuration::{Configuration, End, Step};
+use crate::executable::Link;
 use crate::rules::Rules;
 use crate::throwing::answered_whole;
 use code_meaning::Word;
-use listing_parts::TypeName;
 use number_ops::{is_instance, to_type};
 use pl_code::{Code, Typed, Way};
 use pl_types::Ty;
 
-/// Casts the reference on the stack. The type is read from its text, which takes memory for arrays.
-pub fn cast(
-    run: &mut Configuration,
-    code: &Code,
-    limits: &Rules<'_>,
-    to: &TypeName,
-    way: Way,
-) -> Step
-    ensures { Comes (on_type (type_of_full to.now) (λ to. cast_act code.now.functions limits.now to (is_written way) run.old.frames.top run.old.frames.below (world_of run.old.world))) result run.new }
+/// Casts the reference on the stack to the type that a link names.
+pub fn cast(run: &mut Configuration, code: &Code, limits: &Rules<'_>, link: &Link, way: Way) -> Step
+    ensures exact { Comes (on_type (type_in link.now) (λ to. cast_act code.now.functions limits.now to (is_written way) run.old.frames.top run.old.frames.below (world_of run.old.world))) result run.new }
+    ensures memory { OnType (type_in link.now) (λ to. OnValue run.old.frames.top.stack (CastSpares run.old.world.heap.objects to (is_written way))) → suc run.old.frames.top.line < 2 ^ 64 → HasMemory result }
+    ensures room { room_of run.new ≡ room_of run.old }
 {
-    match Ty::of_full_text(run.world.heap.alloc(), to.as_str().as_bytes()) {
-        Ok(Some(to)) => cast_top(run, code, limits, &to, way),
-        Ok(None) => Step::Ends(End::Stuck),
-        Err(_) => Step::NoMemory,
+    match link {
+        Link::Type(to) => cast_top(run, code, limits, to, way),
+        _ => Step::Ends(End::Stuck),
     }
 }
 
 fn cast_top(run: &mut Configuration, code: &Code, limits: &Rules<'_>, to: &Ty, way: Way) -> Step
-    ensures { Comes (cast_act code.now.functions limits.now to.now (is_written way) run.old.frames.top run.old.frames.below (world_of run.old.world)) result run.new }
+    ensures exact { Comes (cast_act code.now.functions limits.now to.now (is_written way) run.old.frames.top run.old.frames.below (world_of run.old.world)) result run.new }
+    ensures memory { OnValue run.old.frames.top.stack (CastSpares run.old.world.heap.objects to.now (is_written way)) → suc run.old.frames.top.line < 2 ^ 64 → HasMemory result }
+    ensures room { room_of run.new ≡ room_of run.old }
 {
     match run.frames.pop() {
         Some(word) => cast_word(run, code, limits, &word, to, way),
@@ -48,6 +47,7 @@ fn cast_top(run: &mut Configuration, code: &Code, limits: &Rules<'_>, to: &Ty, w
 }
 
 // The same of a word that was taken off the stack.
+#[tactic(auto, using(crate::proofs::Spared::is_answered))]
 fn cast_word(
     run: &mut Configuration,
     code: &Code,
@@ -56,7 +56,9 @@ fn cast_word(
     to: &Ty,
     way: Way,
 ) -> Step
-    ensures { (stack : List Word) → Comes (on_reference word.now (λ value. on_outcome code.now.functions limits.now (acts_in (world_of run.old.world) (effect run.old.world.heap (cast_at_run_time run.old.world.heap.objects value to.now (is_written way)))) R (with_stack run.old.frames.top stack) run.old.frames.below (world_of run.old.world) run.old.frames.top.stack)) result run.new }
+    ensures exact { (stack : List Word) → Comes (on_reference word.now (λ value. on_outcome code.now.functions limits.now (acts_in (world_of run.old.world) (effect run.old.world.heap (cast_at_run_time run.old.world.heap.objects value to.now (is_written way)))) R (with_stack run.old.frames.top stack) run.old.frames.below (world_of run.old.world) run.old.frames.top.stack)) result run.new }
+    ensures memory { OnReference word.now (CastSpares run.old.world.heap.objects to.now (is_written way)) → run.old.frames.count < run.old.frames.words → suc run.old.frames.top.line < 2 ^ 64 → HasMemory result }
+    ensures room { room_of run.new ≡ room_of run.old }
 {
     match word {
         Word::R(value) => {
@@ -67,25 +69,28 @@ fn cast_word(
     }
 }
 
-/// An instruction with a type, which is read from its text.
+/// An instruction with the type that a link names.
 pub fn typed(
     run: &mut Configuration,
     code: &Code,
     limits: &Rules<'_>,
     kind: Typed,
-    of: &TypeName,
+    link: &Link,
 ) -> Step
-    ensures { Comes (on_type (type_of_full of.now) (λ of. typed_act code.now.functions limits.now kind of run.old.frames.top run.old.frames.below (world_of run.old.world))) result run.new }
+    ensures exact { Comes (on_type (type_in link.now) (λ of. typed_act code.now.functions limits.now kind of run.old.frames.top run.old.frames.below (world_of run.old.world))) result run.new }
+    ensures memory { suc run.old.frames.top.line < 2 ^ 64 → HasMemory result }
+    ensures room { room_of run.new ≡ room_of run.old }
 {
-    match Ty::of_full_text(run.world.heap.alloc(), of.as_str().as_bytes()) {
-        Ok(Some(of)) => typed_by(run, code, limits, kind, &of),
-        Ok(None) => Step::Ends(End::Stuck),
-        Err(_) => Step::NoMemory,
+    match link {
+        Link::Type(of) => typed_by(run, code, limits, kind, of),
+        _ => Step::Ends(End::Stuck),
     }
 }
 
 fn typed_by(run: &mut Configuration, code: &Code, limits: &Rules<'_>, kind: Typed, of: &Ty) -> Step
-    ensures { Comes (typed_act code.now.functions limits.now kind of.now run.old.frames.top run.old.frames.below (world_of run.old.world)) result run.new }
+    ensures exact { Comes (typed_act code.now.functions limits.now kind of.now run.old.frames.top run.old.frames.below (world_of run.old.world)) result run.new }
+    ensures memory { suc run.old.frames.top.line < 2 ^ 64 → HasMemory result }
+    ensures room { room_of run.new ≡ room_of run.old }
 {
     match kind {
         Typed::IsA => instance(run, of),
@@ -95,7 +100,9 @@ fn typed_by(run: &mut Configuration, code: &Code, limits: &Rules<'_>, kind: Type
 
 // Whether the reference on the stack is an instance of a type.
 fn instance(run: &mut Configuration, of: &Ty) -> Step
-    ensures { Comes (on_top run.old.frames.top.stack (λ word stack. on_reference word (λ value. to_line run.old.frames.top run.old.frames.below (world_of run.old.world) (suc run.old.frames.top.line) (I (words.bit (relations.is_instance run.old.world.heap.objects value of.now)) ∷ stack)))) result run.new }
+    ensures exact { Comes (on_top run.old.frames.top.stack (λ word stack. on_reference word (λ value. to_line run.old.frames.top run.old.frames.below (world_of run.old.world) (suc run.old.frames.top.line) (I (words.bit (relations.is_instance run.old.world.heap.objects value of.now)) ∷ stack)))) result run.new }
+    ensures memory { suc run.old.frames.top.line < 2 ^ 64 → HasMemory result }
+    ensures room { room_of run.new ≡ room_of run.old }
 {
     match run.frames.pop() {
         Some(word) => instance_word(run, &word, of),
@@ -105,7 +112,9 @@ fn instance(run: &mut Configuration, of: &Ty) -> Step
 
 // The same of a word that was taken off the stack.
 fn instance_word(run: &mut Configuration, word: &Word, of: &Ty) -> Step
-    ensures { (stack : List Word) → Comes (on_reference word.now (λ value. to_line (with_stack run.old.frames.top stack) run.old.frames.below (world_of run.old.world) (suc run.old.frames.top.line) (I (words.bit (relations.is_instance run.old.world.heap.objects value of.now)) ∷ run.old.frames.top.stack))) result run.new }
+    ensures exact { (stack : List Word) → Comes (on_reference word.now (λ value. to_line (with_stack run.old.frames.top stack) run.old.frames.below (world_of run.old.world) (suc run.old.frames.top.line) (I (words.bit (relations.is_instance run.old.world.heap.objects value of.now)) ∷ run.old.frames.top.stack))) result run.new }
+    ensures memory { run.old.frames.count < run.old.frames.words → suc run.old.frames.top.line < 2 ^ 64 → HasMemory result }
+    ensures room { room_of run.new ≡ room_of run.old }
 {
     match word {
         Word::R(value) => {

@@ -1,13 +1,16 @@
 use crate::rows::{ROWS, Row};
 use allowlist::{Allow, Catalogue};
-use code_machine::{Activation, End, Limits, Outcome};
+use code_machine::{Activation, End, Executable, Limits, Outcome};
 use code_meaning::Word;
 use object_heap::{Heap, Which};
 use object_values::{Elements, Value};
-use pl_code::{Code, read_listing};
+use pl_code::read_listing;
 use std::alloc::{AllocError, Global};
 use std::test::Fail;
 use task_core::Turn;
+
+// How many words each frame may have.
+const FRAME: usize = 16;
 
 fn limit_text(which: Which) -> &'static str {
     match which {
@@ -65,8 +68,7 @@ fn left_text(alloc: Global, outcome: Option<Outcome>) -> Result<String, AllocErr
 /// Runs code in turns of `q` instructions, and tells what it leaves.
 fn run_in_turns(
     alloc: Global,
-    code: &Code,
-    allow: &Allow,
+    executable: &Executable,
     row: &Row,
     q: u64,
 ) -> Result<String, AllocError> {
@@ -76,7 +78,7 @@ fn run_in_turns(
         ticks: row.ticks,
     };
     let heap = Heap::new(alloc, row.room);
-    let mut activation = Activation::start(code, allow, heap, Elements::new(alloc), limits)?;
+    let mut activation = Activation::start(executable, heap, Elements::new(alloc), limits)?;
     for _ in 0..10_000 {
         if activation.turn(q) != Turn::More {
             break;
@@ -88,7 +90,8 @@ fn run_in_turns(
 fn leaves(alloc: Global, allow: &Allow, row: &Row, q: u64) -> Result<bool, AllocError> {
     match read_listing(alloc, row.listing.as_bytes()) {
         Ok(code) => {
-            let left = run_in_turns(alloc, &code, allow, row, q)?;
+            let executable = Executable::new(alloc, code, allow.share(alloc)?, FRAME)?;
+            let left = run_in_turns(alloc, &executable, row, q)?;
             Ok(left.as_str() == row.left)
         }
         Err(_) => Ok(false),
@@ -176,7 +179,8 @@ fn members_are_reached_once(rt: HostRuntime) -> Result<(), Fail> {
         ticks: 100,
     };
     let heap = Heap::new(alloc, 100);
-    let mut activation = Activation::start(&code, &allow, heap, Elements::new(alloc), limits)?;
+    let executable = Executable::new(alloc, code, allow, FRAME)?;
+    let mut activation = Activation::start(&executable, heap, Elements::new(alloc), limits)?;
     activation.turn(100);
     let reached = match &activation.outcome() {
         Some(outcome) => outcome.reached.as_slice() == [3, 4].as_slice(),

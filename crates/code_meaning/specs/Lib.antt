@@ -1,4 +1,5 @@
 pub mod Words
 pub mod Members
 pub mod Machine
+pub mod Sizes
 pub mod Laws

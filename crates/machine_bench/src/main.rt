@@ -2,11 +2,11 @@
 //! instruction. It measures where it is given an argument, and else prints nothing: `rt run -- times`.
 #![tactic(auto)]
 
-use allowlist::{Allow, Catalogue};
-use code_machine::{Activation, Limits};
+use allowlist::Catalogue;
+use code_machine::{Activation, Executable, Limits};
 use object_heap::Heap;
 use object_values::Elements;
-use pl_code::{Code, read_listing};
+use pl_code::read_listing;
 use std::alloc::{AllocError, Global};
 use std::rt::Clock;
 use std::time::Instant;
@@ -30,6 +30,9 @@ const LIMITS: Limits = Limits {
     ticks: 2_000_000,
 };
 
+// How many words each frame may have.
+const FRAME: usize = 8;
+
 /// The listing of int s = 0; s += 1; s += 1; .. s
 fn straight(alloc: Global) -> Result<String, AllocError> {
     let sums = "load 0\ni 1\nadd.i\nstore 0\n".repeat(alloc, SUMS)?;
@@ -40,9 +43,9 @@ fn straight(alloc: Global) -> Result<String, AllocError> {
 }
 
 /// How many instructions a run takes, in turns of so many. It is 0 where the run does not end.
-fn run(alloc: Global, code: &Code, allow: &Allow, q: u64) -> Result<u64, AllocError> {
+fn run(alloc: Global, executable: &Executable, q: u64) -> Result<u64, AllocError> {
     let heap = Heap::new(alloc, 1_000_000);
-    let mut activation = Activation::start(code, allow, heap, Elements::new(alloc), LIMITS)?;
+    let mut activation = Activation::start(executable, heap, Elements::new(alloc), LIMITS)?;
     for _ in 0..100_000_000 {
         if activation.turn(q) != Turn::More {
             break;
@@ -58,12 +61,11 @@ fn measure(
     rt: &(impl Clock + Print),
     alloc: Global,
     name: &str,
-    code: &Code,
-    allow: &Allow,
+    executable: &Executable,
     q: u64,
 ) -> io::Result<()> {
     let start = Instant::now(rt)?;
-    let Ok(steps) = run(alloc, code, allow, q) else {
+    let Ok(steps) = run(alloc, executable, q) else {
         return Ok(());
     };
     let spent = start.elapsed(rt)?.as_nanos();
@@ -89,8 +91,14 @@ fn main(rt: HostRuntime) -> io::Result<()> {
         let Ok(code) = read_listing(rt.alloc(), listing.as_bytes()) else {
             return Ok(());
         };
+        let Ok(allow) = allow.share(rt.alloc()) else {
+            return Ok(());
+        };
+        let Ok(executable) = Executable::new(rt.alloc(), code, allow, FRAME) else {
+            return Ok(());
+        };
         for q in [1, 1_000, 100_000_000] {
-            measure(&rt, rt.alloc(), name, &code, &allow, q)?;
+            measure(&rt, rt.alloc(), name, &executable, q)?;
         }
     }
     Ok(())

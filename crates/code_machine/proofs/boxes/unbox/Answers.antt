@@ -8,8 +8,8 @@ use Rattle.pl_types.specs.declared.ty.Ty.TheVariants as ty
 use Rattle.code_machine.proofs.Rows.{from_top}
 use Rattle.code_machine.proofs.boxes.unbox.Goals as goal
 
-pub returns-in-Some : goal.returns-in-Some
-returns-in-Some c =
+pub returns-in-Some-clause-exact : goal.returns-in-Some-clause-exact
+returns-in-Some-clause-exact c =
     from_top c.args.run.now.frames c.pop.new.self c.in-Some.word c.in-Some.ensures.stack c.pop.ensures.top c.pop.ensures.below
     (λ word f below stack. on_reference word (λ value. on_outcome c.args.code.now.functions c.args.limits.now (acts_in (world_of c.args.run.now.world) (effect c.args.run.now.world.heap (cast_at_run_time c.args.run.now.world.heap.objects value (ty.Prim c.args.primitive) (is_written c.args.way)))) unboxed f below (world_of c.args.run.now.world) stack)) _ _
-    (c.unbox_word.ensures c.args.run.now.frames.top.stack)
+    (c.unbox_word.ensures.exact c.args.run.now.frames.top.stack)

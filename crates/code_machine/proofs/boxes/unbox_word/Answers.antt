@@ -9,11 +9,11 @@ use Rattle.code_machine.proofs.Calling.{as_well}
 use Rattle.code_machine.proofs.Rows.{of_reference}
 use Rattle.code_machine.proofs.boxes.unbox_word.Goals as goal
 
-pub returns-in-R : goal.returns-in-R
-returns-in-R c = λ stack.
+pub returns-in-R-clause-exact : goal.returns-in-R-clause-exact
+returns-in-R-clause-exact c = λ stack.
     as_well _ _ _ _
     (of_reference c.args.word.now c.in-R.value c.in-R.is (λ value.
     on_outcome c.args.code.now.functions c.args.limits.now
     (acts_in (world_of c.args.run.now.world) (effect c.args.run.now.world.heap (cast_at_run_time c.args.run.now.world.heap.objects value (ty.Prim c.args.primitive) (is_written c.args.way))))
     unboxed (with_stack c.args.run.now.frames.top stack) c.args.run.now.frames.below (world_of c.args.run.now.world) c.args.run.now.frames.top.stack))
-    (c.answered.ensures _ _ stack c.cast-answer.ensures)
+    (c.answered.ensures.exact _ _ stack c.cast-answer.ensures.exact)

@@ -9,12 +9,12 @@ pub returns-in-Some-clause-exact : goal.returns-in-Some-clause-exact
 returns-in-Some-clause-exact c =
     let few : length c.args.function.now.params ≤ length c.args.run.now.frames.top.stack = search rules in
     limited c.args.code.now.functions c.args.limits.now (length c.args.function.now.params) c.args.number c.args.function.now c.args.run.now.frames.top c.args.run.now.frames.below (world_of c.args.run.now.world)
-    (world_of c.count_call.new.world) _ (limit_of c.in-Some.which) few (ap (λ depth. enter c.args.limits.now depth (world_of c.args.run.now.world)) (sym c.depth.ensures) ∙ c.in-Some.ensures)
+    (world_of c.count_call.new.world) _ (limit_of c.in-Some.which) few (ap (λ depth. enter c.args.limits.now depth (world_of c.args.run.now.world)) (sym c.depth.ensures) ∙ c.in-Some.ensures.exact)
 
 pub returns-in-None-clause-exact : goal.returns-in-None-clause-exact
 returns-in-None-clause-exact c =
     as_well _ _ _ _
     (ap (λ (counted : Counted). on_words (take_words (length c.args.function.now.params) c.args.run.now.frames.top.stack [])
     (λ args stack. on_enter c.args.code.now.functions c.args.limits.now counted c.args.number c.args.function.now [] c.args.run.now.frames.top c.args.run.now.frames.below (world_of c.args.run.now.world) args stack))
-    (ap (λ depth. enter c.args.limits.now depth (world_of c.args.run.now.world)) (sym c.depth.ensures) ∙ c.in-None.ensures))
+    (ap (λ depth. enter c.args.limits.now depth (world_of c.args.run.now.world)) (sym c.depth.ensures) ∙ c.in-None.ensures.exact))
     c.push_frame.ensures.exact

@@ -13,4 +13,5 @@ words-preserved c = (
   search rules,
   search rules,
   search rules,
+  search rules,
 )

@@ -8,4 +8,4 @@ pub returns-in-Equal-clause-exact : goal.returns-in-Equal-clause-exact
 returns-in-Equal-clause-exact c = λ stack.
     as_well _ _ _ _
     (ap (λ kind. paired c.args.code.now.functions c.args.limits.now kind c.args.a.now c.args.b.now (with_stack c.args.run.now.frames.top stack) c.args.run.now.frames.below (world_of c.args.run.now.world) c.args.run.now.frames.top.stack) c.in-Equal.is)
-    (c.answered.ensures _ _ stack c.equal-answer.ensures)
+    (c.answered.ensures.exact _ _ stack c.equal-answer.ensures.exact)

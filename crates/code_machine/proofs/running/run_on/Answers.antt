@@ -1,22 +1,43 @@
-use Rattle.std.proofs.Common.{◌≡◌, sym, subst, ◌∙◌, arith}
+use Rattle.std.proofs.Common.{◌≡◌, refl, sym, subst, ◌∙◌, arith}
 use Rattle.code_machine.proofs.Reaching.{Reached, begins, goes_on, finishes, all_taken, went}
+use Rattle.code_machine.proofs.Spaces.{spares_there, space_there}
 use Rattle.code_machine.proofs.running.run_on.Goals as goal
 
 pub instructions-init : goal.instructions-init
-instructions-init c = begins c.args.code.now.functions c.args.limits.now c.args.run.now
+instructions-init c = record { leads = begins c.args.executable.now.code.functions c.args.limits.now c.args.run.now; room = refl }
 
 pub instructions-preserved : goal.instructions-preserved
-instructions-preserved c =
-    goes_on c.args.code.now.functions c.args.limits.now c.instructions.taken c.args.run.now c.instructions.run c.step-last.new.run c.instructions.invariant
-    (went _ c.step-last.result c.step-last.new.run (sym c.goes.ensures ∙ c.if-not-goes.false) c.step-last.ensures.exact)
+instructions-preserved c = record {
+  leads =
+      goes_on c.args.executable.now.code.functions c.args.limits.now c.instructions.taken c.args.run.now c.instructions.run c.step-last.new.run c.instructions.invariant.leads
+      (went _ c.step-last.result c.step-last.new.run (sym c.goes.ensures ∙ c.if-not-goes.false) c.step-last.ensures.exact);
+  room = c.step-last.ensures.room ∙ c.instructions.invariant.room;
+}
 
-pub returns-then-not-goes : goal.returns-then-not-goes
-returns-then-not-goes c =
-    finishes c.args.code.now.functions c.args.limits.now c.instructions.taken c.args.count c.args.run.now c.instructions.run c.step-last.new.run c.step-last.result
-    c.instructions-test.true c.instructions.invariant c.step-last.ensures.exact (sym c.goes.ensures ∙ c.if-not-goes.true)
+pub returns-then-not-goes-clause-exact : goal.returns-then-not-goes-clause-exact
+returns-then-not-goes-clause-exact c =
+    finishes c.args.executable.now.code.functions c.args.limits.now c.instructions.taken c.args.count c.args.run.now c.instructions.run c.step-last.new.run c.step-last.result
+    c.instructions-test.true c.instructions.invariant.leads c.step-last.ensures.exact (sym c.goes.ensures ∙ c.if-not-goes.true)
 
-pub returns : goal.returns
-returns c =
+pub returns-then-not-goes-clause-memory : goal.returns-then-not-goes-clause-memory
+returns-then-not-goes-clause-memory c = λ run.
+    c.step-last.ensures.memory
+    (spares_there c.args.executable.now.code.functions c.args.limits.now c.args.executable.now.frame c.args.count c.instructions.taken c.args.run.now c.instructions.run run
+    c.instructions-test.true c.instructions.invariant.leads)
+    (space_there c.args.executable.now.code.functions c.args.limits.now c.args.executable.now.frame c.args.count c.instructions.taken c.args.run.now c.instructions.run run
+    c.instructions-test.true c.instructions.invariant.leads c.instructions.invariant.room c.are_counted.ensures)
+
+pub returns-then-not-goes-clause-room : goal.returns-then-not-goes-clause-room
+returns-then-not-goes-clause-room c = c.step-last.ensures.room ∙ c.instructions.invariant.room
+
+pub returns-clause-exact : goal.returns-clause-exact
+returns-clause-exact c =
     let same : c.instructions.taken ≡ c.args.count = omega arith in
-    all_taken c.args.code.now.functions c.args.limits.now c.args.count c.args.run.now c.instructions.run
-    (subst (λ n. Reached c.args.code.now.functions c.args.limits.now n c.args.run.now c.instructions.run) same c.instructions.invariant)
+    all_taken c.args.executable.now.code.functions c.args.limits.now c.args.count c.args.run.now c.instructions.run
+    (subst (λ n. Reached c.args.executable.now.code.functions c.args.limits.now n c.args.run.now c.instructions.run) same c.instructions.invariant.leads)
+
+pub returns-clause-memory : goal.returns-clause-memory
+returns-clause-memory c = λ run. tt
+
+pub returns-clause-room : goal.returns-clause-room
+returns-clause-room c = c.instructions.invariant.room

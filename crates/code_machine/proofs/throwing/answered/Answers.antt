@@ -8,22 +8,22 @@ use Rattle.code_machine.proofs.Answering.{gave, threw, filled}
 use Rattle.code_machine.proofs.Calling.{as_well}
 use Rattle.code_machine.proofs.throwing.answered.Goals as goal
 
-pub returns-in-Value : goal.returns-in-Value
-returns-in-Value c = λ effect old stack h.
+pub returns-in-Value-clause-exact : goal.returns-in-Value-clause-exact
+returns-in-Value-clause-exact c = λ effect old stack h.
     as_well _ _ _ _
     (gave c.args.code.now.functions c.args.limits.now unboxed (with_stack c.args.run.now.frames.top stack) c.args.run.now.frames.below (with_store (world_of c.args.run.now.world) old) c.args.run.now.frames.top.stack effect
     (with_store (world_of c.args.run.now.world) old) c.in-Value.value c.args.run.now.world.heap c.unboxed.result (subst (Answers effect old c.args.run.now.world.heap) c.in-Value.is h) c.unboxed.ensures)
     c.push.ensures.exact
 
-pub returns-in-Thrown : goal.returns-in-Thrown
-returns-in-Thrown c = λ effect old stack h.
+pub returns-in-Thrown-clause-exact : goal.returns-in-Thrown-clause-exact
+returns-in-Thrown-clause-exact c = λ effect old stack h.
     as_well _ _ _ _
     (threw c.args.code.now.functions c.args.limits.now unboxed (with_stack c.args.run.now.frames.top stack) c.args.run.now.frames.below (with_store (world_of c.args.run.now.world) old) c.args.run.now.frames.top.stack effect
     (with_store (world_of c.args.run.now.world) old) c.in-Thrown.id c.args.run.now.world.heap (subst (Answers effect old c.args.run.now.world.heap) c.in-Thrown.is h))
     c.unwind.ensures.exact
 
-pub returns-in-Room : goal.returns-in-Room
-returns-in-Room c = λ effect old stack h.
+pub returns-in-Room-clause-exact : goal.returns-in-Room-clause-exact
+returns-in-Room-clause-exact c = λ effect old stack h.
     let answers = subst (Answers effect old c.args.run.now.world.heap) c.in-Room.is h in
     filled c.args.code.now.functions c.args.limits.now unboxed (with_stack c.args.run.now.frames.top stack) c.args.run.now.frames.below (with_store (world_of c.args.run.now.world) old) c.args.run.now.frames.top.stack effect
     (with_store (world_of c.args.run.now.world) old) answers.0

@@ -4,10 +4,10 @@ use Rattle.object_heap.specs.Effects.{Effect, Answers, throws}
 use Rattle.number_ops.specs.Outcomes.{effect, says, zero_divisor}
 use Rattle.code_machine.proofs.throwing.throw_zero_divisor.Goals as goal
 
-pub returns-in-Ok : goal.returns-in-Ok
+pub returns-in-Ok-clause-exact : goal.returns-in-Ok-clause-exact
 unfolding says
-returns-in-Ok c =
+returns-in-Ok-clause-exact c =
     let heap = c.args.run.now.world.heap in
     let told : effect heap zero_divisor ≡ throws heap ARITHMETIC_EXCEPTION (Some c.in-Ok.message) = ap (λ message. throws heap ARITHMETIC_EXCEPTION (Some message)) (sym c.in-Ok.ensures) in
-    c.answered.ensures (effect heap zero_divisor) heap c.args.run.now.frames.top.stack
+    c.answered.ensures.exact (effect heap zero_divisor) heap c.args.run.now.frames.top.stack
     (subst (λ (e : Effect). Answers e heap c.throw-answer.new.heap c.throw-answer.result) (sym told) c.throw-answer.ensures)

@@ -1,6 +1,6 @@
 use Rattle.std.proofs.Common.{◌≡◌, ◌≤◌, ◌∷◌}
 use Rattle.code_meaning.specs.Machine.{depth_of, unwind}
-use Rattle.code_machine.specs.Seen.{world_of}
+use Rattle.code_machine.specs.Seen.{room_of, world_of}
 use Rattle.code_machine.proofs.throwing.unwind.Given as goal
 
 -- what comes of the frames that are left is what came of all
@@ -8,7 +8,7 @@ abbrev pub invariant-frames : goal.invariant-frames
 invariant-frames l =
     (unwind l.fn.code.functions (l.initial.run.frames.top ∷ l.initial.run.frames.below) l.id (world_of l.initial.run.world)
     ≡ unwind l.fn.code.functions (l.run.frames.top ∷ l.run.frames.below) l.id (world_of l.run.world))
-    × (l.run.frames.count ≤ l.initial.run.frames.count) × (l.run.frames.words ≡ l.initial.run.frames.words)
+    × (l.run.frames.count ≤ l.initial.run.frames.count) × (room_of l.run ≡ room_of l.initial.run)
 
 abbrev pub decreases-frames : goal.decreases-frames
 decreases-frames l = depth_of l.run.frames.below

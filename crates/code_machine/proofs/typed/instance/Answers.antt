@@ -7,8 +7,8 @@ use Rattle.code_machine.specs.Seen.{world_of}
 use Rattle.code_machine.proofs.Rows.{from_top}
 use Rattle.code_machine.proofs.typed.instance.Goals as goal
 
-pub returns-in-Some : goal.returns-in-Some
-returns-in-Some c =
+pub returns-in-Some-clause-exact : goal.returns-in-Some-clause-exact
+returns-in-Some-clause-exact c =
     from_top c.args.run.now.frames c.pop.new.self c.in-Some.word c.in-Some.ensures.stack c.pop.ensures.top c.pop.ensures.below
     (λ word f below stack. on_reference word (λ value. to_line f below (world_of c.args.run.now.world) (suc f.line) (I (bit (is_instance c.args.run.now.world.heap.objects value c.args.of.now)) ∷ stack))) _ _
-    (c.instance_word.ensures c.args.run.now.frames.top.stack)
+    (c.instance_word.ensures.exact c.args.run.now.frames.top.stack)
