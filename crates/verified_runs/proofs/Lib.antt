@@ -14,4 +14,5 @@ mod Members
 mod Calls
 mod Steps
 pub mod Runs
+pub mod Sizes
 mod Rowless

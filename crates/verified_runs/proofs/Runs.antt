@@ -24,7 +24,7 @@ use Rattle.verified_runs.proofs.Lowering.{lines_in, left_of, left_most, tick_wor
 use Rattle.verified_runs.proofs.Moves.{Moves, lines_are}
 use Rattle.verified_runs.proofs.Steps.{step_moves}
 
-well_shaped : (c : CodeUnder) → IsSound c → IsWellShapedCode c.allow c.code.functions
+pub well_shaped : (c : CodeUnder) → IsSound c → IsWellShapedCode c.allow c.code.functions
 well_shaped c s = (sound_is_well_shaped c.allow c.code).0 s.none
 
 -- ---- where a run begins

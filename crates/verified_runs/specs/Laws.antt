@@ -4,10 +4,11 @@ use Rattle.pl_code.specs.declared.code.FunCode.{FunCode}
 use Rattle.pl_code.specs.declared.code.Instruction.{Instruction}
 use Rattle.allowlist.specs.Allow.{AllowList}
 use Rattle.verifier.specs.Fits.{FitBelow}
-use Rattle.verifier.specs.Verified.{CodeUnder, IsSound}
+use Rattle.verifier.specs.Verified.{CodeUnder, IsSound, FrameWords}
 use Rattle.run_world.specs.World.{World, Limits}
 use Rattle.code_meaning.specs.declared.word.Word.{Word}
 use Rattle.code_meaning.specs.Machine.{Frame, Config, Next, Goes, Stuck, start, act, after}
+use Rattle.code_meaning.specs.Sizes.{IsWithin}
 use Rattle.verified_runs.specs.Rows.{has_row, names_member, HaveRows}
 use Rattle.verified_runs.specs.Fits.{kinds_of, frame_kinds, ReachesAllowed, FitsConfig, FitsNext}
 use Rattle.verified_runs.specs.Bounds.{most_steps, EndsWithin}
@@ -43,6 +44,12 @@ abbrev pub FramesFit : Type 0
 FramesFit =
     (allow : AllowList) (code : List FunCode) (limits : Limits) (c : Config) (fits : FitsConfig allow code limits c)
     → FitBelow allow code (map frame_kinds c.below) fits.function.result
+
+-- A configuration that fits is within what the verifier has found.
+abbrev pub FramesAreWithin : Type 0
+FramesAreWithin =
+    (c : CodeUnder) (limits : Limits) (most : ℕ) (at : Config) → IsSound c → FrameWords most c → FitsConfig c.allow c.code.functions limits at
+    → IsWithin most limits.depth c.code.functions at
 
 -- What has no row is stuck wherever it stands: the rows that are listed are all. Of a member of the list this is not said: the call of one
 -- that has no row may throw, since its receiver is null, or end for want of ticks, before what the member does is asked.

@@ -6,6 +6,7 @@ use Rattle.pl_code.specs.declared.code.FunCode.{FunCode}
 use Rattle.pl_code.specs.declared.code.Code.{Code}
 use Rattle.allowlist.specs.Allow.{AllowList}
 use Rattle.verifier.specs.Shaped.{IsWellShapedCode}
+use Rattle.verifier.specs.Verified.{CodeUnder, IsSound, FrameWords}
 use Rattle.verified_runs.specs.Rows.{HaveRows}
 use Rattle.verified_runs.specs.Fits.{kinds_of, main_params, ReachesAllowed, FitsNext}
 use Rattle.run_world.specs.World.{World, Limits, End}
@@ -16,11 +17,12 @@ use Rattle.code_machine.specs.declared.activation.Outcome.{Outcome}
 use Rattle.code_machine.specs.declared.configuration.Limits as machine
 use Rattle.code_machine.specs.declared.configuration.End as held
 use Rattle.code_machine.specs.declared.configuration.End.TheVariants as end
+use Rattle.code_machine.specs.Links.{Executable}
 use Rattle.code_machine.specs.Seen.{limits_of, ended}
 use Rattle.code_machine.specs.Activations.{Activation, counted, is_over, Leaves}
 use Rattle.verified_runs.specs.Bounds.{most_steps}
-use Rattle.verified_runs.proofs.Runs.{starts_fit}
-use Rattle.verified_tasks.specs.Tasks.{Keeps, KeepsFrom, IsVerified, RunUnder, EndFits, LeavesFitting, rest_from, rest, outcome_in, ending_from, ending}
+use Rattle.verified_runs.proofs.Runs.{well_shaped, starts_fit}
+use Rattle.verified_tasks.specs.Tasks.{code_under, Keeps, KeepsFrom, IsVerified, IsHeld, RunUnder, EndFits, LeavesFitting, rest_from, rest, outcome_in, ending_from, ending}
 use Rattle.verified_tasks.proofs.Resting.{taken_most, done_is, counted_none}
 
 ended_so : (ticks left steps : ℕ) (w : World) (e : held.End) → w.ticks ≡ left → (next : Next) → next ≡ ended e w → (next ≡ Stuck → ⊥)
@@ -81,31 +83,37 @@ begins allow (f ∷ fs) limits args w well under rows params reached = (
   refl,
 )
 
--- an activation of code that was verified, and is lent
-pub starts : (allow : AllowList) (kept lent : Code) (args : List Word) (w : World) (made a : Activation) → IsWellShapedCode allow kept.functions → HaveRows allow kept.functions → kinds_of args ≡ main_params kept.functions → ReachesAllowed allow w
-    → lent ≡ kept → a ≡ made → made.code ≡ lent.functions → made.allow ≡ allow → made.now ≡ Some (start lent.functions args w) → made.steps ≡ 0 → IsVerified allow a × (false ≡ is_over a.now)
-starts allow kept lent args w made a well rows params reached same is code under now steps =
-    let x = begins allow kept.functions (limits_of made.limits made.allow) args w well under rows params reached in
-    let here : made.now ≡ Some (start kept.functions args w) = now ∙ ap (λ (k : Code). Some (start k.functions args w)) same in
-    let kept_so : made.code ≡ kept.functions = code ∙ ap (λ (k : Code). k.functions) same in
-    let keeps : IsVerified allow made =
-    subst (λ fs. KeepsFrom allow fs (limits_of made.limits made.allow) made.steps made.now) (sym kept_so)
-    (subst (λ n. KeepsFrom allow kept.functions (limits_of made.limits made.allow) n made.now) (sym steps)
-    (subst (λ now. KeepsFrom allow kept.functions (limits_of made.limits made.allow) 0 now) (sym here) x.0)) in
-    subst (λ (a : Activation). IsVerified allow a × (false ≡ is_over a.now)) (sym is) (keeps, x.1 ∙ ap is_over (sym here))
+-- code that is ready to run is what was verified
+pub is_ready : (e : Executable) (c : CodeUnder) (code : Code) (allow : AllowList) (frame : ℕ) → e ≡ record { code = code; allow = allow; frame = frame } → code ≡ c.code → allow ≡ c.allow → IsSound c → FrameWords frame c
+    → IsSound (code_under e) × FrameWords e.frame (code_under e)
+is_ready e c code allow frame is same under sound words =
+    let here : e ≡ record { code = c.code; allow = c.allow; frame = frame } = is ∙ (λ i. record { code = same i; allow = under i; frame = frame }) in
+    subst (λ (e : Executable). IsSound (code_under e) × FrameWords e.frame (code_under e)) (sym here) (sound, words)
+
+-- where an activation of it begins
+abbrev pub started : Executable → machine.Limits → List Word → World → Activation
+started e limits args w = record { code = e.code.functions; limits = limits; allow = e.allow; frame = e.frame; now = Some (start e.code.functions args w); steps = 0 }
+
+pub started_with : (held e : Executable) (limits : machine.Limits) (args : List Word) (w : World) (a : Activation) → held ≡ e → a ≡ started held limits args w → a ≡ started e limits args w
+started_with held e limits args w a same is = is ∙ ap (λ (e : Executable). started e limits args w) same
+
+pub starts : (held e : Executable) (limits : machine.Limits) (args : List Word) (w : World) (a : Activation) → held ≡ e → IsSound (code_under held) × FrameWords held.frame (code_under held) → HaveRows e.allow e.code.functions
+    → kinds_of args ≡ main_params e.code.functions → ReachesAllowed e.allow w → a ≡ started held limits args w → IsVerified e.allow a × IsHeld e.allow a × (false ≡ is_over a.now)
+starts held e limits args w a same ready rows params reached is =
+    let good : IsSound (code_under e) × FrameWords e.frame (code_under e) = subst (λ (e : Executable). IsSound (code_under e) × FrameWords e.frame (code_under e)) same ready in
+    let x = begins e.allow e.code.functions (limits_of limits e.allow) args w (well_shaped (code_under e) good.0) refl rows params reached in
+    subst (λ (a : Activation). IsVerified e.allow a × IsHeld e.allow a × (false ≡ is_over a.now)) (sym (started_with held e limits args w a same is)) (x.0, good.1, x.1)
 
 -- no more is left where it begins than the bound
-pub begins_bounded : (code : List FunCode) (limits : Limits) (args : List Word) (w : World) → rest_from code limits (Some (start code args w)) ≤ most_steps code limits w.ticks
+begins_bounded : (code : List FunCode) (limits : Limits) (args : List Word) (w : World) → rest_from code limits (Some (start code args w)) ≤ most_steps code limits w.ticks
 begins_bounded [] limits args w = omega arith
 begins_bounded (f ∷ fs) limits args w = taken_most (f ∷ fs) limits (most_steps (f ∷ fs) limits w.ticks) (start (f ∷ fs) args w)
 
--- of an activation of code that was verified, and is lent
-pub starts_bounded : (allow lent_allow : AllowList) (kept lent : Code) (limits : machine.Limits) (args : List Word) (w : World) (a : Activation) → lent_allow ≡ allow → lent ≡ kept
-    → a ≡ record { code = lent.functions; limits = limits; allow = lent_allow; now = Some (start lent.functions args w); steps = 0 } → rest a ≤ most_steps kept.functions (limits_of limits allow) w.ticks
-starts_bounded allow lent_allow kept lent limits args w a under same is =
-    subst (λ (k : Code). rest a ≤ most_steps k.functions (limits_of limits allow) w.ticks) same
-    (subst (λ (list : AllowList). rest a ≤ most_steps lent.functions (limits_of limits list) w.ticks) under
-    (subst (λ (a : Activation). rest a ≤ most_steps lent.functions (limits_of limits lent_allow) w.ticks) (sym is) (begins_bounded lent.functions (limits_of limits lent_allow) args w)))
+pub starts_bounded : (held e : Executable) (limits : machine.Limits) (args : List Word) (w : World) (a : Activation) → held ≡ e → a ≡ started held limits args w
+    → rest a ≤ most_steps e.code.functions (limits_of limits e.allow) w.ticks
+starts_bounded held e limits args w a same is =
+    subst (λ (a : Activation). rest a ≤ most_steps e.code.functions (limits_of limits e.allow) w.ticks) (sym (started_with held e limits args w a same is))
+    (begins_bounded e.code.functions (limits_of limits e.allow) args w)
 
 -- ---- how it ends
 

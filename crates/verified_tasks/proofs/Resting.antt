@@ -1,10 +1,11 @@
 -- How turns lower what is left of a run of verified code, and that it comes to the same end.
-use Rattle.std.proofs.Common.{◌≡◌, ℕ, zero, suc, ◌+◌, ◌-◌, ◌^◌, ◌<◌, ◌≤◌, false, List, Option, Some, None, refl, sym, ap, ◌∙◌, subst, arith}
+use Rattle.std.proofs.Common.{◌≡◌, ℕ, zero, suc, ◌+◌, ◌-◌, ◌^◌, ◌<◌, ◌≤◌, true, false, List, Option, Some, None, refl, sym, ap, ◌∙◌, subst, arith}
 use Rattle.std.specs.Prelude.{option_map, is_some, IsTrue, ◌==◌}
 use Rattle.std.proofs.lemmas.Bool.{false≢true}
 use Rattle.std.proofs.Math.Dec.{eqb-suc-zero}
 use Rattle.pl_code.specs.declared.code.FunCode.{FunCode}
 use Rattle.allowlist.specs.Allow.{AllowList}
+use Rattle.verifier.specs.Verified.{CodeUnder, FrameWords}
 use Rattle.run_world.specs.World.{Limits, End}
 use Rattle.code_meaning.specs.declared.word.Word.{Word}
 use Rattle.code_meaning.specs.Machine.{Config, Next, Goes, Ends, Stuck, step, after}
@@ -13,10 +14,12 @@ use Rattle.task_core.specs.declared.task.Turn.TheVariants as turn
 use Rattle.task_core.specs.Turns.{IsTurn, Turns}
 use Rattle.code_machine.specs.Seen.{limits_of}
 use Rattle.code_machine.specs.Runs.{steps_taken}
-use Rattle.code_machine.specs.Activations.{Activation, counted, later, goes, is_over, Turned}
+use Rattle.code_machine.specs.Activations.{Activation, counted, later, goes, is_over, Turned, SparesFor}
 use Rattle.code_machine.proofs.Turning.{adds, taken_adds}
+use Rattle.verified_runs.specs.Fits.{FitsConfig, FitsNext}
 use Rattle.verified_runs.proofs.Runs.{stays_fitting, ends_within}
-use Rattle.verified_tasks.specs.Tasks.{Keeps, KeepsFrom, IsVerified, RunUnder, most_left, rest_from, rest, outcome_in, ending, is_end}
+use Rattle.verified_runs.proofs.Sizes.{is_within}
+use Rattle.verified_tasks.specs.Tasks.{Keeps, KeepsFrom, IsVerified, HeldFrom, IsHeld, OnlySpares, RunUnder, most_left, rest_from, rest, outcome_in, ending, is_end}
 
 plus_none : (a b : ℕ) → b ≡ 0 → a + b ≡ a
 plus_none a b e = omega (arith, e)
@@ -134,7 +137,7 @@ counted_none n h = omega (arith, h)
 -- ---- activations
 
 abbrev made : Activation → Option Next → Activation
-made a now = record { code = a.code; limits = a.limits; allow = a.allow; now = now; steps = a.steps }
+made a now = record { code = a.code; limits = a.limits; allow = a.allow; frame = a.frame; now = now; steps = a.steps }
 
 module _ (allow : AllowList) where
   keeps_from : (a : Activation) (q : ℕ) (now : Option Next) → KeepsFrom allow a.code (limits_of a.limits a.allow) a.steps now → IsVerified allow (later q (made a now))
@@ -143,6 +146,16 @@ module _ (allow : AllowList) where
 
   pub stays_verified : (a : Activation) (q : ℕ) → IsVerified allow a → IsVerified allow (later q a)
   stays_verified a q k = keeps_from a q a.now k
+
+  abbrev held_code : Activation → CodeUnder
+  held_code a = record { code = record { functions = a.code }; allow = allow }
+
+  held_from : (c : CodeUnder) (frame : ℕ) (turned : Next → Next) (now : Option Next) → HeldFrom c frame now → HeldFrom c frame (option_map turned now)
+  held_from c frame turned None w = tt
+  held_from c frame turned (Some n) w = w
+
+  stays_held : (a : Activation) (q : ℕ) → IsHeld allow a → IsHeld allow (later q a)
+  stays_held a q w = held_from (held_code a) a.frame (after a.code (limits_of a.limits a.allow) q) a.now w
 
   -- a run has come to an end where nothing is left
   abbrev some_now : Option Next → Type 0
@@ -220,14 +233,50 @@ module _ (allow : AllowList) where
   is_nothing None e = refl
   is_nothing (Some n) e = absurd (false≢true (sym e))
 
-  no_memory : (new : Activation) → new.now ≡ None → IsVerified allow new × (false ≡ is_over new.now)
-  no_memory new e = (subst (KeepsFrom allow new.code (limits_of new.limits new.allow) new.steps) (sym e) tt, sym (ap is_over e))
+  no_memory : (new : Activation) → new.now ≡ None → IsVerified allow new × IsHeld allow new × (false ≡ is_over new.now)
+  no_memory new e = (
+    subst (KeepsFrom allow new.code (limits_of new.limits new.allow) new.steps) (sym e) tt,
+    subst (HeldFrom (held_code new) new.frame) (sym e) tt,
+    sym (ap is_over e),
+  )
 
   -- behind a turn it is a run of verified code, which is over where the turn was its last
-  pub turned_keeps : (a new : Activation) (q : ℕ) (t : Turn) → IsVerified allow a → Turned q a new t → IsVerified allow new × (is_end t ≡ is_over new.now)
-  turned_keeps a new q turn.More k h = (subst (IsVerified allow) (sym h.0) (stays_verified a q k), goes_not_over new.now h.1)
-  turned_keeps a new q turn.Done k h = (subst (IsVerified allow) (sym h.0) (stays_verified a q k), sym h.1)
-  turned_keeps a new q turn.NoMemory k h = no_memory new (is_nothing new.now h)
+  pub turned_keeps : (a new : Activation) (q : ℕ) (t : Turn) → IsVerified allow a → IsHeld allow a → Turned q a new t → IsVerified allow new × IsHeld allow new × (is_end t ≡ is_over new.now)
+  turned_keeps a new q turn.More k w h = (subst (IsVerified allow) (sym h.0) (stays_verified a q k), subst (IsHeld allow) (sym h.0) (stays_held a q w), goes_not_over new.now h.1)
+  turned_keeps a new q turn.Done k w h = (subst (IsVerified allow) (sym h.0) (stays_verified a q k), subst (IsHeld allow) (sym h.0) (stays_held a q w), sym h.1)
+  turned_keeps a new q turn.NoMemory k w h = no_memory new (is_nothing new.now h)
+
+  -- what is over stays so
+  over_from : (a : Activation) (q : ℕ) (now : Option Next) → IsTrue (is_over now) → KeepsFrom allow a.code (limits_of a.limits a.allow) a.steps now → made a now ≡ later q (made a now)
+  over_from a q None g k = absurd (false≢true g)
+  over_from a q (Some (Goes c)) g k = absurd (false≢true g)
+  over_from a q (Some (Ends r)) g k =
+      let code = a.code in
+      let limits = limits_of a.limits a.allow in
+      let steps : a.steps ≡ counted (a.steps + steps_taken code limits q (Ends r)) =
+      sym (ap (λ n. counted (a.steps + n)) (none_behind code limits q r) ∙ counted_none a.steps k.counts) in
+      let stays = sym (end_stays code limits q r) in
+      (λ i. record { code = a.code; limits = a.limits; allow = a.allow; frame = a.frame; now = Some (stays i); steps = steps i })
+  over_from a q (Some Stuck) g k = absurd k.fits
+
+  pub over_stays : (a : Activation) (q : ℕ) → IsVerified allow a → true ≡ is_over a.now → Turned q a a turn.Done
+  over_stays a q k g = (over_from a q a.now (sym g) k, sym g)
+
+  -- ---- memory
+
+  -- where the instructions take none, their frames find room
+  pub spares_for : (a : Activation) (q : ℕ) → IsVerified allow a → IsHeld allow a → OnlySpares q a → SparesFor q a
+  spares_for a q k w o =
+      let limits = limits_of a.limits a.allow in
+      let keeps : Keeps allow a.code limits a.steps o.next = subst (KeepsFrom allow a.code limits a.steps) o.stands k in
+      let words : FrameWords a.frame (held_code a) = subst (HeldFrom (held_code a) a.frame) o.stands w in
+      record {
+        next = o.next;
+        stands = o.stands;
+        spares = λ n c less is.
+            let fits : FitsConfig allow a.code limits c = subst (FitsNext allow a.code limits) is (stays_fitting allow a.code limits keeps.well keeps.under keeps.rows n o.next keeps.fits) in
+            (o.spares n c less is, is_within (held_code a) a.frame words limits c keeps.well fits);
+      }
 
   turned_is : (a new : Activation) (q : ℕ) (t : Turn) → IsVerified allow a → Turned q a new t → Turns rest ending q a new t
   turned_is a new q turn.More k h =

@@ -6,9 +6,12 @@ use Rattle.object_heap.specs.declared.outcome.Which.TheVariants as which
 use Rattle.pl_code.specs.declared.code.FunCode.{FunCode}
 use Rattle.allowlist.specs.Allow.{AllowList, flag}
 use Rattle.verifier.specs.Shaped.{IsWellShapedCode}
+use Rattle.verifier.specs.Verified.{CodeUnder, FrameWords}
+use Rattle.code_machine.specs.Sparing.{Spares}
+use Rattle.code_machine.specs.Links.{Executable}
 use Rattle.run_world.specs.World.{Limits, Limit, Loop, Depth, Ticks, Room, End, Result, Uncaught, Limited}
 use Rattle.code_meaning.specs.declared.word.Word.{Word}
-use Rattle.code_meaning.specs.Machine.{Next, Goes, Ends, Stuck, after}
+use Rattle.code_meaning.specs.Machine.{Config, Next, Goes, Ends, Stuck, after}
 use Rattle.task_core.specs.declared.task.Turn.{Turn}
 use Rattle.task_core.specs.declared.task.Turn.TheVariants as turn
 use Rattle.code_machine.specs.declared.activation.Outcome.{Outcome}
@@ -21,6 +24,10 @@ use Rattle.verified_runs.specs.Rows.{HaveRows}
 use Rattle.verified_runs.specs.Fits.{kind_of, main_result, FitsNext}
 use Rattle.verified_runs.specs.Bounds.{most_steps}
 
+-- code that is ready to run, and the list by which it was verified
+abbrev pub code_under : Executable → CodeUnder
+code_under e = record { code = e.code; allow = e.allow }
+
 -- ---- which activations are runs of verified code
 
 -- The code is well shaped under a list, by which members are called, and its instructions have rows under it; where the run stands fits, and 64 bits
@@ -31,6 +38,21 @@ pub record Keeps (allow : AllowList) (code : List FunCode) (limits : Limits) (st
   pub rows : HaveRows allow code
   pub fits : FitsNext allow code limits n
   pub counts : steps < 2 ^ 64
+
+-- A frame of code has so many words at most; after want of memory nothing is known.
+abbrev pub HeldFrom : CodeUnder → ℕ → Option Next → Type 0
+HeldFrom c frame None = Unit {0}
+HeldFrom c frame (Some n) = FrameWords frame c
+
+-- a frame of a run has so many words at most as there is memory for
+abbrev pub IsHeld : AllowList → Activation → Type 0
+IsHeld allow a = HeldFrom (record { code = record { functions = a.code }; allow = allow }) a.frame a.now
+
+-- The next instructions, so many at most, take no memory.
+pub record OnlySpares (q : ℕ) (a : Activation) : Type 0 where
+  pub next : Next
+  pub stands : a.now ≡ Some next
+  pub spares : (k : ℕ) (c : Config) → k < q → after a.code (limits_of a.limits a.allow) k next ≡ Goes c → Spares a.code a.allow c
 
 -- after want of memory nothing is known
 abbrev pub KeepsFrom : AllowList → List FunCode → Limits → ℕ → Option Next → Type 0

@@ -3,4 +3,4 @@
 
 mod activation;
 
-pub use activation::VerifiedActivation;
+pub use activation::{VerifiedActivation, VerifiedExecutable};

@@ -10,8 +10,8 @@ use std::alloc::{AllocError, Global};
 use std::test::Fail;
 use task_core::run_order;
 use verified_runs::{fit_main, have_rows};
-use verified_tasks::VerifiedActivation;
-use verifier::{Verified, verify};
+use verified_tasks::{VerifiedActivation, VerifiedExecutable};
+use verifier::verify;
 
 /// `int s = 0; for (int i = 0; i < 5; i++) { s += i } s`
 const SUM: &str =
@@ -30,10 +30,14 @@ const LIMITS: Limits = Limits {
     ticks: 100,
 };
 
-fn verified(alloc: Global, allow: &Allow, text: &str) -> Result<Option<Verified>, AllocError> {
+fn verified(
+    alloc: Global,
+    allow: &Allow,
+    text: &str,
+) -> Result<Option<VerifiedExecutable>, AllocError> {
     match read_listing(alloc, text.as_bytes()) {
         Ok(code) => match verify(alloc, allow, code) {
-            Ok(verified) => Ok(Some(verified)),
+            Ok(verified) => Ok(Some(VerifiedExecutable::new(alloc, verified)?)),
             Err(_) => Ok(None),
         },
         Err(_) => Ok(None),
@@ -43,7 +47,7 @@ fn verified(alloc: Global, allow: &Allow, text: &str) -> Result<Option<Verified>
 /// A run without arguments, where the code takes none and has rows.
 fn started<'c>(
     alloc: Global,
-    code: &'c Verified,
+    code: &'c VerifiedExecutable,
 ) -> Result<Option<VerifiedActivation<'c>>, AllocError> {
     let arguments = Elements::new(alloc);
     if !have_rows(code.allow(), code.code()) {
@@ -86,8 +90,8 @@ fn leaves_so(outcome: &Outcome, number: i32, steps: u64, ticks: u64) -> bool {
 
 /// Two runs take turns of `q` instructions: first the second, then twice the first, and then both until they end.
 fn take_turns(
-    first: &Verified,
-    second: &Verified,
+    first: &VerifiedExecutable,
+    second: &VerifiedExecutable,
     alloc: Global,
     q: u64,
 ) -> Result<bool, AllocError>

@@ -1,14 +1,22 @@
-use Rattle.std.proofs.Common.{[], Some, refl}
-use Rattle.code_meaning.specs.Machine.{start}
-use Rattle.verified_tasks.proofs.Outcomes.{starts, starts_bounded}
+use Rattle.std.proofs.Common.{[], refl, ap}
+use Rattle.run_world.specs.World.{World}
+use Rattle.code_machine.specs.Activations.{Activation}
+use Rattle.verified_tasks.specs.Tasks.{RunUnder}
+use Rattle.verified_tasks.proofs.Outcomes.{started_with, starts, starts_bounded}
 use Rattle.verified_tasks.proofs.activation.VerifiedActivation.start.Goals as goal
 
 pub invariant_of-result : goal.invariant_of-result
 invariant_of-result c =
-    starts c.args.code.now.allow c.args.code.now.code c.code.result.now c.args.args (record { store = c.args.heap; ticks = c.args.limits.ticks; reached = [] })
-    (record { code = c.code.result.now.functions; limits = c.args.limits; allow = c.allow.result.now; now = Some (start c.code.result.now.functions c.args.args (record { store = c.args.heap; ticks = c.args.limits.ticks; reached = [] })); steps = 0 })
-    c.in_ok-run.run' c.code.ensures.shaped c.requires.rows c.requires.args refl c.code.ensures.code c.in_ok-run.ensures refl c.allow.ensures.allow refl refl
+    let w : World = record { store = c.args.heap; ticks = c.args.limits.ticks; reached = [] } in
+    starts c.code.inside.executable c.args.code.now c.args.limits c.args.args w c.in_ok-run.run' c.code.view_is c.code.invariant c.requires.rows c.requires.args refl c.in_ok-run.ensures
+
+pub returns-clause-started : goal.returns-clause-started
+returns-clause-started c =
+    let w : World = record { store = c.args.heap; ticks = c.args.limits.ticks; reached = [] } in
+    let under : Activation → RunUnder = λ (a : Activation). record { run = a; allow = c.args.code.now.allow } in
+    ap under (started_with c.code.inside.executable c.args.code.now c.args.limits c.args.args w c.in_ok-run.run' c.code.view_is c.in_ok-run.ensures)
 
 pub returns-clause-bound : goal.returns-clause-bound
 returns-clause-bound c =
-    starts_bounded c.args.code.now.allow c.allow.result.now c.args.code.now.code c.code.result.now c.args.limits c.args.args (record { store = c.args.heap; ticks = c.args.limits.ticks; reached = [] }) c.in_ok-run.run' c.allow.ensures.allow c.code.ensures.code c.in_ok-run.ensures
+    let w : World = record { store = c.args.heap; ticks = c.args.limits.ticks; reached = [] } in
+    starts_bounded c.code.inside.executable c.args.code.now c.args.limits c.args.args w c.in_ok-run.run' c.code.view_is c.in_ok-run.ensures

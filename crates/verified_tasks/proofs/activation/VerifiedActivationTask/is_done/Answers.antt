@@ -7,4 +7,4 @@ use Rattle.verified_tasks.proofs.activation.VerifiedActivationTask.is_done.Goals
 pub returns : goal.returns
 returns c =
     let same : record { run = c.self.inside.run; allow = c.self.inside.code.now.allow } ≡ c.args.self.now = c.self.view_is in
-    c.self.invariant.1 ∙ done_is c.self.inside.code.now.allow c.self.inside.run c.self.invariant.0 ∙ ap (λ (r : RunUnder). rest r.run == 0) same
+    c.self.invariant.2 ∙ done_is c.self.inside.code.now.allow c.self.inside.run c.self.invariant.0 ∙ ap (λ (r : RunUnder). rest r.run == 0) same
