@@ -48,7 +48,7 @@ fn context(alloc: Global) -> ContextTypes
 }
 
 /// The script of a text under the full catalogue.
-fn compiled<'a>(alloc: Global, text: &str, allow: &'a Allow) -> Result<Script<'a>, Fail>
+fn compiled(alloc: Global, text: &str, allow: &Allow) -> Result<Script, Fail>
     requires full { allow.now ≡ full_list }
     ensures exact { Compiles full_list eval_types (IsProgramOf full_list eval_types text.now) result }
     ensures only { (reading : Result Program Refusal) → IsProgramOf full_list eval_types text.now reading → Compiles full_list eval_types (λ a. a ≡ reading) result }
@@ -58,7 +58,7 @@ fn compiled<'a>(alloc: Global, text: &str, allow: &'a Allow) -> Result<Script<'a
 }
 
 /// Runs a script with the default limits.
-fn run(alloc: Global, script: &Script<'_>) -> Result<Outcome, AllocError>
+fn run(alloc: Global, script: &Script) -> Result<Outcome, AllocError>
     ensures { IfOk result (RunsAsEval script.now) }
 {
     let heap = Heap::new(alloc, 16_000_000);

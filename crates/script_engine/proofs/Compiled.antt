@@ -75,7 +75,7 @@ reached_from allow context text p good h = let tree = typed_from allow context t
 
 -- code of a text's program is its script
 pub is_script : (allow : AllowList) (context : ContextTypes) (text : List ℕ) (p : Program) (script : Script) → IsContext context → IsProgramOf allow context text (Ok p)
-    → script.allow.now ≡ allow → script.result ≡ context.result → IsCodeOf p script.code.functions → IsScriptOf allow context p script
+    → script.executable.allow ≡ allow → script.result ≡ context.result → IsCodeOf p script.executable.code.functions → IsScriptOf allow context p script
 is_script allow context text p script good h allowed kept code =
     let tree = typed_from allow context text p h in
     let has = has_context allow context tree.0 p tree.1 in

@@ -16,7 +16,7 @@ use Rattle.object_heap.specs.declared.outcome.Outcome.{Outcome}
 use Rattle.run_world.specs.World as run
 use Rattle.run_world.specs.World.{World, Limit, End, Result, Uncaught, Limited}
 use Rattle.typed_tree.specs.declared.program.Program.{Program}
-use Rattle.program_meaning.specs.Programs.{fun_of, program_of, variable_of}
+use Rattle.program_meaning.specs.Programs.{fun_of, program_of}
 use Rattle.program_meaning.specs.Tree.{Variable, Fun}
 use Rattle.program_meaning.specs.Meaning.{Env, Out, Done, Thrown, Over, More, Flow, Normal, Broke, Continued, Returned, entry, returned, default_of, default_of_layer, default_of_primitive, meaning}
 use Rattle.object_values.specs.declared.object.Owner.TheVariants.{Script as script_text}
@@ -228,31 +228,31 @@ same_env : (o : Option Env) (e e' : Env) → o ≡ Some e → o ≡ Some e' → 
 same_env o e e' is is' = cc
 
 pub runs_as_its_program : CodeEndsAsPrograms → (script : Script) (store : Store) (args : List Value) (limits : Limits) (a : Activation) (q : ℕ) (o : Outcome)
-    → a ≡ record { code = script.code.functions; limits = limits; allow = script.allow.now; now = Some (start script.code.functions (words_in (params_of (slice_get script.code.functions 0)) args) (world_at store limits)); steps = 0 }
+    → a ≡ record { code = script.executable.code.functions; limits = limits; allow = script.executable.allow; frame = script.executable.frame; now = Some (start script.executable.code.functions (words_in (params_of (slice_get script.executable.code.functions 0)) args) (world_at store limits)); steps = 0 }
     → IsTrue (is_over (later q a).now) → LeftBy script.result (later q a) o → RunsAsItsProgram script store args limits o
 runs_as_its_program outcomes script store args limits a q o begun over by allow context p is have read =
     let funs = program_of p in
     let main = fun_of p.main in
-    let functions = script.code.functions in
+    let functions = script.executable.code.functions in
     let gives : script.result ≡ main.result = is.kept ∙ sym is.result in
     let reads : IsRead main.result = subst IsRead (sym is.result) read in
     let have' : HaveAll (types_in main.params) args = subst (λ ps. HaveAll (types_in ps) args) (sym is.variables) have in
     let w = world_at store limits in
-    let kept = limits_of limits script.allow.now in
+    let kept = limits_of limits script.executable.allow in
     let formed = subst (λ list. WellFormed (known list funs)) (sym is.allowed) is.formed in
     let out = outcomes p functions kept formed is.code args have' w in
     let first = is.code.each 0 main refl in
     let kinds : params_of (slice_get functions 0) ≡ kinds_of main.params = ap params_of first.is ∙ first.params in
     let words : out.words ≡ words_in (params_of (slice_get functions 0)) args = words_match main.params args out.words out.are.are ∙ ap (λ ks. words_in ks args) (sym kinds) in
     let begin = words_in (params_of (slice_get functions 0)) args in
-    let b : Activation = record { code = functions; limits = limits; allow = script.allow.now; now = Some (start functions begin w); steps = 0 } in
+    let b : Activation = record { code = functions; limits = limits; allow = script.executable.allow; frame = script.executable.frame; now = Some (start functions begin w); steps = 0 } in
     let stands : (later q b).now ≡ Some (Ends out.end) =
     ends_there b (start functions begin w) out.end refl (subst (λ ws. EndsAs functions kept (start functions ws w) out.end) words out.code_ends) q
     (subst (λ x. IsTrue (is_over (later q x).now)) begun over) in
     let there : Some (Ends out.end) ≡ Some (ended by.end (world_left o by.left)) = sym stands ∙ sym (ap (λ x. (later q x).now) begun) ∙ by.stands in
     let same : Ends out.end ≡ ended by.end (world_left o by.left) = cc in
     let bound = enough funs w in
-    let ran = comes_to_an_end (known script.allow.now funs) formed kept main refl refl args have' w bound (omega arith) in
+    let ran = comes_to_an_end (known script.executable.allow funs) formed kept main refl refl args have' w bound (omega arith) in
     let enough' : (e : Env) → entry main.params args [] ≡ Some e → IsEnough main.result (main_out p kept bound main w e) =
     λ e h. subst (λ x. IsEnough main.result (main_out p kept bound main w x)) (same_env (entry main.params args []) ran.0 e ran.1 h) ran.2 in
     subst (λ list. IsOutcome list p store args limits o) is.allowed (record {
@@ -266,7 +266,7 @@ runs_as_its_program outcomes script store args limits a q o begun over by allow 
 
 -- .. and so does what a turn that came to the end has left
 pub turned_runs : CodeEndsAsPrograms → (script : Script) (store : Store) (args : List Value) (limits : Limits) (a new : Activation) (q : ℕ) (o : Outcome)
-    → a ≡ record { code = script.code.functions; limits = limits; allow = script.allow.now; now = Some (start script.code.functions (words_in (params_of (slice_get script.code.functions 0)) args) (world_at store limits)); steps = 0 }
+    → a ≡ record { code = script.executable.code.functions; limits = limits; allow = script.executable.allow; frame = script.executable.frame; now = Some (start script.executable.code.functions (words_in (params_of (slice_get script.executable.code.functions 0)) args) (world_at store limits)); steps = 0 }
     → Turned q a new turn.Done → LeftBy script.result new o → RunsAsItsProgram script store args limits o
 turned_runs outcomes script store args limits a new q o begun turned by =
     runs_as_its_program outcomes script store args limits a q o begun (subst (λ x. IsTrue (is_over x.now)) turned.0 turned.1) (subst (λ x. LeftBy script.result x o) turned.0 by)

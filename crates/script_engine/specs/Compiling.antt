@@ -11,12 +11,12 @@ use Rattle.program_types.specs.Agreeing.{known, WellFormed}
 use Rattle.program_code.specs.Correct.{IsCodeOf}
 use Rattle.script_engine.specs.declared.compiling.Script.{Script}
 
--- A script is this program of a context under a list: it keeps the list, it has code that stands for the program, the program is well formed,
+-- A script is this program of a context under a list: it has the list, it has code that stands for the program, the program is well formed,
 -- and its variables and its result are the context's; the type of the result is kept.
 pub record IsScriptOf (allow : AllowList) (context : ContextTypes) (p : Program) (script : Script) : Type 0 where
-  pub allowed : script.allow.now ≡ allow
+  pub allowed : script.executable.allow ≡ allow
   pub formed : WellFormed (known allow (program_of p))
-  pub code : IsCodeOf p script.code.functions
+  pub code : IsCodeOf p script.executable.code.functions
   pub variables : (fun_of p.main).params ≡ map variable_of context.variables
   pub result : (fun_of p.main).result ≡ context.result
   pub kept : script.result ≡ context.result

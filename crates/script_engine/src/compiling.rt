@@ -3,6 +3,7 @@
 ghost use Rattle.std.specs.Prelude.{◌≡◌, ◌≤◌, IfOk, None, Result, length, string_bytes};
 ghost use Rattle.pl_code.specs.Listing.{written};
 ghost use Rattle.verifier.specs.Faults.{shape_fault};
+ghost use Rattle.verifier.specs.Verified.{FrameWords};
 ghost use Rattle.pl_types.specs.Answers.{Answers};
 ghost use Rattle.pl_types.specs.declared.refusal.Refusal.{Refusal};
 ghost use Rattle.pl_grammar.specs.Lexeme.{AllLieIn};
@@ -13,6 +14,7 @@ ghost use Rattle.script_engine.specs.Compiling.{Compiles};
 
 use allowlist::Allow;
 use code_generator::generate;
+use code_machine::Executable;
 use pl_code::{Code, listing};
 use pl_lexer::{Token, lex};
 use pl_parser::parse;
@@ -22,31 +24,30 @@ use program_shapes::code_is_well_shaped;
 use static_types::{ContextTypes, elaborate};
 use std::alloc::{AllocError, Global};
 use typed_tree::Program;
+use verifier::verify;
 
-/// A script that was compiled, with the list of what it may use.
-pub struct Script<'a> {
-    pub(crate) allow: &'a Allow,
-    pub(crate) code: Code,
+/// A script that was compiled: verified code with the list of what it may use.
+pub struct Script {
+    pub(crate) executable: Executable,
     /// The type of what it gives.
     pub(crate) result: Ty,
 }
 
-impl<'a> Drop for Script<'a> {
+impl Drop for Script {
     fn drop(self) {
         let Script {
-            allow: _,
-            code: _code,
+            executable: _executable,
             result: _result,
         } = self;
     }
 }
 
-impl<'a> Script<'a> {
+impl Script {
     /// The listing of the code.
     pub fn listing(&self, alloc: Global) -> Result<String, AllocError>
-        ensures { IfOk result (λ text. string_bytes text ≡ written self.now.code) }
+        ensures { IfOk result (λ text. string_bytes text ≡ written self.now.executable.code) }
     {
-        listing(alloc, &self.code)
+        listing(alloc, self.executable.code())
     }
 }
 
@@ -99,27 +100,43 @@ fn program_of(
 /// # Errors
 ///
 /// Refused by the first rule that the text breaks: of tokens, then of the grammar, then of types. `NoMemory`.
-pub fn compile<'a>(
+pub fn compile(
     alloc: Global,
     text: &str,
-    allow: &'a Allow,
+    allow: &Allow,
     context: &ContextTypes,
-) -> Result<Script<'a>, Fail>
+) -> Result<Script, Fail>
     requires context { IsContext context.now }
     ensures exact { Compiles allow.now context.now (IsProgramOf allow.now context.now text.now) result }
     ensures only { (reading : Result typed.Program Refusal) → IsProgramOf allow.now context.now text.now reading → Compiles allow.now context.now (λ a. a ≡ reading) result }
-    // The verifier finds no fault in the code.
-    ensures sound { IfOk result (λ script. shape_fault allow.now script.code ≡ None) }
+    // The verifier finds no fault in the code, and no frame of a run has more words than there is memory for.
+    ensures sound { IfOk result (λ script. shape_fault allow.now script.executable.code ≡ None) }
+    ensures frames { IfOk result (λ script. FrameWords script.executable.frame (record { code = script.executable.code; allow = script.executable.allow })) }
 {
     code_is_well_shaped();
     let program = program_of(alloc, allow, context, text)?;
     let result = context.result.share(alloc)?;
     match generate(alloc, allow, &program) {
-        Ok(code) => Ok(Script {
-            allow,
-            code,
-            result,
-        }),
+        Ok(code) => {
+            let executable = executable_of(alloc, allow, code)?;
+            Ok(Script { executable, result })
+        }
         Err(_) => Err(Fail::NoMemory),
+    }
+}
+
+/// Code that breaks nowhere, made ready to run. The verifier tells how many words a frame of it has.
+fn executable_of(alloc: Global, allow: &Allow, code: Code) -> Result<Executable, AllocError>
+    requires { shape_fault allow.now code ≡ None }
+    ensures code { IfOk result (λ e. (e.code ≡ code) × (e.allow ≡ allow.now)) }
+    ensures frames { IfOk result (λ e. FrameWords e.frame (record { code = e.code; allow = e.allow })) }
+{
+    match verify(alloc, allow, code) {
+        Ok(verified) => {
+            let frame = verified.frame_words();
+            let allow = allow.share(alloc)?;
+            Executable::new(alloc, verified.into_code(), allow, frame)
+        }
+        Err(_) => Err(AllocError),
     }
 }

@@ -114,7 +114,7 @@ fn left(of: &Ty, activation: Activation<'_>) -> Result<Outcome, AllocError>
     }
 }
 
-impl<'a> Script<'a> {
+impl Script {
     /// Runs the script over a heap, whose room is what the run may take of it, on arguments, within limits. The arguments are the
     /// values of the context's variables, in their order.
     ///
@@ -124,8 +124,8 @@ impl<'a> Script<'a> {
         ensures { IfOk result (RunsAsItsProgram self.now heap args.items limits) }
     {
         programs_end();
-        let words = words_in(heap.alloc(), params_of(&self.code), args)?;
-        let mut activation = Activation::start(&self.code, self.allow, heap, words, limits)?;
+        let words = words_in(heap.alloc(), params_of(self.executable.code()), args)?;
+        let mut activation = Activation::start(&self.executable, heap, words, limits)?;
         match activation.turn(u64::MAX) {
             Turn::Done => left(&self.result, activation),
             _ => Err(AllocError),
