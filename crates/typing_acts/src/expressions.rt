@@ -17,8 +17,7 @@ pub fn integer(alloc: Global, config: &mut Config, at: u32, spelling: &Text) -> 
     ensures { KeepsIn (spec.integer at spelling.now config.old) result config.new }
 {
     let x = literals::integer(alloc, at, spelling.as_str())?;
-    config.parts.push(x)?;
-    Ok(())
+    config.parts.put(x)
 }
 
 /// One directly behind a minus.
@@ -32,8 +31,7 @@ pub fn negated_integer(
     ensures { KeepsIn (spec.negated_integer minus at spelling.now config.old) result config.new }
 {
     let x = literals::negated_integer(alloc, minus, at, spelling.as_str())?;
-    config.parts.push(x)?;
-    Ok(())
+    config.parts.put(x)
 }
 
 /// A text.
@@ -41,8 +39,7 @@ pub fn text(alloc: Global, config: &mut Config, at: u32, spelling: &Text) -> Res
     ensures { KeepsIn (spec.text at spelling.now config.old) result config.new }
 {
     let x = literals::text(alloc, at, spelling.as_str())?;
-    config.parts.push(x)?;
-    Ok(())
+    config.parts.put(x)
 }
 
 /// A literal that is a keyword.
@@ -50,8 +47,7 @@ pub fn constant(alloc: Global, config: &mut Config, at: u32, constant: Constant)
     ensures { KeepsIn (spec.constant at constant config.old) result config.new }
 {
     let x = literals::constant(alloc, at, constant)?;
-    config.parts.push(x)?;
-    Ok(())
+    config.parts.put(x)
 }
 
 /// A name's value.
@@ -59,8 +55,7 @@ pub fn local(alloc: Global, config: &mut Config, at: u32, name: &Text) -> Result
     ensures { KeepsIn (spec.local at name.now config.old) result config.new }
 {
     let x = places::local(alloc, at, name, &config.state)?;
-    config.parts.push(x)?;
-    Ok(())
+    config.parts.put(x)
 }
 
 /// An operator between two operands.
@@ -79,8 +74,7 @@ pub fn binary(
         return Err(Fail::NoMemory);
     };
     let z = operators::binary_of(alloc, operator, at, x, y)?;
-    config.parts.push(z)?;
-    Ok(())
+    config.parts.put(z)
 }
 
 /// An operator before its operand.
@@ -96,8 +90,7 @@ pub fn unary(
         return Err(Fail::NoMemory);
     };
     let y = operators::unary_of(alloc, operator, at, x)?;
-    config.parts.push(y)?;
-    Ok(())
+    config.parts.put(y)
 }
 
 /// A conditional.
@@ -114,8 +107,7 @@ pub fn choice(alloc: Global, config: &mut Config, at: u32) -> Result<(), Fail>
         return Err(Fail::NoMemory);
     };
     let x = operators::choice_of(alloc, at, condition, yes, no)?;
-    config.parts.push(x)?;
-    Ok(())
+    config.parts.put(x)
 }
 
 /// `?:`.
@@ -129,8 +121,7 @@ pub fn elvis(alloc: Global, config: &mut Config, at: u32) -> Result<(), Fail>
         return Err(Fail::NoMemory);
     };
     let z = operators::elvis_of(alloc, at, x, y)?;
-    config.parts.push(z)?;
-    Ok(())
+    config.parts.put(z)
 }
 
 /// `instanceof`.
@@ -142,8 +133,7 @@ pub fn instance_of(alloc: Global, config: &mut Config, at: u32, of: &TypeName) -
     };
     let of = types::type_of(of)?;
     let y = operators::instance_of(alloc, at, x, &of)?;
-    config.parts.push(y)?;
-    Ok(())
+    config.parts.put(y)
 }
 
 /// Brackets.
@@ -153,8 +143,7 @@ pub fn bracketed(config: &mut Config, at: u32) -> Result<(), Fail>
     let Some(x) = config.parts.pop() else {
         return Err(Fail::NoMemory);
     };
-    config.parts.push(x.bracketed(at))?;
-    Ok(())
+    config.parts.put(x.bracketed(at))
 }
 
 /// A cast that is written.
@@ -166,8 +155,7 @@ pub fn asked(alloc: Global, config: &mut Config, at: u32, of: &TypeName) -> Resu
     };
     let to = types::type_of(of)?;
     let y = casts::asked(alloc, at, &to, x)?;
-    config.parts.push(y)?;
-    Ok(())
+    config.parts.put(y)
 }
 
 /// A call of a function of the script with the arguments above a height.
@@ -185,6 +173,5 @@ pub fn call(
         return Err(Fail::NoMemory);
     };
     let x = calls::call_of(alloc, headers, at, name, given)?;
-    config.parts.push(x)?;
-    Ok(())
+    config.parts.put(x)
 }

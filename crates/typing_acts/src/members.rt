@@ -31,8 +31,7 @@ pub fn method(
         return Err(Fail::NoMemory);
     };
     let y = members::method_of(alloc, allow, access, at, name, x, given)?;
-    config.parts.push(y)?;
-    Ok(())
+    config.parts.put(y)
 }
 
 /// A call on a type with the arguments above a height.
@@ -53,8 +52,7 @@ pub fn static_call(
     };
     let of = types::type_of(of)?;
     let x = members::static_of(alloc, allow, access, at, name, &of, given)?;
-    config.parts.push(x)?;
-    Ok(())
+    config.parts.put(x)
 }
 
 /// `new` with the arguments above a height.
@@ -73,8 +71,7 @@ pub fn made(
     };
     let of = types::type_of(of)?;
     let x = members::new_of(alloc, allow, at, &of, given)?;
-    config.parts.push(x)?;
-    Ok(())
+    config.parts.put(x)
 }
 
 /// A name of a value.
@@ -92,8 +89,7 @@ pub fn read(
         return Err(Fail::NoMemory);
     };
     let y = members::read_of(alloc, allow, access, at, name, x)?;
-    config.parts.push(y)?;
-    Ok(())
+    config.parts.put(y)
 }
 
 /// A name of a type.
@@ -110,6 +106,5 @@ pub fn field(
 {
     let of = types::type_of(of)?;
     let x = members::field_of(alloc, allow, access, at, name, &of)?;
-    config.parts.push(x)?;
-    Ok(())
+    config.parts.put(x)
 }

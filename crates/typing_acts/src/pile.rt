@@ -1,8 +1,10 @@
 //! A stack.
 
-ghost use Rattle.std.specs.Prelude.{◌≡◌, ◌-◌, [], ◌∷◌, length, MatchOption, OnOk, IfOk};
+ghost use Rattle.std.specs.Prelude.{◌≡◌, ◌-◌, [], ◌∷◌, length, MatchOption, OnOk, IfOk, Ok};
 ghost use Rattle.typing_acts.specs.Piles.{Takes};
+ghost use Rattle.typing_rules.specs.Outcomes.{KeepsIn};
 
+use pl_types::Fail;
 use std::alloc::{AllocError, Global};
 use std::marker::Model;
 
@@ -60,6 +62,16 @@ impl<T: Drop> Pile<T> {
     {
         self.items.push(item)?;
         Ok(())
+    }
+
+    /// Puts an item on the top, as an act ends.
+    pub(crate) fn put(&mut self, item: T) -> Result<(), Fail>
+        ensures { KeepsIn (Ok (item ∷ self.old)) result self.new }
+    {
+        match self.items.push(item) {
+            Ok(()) => Ok(()),
+            Err(_) => Err(Fail::NoMemory),
+        }
     }
 }
 

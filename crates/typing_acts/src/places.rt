@@ -18,8 +18,7 @@ pub fn written(alloc: Global, config: &mut Config, at: u32, name: &Text) -> Resu
     ensures { KeepsIn (spec.written at name.now config.old) result config.new }
 {
     let place = places::written(alloc, at, name, &config.state)?;
-    config.places.push(place)?;
-    Ok(())
+    config.places.put(place)
 }
 
 /// What is no name.
@@ -29,8 +28,7 @@ pub fn fixed(config: &mut Config) -> Result<(), Fail>
     let Some(_part) = config.parts.pop() else {
         return Err(Fail::NoMemory);
     };
-    config.places.push(Place::Fixed)?;
-    Ok(())
+    config.places.put(Place::Fixed)
 }
 
 /// An assignment.
@@ -49,8 +47,7 @@ pub fn assign(
         return Err(Fail::NoMemory);
     };
     let y = places::assign_of(alloc, at, operator, place, x)?;
-    config.parts.push(y)?;
-    Ok(())
+    config.parts.put(y)
 }
 
 /// `++` or `--`.
@@ -67,6 +64,5 @@ pub fn step(
         return Err(Fail::NoMemory);
     };
     let x = places::step_of(alloc, at, step, gives, place)?;
-    config.parts.push(x)?;
-    Ok(())
+    config.parts.put(x)
 }

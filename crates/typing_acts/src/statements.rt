@@ -22,8 +22,7 @@ pub fn test(alloc: Global, config: &mut Config) -> Result<(), Fail>
         return Err(Fail::NoMemory);
     };
     let test = statements::test(alloc, x)?;
-    config.tests.push(Some(test))?;
-    Ok(())
+    config.tests.put(Some(test))
 }
 
 /// The test of a loop.
@@ -34,16 +33,14 @@ pub fn loop_test(alloc: Global, config: &mut Config) -> Result<(), Fail>
         return Err(Fail::NoMemory);
     };
     let test = statements::loop_test(alloc, x)?;
-    config.tests.push(test)?;
-    Ok(())
+    config.tests.put(test)
 }
 
 /// A test, an update or a first value that is missing.
 pub fn no_test(config: &mut Config) -> Result<(), Fail>
     ensures { KeepsIn (spec.no_test config.old) result config.new }
 {
-    config.tests.push(None)?;
-    Ok(())
+    config.tests.put(None)
 }
 
 /// What a `for` begins with.
@@ -54,8 +51,7 @@ pub fn deed(alloc: Global, config: &mut Config, at: u32) -> Result<(), Fail>
         return Err(Fail::NoMemory);
     };
     let step = statements::deed(alloc, at, x)?;
-    config.steps.push(step)?;
-    Ok(())
+    config.steps.put(step)
 }
 
 /// What a `for` goes on with.
@@ -71,8 +67,7 @@ pub fn update(config: &mut Config, at: u32) -> Result<(), Fail>
             offset: at,
         }));
     };
-    config.tests.push(Some(x.into_typed()))?;
-    Ok(())
+    config.tests.put(Some(x.into_typed()))
 }
 
 /// What a variable begins with.
@@ -84,8 +79,7 @@ pub fn initial(alloc: Global, config: &mut Config, of: &TypeName) -> Result<(), 
     };
     let to = types::type_of(of)?;
     let value = casts::cast_to(alloc, &to, x)?;
-    config.tests.push(Some(value))?;
-    Ok(())
+    config.tests.put(Some(value))
 }
 
 /// A variable, whose value is typed.
@@ -102,8 +96,7 @@ pub fn variable(
     };
     let to = types::type_of(of)?;
     let variable = statements::variable_of(alloc, name, &to, value, &mut config.state)?;
-    config.variables.push(variable)?;
-    Ok(())
+    config.variables.put(variable)
 }
 
 /// An expression statement.
@@ -114,8 +107,7 @@ pub fn expression(alloc: Global, config: &mut Config, at: u32, last: bool) -> Re
         return Err(Fail::NoMemory);
     };
     let step = statements::expression_of(alloc, at, last, x, &config.state)?;
-    config.steps.push(step)?;
-    Ok(())
+    config.steps.put(step)
 }
 
 /// A `return` with a value.
@@ -126,8 +118,7 @@ pub fn return_value(alloc: Global, config: &mut Config, at: u32) -> Result<(), F
         return Err(Fail::NoMemory);
     };
     let step = statements::return_of(alloc, at, x, &config.state)?;
-    config.steps.push(step)?;
-    Ok(())
+    config.steps.put(step)
 }
 
 /// A `throw`.
@@ -138,8 +129,7 @@ pub fn throw(alloc: Global, config: &mut Config, at: u32) -> Result<(), Fail>
         return Err(Fail::NoMemory);
     };
     let step = statements::throw_of(alloc, at, x)?;
-    config.steps.push(step)?;
-    Ok(())
+    config.steps.put(step)
 }
 
 /// A `return` without a value.
@@ -147,8 +137,7 @@ pub fn return_nothing(alloc: Global, config: &mut Config, at: u32) -> Result<(),
     ensures { KeepsIn (spec.return_nothing at config.old) result config.new }
 {
     let step = statements::nothing_returned(alloc, at, &config.state)?;
-    config.steps.push(step)?;
-    Ok(())
+    config.steps.put(step)
 }
 
 /// A `break`.
@@ -156,8 +145,7 @@ pub fn break_loop(alloc: Global, config: &mut Config, at: u32) -> Result<(), Fai
     ensures { KeepsIn (spec.break_loop at config.old) result config.new }
 {
     let step = statements::break_of(alloc, at, &config.state)?;
-    config.steps.push(step)?;
-    Ok(())
+    config.steps.put(step)
 }
 
 /// A `continue`.
@@ -165,8 +153,7 @@ pub fn continue_loop(alloc: Global, config: &mut Config, at: u32) -> Result<(), 
     ensures { KeepsIn (spec.continue_loop at config.old) result config.new }
 {
     let step = statements::continue_of(alloc, at, &config.state)?;
-    config.steps.push(step)?;
-    Ok(())
+    config.steps.put(step)
 }
 
 /// A block of the statements above a height.
@@ -177,8 +164,7 @@ pub fn block(alloc: Global, config: &mut Config, at: u32, height: usize) -> Resu
         return Err(Fail::NoMemory);
     };
     let step = statements::block_of(alloc, at, steps)?;
-    config.steps.push(step)?;
-    Ok(())
+    config.steps.put(step)
 }
 
 /// A declaration of the variables above a height.
@@ -189,8 +175,7 @@ pub fn declaration(alloc: Global, config: &mut Config, at: u32, height: usize) -
         return Err(Fail::NoMemory);
     };
     let step = statements::declaration_of(alloc, at, Items::from_vec(variables))?;
-    config.steps.push(step)?;
-    Ok(())
+    config.steps.put(step)
 }
 
 /// An `if` without an `else`.
@@ -204,8 +189,7 @@ pub fn if_alone(alloc: Global, config: &mut Config, at: u32) -> Result<(), Fail>
         return Err(Fail::NoMemory);
     };
     let step = statements::if_of(alloc, at, condition, then, None)?;
-    config.steps.push(step)?;
-    Ok(())
+    config.steps.put(step)
 }
 
 /// An `if` with an `else`.
@@ -222,8 +206,7 @@ pub fn if_else(alloc: Global, config: &mut Config, at: u32) -> Result<(), Fail>
         return Err(Fail::NoMemory);
     };
     let step = statements::if_of(alloc, at, condition, then, Some(otherwise))?;
-    config.steps.push(step)?;
-    Ok(())
+    config.steps.put(step)
 }
 
 /// A step, if one is there. `None` where it is missing.
@@ -262,8 +245,7 @@ pub fn whole_loop(
         return Err(Fail::NoMemory);
     };
     let step = statements::loop_of(alloc, at, first, test, update, body)?;
-    config.steps.push(step)?;
-    Ok(())
+    config.steps.put(step)
 }
 
 /// A `do`.
@@ -277,8 +259,7 @@ pub fn do_loop(alloc: Global, config: &mut Config, at: u32) -> Result<(), Fail>
         return Err(Fail::NoMemory);
     };
     let step = statements::do_of(alloc, at, body, test)?;
-    config.steps.push(step)?;
-    Ok(())
+    config.steps.put(step)
 }
 
 /// A catch, whose block is typed.
@@ -295,8 +276,7 @@ pub fn catch(
         return Err(Fail::NoMemory);
     };
     let caught = statements::caught(alloc, at, class, name, body)?;
-    config.catches.push(caught)?;
-    Ok(())
+    config.catches.put(caught)
 }
 
 /// A `try`, whose block is typed, with the catches above a height.
@@ -310,6 +290,5 @@ pub fn whole_try(alloc: Global, config: &mut Config, at: u32, height: usize) -> 
         return Err(Fail::NoMemory);
     };
     let step = statements::try_of(alloc, at, body, catches)?;
-    config.steps.push(step)?;
-    Ok(())
+    config.steps.put(step)
 }

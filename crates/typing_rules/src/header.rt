@@ -1,6 +1,10 @@
+ghost use Rattle.std.specs.Prelude.{◌≡◌};
+ghost use Rattle.typing_rules.specs.Rules.Functions as spec;
+
 use pl_types::Ty;
-use plain_data::{Items, Text};
-use typed_tree::Named;
+use plain_data::{Items, Subtree, Text};
+use std::alloc::Global;
+use typed_tree::{FunctionKind, Named, TypedFunction, TypedStatement};
 
 /// The header of a function of the script: what its calls see of it.
 pub struct Header {
@@ -16,6 +20,34 @@ impl Drop for Header {
             parameters: _parameters,
             result: _result,
         } = self;
+    }
+}
+
+impl Header {
+    /// What has this header, and a body.
+    pub(crate) fn with_body(
+        self,
+        alloc: Global,
+        kind: FunctionKind,
+        at: u32,
+        body: Items<Subtree<TypedStatement>>,
+    ) -> TypedFunction
+        ensures { result ≡ spec.with_body kind at self body }
+    {
+        let Header {
+            name,
+            parameters,
+            result,
+        } = self;
+        TypedFunction {
+            kind,
+            at,
+            name,
+            captured: Items::new(alloc),
+            parameters,
+            result,
+            body,
+        }
     }
 }
 

@@ -1,6 +1,6 @@
 //! What is known while a body is typed.
 
-ghost use Rattle.std.specs.Prelude.{◌≡◌};
+ghost use Rattle.std.specs.Prelude.{◌≡◌, IfOk};
 ghost use Rattle.typing_rules.specs.State as spec;
 ghost use Rattle.typing_rules.specs.Outcomes.{KeepsIn};
 
@@ -8,7 +8,7 @@ use crate::refuse::refuse;
 use crate::scopes::{Entry, Scopes, Standing};
 use pl_types::{Fail, Ty, rules};
 use plain_data::Text;
-use std::alloc::Global;
+use std::alloc::{AllocError, Global};
 
 /// What is known while a body is typed.
 pub struct State {
@@ -32,6 +32,18 @@ impl Drop for State {
     }
 }
 
+/// A variable, with a copy of its name.
+fn variable(alloc: Global, name: &Text, of: Ty) -> Result<Entry, AllocError>
+    ensures { IfOk result (λ e. e ≡ spec.variable name.now of) }
+{
+    let name = Text::new(alloc, name.as_str())?;
+    Ok(Entry {
+        name,
+        of,
+        standing: Standing::Variable,
+    })
+}
+
 impl State {
     /// Forgets the names that were declared since there were so many.
     pub fn close(&mut self, height: usize)
@@ -49,12 +61,8 @@ impl State {
         if self.scopes.find(name).is_some() {
             return Err(refuse(rules::ALREADY_DEFINED, at));
         }
-        let name = Text::new(alloc, name.as_str())?;
-        self.scopes.push(Entry {
-            name,
-            of,
-            standing: Standing::Variable,
-        })?;
+        let entry = variable(alloc, name, of)?;
+        self.scopes.push(entry)?;
         Ok(())
     }
 }

@@ -6,9 +6,11 @@ use Rattle.pl_types.specs.declared.rules.TheConstants.{ALREADY_DEFINED, MISSING_
 use Rattle.pl_tree.specs.declared.tree.Function.{Function}
 use Rattle.pl_tree.specs.declared.tree.Parameter.{Parameter}
 use Rattle.pl_tree.specs.declared.tree.TypeName.{TypeName}
+use Rattle.typed_tree.specs.declared.program.FunctionKind.{FunctionKind}
 use Rattle.typed_tree.specs.declared.program.FunctionKind.TheVariants as kind
 use Rattle.typed_tree.specs.declared.program.Named.{Named}
 use Rattle.typed_tree.specs.declared.program.TypedFunction.{TypedFunction}
+use Rattle.typed_tree.specs.declared.statement.TypedStatement.{TypedStatement}
 use Rattle.typing_rules.specs.declared.header.ContextTypes.{ContextTypes}
 use Rattle.typing_rules.specs.declared.header.Header.{Header}
 use Rattle.typing_rules.specs.declared.part.Step.{Step}
@@ -77,6 +79,10 @@ function_start h = start standing.Variable h.parameters h.result
 
 abbrev pub main_start : ContextTypes → State
 main_start context = start standing.Fixed context.variables context.result
+
+-- what has a header, and a body
+abbrev pub with_body : FunctionKind → ℕ → Header → List TypedStatement → TypedFunction
+with_body kind at h body = record { kind = kind; at = at; name = h.name; captured = []; parameters = h.parameters; result = h.result; body = body }
 
 abbrev pub function : Function → Header → List Step → TypedFunction
 function f h ys = record { kind = kind.Named; at = f.name.at; name = f.name.spelling; captured = []; parameters = h.parameters; result = h.result; body = statements_of ys }

@@ -98,6 +98,20 @@ fn copies(alloc: Global, names: &[Named]) -> Result<Items<Named>, AllocError>
     Ok(all)
 }
 
+/// A header with copies of these.
+fn copied(alloc: Global, name: &str, parameters: &[Named], gives: &Ty) -> Result<Header, AllocError>
+    ensures { IfOk result (λ h. h ≡ spec.header name.now parameters.now gives.now) }
+{
+    let name = Text::new(alloc, name)?;
+    let parameters = copies(alloc, parameters)?;
+    let result = gives.share(alloc)?;
+    Ok(Header {
+        name,
+        parameters,
+        result,
+    })
+}
+
 fn function(
     alloc: Global,
     f: &Function,
@@ -106,19 +120,14 @@ fn function(
 ) -> Result<TypedFunction, AllocError>
     ensures { IfOk result (λ x. x ≡ spec.function f.now header.now steps.items) }
 {
-    let name = copy(alloc, &f.name.spelling)?;
-    let parameters = copies(alloc, header.parameters.as_slice())?;
-    let result = header.result.share(alloc)?;
     let body = statements_of(alloc, steps)?;
-    Ok(TypedFunction {
-        kind: FunctionKind::Named,
-        at: f.name.at,
-        name,
-        captured: Items::new(alloc),
-        parameters,
-        result,
-        body,
-    })
+    let header = copied(
+        alloc,
+        f.name.spelling.as_str(),
+        header.parameters.as_slice(),
+        &header.result,
+    )?;
+    Ok(header.with_body(alloc, FunctionKind::Named, f.name.at, body))
 }
 
 /// A function with its body, whose statements are typed.
@@ -146,17 +155,7 @@ pub fn main_of(
 ) -> Result<TypedFunction, AllocError>
     ensures { IfOk result (λ x. x ≡ spec.main context.now steps.items) }
 {
-    let name = Text::new(alloc, "")?;
-    let parameters = copies(alloc, context.variables.as_slice())?;
-    let result = context.result.share(alloc)?;
     let body = statements_of(alloc, steps)?;
-    Ok(TypedFunction {
-        kind: FunctionKind::Main,
-        at: 0,
-        name,
-        captured: Items::new(alloc),
-        parameters,
-        result,
-        body,
-    })
+    let header = copied(alloc, "", context.variables.as_slice(), &context.result)?;
+    Ok(header.with_body(alloc, FunctionKind::Main, 0, body))
 }

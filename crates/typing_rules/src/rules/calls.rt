@@ -1,7 +1,7 @@
 //! Calls of the script's own functions.
 
-ghost use Rattle.std.specs.Prelude.{◌≡◌, ◌≤◌, length};
-ghost use Rattle.typing_rules.specs.Outcomes.{Keeps};
+ghost use Rattle.std.specs.Prelude.{◌≡◌, ◌≤◌, ◌++◌, length, reverse, Ok};
+ghost use Rattle.typing_rules.specs.Outcomes.{Keeps, KeepsIn, bind};
 ghost use Rattle.typing_rules.specs.Rules.Calls as spec;
 
 use crate::header::Header;
@@ -21,6 +21,25 @@ pub fn function_of(headers: &[Header], name: &Text, arity: usize) -> Option<usiz
     headers.iter().position(|h| h.name.as_str() == name.as_str() && h.parameters.len() == arity)
 }
 
+/// Each argument cast to its parameter's type, behind what is there. The last argument comes first.
+fn cast_each(
+    alloc: Global,
+    parameters: &[Named],
+    given: &mut Vec<Part>,
+    casts: &mut Items<Subtree<Typed>>,
+) -> Result<(), Fail>
+    ensures { KeepsIn (bind (spec.arguments parameters.now (reverse given.old.items)) (λ ys. Ok (casts.old ++ ys))) result casts.new }
+{
+    for parameter in parameters {
+        let Some(x) = given.pop() else {
+            return Ok(());
+        };
+        let cast = cast_to(alloc, &parameter.of, x)?;
+        casts.push(cast)?;
+    }
+    Ok(())
+}
+
 /// Each argument cast to its parameter's type.
 fn arguments(
     alloc: Global,
@@ -31,13 +50,7 @@ fn arguments(
 {
     let mut casts = Items::new(alloc);
     given.reverse();
-    for parameter in parameters {
-        let Some(x) = given.pop() else {
-            return Ok(casts);
-        };
-        let cast = cast_to(alloc, &parameter.of, x)?;
-        casts.push(cast)?;
-    }
+    cast_each(alloc, parameters, &mut given, &mut casts)?;
     Ok(casts)
 }
 

@@ -1,7 +1,7 @@
 //! Members: calls on a value and on a class, `new`, getters by name, and fields.
 
-ghost use Rattle.std.specs.Prelude.{◌≡◌, ◌<◌, ◌∷◌, ◌++◌, IfOk, Ok};
-ghost use Rattle.typing_rules.specs.Outcomes.{Keeps, bind};
+ghost use Rattle.std.specs.Prelude.{◌≡◌, ◌<◌, ◌∷◌, ◌++◌, reverse, IfOk, Ok};
+ghost use Rattle.typing_rules.specs.Outcomes.{Keeps, KeepsIn, bind};
 ghost use Rattle.typing_rules.specs.Rules.Members as spec;
 
 use crate::part::Part;
@@ -27,6 +27,25 @@ fn member(alloc: Global, allow: &Allow, number: u32) -> Result<Member, AllocErro
     Ok(Member { number, text })
 }
 
+/// Each argument cast to its parameter's type, behind what is there. The last argument comes first.
+fn cast_each(
+    alloc: Global,
+    types: &[Ty],
+    given: &mut Vec<Part>,
+    casts: &mut Items<Subtree<Typed>>,
+) -> Result<(), Fail>
+    ensures { KeepsIn (bind (spec.cast_all types.now (reverse given.old.items)) (λ ys. Ok (casts.old ++ ys))) result casts.new }
+{
+    for of in types {
+        let Some(x) = given.pop() else {
+            return Ok(());
+        };
+        let cast = cast_to(alloc, of, x)?;
+        casts.push(cast)?;
+    }
+    Ok(())
+}
+
 /// Each argument cast to its parameter's type, behind what is there.
 fn cast_all(
     alloc: Global,
@@ -38,13 +57,7 @@ fn cast_all(
 {
     let mut casts = before;
     given.reverse();
-    for of in types {
-        let Some(x) = given.pop() else {
-            return Ok(casts);
-        };
-        let cast = cast_to(alloc, of, x)?;
-        casts.push(cast)?;
-    }
+    cast_each(alloc, types, &mut given, &mut casts)?;
     Ok(casts)
 }
 
