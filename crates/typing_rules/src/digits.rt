@@ -1,23 +1,17 @@
 //! Integer literals.
 
-ghost use Rattle.std.specs.Prelude.{◌≡◌, ◌+◌, ◌*◌, ◌≤◌, ◌<◌, ◌^◌, ◌-◌, length, take, MatchOption};
-ghost use Rattle.typing_rules.specs.Rules.Digits.{digit_of, is_long, is_long_mark, magnitude, unmarked, value_after};
+ghost use Rattle.std.specs.Prelude.{◌≡◌, ◌+◌, ◌*◌, ◌≤◌, ◌<◌, ◌^◌, ◌-◌, MatchOption};
+ghost use Rattle.typing_rules.specs.Rules.Digits.{digit_of, is_long, magnitude, unmarked, value_after};
 
 /// The magnitude of the least long.
 const LEAST: u64 = 9_223_372_036_854_775_808;
-
-fn is_long_mark(byte: u8) -> bool
-    ensures { result ≡ is_long_mark byte }
-{
-    byte == b'l' || byte == b'L'
-}
 
 /// Whether a literal is a long, by its last byte.
 pub(crate) fn is_long(spelling: &[u8]) -> bool
     ensures { result ≡ is_long spelling.now }
 {
     match spelling.last() {
-        Some(byte) => is_long_mark(*byte),
+        Some(byte) => *byte == b'l' || *byte == b'L',
         None => false,
     }
 }

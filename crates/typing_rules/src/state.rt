@@ -1,14 +1,15 @@
 //! What is known while a body is typed.
 
-ghost use Rattle.std.specs.Prelude.{◌≡◌, IfOk};
+ghost use Rattle.std.specs.Prelude.{◌≡◌};
 ghost use Rattle.typing_rules.specs.State as spec;
 ghost use Rattle.typing_rules.specs.Outcomes.{KeepsIn};
 
 use crate::refuse::refuse;
+use crate::rules::places::copy;
 use crate::scopes::{Entry, Scopes, Standing};
 use pl_types::{Fail, Ty, rules};
 use plain_data::Text;
-use std::alloc::{AllocError, Global};
+use std::alloc::Global;
 
 /// What is known while a body is typed.
 pub struct State {
@@ -32,18 +33,6 @@ impl Drop for State {
     }
 }
 
-/// A variable, with a copy of its name.
-fn variable(alloc: Global, name: &Text, of: Ty) -> Result<Entry, AllocError>
-    ensures { IfOk result (λ e. e ≡ spec.variable name.now of) }
-{
-    let name = Text::new(alloc, name.as_str())?;
-    Ok(Entry {
-        name,
-        of,
-        standing: Standing::Variable,
-    })
-}
-
 impl State {
     /// Forgets the names that were declared since there were so many.
     pub fn close(&mut self, height: usize)
@@ -61,8 +50,11 @@ impl State {
         if self.scopes.find(name).is_some() {
             return Err(refuse(rules::ALREADY_DEFINED, at));
         }
-        let entry = variable(alloc, name, of)?;
-        self.scopes.push(entry)?;
-        Ok(())
+        let name = copy(alloc, name)?;
+        let standing = Standing::Variable;
+        match self.scopes.push(Entry { name, of, standing }) {
+            Ok(()) => Ok(()),
+            Err(_) => Err(Fail::NoMemory),
+        }
     }
 }

@@ -1,14 +1,15 @@
 //! What a body begins with, and what it comes to.
 
-ghost use Rattle.std.specs.Prelude.{◌≡◌, IfOk};
+ghost use Rattle.std.specs.Prelude.{◌≡◌, IfOk, Ok};
 ghost use Rattle.typing_rules.specs.Outcomes.{Keeps};
 ghost use Rattle.typing_rules.specs.Rules.Functions as spec;
+ghost use Rattle.typing_rules.specs.Rules.Statements.{statements_of};
 
 use crate::header::{ContextTypes, Header};
 use crate::part::Step;
 use crate::refuse::refuse;
 use crate::rules::nodes::is_void;
-use crate::rules::places::copy;
+use crate::rules::places::copies;
 use crate::rules::statements::{last_escapes, statements_of};
 use crate::scopes::{Entry, Scopes, Standing};
 use crate::state::State;
@@ -18,21 +19,13 @@ use plain_data::{Items, Text};
 use std::alloc::{AllocError, Global};
 use typed_tree::{FunctionKind, Named, TypedFunction};
 
-fn entry(alloc: Global, standing: Standing, n: &Named) -> Result<Entry, AllocError>
-    ensures { IfOk result (λ e. e ≡ spec.entry standing n.now) }
-{
-    let name = copy(alloc, &n.name)?;
-    let of = n.of.share(alloc)?;
-    Ok(Entry { name, of, standing })
-}
-
 fn entries(alloc: Global, standing: Standing, names: &[Named]) -> Result<Scopes, AllocError>
     ensures { IfOk result (λ s. s ≡ spec.entries standing names.now) }
 {
     let mut scopes = Scopes::new(alloc);
     for n in names {
-        let entry = entry(alloc, standing, n)?;
-        scopes.push(entry)?;
+        let (name, of) = copies(alloc, &n.name, &n.of)?;
+        scopes.push(Entry { name, of, standing })?;
     }
     Ok(scopes)
 }
@@ -79,21 +72,13 @@ pub fn main_start(alloc: Global, context: &ContextTypes) -> Result<State, AllocE
     )
 }
 
-fn named(alloc: Global, n: &Named) -> Result<Named, AllocError>
-    ensures { IfOk result (λ c. c ≡ n.now) }
-{
-    let name = copy(alloc, &n.name)?;
-    let of = n.of.share(alloc)?;
-    Ok(Named { name, of })
-}
-
-fn copies(alloc: Global, names: &[Named]) -> Result<Items<Named>, AllocError>
+fn copied_names(alloc: Global, names: &[Named]) -> Result<Items<Named>, AllocError>
     ensures { IfOk result (λ c. c ≡ names.now) }
 {
     let mut all = Items::new(alloc);
     for n in names {
-        let copy = named(alloc, n)?;
-        all.push(copy)?;
+        let (name, of) = copies(alloc, &n.name, &n.of)?;
+        all.push(Named { name, of })?;
     }
     Ok(all)
 }
@@ -102,9 +87,9 @@ fn copies(alloc: Global, names: &[Named]) -> Result<Items<Named>, AllocError>
 fn copied(alloc: Global, name: &str, parameters: &[Named], gives: &Ty) -> Result<Header, AllocError>
     ensures { IfOk result (λ h. h ≡ spec.header name.now parameters.now gives.now) }
 {
-    let name = Text::new(alloc, name)?;
-    let parameters = copies(alloc, parameters)?;
     let result = gives.share(alloc)?;
+    let name = Text::new(alloc, name)?;
+    let parameters = copied_names(alloc, parameters)?;
     Ok(Header {
         name,
         parameters,
@@ -112,22 +97,34 @@ fn copied(alloc: Global, name: &str, parameters: &[Named], gives: &Ty) -> Result
     })
 }
 
+/// A function with its header and its statements.
 fn function(
+    alloc: Global,
+    kind: FunctionKind,
+    at: u32,
+    header: Header,
+    steps: Vec<Step>,
+) -> Result<TypedFunction, AllocError>
+    ensures { IfOk result (λ x. x ≡ spec.with_body kind at header (statements_of steps.items)) }
+{
+    let body = statements_of(alloc, steps)?;
+    Ok(header.with_body(alloc, kind, at, body))
+}
+
+fn named_function(
     alloc: Global,
     f: &Function,
     header: &Header,
     steps: Vec<Step>,
-) -> Result<TypedFunction, AllocError>
-    ensures { IfOk result (λ x. x ≡ spec.function f.now header.now steps.items) }
+) -> Result<TypedFunction, Fail>
+    ensures { Keeps (Ok (spec.function f.now header.now steps.items)) result }
 {
-    let body = statements_of(alloc, steps)?;
-    let header = copied(
-        alloc,
-        f.name.spelling.as_str(),
-        header.parameters.as_slice(),
-        &header.result,
-    )?;
-    Ok(header.with_body(alloc, FunctionKind::Named, f.name.at, body))
+    let parameters = header.parameters.as_slice();
+    let header = copied(alloc, f.name.spelling.as_str(), parameters, &header.result)?;
+    match function(alloc, FunctionKind::Named, f.name.at, header, steps) {
+        Ok(function) => Ok(function),
+        Err(_) => Err(Fail::NoMemory),
+    }
 }
 
 /// A function with its body, whose statements are typed.
@@ -144,7 +141,7 @@ pub fn finished(
     if !is_void(&header.result) && !last_escapes(&steps) {
         return Err(refuse(rules::MISSING_RETURN, f.name.at));
     }
-    Ok(function(alloc, f, header, steps)?)
+    named_function(alloc, f, header, steps)
 }
 
 /// The main script with its statements, which are typed.
@@ -155,7 +152,6 @@ pub fn main_of(
 ) -> Result<TypedFunction, AllocError>
     ensures { IfOk result (λ x. x ≡ spec.main context.now steps.items) }
 {
-    let body = statements_of(alloc, steps)?;
     let header = copied(alloc, "", context.variables.as_slice(), &context.result)?;
-    Ok(header.with_body(alloc, FunctionKind::Main, 0, body))
+    function(alloc, FunctionKind::Main, 0, header, steps)
 }

@@ -1,14 +1,14 @@
 //! Calls of the script's own functions.
 
-ghost use Rattle.std.specs.Prelude.{◌≡◌, ◌≤◌, ◌++◌, length, reverse, Ok};
-ghost use Rattle.typing_rules.specs.Outcomes.{Keeps, KeepsIn, bind};
+ghost use Rattle.std.specs.Prelude.{◌≡◌, ◌+◌, Ok, Some};
+ghost use Rattle.typing_rules.specs.Outcomes.{Keeps};
 ghost use Rattle.typing_rules.specs.Rules.Calls as spec;
 
 use crate::header::Header;
-use crate::part::Part;
+use crate::part::{Form, Part};
 use crate::refuse::refuse;
-use crate::rules::casts::cast_to;
-use crate::rules::nodes::{deed, typed};
+use crate::rules::casts::cast_next;
+use crate::rules::nodes::part;
 use pl_types::{Fail, rules};
 use plain_data::{Items, Subtree, Text};
 use std::alloc::Global;
@@ -21,25 +21,6 @@ pub fn function_of(headers: &[Header], name: &Text, arity: usize) -> Option<usiz
     headers.iter().position(|h| h.name.as_str() == name.as_str() && h.parameters.len() == arity)
 }
 
-/// Each argument cast to its parameter's type, behind what is there. The last argument comes first.
-fn cast_each(
-    alloc: Global,
-    parameters: &[Named],
-    given: &mut Vec<Part>,
-    casts: &mut Items<Subtree<Typed>>,
-) -> Result<(), Fail>
-    ensures { KeepsIn (bind (spec.arguments parameters.now (reverse given.old.items)) (λ ys. Ok (casts.old ++ ys))) result casts.new }
-{
-    for parameter in parameters {
-        let Some(x) = given.pop() else {
-            return Ok(());
-        };
-        let cast = cast_to(alloc, &parameter.of, x)?;
-        casts.push(cast)?;
-    }
-    Ok(())
-}
-
 /// Each argument cast to its parameter's type.
 fn arguments(
     alloc: Global,
@@ -50,8 +31,39 @@ fn arguments(
 {
     let mut casts = Items::new(alloc);
     given.reverse();
-    cast_each(alloc, parameters, &mut given, &mut casts)?;
+    for parameter in parameters {
+        cast_next(alloc, &parameter.of, &mut given, &mut casts)?;
+    }
     Ok(casts)
+}
+
+/// What calls say of a function that is the so-manieth, from 0.
+fn number_of(index: usize) -> Result<u32, Fail>
+    ensures { Keeps (Ok (index + 1)) result }
+{
+    let Ok(place) = u32::try_from(index) else {
+        return Err(Fail::NoMemory);
+    };
+    match place.checked_add(1) {
+        Some(number) => Ok(number),
+        None => Err(Fail::NoMemory),
+    }
+}
+
+fn called(
+    alloc: Global,
+    header: &Header,
+    at: u32,
+    index: usize,
+    given: Vec<Part>,
+) -> Result<Part, Fail>
+    ensures { Keeps (spec.called (Some header.now) at index given.items) result }
+{
+    let number = number_of(index)?;
+    let parts = arguments(alloc, header.parameters.as_slice(), given)?;
+    let of = header.result.share(alloc)?;
+    let operation = Operation::Function(number);
+    part(alloc, at, Form::Deed, of, Node::Apply { operation, parts })
 }
 
 /// A call of a function of the script, at its name, with arguments that are typed.
@@ -66,23 +78,11 @@ pub fn call_of(
 ) -> Result<Part, Fail>
     ensures { Keeps (spec.call_of headers.now at name.now given.items) result }
 {
-    let Some(number) = function_of(headers, name, given.len()) else {
+    let Some(index) = function_of(headers, name, given.len()) else {
         return Err(refuse(rules::UNKNOWN_FUNCTION, at));
     };
-    let Some(header) = headers.get(number) else {
-        return Err(refuse(rules::UNKNOWN_FUNCTION, at));
-    };
-    let of = header.result.share(alloc)?;
-    let parts = arguments(alloc, header.parameters.as_slice(), given)?;
-    let Ok(place) = u32::try_from(number) else {
-        return Err(Fail::NoMemory);
-    };
-    let Some(function) = place.checked_add(1) else {
-        return Err(Fail::NoMemory);
-    };
-    let node = Node::Apply {
-        operation: Operation::Function(function),
-        parts,
-    };
-    Ok(deed(at, typed(alloc, at, of, node)?))
+    match headers.get(index) {
+        Some(header) => called(alloc, header, at, index, given),
+        None => Err(refuse(rules::UNKNOWN_FUNCTION, at)),
+    }
 }

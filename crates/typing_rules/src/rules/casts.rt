@@ -1,15 +1,18 @@
 //! Casts.
 
-ghost use Rattle.std.specs.Prelude.{◌≡◌};
-ghost use Rattle.typing_rules.specs.Outcomes.{Keeps};
+ghost use Rattle.std.specs.Prelude.{◌≡◌, [], ◌∷◌, ◌++◌, drop, reverse, Ok, OnOk};
+ghost use Rattle.typing_rules.specs.Outcomes.{Keeps, KeepsIn, bind};
 ghost use Rattle.typing_rules.specs.Rules.Casts as spec;
+ghost use Rattle.typing_rules.specs.Rules.Members.{cast_all};
+ghost use Rattle.typing_rules.specs.Rules.Nodes as nodes;
+ghost use Rattle.typed_tree.specs.declared.typed.Node.TheVariants as node;
 
 use crate::lineage::Classes;
 use crate::part::{Form, Part};
 use crate::refuse::refuse;
-use crate::rules::nodes::{applied_to_one, plain, typed};
+use crate::rules::nodes::{boolean, one_part, plain, typed};
 use pl_types::{Cast, Fail, Primitive, Ty, cast, rules};
-use plain_data::Subtree;
+use plain_data::{Items, Subtree};
 use std::alloc::Global;
 use typed_tree::{Constant, Node, Operation, Typed};
 
@@ -75,8 +78,10 @@ pub(crate) fn cast_by(
     if x.get().of.is(to) {
         return Ok(x);
     }
+    let parts = one_part(alloc, x)?;
     let of = to.share(alloc)?;
-    Ok(applied_to_one(alloc, at, of, Operation::Cast(by), x)?)
+    let operation = Operation::Cast(by);
+    typed(alloc, at, of, Node::Apply { operation, parts })
 }
 
 /// A cast of the table, written or added, at a place.
@@ -94,6 +99,14 @@ pub(crate) fn cast_at(
     cast_by(alloc, by, broken, at, to, x.into_typed())
 }
 
+/// A constant of a type at a place.
+fn constant_of(alloc: Global, at: u32, of: &Ty, constant: Constant) -> Result<Subtree<Typed>, Fail>
+    ensures { Keeps (Ok (nodes.typed at of.now (node.Constant constant))) result }
+{
+    let of = of.share(alloc)?;
+    typed(alloc, at, of, Node::Constant(constant))
+}
+
 /// A cast that typing adds, where the expression stands that is cast. An int literal may stand for a narrower type.
 ///
 /// BadCast (9): there is none.
@@ -101,11 +114,52 @@ pub fn cast_to(alloc: Global, to: &Ty, x: Part) -> Result<Subtree<Typed>, Fail>
     ensures { Keeps (spec.cast_to to.now x) result }
 {
     let at = x.at;
-    if let Some(constant) = standing(x.form, to) {
-        let of = to.share(alloc)?;
-        return Ok(typed(alloc, at, of, Node::Constant(constant))?);
+    match standing(x.form, to) {
+        Some(constant) => constant_of(alloc, at, to, constant),
+        None => cast_at(alloc, at, to, x, false),
     }
-    cast_at(alloc, at, to, x, false)
+}
+
+/// The next argument cast to its parameter's type, behind what is there. The next is the last of what is given; where nothing is left,
+/// nothing is done.
+pub(crate) fn cast_next(
+    alloc: Global,
+    of: &Ty,
+    given: &mut Vec<Part>,
+    casts: &mut Items<Subtree<Typed>>,
+) -> Result<(), Fail>
+    ensures cast { KeepsIn (bind (cast_all (of.now ∷ []) (reverse given.old.items)) (λ ys. Ok (casts.old ++ ys))) result casts.new }
+    ensures left { OnOk result (reverse given.new.items ≡ drop 1 (reverse given.old.items)) }
+{
+    match given.pop() {
+        Some(x) => cast_behind(alloc, of, x, casts),
+        None => Ok(()),
+    }
+}
+
+/// An argument cast to its parameter's type, behind what is there.
+fn cast_behind(
+    alloc: Global,
+    of: &Ty,
+    x: Part,
+    casts: &mut Items<Subtree<Typed>>,
+) -> Result<(), Fail>
+    ensures { KeepsIn (bind (cast_all (of.now ∷ []) (x ∷ [])) (λ ys. Ok (casts.old ++ ys))) result casts.new }
+{
+    let cast = cast_to(alloc, of, x)?;
+    match casts.push(cast) {
+        Ok(()) => Ok(()),
+        Err(_) => Err(Fail::NoMemory),
+    }
+}
+
+/// What has to be a boolean.
+///
+/// BadCast (9): it is none.
+pub(crate) fn cast_to_boolean(alloc: Global, x: Part) -> Result<Subtree<Typed>, Fail>
+    ensures { Keeps (spec.cast_to nodes.boolean x) result }
+{
+    cast_to(alloc, &boolean(), x)
 }
 
 /// A cast that is written.

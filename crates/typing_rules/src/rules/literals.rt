@@ -1,22 +1,17 @@
 //! Literals.
 
-ghost use Rattle.std.specs.Prelude.{◌≡◌, ◌≤◌, ◌^◌, pos, neg_ℤ, Ok, IfOk};
+ghost use Rattle.std.specs.Prelude.{◌≡◌, ◌≤◌, ◌^◌, pos, neg_ℤ, Ok};
 ghost use Rattle.typing_rules.specs.Outcomes.{Keeps};
 ghost use Rattle.typing_rules.specs.Rules.Literals as spec;
-ghost use Rattle.typing_rules.specs.Rules.Nodes as nodes;
-ghost use Rattle.pl_tree.specs.declared.operator.Constant.TheVariants as tree;
-ghost use Rattle.typed_tree.specs.declared.typed.Node.TheVariants as node;
-ghost use Rattle.typed_tree.specs.declared.operation.Constant.TheVariants as constant;
 
 use crate::digits::{is_long, magnitude, unmarked};
 use crate::part::{Form, Part};
 use crate::refuse::refuse;
-use crate::rules::nodes::{boolean, typed};
+use crate::rules::nodes::{boolean, part};
 use crate::texts::{unescaped, unquoted};
 use pl_types::{Fail, Primitive, Ty, classes, rules};
-use plain_data::Subtree;
-use std::alloc::{AllocError, Global};
-use typed_tree::{Constant, Node, Typed};
+use std::alloc::Global;
+use typed_tree::{Constant, Node};
 
 /// How many ints are not negative.
 const INTS: u64 = 2_147_483_648;
@@ -24,35 +19,20 @@ const INTS: u64 = 2_147_483_648;
 /// How many longs are not negative.
 const LONGS: u64 = 9_223_372_036_854_775_808;
 
-/// A literal that is no int and not `true`.
-fn literal(at: u32, typed: Subtree<Typed>) -> Part
-    ensures { result ≡ nodes.part at Form.Literal typed }
-{
-    Part {
-        at,
-        form: Form::Literal,
-        typed,
-    }
-}
-
 fn int_literal(alloc: Global, at: u32, value: i32) -> Result<Part, Fail>
     ensures { Keeps (Ok (spec.int_literal at value)) result }
 {
+    let of = Ty::Prim(Primitive::Int);
     let node = Node::Constant(Constant::Int(value));
-    let typed = typed(alloc, at, Ty::Prim(Primitive::Int), node)?;
-    Ok(Part {
-        at,
-        form: Form::Number(value),
-        typed,
-    })
+    part(alloc, at, Form::Number(value), of, node)
 }
 
 fn long_literal(alloc: Global, at: u32, value: i64) -> Result<Part, Fail>
     ensures { Keeps (Ok (spec.long_literal at value)) result }
 {
+    let of = Ty::Prim(Primitive::Long);
     let node = Node::Constant(Constant::Long(value));
-    let typed = typed(alloc, at, Ty::Prim(Primitive::Long), node)?;
-    Ok(literal(at, typed))
+    part(alloc, at, Form::Literal, of, node)
 }
 
 /// An integer literal.
@@ -103,30 +83,23 @@ pub fn negated_integer(alloc: Global, minus: u32, at: u32, spelling: &str) -> Re
     }
 }
 
-fn truth(alloc: Global, at: u32, value: bool, form: Form) -> Result<Part, AllocError>
-    ensures { IfOk result (λ x. x ≡ nodes.part at form (nodes.typed at nodes.boolean (node.Constant (constant.Boolean value)))) }
-{
-    let node = Node::Constant(Constant::Boolean(value));
-    let typed = typed(alloc, at, boolean(), node)?;
-    Ok(Part { at, form, typed })
-}
-
-fn null(alloc: Global, at: u32) -> Result<Part, Fail>
-    ensures { Keeps (spec.constant at tree.Null) result }
-{
-    let node = Node::Constant(Constant::Null);
-    let typed = typed(alloc, at, Ty::Null, node)?;
-    Ok(literal(at, typed))
-}
-
 /// `true`, `false` or `null`.
 pub fn constant(alloc: Global, at: u32, constant: pl_tree::Constant) -> Result<Part, Fail>
     ensures { Keeps (spec.constant at constant) result }
 {
     match constant {
-        pl_tree::Constant::True => Ok(truth(alloc, at, true, Form::True)?),
-        pl_tree::Constant::False => Ok(truth(alloc, at, false, Form::Literal)?),
-        pl_tree::Constant::Null => null(alloc, at),
+        pl_tree::Constant::True => {
+            let node = Node::Constant(Constant::Boolean(true));
+            part(alloc, at, Form::True, boolean(), node)
+        }
+        pl_tree::Constant::False => {
+            let node = Node::Constant(Constant::Boolean(false));
+            part(alloc, at, Form::Literal, boolean(), node)
+        }
+        pl_tree::Constant::Null => {
+            let node = Node::Constant(Constant::Null);
+            part(alloc, at, Form::Literal, Ty::Null, node)
+        }
     }
 }
 
@@ -137,7 +110,7 @@ pub fn text(alloc: Global, at: u32, spelling: &str) -> Result<Part, Fail>
     let Some(written) = unquoted(spelling) else {
         return Err(Fail::NoMemory);
     };
-    let node = Node::Text(unescaped(alloc, written)?);
-    let typed = typed(alloc, at, Ty::Class(classes::STRING), node)?;
-    Ok(literal(at, typed))
+    let text = unescaped(alloc, written)?;
+    let of = Ty::Class(classes::STRING);
+    part(alloc, at, Form::Literal, of, Node::Text(text))
 }

@@ -1,14 +1,17 @@
 //! Members: calls on a value and on a class, `new`, getters by name, and fields.
 
-ghost use Rattle.std.specs.Prelude.{◌≡◌, ◌<◌, ◌∷◌, ◌++◌, reverse, IfOk, Ok};
-ghost use Rattle.typing_rules.specs.Outcomes.{Keeps, KeepsIn, bind};
+ghost use Rattle.std.specs.Prelude.{◌≡◌, ◌<◌, [], ◌++◌, ◌&&◌, IfOk, Ok, if◌then◌else◌};
+ghost use Rattle.allowlist.specs.Allow.{own_member, member_of};
+ghost use Rattle.allowlist.specs.declared.member.MemberKind.TheVariants as kind;
+ghost use Rattle.pl_types.specs.declared.rules.TheConstants.{BAD_NULLABLE};
+ghost use Rattle.typing_rules.specs.Outcomes.{Keeps, bind, refuse};
 ghost use Rattle.typing_rules.specs.Rules.Members as spec;
 
-use crate::part::Part;
+use crate::part::{Form, Part};
 use crate::refuse::refuse;
-use crate::rules::casts::cast_to;
+use crate::rules::casts::cast_next;
 use crate::rules::lookups::{constructor_of, getter, member_at, member_of, wanted};
-use crate::rules::nodes::{deed, plain, typed};
+use crate::rules::nodes::{one_part, part, plain};
 use crate::rules::references::is_primitive;
 use allowlist::{Allow, MEMBER_COUNT, MemberKind};
 use member_names::member_text;
@@ -22,28 +25,9 @@ fn member(alloc: Global, allow: &Allow, number: u32) -> Result<Member, AllocErro
     requires { number < MEMBER_COUNT }
     ensures { IfOk result (λ member. member ≡ spec.member number) }
 {
-    let text = member_text(alloc, allow, number)?;
-    let text = Text::new(alloc, text.as_str())?;
+    let written = member_text(alloc, allow, number)?;
+    let text = Text::new(alloc, written.as_str())?;
     Ok(Member { number, text })
-}
-
-/// Each argument cast to its parameter's type, behind what is there. The last argument comes first.
-fn cast_each(
-    alloc: Global,
-    types: &[Ty],
-    given: &mut Vec<Part>,
-    casts: &mut Items<Subtree<Typed>>,
-) -> Result<(), Fail>
-    ensures { KeepsIn (bind (spec.cast_all types.now (reverse given.old.items)) (λ ys. Ok (casts.old ++ ys))) result casts.new }
-{
-    for of in types {
-        let Some(x) = given.pop() else {
-            return Ok(());
-        };
-        let cast = cast_to(alloc, of, x)?;
-        casts.push(cast)?;
-    }
-    Ok(())
 }
 
 /// Each argument cast to its parameter's type, behind what is there.
@@ -57,7 +41,9 @@ fn cast_all(
 {
     let mut casts = before;
     given.reverse();
-    cast_each(alloc, types, &mut given, &mut casts)?;
+    for of in types {
+        cast_next(alloc, of, &mut given, &mut casts)?;
+    }
     Ok(casts)
 }
 
@@ -72,12 +58,8 @@ fn arguments(
     requires { number < MEMBER_COUNT }
     ensures { Keeps (bind (spec.member_arguments number given.items) (λ casts. Ok (before ++ casts))) result }
 {
-    cast_all(
-        alloc,
-        member_at(allow, number).params.as_slice(),
-        given,
-        before,
-    )
+    let types = member_at(allow, number).params.as_slice();
+    cast_all(alloc, types, given, before)
 }
 
 fn guards(access: Access) -> bool
@@ -89,24 +71,47 @@ fn guards(access: Access) -> bool
     }
 }
 
-fn gives_primitive(allow: &Allow, number: u32) -> bool
+/// A member that is called, and the type of what it gives.
+///
+/// BadNullable (17): `?.` before what gives a primitive.
+fn called(
+    alloc: Global,
+    allow: &Allow,
+    access: Access,
+    at: u32,
+    number: u32,
+) -> Result<(Member, Ty), Fail>
     requires { number < MEMBER_COUNT }
-    ensures { result ≡ spec.gives_primitive number }
+    ensures { Keeps (if spec.guards access && spec.gives_primitive number then refuse BAD_NULLABLE at else Ok (spec.member number, spec.result number)) result }
 {
-    is_primitive(&member_at(allow, number).result)
-}
-
-fn nullable(allow: &Allow, access: Access, at: u32, number: u32, x: Part) -> Result<Part, Fail>
-    requires { number < MEMBER_COUNT }
-    ensures { Keeps (spec.nullable access at number x) result }
-{
-    if guards(access) && gives_primitive(allow, number) {
+    if guards(access) && is_primitive(&member_at(allow, number).result) {
         return Err(refuse(rules::BAD_NULLABLE, at));
     }
-    Ok(x)
+    let of = member_at(allow, number).result.share(alloc)?;
+    let member = member(alloc, allow, number)?;
+    Ok((member, of))
 }
 
 // ---- calls on a value
+
+/// The member of a class that a name with so many arguments means.
+fn meant(
+    allow: &Allow,
+    kind: MemberKind,
+    at: u32,
+    class: u32,
+    name: &Text,
+    count: usize,
+) -> Result<u32, Fail>
+    ensures rule { Keeps (spec.wanted kind at (member_of allow.now class name.now count)) result }
+    ensures within { IfOk result (λ number. number < MEMBER_COUNT) }
+{
+    let Ok(arity) = u32::try_from(count) else {
+        return Err(Fail::NoMemory);
+    };
+    let found = member_of(allow, class, name.as_str(), arity);
+    wanted(allow, kind, at, found)
+}
 
 fn instance_node(
     alloc: Global,
@@ -115,17 +120,22 @@ fn instance_node(
     at: u32,
     number: u32,
     parts: Items<Subtree<Typed>>,
-) -> Result<Part, AllocError>
+) -> Result<Part, Fail>
     requires { number < MEMBER_COUNT }
-    ensures { IfOk result (λ x. x ≡ spec.instance_node access at number parts) }
+    ensures { Keeps (spec.nullable access at number (spec.instance_node access at number parts)) result }
 {
-    let of = member_at(allow, number).result.share(alloc)?;
-    let operation = Operation::Instance(member(alloc, allow, number)?);
-    let node = match access {
-        Access::Plain => Node::Apply { operation, parts },
-        Access::Guarded => Node::Guarded { operation, parts },
-    };
-    Ok(deed(at, typed(alloc, at, of, node)?))
+    let (member, of) = called(alloc, allow, access, at, number)?;
+    let operation = Operation::Instance(member);
+    match access {
+        Access::Plain => {
+            let node = Node::Apply { operation, parts };
+            part(alloc, at, Form::Deed, of, node)
+        }
+        Access::Guarded => {
+            let node = Node::Guarded { operation, parts };
+            part(alloc, at, Form::Deed, of, node)
+        }
+    }
 }
 
 fn instance_call(
@@ -140,11 +150,9 @@ fn instance_call(
     requires { number < MEMBER_COUNT }
     ensures { Keeps (spec.instance_call access at number x given.items) result }
 {
-    let mut parts = Items::new(alloc);
-    parts.push(x.into_typed())?;
-    let parts = arguments(alloc, allow, number, given, parts)?;
-    let y = instance_node(alloc, allow, access, at, number, parts)?;
-    nullable(allow, access, at, number, y)
+    let receiver = one_part(alloc, x.into_typed())?;
+    let parts = arguments(alloc, allow, number, given, receiver)?;
+    instance_node(alloc, allow, access, at, number, parts)
 }
 
 fn instance_named(
@@ -159,11 +167,7 @@ fn instance_named(
 ) -> Result<Part, Fail>
     ensures { Keeps (spec.instance_named allow.now access at name.now class x given.items) result }
 {
-    let Ok(arity) = u32::try_from(given.len()) else {
-        return Err(Fail::NoMemory);
-    };
-    let found = member_of(allow, class, name.as_str(), arity);
-    let number = wanted(allow, MemberKind::Instance, at, found)?;
+    let number = meant(allow, MemberKind::Instance, at, class, name, given.len())?;
     instance_call(alloc, allow, access, at, number, x, given)
 }
 
@@ -192,21 +196,6 @@ pub fn method_of(
 
 // ---- calls on a class
 
-fn static_node(
-    alloc: Global,
-    allow: &Allow,
-    at: u32,
-    number: u32,
-    parts: Items<Subtree<Typed>>,
-) -> Result<Part, AllocError>
-    requires { number < MEMBER_COUNT }
-    ensures { IfOk result (λ x. x ≡ spec.static_node at number parts) }
-{
-    let of = member_at(allow, number).result.share(alloc)?;
-    let operation = Operation::Static(member(alloc, allow, number)?);
-    Ok(deed(at, typed(alloc, at, of, Node::Apply { operation, parts })?))
-}
-
 fn static_call(
     alloc: Global,
     allow: &Allow,
@@ -219,8 +208,9 @@ fn static_call(
     ensures { Keeps (spec.static_call access at number given.items) result }
 {
     let parts = arguments(alloc, allow, number, given, Items::new(alloc))?;
-    let y = static_node(alloc, allow, at, number, parts)?;
-    nullable(allow, access, at, number, y)
+    let (member, of) = called(alloc, allow, access, at, number)?;
+    let operation = Operation::Static(member);
+    part(alloc, at, Form::Deed, of, Node::Apply { operation, parts })
 }
 
 /// A call of a member of a class, at its `.` or `?.`, with arguments that are typed.
@@ -241,11 +231,7 @@ pub fn static_of(
     let Ty::Class(class) = of else {
         return Err(refuse(rules::UNKNOWN_MEMBER, at));
     };
-    let Ok(arity) = u32::try_from(given.len()) else {
-        return Err(Fail::NoMemory);
-    };
-    let found = member_of(allow, *class, name.as_str(), arity);
-    let number = wanted(allow, MemberKind::Static, at, found)?;
+    let number = meant(allow, MemberKind::Static, at, *class, name, given.len())?;
     static_call(alloc, allow, access, at, number, given)
 }
 
@@ -262,9 +248,21 @@ fn constructed(
     ensures { Keeps (spec.constructed at number given.items) result }
 {
     let parts = arguments(alloc, allow, number, given, Items::new(alloc))?;
-    let of = member_at(allow, number).result.share(alloc)?;
-    let operation = Operation::Constructor(member(alloc, allow, number)?);
-    Ok(deed(at, typed(alloc, at, of, Node::Apply { operation, parts })?))
+    let (member, of) = called(alloc, allow, Access::Plain, at, number)?;
+    let operation = Operation::Constructor(member);
+    part(alloc, at, Form::Deed, of, Node::Apply { operation, parts })
+}
+
+/// The constructor that a class itself has with so many arguments.
+fn constructor_meant(allow: &Allow, at: u32, class: u32, count: usize) -> Result<u32, Fail>
+    ensures rule { Keeps (spec.wanted kind.Constructor at (own_member allow.now class [] count)) result }
+    ensures within { IfOk result (λ number. number < MEMBER_COUNT) }
+{
+    let Ok(arity) = u32::try_from(count) else {
+        return Err(Fail::NoMemory);
+    };
+    let found = constructor_of(allow, class, arity);
+    wanted(allow, MemberKind::Constructor, at, found)
 }
 
 /// A new object of a class, at the `new`, with arguments that are typed.
@@ -283,11 +281,7 @@ pub fn new_of(
     let Ty::Class(class) = of else {
         return Err(refuse(rules::UNKNOWN_MEMBER, at));
     };
-    let Ok(arity) = u32::try_from(given.len()) else {
-        return Err(Fail::NoMemory);
-    };
-    let found = constructor_of(allow, *class, arity);
-    let number = wanted(allow, MemberKind::Constructor, at, found)?;
+    let number = constructor_meant(allow, at, *class, given.len())?;
     constructed(alloc, allow, at, number, given)
 }
 
@@ -339,14 +333,20 @@ pub fn read_of(
     read_named(alloc, allow, access, at, name, class, x)
 }
 
-fn field_node(alloc: Global, allow: &Allow, at: u32, number: u32) -> Result<Part, AllocError>
+fn field_node(
+    alloc: Global,
+    allow: &Allow,
+    access: Access,
+    at: u32,
+    number: u32,
+) -> Result<Part, Fail>
     requires { number < MEMBER_COUNT }
-    ensures { IfOk result (λ x. x ≡ spec.field_node at number) }
+    ensures { Keeps (spec.nullable access at number (spec.field_node at number)) result }
 {
-    let of = member_at(allow, number).result.share(alloc)?;
-    let operation = Operation::Field(member(alloc, allow, number)?);
+    let (member, of) = called(alloc, allow, access, at, number)?;
+    let operation = Operation::Field(member);
     let parts = Items::new(alloc);
-    Ok(plain(at, typed(alloc, at, of, Node::Apply { operation, parts })?))
+    part(alloc, at, Form::Other, of, Node::Apply { operation, parts })
 }
 
 /// A field of a class, at its `.` or `?.`.
@@ -367,6 +367,5 @@ pub fn field_of(
     };
     let found = member_of(allow, *class, name.as_str(), 0);
     let number = wanted(allow, MemberKind::Field, at, found)?;
-    let x = field_node(alloc, allow, at, number)?;
-    nullable(allow, access, at, number, x)
+    field_node(alloc, allow, access, at, number)
 }

@@ -1,13 +1,14 @@
 //! Typed nodes.
 
-ghost use Rattle.std.specs.Prelude.{◌≡◌, [], ◌∷◌, IfOk};
+ghost use Rattle.std.specs.Prelude.{◌≡◌, [], ◌∷◌, Ok};
+ghost use Rattle.typing_rules.specs.Outcomes.{Keeps};
 ghost use Rattle.typing_rules.specs.Rules.Nodes as spec;
 
 use crate::part::{Form, Part};
-use pl_types::{Primitive, Ty};
+use pl_types::{Fail, Primitive, Ty};
 use plain_data::{Items, Subtree};
-use std::alloc::{AllocError, Global};
-use typed_tree::{Node, Operation, Typed};
+use std::alloc::Global;
+use typed_tree::{Node, Typed};
 
 /// The type of conditions.
 pub(crate) fn boolean() -> Ty
@@ -17,47 +18,49 @@ pub(crate) fn boolean() -> Ty
 }
 
 /// An expression of a type at a place.
-pub(crate) fn typed(
-    alloc: Global,
-    at: u32,
-    of: Ty,
-    node: Node,
-) -> Result<Subtree<Typed>, AllocError>
-    ensures { IfOk result (λ x. x ≡ spec.typed at of node) }
+pub(crate) fn typed(alloc: Global, at: u32, of: Ty, node: Node) -> Result<Subtree<Typed>, Fail>
+    ensures { Keeps (Ok (spec.typed at of node)) result }
 {
-    Typed::held(alloc, Typed { at, of, node })
+    match Typed::held(alloc, Typed { at, of, node }) {
+        Ok(typed) => Ok(typed),
+        Err(_) => Err(Fail::NoMemory),
+    }
 }
 
-/// An operation on one part.
-pub(crate) fn applied_to_one(
-    alloc: Global,
-    at: u32,
-    of: Ty,
-    operation: Operation,
-    x: Subtree<Typed>,
-) -> Result<Subtree<Typed>, AllocError>
-    ensures { IfOk result (λ y. y ≡ spec.applied at of operation (x ∷ [])) }
+/// The same, with what it is to the node around it.
+pub(crate) fn part(alloc: Global, at: u32, form: Form, of: Ty, node: Node) -> Result<Part, Fail>
+    ensures { Keeps (Ok (spec.part at form (spec.typed at of node))) result }
+{
+    match typed(alloc, at, of, node) {
+        Ok(typed) => Ok(Part { at, form, typed }),
+        Err(fail) => Err(fail),
+    }
+}
+
+/// What an operation has that is on one part.
+pub(crate) fn one_part(alloc: Global, x: Subtree<Typed>) -> Result<Items<Subtree<Typed>>, Fail>
+    ensures { Keeps (Ok (x ∷ [])) result }
 {
     let mut parts = Items::new(alloc);
-    parts.push(x)?;
-    typed(alloc, at, of, Node::Apply { operation, parts })
+    match parts.push(x) {
+        Ok(()) => Ok(parts),
+        Err(_) => Err(Fail::NoMemory),
+    }
 }
 
-/// An operation on two parts.
-pub(crate) fn applied_to_two(
+/// What an operation has that is on two parts.
+pub(crate) fn two_parts(
     alloc: Global,
-    at: u32,
-    of: Ty,
-    operation: Operation,
     x: Subtree<Typed>,
     y: Subtree<Typed>,
-) -> Result<Subtree<Typed>, AllocError>
-    ensures { IfOk result (λ z. z ≡ spec.applied at of operation (x ∷ y ∷ [])) }
+) -> Result<Items<Subtree<Typed>>, Fail>
+    ensures { Keeps (Ok (x ∷ y ∷ [])) result }
 {
-    let mut parts = Items::new(alloc);
-    parts.push(x)?;
-    parts.push(y)?;
-    typed(alloc, at, of, Node::Apply { operation, parts })
+    let mut parts = one_part(alloc, x)?;
+    match parts.push(y) {
+        Ok(()) => Ok(parts),
+        Err(_) => Err(Fail::NoMemory),
+    }
 }
 
 /// What is no literal and no statement.
@@ -67,17 +70,6 @@ pub(crate) fn plain(at: u32, typed: Subtree<Typed>) -> Part
     Part {
         at,
         form: Form::Other,
-        typed,
-    }
-}
-
-/// What may stand as a statement.
-pub(crate) fn deed(at: u32, typed: Subtree<Typed>) -> Part
-    ensures { result ≡ spec.part at Form.Deed typed }
-{
-    Part {
-        at,
-        form: Form::Deed,
         typed,
     }
 }

@@ -1,19 +1,19 @@
 //! Operators and the conditional. What is done with references stands apart.
 
-ghost use Rattle.std.specs.Prelude.{◌≡◌};
-ghost use Rattle.pl_tree.specs.declared.operator.BinaryOperator.TheVariants as binary;
-ghost use Rattle.typing_rules.specs.Outcomes.{Keeps, refusal};
-ghost use Rattle.typing_rules.specs.Rules.Nodes.{type_of_part};
+ghost use Rattle.std.specs.Prelude.{◌≡◌, [], ◌∷◌, true, Ok};
+ghost use Rattle.typed_tree.specs.declared.operation.Operation.TheVariants as operation;
+ghost use Rattle.typing_rules.specs.Outcomes.{Keeps};
+ghost use Rattle.typing_rules.specs.Rules.Nodes as nodes;
 ghost use Rattle.typing_rules.specs.Rules.Operators as spec;
 
-use crate::part::Part;
+use crate::part::{Form, Part};
 use crate::refuse::refuse;
-use crate::rules::casts::{cast_at, cast_to};
-use crate::rules::nodes::{applied_to_one, applied_to_two, boolean, is_void, plain, typed};
+use crate::rules::casts::{cast_at, cast_to, cast_to_boolean};
+use crate::rules::nodes::{boolean, is_void, one_part, part, plain, two_parts};
 use crate::rules::plans::{Plan, on_numbers, plan_between, primitive_of};
 use crate::rules::references::{common, related};
 pub use crate::rules::references::{elvis_of, instance_of};
-use crate::rules::sides::{refused_between, relation_between};
+use crate::rules::sides::{refused_alone, relation_between};
 use arithmetic::Op;
 use pl_tree::{BinaryOperator, UnaryOperator};
 use pl_types::{Fail, Primitive, Ty, promote, rules};
@@ -52,9 +52,10 @@ fn strict(
     let right = y.at;
     let x = operand(alloc, left, plan.left, x)?;
     let y = operand(alloc, right, plan.right, y)?;
+    let parts = two_parts(alloc, x, y)?;
     let of = Ty::Prim(plan.result);
     let operation = Operation::Operator(plan.operator);
-    Ok(plain(at, applied_to_two(alloc, at, of, operation, x, y)?))
+    part(alloc, at, Form::Other, of, Node::Apply { operation, parts })
 }
 
 /// A side of `&&`, `||` or `!`.
@@ -64,7 +65,7 @@ fn side(alloc: Global, at: u32, x: Part) -> Result<Subtree<Typed>, Fail>
     if is_void(x.of()) {
         return Err(refuse(rules::BAD_OPERAND, at));
     }
-    cast_to(alloc, &boolean(), x)
+    cast_to_boolean(alloc, x)
 }
 
 fn logical(alloc: Global, operator: Logical, at: u32, x: Part, y: Part) -> Result<Part, Fail>
@@ -77,7 +78,7 @@ fn logical(alloc: Global, operator: Logical, at: u32, x: Part, y: Part) -> Resul
         left,
         right,
     };
-    Ok(plain(at, typed(alloc, at, boolean(), node)?))
+    part(alloc, at, Form::Other, boolean(), node)
 }
 
 /// An operator between two operands, at the operator.
@@ -112,12 +113,25 @@ fn promoted(x: &Part) -> Option<Primitive>
     }
 }
 
-/// What is told where an operator does nothing with its one operand.
-fn refused_one(at: u32, x: &Part) -> Fail
-    ensures { result ≡ Fail.Refused (refusal (spec.broken_by binary.Add (spec.side_of (type_of_part x.now)) (spec.side_of (Ty.Prim Primitive.Int))) at) }
+/// An operator on one operand of a primitive type.
+fn on_one(
+    alloc: Global,
+    operator: Operator,
+    at: u32,
+    of: Primitive,
+    x: Subtree<Typed>,
+) -> Result<Part, Fail>
+    ensures { Keeps (Ok (nodes.plain at (nodes.applied at (Ty.Prim of) (operation.Operator operator) (x ∷ [])))) result }
 {
-    let int = Ty::Prim(Primitive::Int);
-    refused_between(BinaryOperator::Add, at, x.of(), &int)
+    let parts = one_part(alloc, x)?;
+    let operation = Operation::Operator(operator);
+    part(
+        alloc,
+        at,
+        Form::Other,
+        Ty::Prim(of),
+        Node::Apply { operation, parts },
+    )
 }
 
 fn signed(
@@ -130,22 +144,18 @@ fn signed(
     ensures { Keeps (spec.signed op promoted at x) result }
 {
     let Some(primitive) = promoted else {
-        return Err(refused_one(at, &x));
+        return Err(refused_alone(at, x.of()));
     };
     let place = x.at;
     let x = operand(alloc, place, primitive, x)?;
-    let operation = Operation::Operator(on_numbers(primitive, op));
-    Ok(plain(
-        at,
-        applied_to_one(alloc, at, Ty::Prim(primitive), operation, x)?,
-    ))
+    on_one(alloc, on_numbers(primitive, op), at, primitive, x)
 }
 
 fn plus_as(alloc: Global, promoted: Option<Primitive>, at: u32, x: Part) -> Result<Part, Fail>
     ensures { Keeps (spec.plus_as promoted at x) result }
 {
     match promoted {
-        None => Err(refused_one(at, &x)),
+        None => Err(refused_alone(at, x.of())),
         Some(primitive) => {
             let place = x.at;
             let x = operand(alloc, place, primitive, x)?;
@@ -158,8 +168,7 @@ fn not_of(alloc: Global, at: u32, x: Part) -> Result<Part, Fail>
     ensures { Keeps (spec.not_of at x) result }
 {
     let x = side(alloc, at, x)?;
-    let operation = Operation::Operator(Operator::Boolean(Op::Not));
-    Ok(plain(at, applied_to_one(alloc, at, boolean(), operation, x)?))
+    on_one(alloc, Operator::Boolean(Op::Not), at, Primitive::Boolean, x)
 }
 
 /// An operator before its operand.
@@ -191,7 +200,26 @@ fn choice_to(
     let yes = cast_to(alloc, &to, x)?;
     let no = cast_to(alloc, &to, y)?;
     let node = Node::Conditional { condition, yes, no };
-    Ok(plain(at, typed(alloc, at, to, node)?))
+    part(alloc, at, Form::Other, to, node)
+}
+
+/// A conditional whose sides have one type.
+fn choice_alike(
+    alloc: Global,
+    at: u32,
+    condition: Subtree<Typed>,
+    x: Part,
+    y: Part,
+) -> Result<Part, Fail>
+    ensures { Keeps (spec.choice_as true at condition x y) result }
+{
+    let of = x.of().share(alloc)?;
+    let node = Node::Conditional {
+        condition,
+        yes: x.into_typed(),
+        no: y.into_typed(),
+    };
+    part(alloc, at, Form::Other, of, node)
 }
 
 /// `condition ? yes : no`, at the `?`.
@@ -200,16 +228,11 @@ fn choice_to(
 pub fn choice_of(alloc: Global, at: u32, condition: Part, yes: Part, no: Part) -> Result<Part, Fail>
     ensures { Keeps (spec.choice_of at condition yes no) result }
 {
-    let condition = cast_to(alloc, &boolean(), condition)?;
-    if !yes.of().is(no.of()) {
+    let condition = cast_to_boolean(alloc, condition)?;
+    if yes.of().is(no.of()) {
+        choice_alike(alloc, at, condition, yes, no)
+    } else {
         let to = common(yes.of(), no.of());
-        return choice_to(alloc, at, to, condition, yes, no);
+        choice_to(alloc, at, to, condition, yes, no)
     }
-    let to = yes.of().share(alloc)?;
-    let node = Node::Conditional {
-        condition,
-        yes: yes.into_typed(),
-        no: no.into_typed(),
-    };
-    Ok(plain(at, typed(alloc, at, to, node)?))
 }

@@ -1,19 +1,20 @@
 //! Names, and what is written to them.
 
-ghost use Rattle.std.specs.Prelude.{◌≡◌, IfOk};
+ghost use Rattle.std.specs.Prelude.{◌≡◌, IfOk, Ok};
 ghost use Rattle.std.specs.Option.{option_copied};
 ghost use Rattle.typing_rules.specs.Outcomes.{Keeps};
+ghost use Rattle.typing_rules.specs.Rules.Operators.{plan_between};
 ghost use Rattle.typing_rules.specs.Rules.Places as spec;
 
 use crate::lineage::Classes;
-use crate::part::{Part, Place};
+use crate::part::{Form, Part, Place};
 use crate::refuse::refuse;
 use crate::rules::casts::cast_to;
-use crate::rules::nodes::{deed, plain, typed};
+use crate::rules::nodes::{part, typed};
 use crate::rules::operators::operand;
 use crate::rules::plans::{Plan, plan_between};
 use crate::rules::references::reference;
-use crate::rules::sides::{refused_between, relation_between};
+use crate::rules::sides::{refused_alone, refused_between, relation_between};
 use crate::rules::types::is_built;
 use crate::scopes::{Entry, Scopes, Standing};
 use crate::state::State;
@@ -30,15 +31,23 @@ pub(crate) fn copy(alloc: Global, name: &Text) -> Result<Text, AllocError>
     Text::new(alloc, name.as_str())
 }
 
+/// Copies of a name and of its type.
+pub(crate) fn copies(alloc: Global, name: &Text, of: &Ty) -> Result<(Text, Ty), AllocError>
+    ensures { IfOk result (λ c. c ≡ (name.now, of.now)) }
+{
+    let of = of.share(alloc)?;
+    let name = copy(alloc, name)?;
+    Ok((name, of))
+}
+
 fn local_of(alloc: Global, at: u32, e: &Entry) -> Result<Part, Fail>
     ensures { Keeps (spec.local_of at e.now) result }
 {
     if !is_built(&e.of) {
         return Err(refuse(rules::OUT_OF_PROFILE, at));
     }
-    let of = e.of.share(alloc)?;
-    let node = Node::Local(copy(alloc, &e.name)?);
-    Ok(plain(at, typed(alloc, at, of, node)?))
+    let (name, of) = copies(alloc, &e.name, &e.of)?;
+    part(alloc, at, Form::Other, of, Node::Local(name))
 }
 
 fn entry_of<'a>(scopes: &'a Scopes, name: &Text) -> Option<&'a Entry>
@@ -71,26 +80,19 @@ fn is_fixed(standing: Standing) -> bool
     }
 }
 
-fn written_to(alloc: Global, fixed: bool, e: &Entry) -> Result<Place, AllocError>
-    ensures { IfOk result (λ place. place ≡ spec.written_to fixed e.now) }
-{
-    if fixed {
-        return Ok(Place::Fixed);
-    }
-    let of = e.of.share(alloc)?;
-    Ok(Place::Local {
-        name: copy(alloc, &e.name)?,
-        of,
-    })
-}
-
 fn written_of(alloc: Global, at: u32, fixed: bool, e: &Entry) -> Result<Place, Fail>
     ensures { Keeps (spec.written_of at fixed e.now) result }
 {
     if !is_built(&e.of) {
         return Err(refuse(rules::OUT_OF_PROFILE, at));
     }
-    Ok(written_to(alloc, fixed, e)?)
+    if fixed {
+        return Ok(Place::Fixed);
+    }
+    match copies(alloc, &e.name, &e.of) {
+        Ok((name, of)) => Ok(Place::Local { name, of }),
+        Err(_) => Err(Fail::NoMemory),
+    }
 }
 
 /// A name as what is written to. The refusals are those of [`local`].
@@ -115,7 +117,7 @@ fn set(alloc: Global, at: u32, name: Text, of: Ty, x: Part) -> Result<Part, Fail
         parts: Items::new(alloc),
         value,
     };
-    Ok(deed(at, typed(alloc, at, of, node)?))
+    part(alloc, at, Form::Deed, of, node)
 }
 
 fn cast_before(plan: Plan, of: &Ty) -> Option<Cast>
@@ -165,7 +167,7 @@ fn changed_by(
         right,
         gives,
     };
-    Ok(deed(at, typed(alloc, at, of, node)?))
+    part(alloc, at, Form::Deed, of, node)
 }
 
 fn changed(
@@ -269,8 +271,8 @@ pub fn assign_of(
 }
 
 /// 1 of a number type.
-fn one(alloc: Global, at: u32, primitive: Primitive) -> Result<Subtree<Typed>, AllocError>
-    ensures { IfOk result (λ x. x ≡ spec.one at primitive) }
+fn one(alloc: Global, at: u32, primitive: Primitive) -> Result<Subtree<Typed>, Fail>
+    ensures { Keeps (Ok (spec.one at primitive)) result }
 {
     match primitive {
         Primitive::Long => typed(
@@ -297,6 +299,30 @@ fn operator_of(step: Step) -> BinaryOperator
     }
 }
 
+/// What `++` or `--` does with a variable of a type.
+fn step_plan(step: Step, of: &Ty) -> Option<Plan>
+    ensures { result ≡ plan_between (spec.operator_of step) of.now (Ty.Prim Primitive.Int) }
+{
+    plan_between(operator_of(step), of, &Ty::Prim(Primitive::Int))
+}
+
+fn counted(
+    alloc: Global,
+    plan: Option<Plan>,
+    at: u32,
+    name: Text,
+    of: Ty,
+    gives: Gives,
+) -> Result<Part, Fail>
+    ensures { Keeps (spec.counted plan at name of gives) result }
+{
+    let Some(plan) = plan else {
+        return Err(refused_alone(at, &of));
+    };
+    let right = one(alloc, at, plan.right)?;
+    changed(alloc, at, name, of, plan, right, gives)
+}
+
 /// `++` or `--`, at its first token.
 ///
 /// NotAssignable (15): its operand is not written to. BadOperand (10): it is no number. OutOfProfile (19): it is def.
@@ -306,10 +332,6 @@ pub fn step_of(alloc: Global, at: u32, step: Step, gives: Gives, place: Place) -
     let Some((name, of)) = place.into_local() else {
         return Err(refuse(rules::NOT_ASSIGNABLE, at));
     };
-    let int = Ty::Prim(Primitive::Int);
-    let Some(plan) = plan_between(operator_of(step), &of, &int) else {
-        return Err(refused_between(BinaryOperator::Add, at, &of, &int));
-    };
-    let right = one(alloc, at, plan.right)?;
-    changed(alloc, at, name, of, plan, right, gives)
+    let plan = step_plan(step, &of);
+    counted(alloc, plan, at, name, of, gives)
 }

@@ -8,7 +8,7 @@ ghost use Rattle.typing_rules.specs.Rules.Operators as spec;
 use crate::part::{Form, Part};
 use crate::refuse::refuse;
 use crate::rules::casts::{cast_at, cast_to};
-use crate::rules::nodes::{applied_to_one, applied_to_two, boolean, plain, typed};
+use crate::rules::nodes::{boolean, one_part, part, two_parts};
 use crate::rules::plans::primitive_of;
 use crate::rules::sides::{may_be_instance, refused_between, side_of};
 use pl_tree::BinaryOperator;
@@ -50,9 +50,10 @@ pub(crate) fn related(
     };
     let x = reference(alloc, x)?;
     let y = reference(alloc, y)?;
+    let parts = two_parts(alloc, x, y)?;
     let of = type_given(relation);
     let operation = Operation::Operator(relation);
-    Ok(plain(at, applied_to_two(alloc, at, of, operation, x, y)?))
+    part(alloc, at, Form::Other, of, Node::Apply { operation, parts })
 }
 
 fn common_class(c: u32, d: u32) -> Ty
@@ -129,7 +130,7 @@ fn elvis_by(
     if needless {
         return Err(refuse(rules::BAD_NULLABLE, at));
     }
-    Ok(plain(at, typed(alloc, at, to, Node::Elvis { left, right })?))
+    part(alloc, at, Form::Other, to, Node::Elvis { left, right })
 }
 
 fn elvis_to(alloc: Global, at: u32, to: Ty, x: Part, y: Part) -> Result<Part, Fail>
@@ -170,7 +171,13 @@ pub fn instance_of(alloc: Global, at: u32, x: Part, of: &Ty) -> Result<Part, Fai
     if !(may_be_instance(side_of(x.of())) && has_instances(of)) {
         return Err(refuse(rules::BAD_OPERAND, at));
     }
+    let parts = one_part(alloc, x.into_typed())?;
     let operation = Operation::InstanceOf(of.share(alloc)?);
-    let part = x.into_typed();
-    Ok(plain(at, applied_to_one(alloc, at, boolean(), operation, part)?))
+    part(
+        alloc,
+        at,
+        Form::Other,
+        boolean(),
+        Node::Apply { operation, parts },
+    )
 }

@@ -1,13 +1,14 @@
 //! What the sides of an operator are to it where they are not both of primitive types.
 
 ghost use Rattle.std.specs.Prelude.{◌≡◌};
+ghost use Rattle.pl_tree.specs.declared.operator.BinaryOperator.TheVariants as binary;
 ghost use Rattle.typing_rules.specs.Outcomes.{refusal};
 ghost use Rattle.typing_rules.specs.Rules.Operators as spec;
 ghost use Rattle.typing_rules.specs.Rules.Sides.{seen};
 
 use crate::refuse::refuse;
 use pl_tree::BinaryOperator;
-use pl_types::{Fail, Ty, class_below, classes, rules};
+use pl_types::{Fail, Primitive, Ty, class_below, classes, rules};
 use typed_tree::Operator;
 
 /// What a side is to an operator.
@@ -162,6 +163,16 @@ pub(crate) fn refused_between(operator: BinaryOperator, at: u32, x: &Ty, y: &Ty)
     ensures { result ≡ Fail.Refused (refusal (spec.broken_by operator (spec.side_of x.now) (spec.side_of y.now)) at) }
 {
     refuse(broken_by(operator, side_of(x), side_of(y)), at)
+}
+
+/// What is told where an operator does nothing with its one operand. The refusals are those of [`refused_between`].
+pub(crate) fn refused_alone(at: u32, x: &Ty) -> Fail
+    ensures { result ≡ Fail.Refused (refusal (spec.broken_by binary.Add (spec.side_of x.now) (spec.side_of (Ty.Prim Primitive.Int))) at) }
+{
+    refuse(
+        broken_by(BinaryOperator::Add, side_of(x), Side::Primitive),
+        at,
+    )
 }
 
 /// Whether a side may be an instance of a class.

@@ -1,15 +1,16 @@
 //! Statements.
 
-ghost use Rattle.std.specs.Prelude.{◌≡◌, ◌&&◌, not, ◌||◌, map, IfOk};
+ghost use Rattle.std.specs.Prelude.{◌≡◌, ◌&&◌, not, ◌||◌, map, IfOk, Ok};
 ghost use Rattle.std.specs.List.{list_all, list_any};
-ghost use Rattle.typing_rules.specs.Outcomes.{Keeps, KeepsBoth};
+ghost use Rattle.typing_rules.specs.Outcomes.{Keeps, KeepsBoth, bind};
 ghost use Rattle.typing_rules.specs.Rules.Statements as spec;
+ghost use Rattle.typing_rules.specs.State as known;
 
 use crate::part::{Caught, Form, Part, Step};
 use crate::refuse::refuse;
-use crate::rules::casts::cast_to;
-use crate::rules::nodes::{boolean, is_void};
-use crate::rules::places::copy;
+use crate::rules::casts::{cast_to, cast_to_boolean};
+use crate::rules::nodes::is_void;
+use crate::rules::places::{copies, copy};
 use crate::state::State;
 use pl_tree::Spelled;
 use pl_types::{Fail, Ty, classes, rules};
@@ -32,6 +33,22 @@ fn step(
         breaks,
         statement,
     })
+}
+
+/// The same, as a rule ends.
+fn made(
+    alloc: Global,
+    escapes: bool,
+    breaks: bool,
+    at: u32,
+    node: StatementNode,
+) -> Result<Step, Fail>
+    ensures { Keeps (Ok (spec.step escapes breaks at node)) result }
+{
+    match step(alloc, escapes, breaks, at, node) {
+        Ok(step) => Ok(step),
+        Err(_) => Err(Fail::NoMemory),
+    }
 }
 
 /// A statement behind one that escapes, or not.
@@ -74,14 +91,14 @@ pub fn deed(alloc: Global, at: u32, x: Part) -> Result<Step, Fail>
         return Err(refuse(rules::NOT_A_STATEMENT, at));
     }
     let node = StatementNode::Expression(x.into_typed());
-    Ok(step(alloc, false, false, at, node)?)
+    made(alloc, false, false, at, node)
 }
 
 fn give_back(alloc: Global, at: u32, to: &Ty, x: Part) -> Result<Step, Fail>
     ensures { Keeps (spec.give_back at to.now x) result }
 {
     let value = cast_to(alloc, to, x)?;
-    Ok(step(alloc, true, false, at, StatementNode::Return(Some(value)))?)
+    made(alloc, true, false, at, StatementNode::Return(Some(value)))
 }
 
 fn is_result(last: bool, x: &Part, state: &State) -> bool
@@ -109,6 +126,18 @@ pub fn expression_of(
     }
 }
 
+/// Declares a variable, and gives copies of its name and its type.
+fn declared(alloc: Global, name: &Spelled, of: &Ty, state: &mut State) -> Result<(Text, Ty), Fail>
+    ensures { KeepsBoth (bind (known.declared name.now.at name.now.spelling of.now state.old) (λ t. Ok ((name.now.spelling, of.now), t))) result state.new }
+{
+    let own = of.share(alloc)?;
+    state.declare(alloc, name.at, &name.spelling, own)?;
+    match copies(alloc, &name.spelling, of) {
+        Ok(copies) => Ok(copies),
+        Err(_) => Err(Fail::NoMemory),
+    }
+}
+
 /// A variable with its value, which is typed.
 ///
 /// AlreadyDefined (5): its name is in sight.
@@ -121,13 +150,11 @@ pub fn variable_of(
 ) -> Result<TypedVariable, Fail>
     ensures { KeepsBoth (spec.variable_of name.now of.now value state.old) result state.new }
 {
-    let declared = of.share(alloc)?;
-    state.declare(alloc, name.at, &name.spelling, declared)?;
-    let of = of.share(alloc)?;
-    let copied = copy(alloc, &name.spelling)?;
+    let at = name.at;
+    let (name, of) = declared(alloc, name, of, state)?;
     Ok(TypedVariable {
-        at: name.at,
-        name: copied,
+        at,
+        name,
         of,
         value,
     })
@@ -150,7 +177,7 @@ pub fn declaration_of(
 pub fn test(alloc: Global, x: Part) -> Result<Subtree<Typed>, Fail>
     ensures { Keeps (spec.test x) result }
 {
-    cast_to(alloc, &boolean(), x)
+    cast_to_boolean(alloc, x)
 }
 
 /// The test of a loop. The literal `true` is none.
@@ -162,8 +189,10 @@ pub fn loop_test(alloc: Global, x: Part) -> Result<Option<Subtree<Typed>>, Fail>
     if is_true(x.form) {
         return Ok(None);
     }
-    let test = cast_to(alloc, &boolean(), x)?;
-    Ok(Some(test))
+    match cast_to_boolean(alloc, x) {
+        Ok(test) => Ok(Some(test)),
+        Err(fail) => Err(fail),
+    }
 }
 
 /// An `if`, whose test is cast.
@@ -269,7 +298,7 @@ pub fn break_of(alloc: Global, at: u32, state: &State) -> Result<Step, Fail>
     if !state.looped {
         return Err(refuse(rules::BAD_JUMP, at));
     }
-    Ok(step(alloc, true, true, at, StatementNode::Break)?)
+    made(alloc, true, true, at, StatementNode::Break)
 }
 
 /// A `continue`.
@@ -281,7 +310,7 @@ pub fn continue_of(alloc: Global, at: u32, state: &State) -> Result<Step, Fail>
     if !state.looped {
         return Err(refuse(rules::BAD_JUMP, at));
     }
-    Ok(step(alloc, true, false, at, StatementNode::Continue)?)
+    made(alloc, true, false, at, StatementNode::Continue)
 }
 
 /// A `return` with a value.
@@ -302,7 +331,7 @@ pub fn nothing_returned(alloc: Global, at: u32, state: &State) -> Result<Step, F
     if !is_void(&state.result) {
         return Err(refuse(rules::MISSING_RETURN, at));
     }
-    Ok(step(alloc, true, false, at, StatementNode::Return(None))?)
+    made(alloc, true, false, at, StatementNode::Return(None))
 }
 
 /// A `throw`.
@@ -312,7 +341,7 @@ pub fn throw_of(alloc: Global, at: u32, x: Part) -> Result<Step, Fail>
     ensures { Keeps (spec.throw_of at x) result }
 {
     let thrown = cast_to(alloc, &Ty::Class(classes::EXCEPTION), x)?;
-    Ok(step(alloc, true, false, at, StatementNode::Throw(thrown))?)
+    made(alloc, true, false, at, StatementNode::Throw(thrown))
 }
 
 pub(crate) fn last_escapes(steps: &[Step]) -> bool

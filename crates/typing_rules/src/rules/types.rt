@@ -1,7 +1,6 @@
 //! Types as they are written.
 
 ghost use Rattle.std.specs.Prelude.{◌≡◌};
-ghost use Rattle.pl_tree.specs.declared.tree.TypeBase.TheVariants as base;
 ghost use Rattle.typing_rules.specs.Outcomes.{Keeps};
 ghost use Rattle.typing_rules.specs.Rules.Types as spec;
 
@@ -32,23 +31,14 @@ pub(crate) fn is_built(of: &Ty) -> bool
     }
 }
 
-fn class_of(at: u32, class: u32) -> Result<Ty, Fail>
-    ensures { Keeps (spec.base_of at (base.Class class)) result }
-{
-    if is_built_class(class) {
-        Ok(Ty::Class(class))
-    } else {
-        Err(refuse(rules::OUT_OF_PROFILE, at))
-    }
-}
-
 fn base_of(at: u32, base: &TypeBase) -> Result<Ty, Fail>
     ensures { Keeps (spec.base_of at base.now) result }
 {
     match base {
         TypeBase::Def => Ok(Ty::Def),
         TypeBase::Primitive(primitive) => Ok(Ty::Prim(*primitive)),
-        TypeBase::Class(class) => class_of(at, *class),
+        TypeBase::Class(class) if is_built_class(*class) => Ok(Ty::Class(*class)),
+        TypeBase::Class(_) => Err(refuse(rules::OUT_OF_PROFILE, at)),
         TypeBase::Name(_) => Err(refuse(rules::UNKNOWN_TYPE, at)),
     }
 }
@@ -91,18 +81,9 @@ fn caught_base(at: u32, base: &TypeBase) -> Result<u32, Fail>
     match base {
         TypeBase::Def => Err(refuse(rules::BAD_CAST, at)),
         TypeBase::Primitive(_) => Err(refuse(rules::BAD_CAST, at)),
-        TypeBase::Class(class) => listed_class(at, *class),
+        TypeBase::Class(class) if *class < classes::PRELUDE => Ok(*class),
+        TypeBase::Class(_) => Err(refuse(rules::OUT_OF_PROFILE, at)),
         TypeBase::Name(_) => Err(refuse(rules::UNKNOWN_TYPE, at)),
-    }
-}
-
-fn listed_class(at: u32, class: u32) -> Result<u32, Fail>
-    ensures { Keeps (spec.caught_base at (base.Class class)) result }
-{
-    if class < classes::PRELUDE {
-        Ok(class)
-    } else {
-        Err(refuse(rules::OUT_OF_PROFILE, at))
     }
 }
 
