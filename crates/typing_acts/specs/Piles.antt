@@ -1,12 +1,15 @@
 -- Stacks, each a list that begins with its top.
 use Rattle.std.specs.declared.alloc.Global.{Global}
 use Rattle.std.specs.declared.vec.Vec.{Vec}
-use Rattle.std.specs.Prelude.{◌≡◌, Bool, true, false, ℕ, zero, suc, ◌-◌, length, List, [], ◌∷◌, Option, Some, None, Ok}
+use Rattle.std.specs.Prelude.{◌≡◌, Bool, true, false, ℕ, zero, suc, ◌-◌, length, List, [], ◌∷◌, Option, Some, None, Result, Ok, Err}
+use Rattle.std.specs.declared.alloc.AllocError.{AllocError}
+use Rattle.pl_types.specs.declared.refusal.Fail.{Fail}
+use Rattle.pl_types.specs.declared.refusal.Fail.TheVariants.{Refused, NoMemory}
 use Rattle.typed_tree.specs.declared.typed.Typed.{Typed}
 use Rattle.typing_rules.specs.declared.part.Part.{Part}
 use Rattle.typing_rules.specs.declared.part.Place.{Place}
 use Rattle.typing_rules.specs.declared.part.Step.{Step}
-use Rattle.typing_rules.specs.Outcomes.{Out, refuse, bind}
+use Rattle.typing_rules.specs.Outcomes.{Out, refuse, bind, KeepsIn}
 use Rattle.typing_acts.specs.declared.config.Config.{Config}
 
 -- a part that an act takes is not there: never so, where acts are done in their order
@@ -40,6 +43,22 @@ abbrev pub some_gathered : {A B : Type 0} → Option (List A × List A) → (Lis
 some_gathered None f = stuck
 some_gathered (Some p) f = f p.0 p.1
 
+-- what is taken above a height; nothing is said where it is not there
+abbrev pub TakesUp : {A : Type 0} → ℕ → List A → List A → Result (Vec A Global) Fail → Type 0
+TakesUp n old new (Ok taken) = gathered n old [] ≡ Some (taken.items, new)
+TakesUp n old new (Err NoMemory) = Unit {0}
+TakesUp n old new (Err (Refused r)) = ⊥
+
+-- two are taken, the upper one last; nothing is said where there are not so many
+abbrev pub PopsTwo : {A : Type 0} → List A → List A → Option (A × A) → Type 0
+PopsTwo old new None = Unit {0}
+PopsTwo old new (Some p) = old ≡ p.1 ∷ p.0 ∷ new
+
+-- what a rule gives is put on the top, and its refusal is passed on
+abbrev pub Puts : {A U : Type 0} → Result A Fail → List A → Result U Fail → List A → Type 0
+Puts (Ok x) old result new = KeepsIn (Ok (x ∷ old)) result new
+Puts (Err fail) old result new = result ≡ Err fail
+
 -- what is done with so many from the top, and what is below them
 abbrev pub many : {A B : Type 0} → ℕ → List A → (List A → List A → Out B) → Out B
 many n xs f = some_gathered (gathered n xs []) f
@@ -69,3 +88,31 @@ with_step c o = bind o (λ y. Ok (record c { steps = y ∷ c.steps }))
 
 abbrev pub with_test : Config → Out (Option Typed) → Out Config
 with_test c o = bind o (λ t. Ok (record c { tests = t ∷ c.tests }))
+
+-- the top of the parts is taken; nothing is said where there is none
+abbrev pub PopsPart : Config → Config → Option Part → Type 0
+PopsPart old new None = Unit {0}
+PopsPart old new (Some x) = old ≡ put_part new new.parts x
+
+-- a part that a rule gives is put on the parts, and the rule's refusal is passed on
+abbrev pub PutsPart : {U : Type 0} → Result Part Fail → Config → Result U Fail → Config → Type 0
+PutsPart (Ok x) old result new = KeepsIn (Ok (put_part old old.parts x)) result new
+PutsPart (Err fail) old result new = result ≡ Err fail
+
+abbrev pub put_step : Config → Step → Config
+put_step c y = record c { steps = y ∷ c.steps }
+
+-- the same of a step
+abbrev pub PutsStep : {U : Type 0} → Result Step Fail → Config → Result U Fail → Config → Type 0
+PutsStep (Ok y) old result new = KeepsIn (Ok (put_step old y)) result new
+PutsStep (Err fail) old result new = result ≡ Err fail
+
+-- the same of a step whose rule refuses nothing
+abbrev pub PutsBuilt : {U : Type 0} → Result Step AllocError → Config → Result U Fail → Config → Type 0
+PutsBuilt (Ok y) old result new = KeepsIn (Ok (put_step old y)) result new
+PutsBuilt (Err e) old result new = result ≡ Err NoMemory
+
+-- the same of a test
+abbrev pub PutsTest : {U : Type 0} → Result Typed Fail → Config → Result U Fail → Config → Type 0
+PutsTest (Ok x) old result new = KeepsIn (Ok (record old { tests = Some x ∷ old.tests })) result new
+PutsTest (Err fail) old result new = result ≡ Err fail

@@ -1,11 +1,13 @@
 -- Acts on statements.
 use Rattle.std.specs.Prelude.{ℕ, Bool, true, false, List, ◌∷◌, Option, Some, None, Ok}
+use Rattle.pl_types.specs.declared.ty.Ty.TheVariants as ty
 use Rattle.pl_tree.specs.declared.tree.Spelled.{Spelled}
 use Rattle.pl_tree.specs.declared.tree.TypeName.{TypeName}
 use Rattle.typed_tree.specs.declared.typed.Typed.{Typed}
 use Rattle.typing_rules.specs.declared.part.Step.{Step}
 use Rattle.typing_rules.specs.Outcomes.{Out, bind}
-use Rattle.typing_rules.specs.Rules.Types.{type_of}
+use Rattle.typing_rules.specs.State.{declared}
+use Rattle.typing_rules.specs.Rules.Types.{type_of, caught_class}
 use Rattle.typing_rules.specs.Rules.Casts.{cast_to}
 use Rattle.typing_rules.specs.Rules.Statements as rules
 use Rattle.typing_acts.specs.declared.config.Config.{Config}
@@ -89,9 +91,13 @@ whole_loop at has_first has_body c = two c.tests (λ test update tests. step_if 
 abbrev pub do_loop : ℕ → Config → Out Config
 do_loop at c = one c.tests (λ test tests. one c.steps (λ body rest. Ok (record c { tests = tests; steps = rules.do_of at body test ∷ rest })))
 
--- a catch, whose block is typed
-abbrev pub catch : ℕ → ℕ → List ℕ → Config → Out Config
-catch at class name c = one c.steps (λ y rest. Ok (record c { steps = rest; catches = rules.caught at class name y ∷ c.catches }))
+-- the name of a catch, which is in sight in its block
+abbrev pub catching : TypeName → Spelled → Config → Out Config
+catching of name c = bind (caught_class of) (λ class. bind (declared name.at name.spelling (ty.Class class) c.state) (λ s. Ok (record c { state = s })))
+
+-- a catch of a type that was looked at before, whose block is typed
+abbrev pub catch : ℕ → TypeName → List ℕ → Config → Out Config
+catch at of name c = one c.steps (λ y rest. bind (caught_class of) (λ class. Ok (record c { steps = rest; catches = rules.caught at class name y ∷ c.catches })))
 
 -- a `try`, whose block is typed, with the catches above a height
 abbrev pub whole_try : ℕ → ℕ → Config → Out Config

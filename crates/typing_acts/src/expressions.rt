@@ -16,8 +16,7 @@ use typing_rules::rules::{calls, casts, literals, operators, places, types};
 pub fn integer(alloc: Global, config: &mut Config, at: u32, spelling: &Text) -> Result<(), Fail>
     ensures { KeepsIn (spec.integer at spelling.now config.old) result config.new }
 {
-    let x = literals::integer(alloc, at, spelling.as_str())?;
-    config.parts.put(x)
+    config.put_part(literals::integer(alloc, at, spelling.as_str()))
 }
 
 /// One directly behind a minus.
@@ -30,32 +29,29 @@ pub fn negated_integer(
 ) -> Result<(), Fail>
     ensures { KeepsIn (spec.negated_integer minus at spelling.now config.old) result config.new }
 {
-    let x = literals::negated_integer(alloc, minus, at, spelling.as_str())?;
-    config.parts.put(x)
+    config.put_part(literals::negated_integer(alloc, minus, at, spelling.as_str()))
 }
 
 /// A text.
 pub fn text(alloc: Global, config: &mut Config, at: u32, spelling: &Text) -> Result<(), Fail>
     ensures { KeepsIn (spec.text at spelling.now config.old) result config.new }
 {
-    let x = literals::text(alloc, at, spelling.as_str())?;
-    config.parts.put(x)
+    config.put_part(literals::text(alloc, at, spelling.as_str()))
 }
 
 /// A literal that is a keyword.
 pub fn constant(alloc: Global, config: &mut Config, at: u32, constant: Constant) -> Result<(), Fail>
     ensures { KeepsIn (spec.constant at constant config.old) result config.new }
 {
-    let x = literals::constant(alloc, at, constant)?;
-    config.parts.put(x)
+    config.put_part(literals::constant(alloc, at, constant))
 }
 
 /// A name's value.
 pub fn local(alloc: Global, config: &mut Config, at: u32, name: &Text) -> Result<(), Fail>
     ensures { KeepsIn (spec.local at name.now config.old) result config.new }
 {
-    let x = places::local(alloc, at, name, &config.state)?;
-    config.parts.put(x)
+    let x = places::local(alloc, at, name, &config.state);
+    config.put_part(x)
 }
 
 /// An operator between two operands.
@@ -67,14 +63,10 @@ pub fn binary(
 ) -> Result<(), Fail>
     ensures { KeepsIn (spec.binary operator at config.old) result config.new }
 {
-    let Some(y) = config.parts.pop() else {
+    let Some((x, y)) = config.parts.pop_two() else {
         return Err(Fail::NoMemory);
     };
-    let Some(x) = config.parts.pop() else {
-        return Err(Fail::NoMemory);
-    };
-    let z = operators::binary_of(alloc, operator, at, x, y)?;
-    config.parts.put(z)
+    config.put_part(operators::binary_of(alloc, operator, at, x, y))
 }
 
 /// An operator before its operand.
@@ -86,61 +78,51 @@ pub fn unary(
 ) -> Result<(), Fail>
     ensures { KeepsIn (spec.unary operator at config.old) result config.new }
 {
-    let Some(x) = config.parts.pop() else {
+    let Some(x) = config.pop_part() else {
         return Err(Fail::NoMemory);
     };
-    let y = operators::unary_of(alloc, operator, at, x)?;
-    config.parts.put(y)
+    config.put_part(operators::unary_of(alloc, operator, at, x))
 }
 
 /// A conditional.
 pub fn choice(alloc: Global, config: &mut Config, at: u32) -> Result<(), Fail>
     ensures { KeepsIn (spec.choice at config.old) result config.new }
 {
-    let Some(no) = config.parts.pop() else {
+    let Some(no) = config.pop_part() else {
         return Err(Fail::NoMemory);
     };
-    let Some(yes) = config.parts.pop() else {
+    let Some((condition, yes)) = config.parts.pop_two() else {
         return Err(Fail::NoMemory);
     };
-    let Some(condition) = config.parts.pop() else {
-        return Err(Fail::NoMemory);
-    };
-    let x = operators::choice_of(alloc, at, condition, yes, no)?;
-    config.parts.put(x)
+    config.put_part(operators::choice_of(alloc, at, condition, yes, no))
 }
 
 /// `?:`.
 pub fn elvis(alloc: Global, config: &mut Config, at: u32) -> Result<(), Fail>
     ensures { KeepsIn (spec.elvis at config.old) result config.new }
 {
-    let Some(y) = config.parts.pop() else {
+    let Some((x, y)) = config.parts.pop_two() else {
         return Err(Fail::NoMemory);
     };
-    let Some(x) = config.parts.pop() else {
-        return Err(Fail::NoMemory);
-    };
-    let z = operators::elvis_of(alloc, at, x, y)?;
-    config.parts.put(z)
+    config.put_part(operators::elvis_of(alloc, at, x, y))
 }
 
 /// `instanceof`.
 pub fn instance_of(alloc: Global, config: &mut Config, at: u32, of: &TypeName) -> Result<(), Fail>
     ensures { KeepsIn (spec.instance_of at of.now config.old) result config.new }
 {
-    let Some(x) = config.parts.pop() else {
+    let Some(x) = config.pop_part() else {
         return Err(Fail::NoMemory);
     };
     let of = types::type_of(of)?;
-    let y = operators::instance_of(alloc, at, x, &of)?;
-    config.parts.put(y)
+    config.put_part(operators::instance_of(alloc, at, x, &of))
 }
 
 /// Brackets.
 pub fn bracketed(config: &mut Config, at: u32) -> Result<(), Fail>
     ensures { KeepsIn (spec.bracketed at config.old) result config.new }
 {
-    let Some(x) = config.parts.pop() else {
+    let Some(x) = config.pop_part() else {
         return Err(Fail::NoMemory);
     };
     config.parts.put(x.bracketed(at))
@@ -150,12 +132,11 @@ pub fn bracketed(config: &mut Config, at: u32) -> Result<(), Fail>
 pub fn asked(alloc: Global, config: &mut Config, at: u32, of: &TypeName) -> Result<(), Fail>
     ensures { KeepsIn (spec.asked at of.now config.old) result config.new }
 {
-    let Some(x) = config.parts.pop() else {
+    let Some(x) = config.pop_part() else {
         return Err(Fail::NoMemory);
     };
     let to = types::type_of(of)?;
-    let y = casts::asked(alloc, at, &to, x)?;
-    config.parts.put(y)
+    config.put_part(casts::asked(alloc, at, &to, x))
 }
 
 /// A call of a function of the script with the arguments above a height.
@@ -169,9 +150,6 @@ pub fn call(
 ) -> Result<(), Fail>
     ensures { KeepsIn (spec.call headers.now at name.now height config.old) result config.new }
 {
-    let Some(given) = config.parts.take_above(alloc, height)? else {
-        return Err(Fail::NoMemory);
-    };
-    let x = calls::call_of(alloc, headers, at, name, given)?;
-    config.parts.put(x)
+    let given = config.parts.take_up(alloc, height)?;
+    config.put_part(calls::call_of(alloc, headers, at, name, given))
 }

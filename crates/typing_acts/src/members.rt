@@ -24,14 +24,11 @@ pub fn method(
 ) -> Result<(), Fail>
     ensures { KeepsIn (spec.method allow.now at access name.now height config.old) result config.new }
 {
-    let Some(given) = config.parts.take_above(alloc, height)? else {
+    let given = config.parts.take_up(alloc, height)?;
+    let Some(x) = config.pop_part() else {
         return Err(Fail::NoMemory);
     };
-    let Some(x) = config.parts.pop() else {
-        return Err(Fail::NoMemory);
-    };
-    let y = members::method_of(alloc, allow, access, at, name, x, given)?;
-    config.parts.put(y)
+    config.put_part(members::method_of(alloc, allow, access, at, name, x, given))
 }
 
 /// A call on a type with the arguments above a height.
@@ -47,12 +44,9 @@ pub fn static_call(
 ) -> Result<(), Fail>
     ensures { KeepsIn (spec.static allow.now at access of.now name.now height config.old) result config.new }
 {
-    let Some(given) = config.parts.take_above(alloc, height)? else {
-        return Err(Fail::NoMemory);
-    };
+    let given = config.parts.take_up(alloc, height)?;
     let of = types::type_of(of)?;
-    let x = members::static_of(alloc, allow, access, at, name, &of, given)?;
-    config.parts.put(x)
+    config.put_part(members::static_of(alloc, allow, access, at, name, &of, given))
 }
 
 /// `new` with the arguments above a height.
@@ -66,12 +60,9 @@ pub fn made(
 ) -> Result<(), Fail>
     ensures { KeepsIn (spec.made allow.now at of.now height config.old) result config.new }
 {
-    let Some(given) = config.parts.take_above(alloc, height)? else {
-        return Err(Fail::NoMemory);
-    };
+    let given = config.parts.take_up(alloc, height)?;
     let of = types::type_of(of)?;
-    let x = members::new_of(alloc, allow, at, &of, given)?;
-    config.parts.put(x)
+    config.put_part(members::new_of(alloc, allow, at, &of, given))
 }
 
 /// A name of a value.
@@ -85,11 +76,10 @@ pub fn read(
 ) -> Result<(), Fail>
     ensures { KeepsIn (spec.read allow.now at access name.now config.old) result config.new }
 {
-    let Some(x) = config.parts.pop() else {
+    let Some(x) = config.pop_part() else {
         return Err(Fail::NoMemory);
     };
-    let y = members::read_of(alloc, allow, access, at, name, x)?;
-    config.parts.put(y)
+    config.put_part(members::read_of(alloc, allow, access, at, name, x))
 }
 
 /// A name of a type.
@@ -105,6 +95,5 @@ pub fn field(
     ensures { KeepsIn (spec.field allow.now at access of.now name.now config.old) result config.new }
 {
     let of = types::type_of(of)?;
-    let x = members::field_of(alloc, allow, access, at, name, &of)?;
-    config.parts.put(x)
+    config.put_part(members::field_of(alloc, allow, access, at, name, &of))
 }

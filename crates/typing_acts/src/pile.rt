@@ -1,7 +1,7 @@
 //! A stack.
 
 ghost use Rattle.std.specs.Prelude.{◌≡◌, ◌-◌, [], ◌∷◌, length, MatchOption, OnOk, IfOk, Ok};
-ghost use Rattle.typing_acts.specs.Piles.{Takes};
+ghost use Rattle.typing_acts.specs.Piles.{Takes, TakesUp, PopsTwo, Puts};
 ghost use Rattle.typing_rules.specs.Outcomes.{KeepsIn};
 
 use pl_types::Fail;
@@ -68,10 +68,29 @@ impl<T: Drop> Pile<T> {
     pub(crate) fn put(&mut self, item: T) -> Result<(), Fail>
         ensures { KeepsIn (Ok (item ∷ self.old)) result self.new }
     {
-        match self.items.push(item) {
+        match self.push(item) {
             Ok(()) => Ok(()),
             Err(_) => Err(Fail::NoMemory),
         }
+    }
+
+    /// Puts what a rule gives on the top, as an act ends, or passes on what the rule refuses.
+    pub(crate) fn put_given(&mut self, given: Result<T, Fail>) -> Result<(), Fail>
+        ensures { Puts given self.old result self.new }
+    {
+        match given {
+            Ok(item) => self.put(item),
+            Err(fail) => Err(fail),
+        }
+    }
+
+    /// Takes two off, the upper one last. `None` where there are not so many.
+    pub(crate) fn pop_two(&mut self) -> Option<(T, T)>
+        ensures { PopsTwo self.old self.new result }
+    {
+        let upper = self.pop()?;
+        let lower = self.pop()?;
+        Some((lower, upper))
     }
 }
 
@@ -82,6 +101,16 @@ impl<T: Drop> Pile<T> {
     {
         let count = self.len().saturating_sub(height);
         self.take(alloc, count)
+    }
+
+    /// The same, as an act begins.
+    pub(crate) fn take_up(&mut self, alloc: Global, height: usize) -> Result<Vec<T>, Fail>
+        ensures { TakesUp (length self.old - height) self.old self.new result }
+    {
+        match self.take_above(alloc, height) {
+            Ok(Some(taken)) => Ok(taken),
+            _ => Err(Fail::NoMemory),
+        }
     }
 
     /// Takes so many off, the uppermost last. `None` where there are not so many.

@@ -17,15 +17,15 @@ use typing_rules::rules::places;
 pub fn written(alloc: Global, config: &mut Config, at: u32, name: &Text) -> Result<(), Fail>
     ensures { KeepsIn (spec.written at name.now config.old) result config.new }
 {
-    let place = places::written(alloc, at, name, &config.state)?;
-    config.places.put(place)
+    let place = places::written(alloc, at, name, &config.state);
+    config.places.put_given(place)
 }
 
 /// What is no name.
 pub fn fixed(config: &mut Config) -> Result<(), Fail>
     ensures { KeepsIn (spec.fixed config.old) result config.new }
 {
-    let Some(_part) = config.parts.pop() else {
+    let Some(_part) = config.pop_part() else {
         return Err(Fail::NoMemory);
     };
     config.places.put(Place::Fixed)
@@ -40,14 +40,13 @@ pub fn assign(
 ) -> Result<(), Fail>
     ensures { KeepsIn (spec.assign at operator config.old) result config.new }
 {
-    let Some(x) = config.parts.pop() else {
+    let Some(x) = config.pop_part() else {
         return Err(Fail::NoMemory);
     };
     let Some(place) = config.places.pop() else {
         return Err(Fail::NoMemory);
     };
-    let y = places::assign_of(alloc, at, operator, place, x)?;
-    config.parts.put(y)
+    config.put_part(places::assign_of(alloc, at, operator, place, x))
 }
 
 /// `++` or `--`.
@@ -63,6 +62,5 @@ pub fn step(
     let Some(place) = config.places.pop() else {
         return Err(Fail::NoMemory);
     };
-    let x = places::step_of(alloc, at, step, gives, place)?;
-    config.parts.put(x)
+    config.put_part(places::step_of(alloc, at, step, gives, place))
 }

@@ -8,7 +8,7 @@ ghost use Rattle.typing_acts.specs.Piles.{PopsIf};
 use crate::config::Config;
 use crate::pile::Pile;
 use pl_tree::{Spelled, TypeName};
-use pl_types::{Fail, Refusal, rules};
+use pl_types::{Fail, Refusal, Ty, rules};
 use plain_data::{Items, Text};
 use std::alloc::Global;
 use typing_rules::rules::{casts, statements, types};
@@ -18,22 +18,20 @@ use typing_rules::{Form, Step};
 pub fn test(alloc: Global, config: &mut Config) -> Result<(), Fail>
     ensures { KeepsIn (spec.test config.old) result config.new }
 {
-    let Some(x) = config.parts.pop() else {
+    let Some(x) = config.pop_part() else {
         return Err(Fail::NoMemory);
     };
-    let test = statements::test(alloc, x)?;
-    config.tests.put(Some(test))
+    config.put_test(statements::test(alloc, x))
 }
 
 /// The test of a loop.
 pub fn loop_test(alloc: Global, config: &mut Config) -> Result<(), Fail>
     ensures { KeepsIn (spec.loop_test config.old) result config.new }
 {
-    let Some(x) = config.parts.pop() else {
+    let Some(x) = config.pop_part() else {
         return Err(Fail::NoMemory);
     };
-    let test = statements::loop_test(alloc, x)?;
-    config.tests.put(test)
+    config.tests.put_given(statements::loop_test(alloc, x))
 }
 
 /// A test, an update or a first value that is missing.
@@ -47,18 +45,17 @@ pub fn no_test(config: &mut Config) -> Result<(), Fail>
 pub fn deed(alloc: Global, config: &mut Config, at: u32) -> Result<(), Fail>
     ensures { KeepsIn (spec.deed at config.old) result config.new }
 {
-    let Some(x) = config.parts.pop() else {
+    let Some(x) = config.pop_part() else {
         return Err(Fail::NoMemory);
     };
-    let step = statements::deed(alloc, at, x)?;
-    config.steps.put(step)
+    config.put_step(statements::deed(alloc, at, x))
 }
 
 /// What a `for` goes on with.
 pub fn update(config: &mut Config, at: u32) -> Result<(), Fail>
     ensures { KeepsIn (spec.update at config.old) result config.new }
 {
-    let Some(x) = config.parts.pop() else {
+    let Some(x) = config.pop_part() else {
         return Err(Fail::NoMemory);
     };
     let Form::Deed = x.form else {
@@ -74,12 +71,11 @@ pub fn update(config: &mut Config, at: u32) -> Result<(), Fail>
 pub fn initial(alloc: Global, config: &mut Config, of: &TypeName) -> Result<(), Fail>
     ensures { KeepsIn (spec.initial of.now config.old) result config.new }
 {
-    let Some(x) = config.parts.pop() else {
+    let Some(x) = config.pop_part() else {
         return Err(Fail::NoMemory);
     };
     let to = types::type_of(of)?;
-    let value = casts::cast_to(alloc, &to, x)?;
-    config.tests.put(Some(value))
+    config.put_test(casts::cast_to(alloc, &to, x))
 }
 
 /// A variable, whose value is typed.
@@ -95,87 +91,79 @@ pub fn variable(
         return Err(Fail::NoMemory);
     };
     let to = types::type_of(of)?;
-    let variable = statements::variable_of(alloc, name, &to, value, &mut config.state)?;
-    config.variables.put(variable)
+    config.variables.put_given(statements::variable_of(alloc, name, &to, value, &mut config.state))
 }
 
 /// An expression statement.
 pub fn expression(alloc: Global, config: &mut Config, at: u32, last: bool) -> Result<(), Fail>
     ensures { KeepsIn (spec.expression at last config.old) result config.new }
 {
-    let Some(x) = config.parts.pop() else {
+    let Some(x) = config.pop_part() else {
         return Err(Fail::NoMemory);
     };
-    let step = statements::expression_of(alloc, at, last, x, &config.state)?;
-    config.steps.put(step)
+    let step = statements::expression_of(alloc, at, last, x, &config.state);
+    config.put_step(step)
 }
 
 /// A `return` with a value.
 pub fn return_value(alloc: Global, config: &mut Config, at: u32) -> Result<(), Fail>
     ensures { KeepsIn (spec.return_value at config.old) result config.new }
 {
-    let Some(x) = config.parts.pop() else {
+    let Some(x) = config.pop_part() else {
         return Err(Fail::NoMemory);
     };
-    let step = statements::return_of(alloc, at, x, &config.state)?;
-    config.steps.put(step)
+    let step = statements::return_of(alloc, at, x, &config.state);
+    config.put_step(step)
 }
 
 /// A `throw`.
 pub fn throw(alloc: Global, config: &mut Config, at: u32) -> Result<(), Fail>
     ensures { KeepsIn (spec.throw at config.old) result config.new }
 {
-    let Some(x) = config.parts.pop() else {
+    let Some(x) = config.pop_part() else {
         return Err(Fail::NoMemory);
     };
-    let step = statements::throw_of(alloc, at, x)?;
-    config.steps.put(step)
+    config.put_step(statements::throw_of(alloc, at, x))
 }
 
 /// A `return` without a value.
 pub fn return_nothing(alloc: Global, config: &mut Config, at: u32) -> Result<(), Fail>
     ensures { KeepsIn (spec.return_nothing at config.old) result config.new }
 {
-    let step = statements::nothing_returned(alloc, at, &config.state)?;
-    config.steps.put(step)
+    let step = statements::nothing_returned(alloc, at, &config.state);
+    config.put_step(step)
 }
 
 /// A `break`.
 pub fn break_loop(alloc: Global, config: &mut Config, at: u32) -> Result<(), Fail>
     ensures { KeepsIn (spec.break_loop at config.old) result config.new }
 {
-    let step = statements::break_of(alloc, at, &config.state)?;
-    config.steps.put(step)
+    let step = statements::break_of(alloc, at, &config.state);
+    config.put_step(step)
 }
 
 /// A `continue`.
 pub fn continue_loop(alloc: Global, config: &mut Config, at: u32) -> Result<(), Fail>
     ensures { KeepsIn (spec.continue_loop at config.old) result config.new }
 {
-    let step = statements::continue_of(alloc, at, &config.state)?;
-    config.steps.put(step)
+    let step = statements::continue_of(alloc, at, &config.state);
+    config.put_step(step)
 }
 
 /// A block of the statements above a height.
 pub fn block(alloc: Global, config: &mut Config, at: u32, height: usize) -> Result<(), Fail>
     ensures { KeepsIn (spec.block at height config.old) result config.new }
 {
-    let Some(steps) = config.steps.take_above(alloc, height)? else {
-        return Err(Fail::NoMemory);
-    };
-    let step = statements::block_of(alloc, at, steps)?;
-    config.steps.put(step)
+    let steps = config.steps.take_up(alloc, height)?;
+    config.put_built(statements::block_of(alloc, at, steps))
 }
 
 /// A declaration of the variables above a height.
 pub fn declaration(alloc: Global, config: &mut Config, at: u32, height: usize) -> Result<(), Fail>
     ensures { KeepsIn (spec.declaration at height config.old) result config.new }
 {
-    let Some(variables) = config.variables.take_above(alloc, height)? else {
-        return Err(Fail::NoMemory);
-    };
-    let step = statements::declaration_of(alloc, at, Items::from_vec(variables))?;
-    config.steps.put(step)
+    let variables = config.variables.take_up(alloc, height)?;
+    config.put_built(statements::declaration_of(alloc, at, Items::from_vec(variables)))
 }
 
 /// An `if` without an `else`.
@@ -188,8 +176,7 @@ pub fn if_alone(alloc: Global, config: &mut Config, at: u32) -> Result<(), Fail>
     let Some(then) = config.steps.pop() else {
         return Err(Fail::NoMemory);
     };
-    let step = statements::if_of(alloc, at, condition, then, None)?;
-    config.steps.put(step)
+    config.put_built(statements::if_of(alloc, at, condition, then, None))
 }
 
 /// An `if` with an `else`.
@@ -199,14 +186,10 @@ pub fn if_else(alloc: Global, config: &mut Config, at: u32) -> Result<(), Fail>
     let Some(Some(condition)) = config.tests.pop() else {
         return Err(Fail::NoMemory);
     };
-    let Some(otherwise) = config.steps.pop() else {
+    let Some((then, otherwise)) = config.steps.pop_two() else {
         return Err(Fail::NoMemory);
     };
-    let Some(then) = config.steps.pop() else {
-        return Err(Fail::NoMemory);
-    };
-    let step = statements::if_of(alloc, at, condition, then, Some(otherwise))?;
-    config.steps.put(step)
+    config.put_built(statements::if_of(alloc, at, condition, then, Some(otherwise)))
 }
 
 /// A step, if one is there. `None` where it is missing.
@@ -232,10 +215,7 @@ pub fn whole_loop(
 ) -> Result<(), Fail>
     ensures { KeepsIn (spec.whole_loop at has_first has_body config.old) result config.new }
 {
-    let Some(update) = config.tests.pop() else {
-        return Err(Fail::NoMemory);
-    };
-    let Some(test) = config.tests.pop() else {
+    let Some((test, update)) = config.tests.pop_two() else {
         return Err(Fail::NoMemory);
     };
     let Some(body) = pop_if(&mut config.steps, has_body) else {
@@ -244,8 +224,7 @@ pub fn whole_loop(
     let Some(first) = pop_if(&mut config.steps, has_first) else {
         return Err(Fail::NoMemory);
     };
-    let step = statements::loop_of(alloc, at, first, test, update, body)?;
-    config.steps.put(step)
+    config.put_built(statements::loop_of(alloc, at, first, test, update, body))
 }
 
 /// A `do`.
@@ -258,8 +237,24 @@ pub fn do_loop(alloc: Global, config: &mut Config, at: u32) -> Result<(), Fail>
     let Some(body) = config.steps.pop() else {
         return Err(Fail::NoMemory);
     };
-    let step = statements::do_of(alloc, at, body, test)?;
-    config.steps.put(step)
+    config.put_built(statements::do_of(alloc, at, body, test))
+}
+
+/// The name of a catch, which is in sight in its block.
+///
+/// What `caught_class` refuses. AlreadyDefined (5): the name is in sight.
+pub fn catching(
+    alloc: Global,
+    config: &mut Config,
+    of: &TypeName,
+    name: &Spelled,
+) -> Result<(), Fail>
+    ensures { KeepsIn (spec.catching of.now name.now config.old) result config.new }
+{
+    let class = types::caught_class(of)?;
+    config
+        .state
+        .declare(alloc, name.at, &name.spelling, Ty::Class(class))
 }
 
 /// A catch, whose block is typed.
@@ -267,28 +262,28 @@ pub fn catch(
     alloc: Global,
     config: &mut Config,
     at: u32,
-    class: u32,
+    of: &TypeName,
     name: &Text,
 ) -> Result<(), Fail>
-    ensures { KeepsIn (spec.catch at class name.now config.old) result config.new }
+    ensures { KeepsIn (spec.catch at of.now name.now config.old) result config.new }
 {
     let Some(body) = config.steps.pop() else {
         return Err(Fail::NoMemory);
     };
-    let caught = statements::caught(alloc, at, class, name, body)?;
-    config.catches.put(caught)
+    let class = types::caught_class(of)?;
+    match statements::caught(alloc, at, class, name, body) {
+        Ok(caught) => config.catches.put(caught),
+        Err(_) => Err(Fail::NoMemory),
+    }
 }
 
 /// A `try`, whose block is typed, with the catches above a height.
 pub fn whole_try(alloc: Global, config: &mut Config, at: u32, height: usize) -> Result<(), Fail>
     ensures { KeepsIn (spec.whole_try at height config.old) result config.new }
 {
-    let Some(catches) = config.catches.take_above(alloc, height)? else {
-        return Err(Fail::NoMemory);
-    };
+    let catches = config.catches.take_up(alloc, height)?;
     let Some(body) = config.steps.pop() else {
         return Err(Fail::NoMemory);
     };
-    let step = statements::try_of(alloc, at, body, catches)?;
-    config.steps.put(step)
+    config.put_built(statements::try_of(alloc, at, body, catches))
 }

@@ -3,12 +3,17 @@
 ghost use Rattle.std.specs.Prelude.{◌≡◌};
 ghost use Rattle.pl_types.specs.declared.rules.TheConstants.{OUT_OF_PROFILE};
 ghost use Rattle.typing_rules.specs.Outcomes.{KeepsIn, refusal};
+ghost use Rattle.typing_rules.specs.Typing.{reading};
+ghost use Rattle.typing_acts.specs.Statements as deeds;
 ghost use Rattle.typing_tasks.specs.Machine as spec;
 
-use pl_types::{Fail, Refusal, rules};
+use allowlist::Allow;
+use pl_tree::Expr;
+use pl_types::{Fail, Refusal, Ty, rules};
 use std::alloc::Global;
-use typing_acts::{Config, bodies, expressions, places, statements};
-use typing_tasks::{Act, StatementAct};
+use typing_acts::{Config, bodies, expressions, members, places, statements};
+use typing_rules::Header;
+use typing_tasks::{Act, BindingTask, StatementAct, WordTask, first_of};
 
 /// What is not built is refused here.
 fn unbuilt(at: u32) -> Fail
@@ -50,8 +55,6 @@ pub fn does_statement(alloc: Global, config: &mut Config, act: StatementAct) -> 
         StatementAct::Test => statements::test(alloc, config),
         StatementAct::LoopTest => statements::loop_test(alloc, config),
         StatementAct::NoTest => statements::no_test(config),
-        StatementAct::First(at) => statements::deed(alloc, config, at),
-        StatementAct::Update(at) => statements::update(config, at),
         StatementAct::Declaration(at, height) => statements::declaration(alloc, config, at, height),
         StatementAct::Expression(at, last) => statements::expression(alloc, config, at, last),
         StatementAct::ReturnValue(at) => statements::return_value(alloc, config, at),
@@ -75,5 +78,85 @@ pub fn does_statement(alloc: Global, config: &mut Config, act: StatementAct) -> 
             bodies::looped(config, is);
             Ok(())
         },
+    }
+}
+
+/// What a `for` begins with, which is typed.
+fn begun(
+    alloc: Global,
+    allow: &Allow,
+    headers: &[Header],
+    config: &mut Config,
+    e: &Expr,
+) -> Result<(), Fail>
+    ensures { KeepsIn (deeds.deed (reading allow.now headers.now e.now).first config.old) result config.new }
+{
+    let first = first_of(allow, headers, e)?;
+    statements::deed(alloc, config, first)
+}
+
+/// What a `for` goes on with, which is typed.
+fn updated(allow: &Allow, headers: &[Header], config: &mut Config, e: &Expr) -> Result<(), Fail>
+    ensures { KeepsIn (deeds.update (reading allow.now headers.now e.now).first config.old) result config.new }
+{
+    let first = first_of(allow, headers, e)?;
+    statements::update(config, first)
+}
+
+/// Does what is to be done with a name, a spelling, a type or an expression of the script.
+pub fn does_word<'a>(
+    alloc: Global,
+    allow: &Allow,
+    headers: &[Header],
+    config: &mut Config,
+    word: WordTask<'a>,
+) -> Result<(), Fail>
+    ensures { KeepsIn (spec.does_word allow.now headers.now word.entry config.old) result config.new }
+{
+    match word {
+        WordTask::Called(at, name, height) => {
+            expressions::call(alloc, headers, config, at, name, height)
+        }
+        WordTask::Integer(at, spelling) => expressions::integer(alloc, config, at, spelling),
+        WordTask::NegatedInteger(minus, at, spelling) => {
+            expressions::negated_integer(alloc, config, minus, at, spelling)
+        }
+        WordTask::Text(at, spelling) => expressions::text(alloc, config, at, spelling),
+        WordTask::Name(at, spelling) => expressions::local(alloc, config, at, spelling),
+        WordTask::Written(at, spelling) => places::written(alloc, config, at, spelling),
+        WordTask::TypeOf(of) => bodies::look_at(config, of),
+        WordTask::Asked(at, of) => expressions::asked(alloc, config, at, of),
+        WordTask::InstanceOf(at, of) => expressions::instance_of(alloc, config, at, of),
+        WordTask::MethodCalled(at, access, name, height) => {
+            members::method(alloc, allow, config, at, access, name, height)
+        }
+        WordTask::StaticCalled(at, access, of, name, height) => {
+            members::static_call(alloc, allow, config, at, access, of, name, height)
+        }
+        WordTask::Made(at, of, height) => members::made(alloc, allow, config, at, of, height),
+        WordTask::Read(at, access, name) => members::read(alloc, allow, config, at, access, name),
+        WordTask::Field(at, access, of, name) => {
+            members::field(alloc, allow, config, at, access, of, name)
+        }
+        WordTask::Begun(e) => begun(alloc, allow, headers, config, e.get()),
+        WordTask::Updated(e) => updated(allow, headers, config, e.get()),
+    }
+}
+
+/// Does what is to be done with a name that a statement declares, or with its type.
+pub fn does_binding<'a>(
+    alloc: Global,
+    config: &mut Config,
+    binding: BindingTask<'a>,
+) -> Result<(), Fail>
+    ensures { KeepsIn (spec.does_binding binding.entry config.old) result config.new }
+{
+    match binding {
+        BindingTask::CastInitial(of) => statements::initial(alloc, config, of),
+        BindingTask::Declare(name, of) => statements::variable(alloc, config, name, of),
+        BindingTask::Noted(name, of) => bodies::note_of(alloc, config, name, of),
+        BindingTask::NotedDef(name) => bodies::note(alloc, config, name, Ty::Def),
+        BindingTask::Catching(of, name) => statements::catching(alloc, config, of, name),
+        BindingTask::Caught(at, of, name) => statements::catch(alloc, config, at, of, name),
     }
 }

@@ -2,17 +2,11 @@
 //! the tasks that it comes to are put in its place, until none is left.
 #![tactic(auto)]
 
-mod acting;
 mod acts;
-mod catches;
-mod declarations;
-mod expressions;
-mod loops;
-mod members;
+mod done;
 mod pass;
-mod statements;
-mod unbuilt;
-mod words;
+mod planned;
+mod reached;
 
 pub use pass::run;
 pub use typing_tasks::{Act, StatementAct, StatementTask, Task, Tasks};

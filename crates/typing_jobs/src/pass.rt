@@ -5,7 +5,7 @@ ghost use Rattle.typing_tasks.specs.Going.{Goes};
 ghost use Rattle.typing_tasks.specs.Jobs.{job};
 ghost use Rattle.typing_tasks.specs.Machine as spec;
 
-use crate::{acting, catches, declarations, expressions, loops, statements, unbuilt, words};
+use crate::{done, planned, reached};
 use allowlist::Allow;
 use pl_types::Fail;
 use std::alloc::Global;
@@ -25,17 +25,21 @@ fn step<'a>(
     ensures { Goes (spec.run allow.now headers.now (job task.entry ∷ tasks.old) config.old) result (spec.run allow.now headers.now tasks.new config.new) }
 {
     match task {
-        Task::Expression(e) => return expressions::step(allow, headers, config, tasks, e),
-        Task::Word(e) => return words::step(alloc, allow, headers, config, tasks, e),
-        Task::Do(what) => return acting::act(alloc, allow, headers, config, tasks, what),
-        Task::Statement(e) => return statements::step(allow, headers, config, tasks, e),
-        Task::Loop(e) => return loops::step(allow, headers, config, tasks, e),
-        Task::Declaration(e) => return declarations::step(alloc, allow, headers, config, tasks, e),
-        Task::DoStatement(what) => return acting::statement_act(
+        Task::Expression(e) => return planned::expression(allow, headers, config, tasks, e),
+        Task::Word(e) => return done::word(alloc, allow, headers, config, tasks, e),
+        Task::Binding(e) => return done::binding(alloc, allow, headers, config, tasks, e),
+        Task::Do(what) => return done::act(alloc, allow, headers, config, tasks, what),
+        Task::Statement(e) => return planned::statement(allow, headers, config, tasks, e),
+        Task::Loop(e) => return planned::loop_part(allow, headers, config, tasks, e),
+        Task::Declaration(e) => return planned::declaration(allow, headers, config, tasks, e),
+        Task::DoStatement(what) => return done::statement_act(
             alloc, allow, headers, config, tasks, what,
         ),
-        Task::Catch(e) => return catches::step(alloc, allow, headers, config, tasks, e),
-        Task::Unbuilt(e) => return unbuilt::step(alloc, allow, headers, config, tasks, e),
+        Task::Catch(e) => return planned::catch(allow, headers, config, tasks, e),
+        Task::Unbuilt(e) => return planned::unbuilt(allow, headers, config, tasks, e),
+        Task::Reached(all, at, place, in_main, after) => return reached::behind(
+            allow, headers, config, tasks, all, at, place, in_main, after,
+        ),
     }
 }
 

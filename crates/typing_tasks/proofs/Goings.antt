@@ -1,6 +1,5 @@
 -- What goes on by what is known comes to the same.
-use Rattle.std.proofs.Common.{◌≡◌, ℕ, zero, suc, ◌+◌, ◌&&◌, add-one, Bool, true, false, List, [], ◌∷◌, ◌++◌, length, drop, map, slice_get, Option, Some, None, Ok, Err, refl, sym, ap, ◌∙◌}
-use Rattle.pl_types.specs.declared.refusal.Refusal.{Refusal}
+use Rattle.std.proofs.Common.{◌≡◌, ℕ, zero, suc, ◌+◌, ◌&&◌, add-one, Bool, true, false, List, [], ◌∷◌, ◌++◌, length, drop, map, slice_get, Option, Some, None, Ok, refl, sym, ap, ◌∙◌}
 use Rattle.pl_types.specs.declared.ty.Ty.{Ty}
 use Rattle.pl_types.specs.declared.ty.Ty.TheVariants as ty
 use Rattle.pl_tree.specs.declared.operator.Access.{Access}
@@ -16,27 +15,23 @@ use Rattle.pl_tree.specs.declared.tree.Parameter.{Parameter}
 use Rattle.pl_tree.specs.declared.tree.Statement.{Statement}
 use Rattle.pl_tree.specs.declared.tree.TypeName.{TypeName}
 use Rattle.pl_tree.specs.declared.tree.Spelled.{Spelled}
-use Rattle.pl_tree.specs.declared.tree.Variable.{Variable, out-Variable, roll-Variable, roll-out-Variable}
-use Rattle.pl_tree.specs.declared.tree.Argument.TheFolds.{fold_out-Block, fold_out-Catch, fold_out-Declaration, fold_out-Entry, fold-roll-Variable}
+use Rattle.pl_tree.specs.declared.tree.Variable.{Variable, out-Variable}
 use Rattle.typed_tree.specs.declared.statement.TypedVariable.{TypedVariable}
 use Rattle.allowlist.specs.Allow.{AllowList}
 use Rattle.typing_rules.specs.declared.header.Header.{Header}
 use Rattle.typing_rules.specs.declared.part.Caught.{Caught}
-use Rattle.typing_rules.specs.declared.part.Part.{Part}
-use Rattle.typing_rules.specs.declared.part.Step.{Step}
 use Rattle.typing_rules.specs.declared.state.State.{State}
 use Rattle.typing_rules.specs.Doing.{Answer, Doing, and_then}
-use Rattle.typing_rules.specs.Outcomes.{Out, bind}
+use Rattle.typing_rules.specs.Outcomes.{bind}
 use Rattle.typing_rules.specs.State.{closed, declared, noted}
 use Rattle.typing_rules.specs.Rules.Types.{type_of, caught_class}
 use Rattle.typing_rules.specs.Rules.Calls as calls
 use Rattle.typing_rules.specs.Rules.Casts as casts
 use Rattle.typing_rules.specs.Rules.Statements as rules
 use Rattle.typing_rules.specs.Typing as typing
-use Rattle.typing_rules.specs.Typing.{Reading, Doer, Braces, Seen, reading, argument, doer, braces, parts, handlers, statements, all_seen, seen, lambda_parameters, parameter_type, is_empty, argument_step, body_step, expression_step, first_step, lambda_step, statement_step, block_step, catch_step, declaration_step, entry_step, variable_step}
+use Rattle.typing_rules.specs.Typing.{Reading, Doer, Braces, Seen, reading, argument, doer, braces, parts, handlers, statements, all_seen, seen, lambda_parameters, parameter_type, is_empty, variable_step}
 use Rattle.typing_acts.specs.declared.config.Config.{Config}
-use Rattle.typing_acts.specs.Piles.{one}
-use Rattle.typing_acts.specs.Bodies as bodies
+use Rattle.typing_acts.specs.Piles.{one, above}
 use Rattle.typing_tasks.specs.declared.task.Act.TheVariants as a
 use Rattle.typing_tasks.specs.declared.task.StatementAct.TheVariants as sa
 use Rattle.typing_tasks.specs.Folds.{handler, entry, variable}
@@ -44,9 +39,11 @@ use Rattle.typing_tasks.specs.Going.{none_left}
 use Rattle.typing_tasks.specs.Job as j
 use Rattle.typing_tasks.specs.Job.{Job}
 use Rattle.typing_tasks.specs.Machine.{run, piled, parts_to, step_to, steps_to, variable_to, variables_to, catch_to, catches_to, nothing_to, refused_at}
-use Rattle.typing_tasks.specs.Plans.{parameter_plan, following}
+use Rattle.typing_tasks.specs.Plans.{parameter_job, variable_plan, statements_plan, catch_plan}
 use Rattle.typing_tasks.proofs.Above.{above_piled}
-use Rattle.typing_tasks.proofs.Behind.{behind, behind_with, again, again_with}
+use Rattle.typing_tasks.proofs.Behind.{behind, behind_two, behind_with, again, again_with}
+use Rattle.typing_tasks.proofs.Opened.{block_is, catch_is, declaration_is, entry_is, variable_over, variable_is}
+use Rattle.typing_tasks.proofs.StatementPlans.{place_is}
 
 drop_at : {A : Type 0} (i : ℕ) (all : List A) (one : A) → slice_get all i ≡ Some one → drop i all ≡ one ∷ drop (suc i) all
 drop_at zero [] one is = absurd cc
@@ -105,19 +102,20 @@ module _ (allow : AllowList) (hs : List Header) (js : List Job) (c : Config) whe
   unfolding run
   for_goes at f d u b = refl
 
-  pub looping_goes : (e : Body) → run allow hs (j.Looping e ∷ js) c ≡ run allow hs (j.Body_ e ∷ j.DoStatement (sa.Looped c.state.looped) ∷ js) (bodies.looped true c)
+  pub looping_goes : (e : Body) → run allow hs (j.Looping e ∷ js) c ≡ run allow hs (j.DoStatement (sa.Looped true) ∷ j.Body_ e ∷ j.DoStatement (sa.Looped c.state.looped) ∷ js) c
   unfolding run
   looping_goes e = refl
 
-  pub loop_block_goes : (e : Block) → run allow hs (j.LoopBlock e ∷ js) c ≡ run allow hs (j.Block_ e ∷ j.DoStatement (sa.Looped c.state.looped) ∷ js) (bodies.looped true c)
+  pub loop_block_goes : (e : Block) → run allow hs (j.LoopBlock e ∷ js) c ≡ run allow hs (j.DoStatement (sa.Looped true) ∷ j.Block_ e ∷ j.DoStatement (sa.Looped c.state.looped) ∷ js) c
   unfolding run
   loop_block_goes e = refl
 
-  pub statements_go : (all : List Statement) (i : ℕ) (in_main after : Bool) (one : Statement) → slice_get all i ≡ Some one → run allow hs (j.Statements all i in_main after ∷ js) c ≡ run allow hs (following allow hs all (i + 1) one in_main after ++ js) c
+  pub statements_go : (all : List Statement) (i : ℕ) (in_main after : Bool) (one : Statement) → slice_get all i ≡ Some one → run allow hs (j.Statements all i in_main after ∷ js) c ≡ run allow hs (statements_plan all i in_main after (Some one) ++ js) c
   unfolding run
   statements_go all i in_main after one is =
       ap (λ (t : List Statement). statements in_main after (map (doer allow hs) t) c.state (steps_to c (run allow hs js))) (drop_one i all one is)
       ∙ ap (λ (b : Bool). run allow hs (j.Statement_ one (in_main && b) ∷ j.Reached all (i + 1) (doer allow hs one).at in_main after ∷ js) c) (behind_none allow hs (i + 1) all)
+      ∙ ap (λ (at : ℕ). run allow hs (j.Statement_ one (in_main && none_left (slice_get all (i + 1))) ∷ j.Reached all (i + 1) at in_main after ∷ js) c) (place_is allow hs one)
 
   pub statements_end : (all : List Statement) (i : ℕ) (in_main after : Bool) → slice_get all i ≡ None → run allow hs (j.Statements all i in_main after ∷ js) c ≡ run allow hs (js) c
   unfolding run
@@ -126,21 +124,21 @@ module _ (allow : AllowList) (hs : List Header) (js : List Job) (c : Config) whe
   pub block_goes : (e : Block) → run allow hs (j.Block_ e ∷ js) c ≡ run allow hs (j.Statements (out-Block e).statements 0 false false ∷ j.DoStatement (sa.Close (length c.state.scopes)) ∷ j.DoStatement (sa.Block (out-Block e).at (length c.steps)) ∷ js) c
   unfolding run
   block_goes e =
-      ap (λ (x : Braces). x.steps c.state (λ ys s. (run allow hs js) (record c { steps = rules.block_of x.at ys ∷ c.steps; state = closed (length c.state.scopes) s }))) (fold_out-Block (Doing Part) (Doing Step) Reading (Doing Step) Seen Doer Braces (Doing Caught) Doer Seen (Ty → Doing TypedVariable) (argument_step allow hs) (body_step allow hs) (expression_step allow hs) (first_step allow hs) (lambda_step allow hs) (statement_step allow hs) (block_step allow hs) (catch_step allow hs) (declaration_step allow hs) (entry_step allow hs) (variable_step allow hs) e)
+      ap (λ (x : Braces). x.steps c.state (λ ys s. (run allow hs js) (record c { steps = rules.block_of x.at ys ∷ c.steps; state = closed (length c.state.scopes) s }))) (block_is allow hs e)
       ∙ sym (λ i. statements false false (map (doer allow hs) (out-Block e).statements) c.state (λ ys s. and_then (above_piled ys c.steps (λ zs rest. Ok (record c { steps = rules.block_of (out-Block e).at zs ∷ rest; state = closed (length c.state.scopes) s })) i) (run allow hs js)))
 
-  pub deed_goes : (e : Expr) → run allow hs (j.Deed e ∷ js) c ≡ run allow hs (j.Value e ∷ j.DoStatement (sa.First (reading allow hs e).first) ∷ js) c
+  pub deed_goes : (e : Expr) → run allow hs (j.Deed e ∷ js) c ≡ run allow hs (j.Value e ∷ j.Begun e ∷ js) c
   unfolding run
   deed_goes e = λ i. (reading allow hs e).value c.state (λ x s. behind (rules.deed (reading allow hs e).first x) (λ y. record c { steps = y ∷ c.steps; state = s }) (run allow hs js) i)
 
-  pub update_goes : (e : Expr) → run allow hs (j.Update e ∷ js) c ≡ run allow hs (j.Value e ∷ j.DoStatement (sa.Update (reading allow hs e).first) ∷ js) c
+  pub update_goes : (e : Expr) → run allow hs (j.Update e ∷ js) c ≡ run allow hs (j.Value e ∷ j.Updated e ∷ js) c
   unfolding run
   update_goes e = λ i. (reading allow hs e).value c.state (λ x s. behind_with (rules.deed (reading allow hs e).first x) (λ y. Some x.typed) (λ t. record c { tests = t ∷ c.tests; state = s }) (run allow hs js) i)
 
   pub declaration_goes : (e : Declaration) → run allow hs (j.Declaration_ e ∷ js) c ≡ run allow hs (j.Variables (out-Declaration e).of (out-Declaration e).variables 0 ∷ j.DoStatement (sa.Declaration (out-Declaration e).of.at (length c.variables)) ∷ js) c
   unfolding run
   declaration_goes e =
-      ap (λ (x : Doer). x.typed false c.state (step_to c (run allow hs js))) (fold_out-Declaration (Doing Part) (Doing Step) Reading (Doing Step) Seen Doer Braces (Doing Caught) Doer Seen (Ty → Doing TypedVariable) (argument_step allow hs) (body_step allow hs) (expression_step allow hs) (first_step allow hs) (lambda_step allow hs) (statement_step allow hs) (block_step allow hs) (catch_step allow hs) (declaration_step allow hs) (entry_step allow hs) (variable_step allow hs) e)
+      ap (λ (x : Doer). x.typed false c.state (step_to c (run allow hs js))) (declaration_is allow hs e)
       ∙ sym (λ i. and_then (type_of (out-Declaration e).of) (λ t. typing.variables t (map (variable allow hs) (out-Declaration e).variables) c.state (λ xs s. and_then (above_piled xs c.variables (λ vs rest. Ok (record c { variables = rest; steps = rules.declaration_of (out-Declaration e).of.at vs ∷ c.steps; state = s })) i) (run allow hs js))))
 
   pub variables_go : (of : TypeName) (all : List Variable) (i : ℕ) (one : Variable) → slice_get all i ≡ Some one → run allow hs (j.Variables of all i ∷ js) c ≡ run allow hs (j.Variable_ of one ∷ j.Variables of all (i + 1) ∷ js) c
@@ -153,28 +151,28 @@ module _ (allow : AllowList) (hs : List Header) (js : List Job) (c : Config) whe
   unfolding run
   variables_end of all i is = ap (λ (t : List Variable). and_then (type_of of) (λ d. typing.variables d (map (variable allow hs) t) c.state (variables_to c (run allow hs js)))) (drop_end i all is)
 
-  variable_rolled : (of : TypeName) (name : Spelled) (v : Option Argument) → run allow hs (j.Variable_ of (roll-Variable (record { name = name; value = v })) ∷ js) c ≡ run allow hs (j.TypeOf of ∷ j.Initial of v ∷ j.Declare name of ∷ js) c
+  variable_by : (of : TypeName) (name : Spelled) (v : Option Argument)
+      → and_then (type_of of) (λ t. variable_step allow hs (variable_over allow hs (record { name = name; value = v })) t c.state (variable_to c (run allow hs js))) ≡ run allow hs (j.TypeOf of ∷ j.Initial of v ∷ j.Declare name of ∷ js) c
   unfolding run
-  variable_rolled of name None =
-      ap (λ (x : Ty → Doing TypedVariable). and_then (type_of of) (λ t. x t c.state (variable_to c (run allow hs js)))) (fold-roll-Variable (Doing Part) (Doing Step) Reading (Doing Step) Seen Doer Braces (Doing Caught) Doer Seen (Ty → Doing TypedVariable) (argument_step allow hs) (body_step allow hs) (expression_step allow hs) (first_step allow hs) (lambda_step allow hs) (statement_step allow hs) (block_step allow hs) (catch_step allow hs) (declaration_step allow hs) (entry_step allow hs) (variable_step allow hs) (record { name = name; value = None }))
-      ∙ (λ i. and_then (type_of of) (λ t. behind (rules.variable_of name t None c.state) (λ p. record c { variables = p.0 ∷ c.variables; state = p.1 }) (run allow hs js) i))
+  variable_by of name None =
+      (λ i. and_then (type_of of) (λ t. behind (rules.variable_of name t None c.state) (λ p. record c { variables = p.0 ∷ c.variables; state = p.1 }) (run allow hs js) i))
       ∙ again (type_of of) (λ q. and_then (bind q (λ to. bind (rules.variable_of name to None c.state) (λ p. Ok (record c { variables = p.0 ∷ c.variables; state = p.1 })))) (run allow hs js))
-  variable_rolled of name (Some e) =
-      ap (λ (x : Ty → Doing TypedVariable). and_then (type_of of) (λ t. x t c.state (variable_to c (run allow hs js)))) (fold-roll-Variable (Doing Part) (Doing Step) Reading (Doing Step) Seen Doer Braces (Doing Caught) Doer Seen (Ty → Doing TypedVariable) (argument_step allow hs) (body_step allow hs) (expression_step allow hs) (first_step allow hs) (lambda_step allow hs) (statement_step allow hs) (block_step allow hs) (catch_step allow hs) (declaration_step allow hs) (entry_step allow hs) (variable_step allow hs) (record { name = name; value = Some e }))
-      ∙ (λ i. and_then (type_of of) (λ t. argument allow hs e c.state (λ x s. and_then (casts.cast_to t x) (λ y. behind (rules.variable_of name t (Some y) s) (λ p. record c { variables = p.0 ∷ c.variables; state = p.1 }) (run allow hs js) i))))
+  variable_by of name (Some e) =
+      (λ i. and_then (type_of of) (λ t. argument allow hs e c.state (λ x s. and_then (casts.cast_to t x) (λ y. behind (rules.variable_of name t (Some y) s) (λ p. record c { variables = p.0 ∷ c.variables; state = p.1 }) (run allow hs js) i))))
       ∙ (λ i. and_then (type_of of) (λ t. argument allow hs e c.state (λ x s. behind_with (casts.cast_to t x) (λ y. Some y) (λ z. record c { tests = z ∷ c.tests; state = s }) (λ d. and_then (one d.tests (λ value rest. bind (Ok t) (λ to. bind (rules.variable_of name to value d.state) (λ p. Ok (record d { tests = rest; variables = p.0 ∷ d.variables; state = p.1 }))))) (run allow hs js)) i)))
       ∙ again (type_of of) (λ q. argument allow hs e c.state (λ x s. and_then (bind (bind q (λ to. bind (casts.cast_to to x) (λ y. Ok (Some y)))) (λ z. Ok (record c { tests = z ∷ c.tests; state = s }))) (λ d. and_then (one d.tests (λ value rest. bind q (λ to. bind (rules.variable_of name to value d.state) (λ p. Ok (record d { tests = rest; variables = p.0 ∷ d.variables; state = p.1 }))))) (run allow hs js))))
 
-  pub variable_goes : (of : TypeName) (e : Variable) → run allow hs (j.Variable_ of e ∷ js) c ≡ run allow hs (j.TypeOf of ∷ j.Initial of (out-Variable e).value ∷ j.Declare (out-Variable e).name of ∷ js) c
-  variable_goes of e = ap (λ (x : Variable). run allow hs (j.Variable_ of x ∷ js) c) (sym (roll-out-Variable e)) ∙ variable_rolled of (out-Variable e).name (out-Variable e).value
+  pub variable_goes : (of : TypeName) (e : Variable) → run allow hs (j.Variable_ of e ∷ js) c ≡ run allow hs (variable_plan of e ++ js) c
+  unfolding run
+  variable_goes of e = ap (λ (x : Ty → Doing TypedVariable). and_then (type_of of) (λ t. x t c.state (variable_to c (run allow hs js)))) (variable_is allow hs e) ∙ variable_by of (out-Variable e).name (out-Variable e).value
 
   parameter_by : (name : List ℕ) (v : Option TypeName) (all : List Parameter) (i : ℕ)
-      → and_then (parameter_type v) (λ of. lambda_parameters (drop i all) (noted name of c.state) (nothing_to c (run allow hs js))) ≡ run allow hs (parameter_plan name v ++ j.Parameters all i ∷ js) c
+      → and_then (parameter_type v) (λ of. lambda_parameters (drop i all) (noted name of c.state) (nothing_to c (run allow hs js))) ≡ run allow hs (parameter_job name v ∷ j.Parameters all i ∷ js) c
   unfolding run
   parameter_by name None all i = refl
   parameter_by name (Some of) all i = refl
 
-  pub parameters_go : (all : List Parameter) (i : ℕ) (one : Parameter) → slice_get all i ≡ Some one → run allow hs (j.Parameters all i ∷ js) c ≡ run allow hs (parameter_plan one.name.spelling one.of ++ j.Parameters all (i + 1) ∷ js) c
+  pub parameters_go : (all : List Parameter) (i : ℕ) (one : Parameter) → slice_get all i ≡ Some one → run allow hs (j.Parameters all i ∷ js) c ≡ run allow hs (parameter_job one.name.spelling one.of ∷ j.Parameters all (i + 1) ∷ js) c
   unfolding run
   parameters_go all i one is = ap (λ (t : List Parameter). lambda_parameters t c.state (nothing_to c (run allow hs js))) (drop_one i all one is) ∙ parameter_by one.name.spelling one.of all (i + 1)
 
@@ -193,7 +191,7 @@ module _ (allow : AllowList) (hs : List Header) (js : List Job) (c : Config) whe
   pub entries_go : (all : List Entry) (i at : ℕ) (one : Entry) → slice_get all i ≡ Some one → run allow hs (j.UnbuiltEntries all i at ∷ js) c ≡ run allow hs (j.Value (out-Entry one).key ∷ j.Value (out-Entry one).value ∷ j.UnbuiltEntries all (i + 1) at ∷ js) c
   unfolding run
   entries_go all i at one is = ap (λ (t : List Entry). all_seen (map (entry allow hs) t) c.state (refused_at at)) (drop_one i all one is)
-      ∙ ap (λ (x : Seen). x c.state (λ u s. all_seen (map (entry allow hs) (drop (i + 1) all)) s (refused_at at))) (fold_out-Entry (Doing Part) (Doing Step) Reading (Doing Step) Seen Doer Braces (Doing Caught) Doer Seen (Ty → Doing TypedVariable) (argument_step allow hs) (body_step allow hs) (expression_step allow hs) (first_step allow hs) (lambda_step allow hs) (statement_step allow hs) (block_step allow hs) (catch_step allow hs) (declaration_step allow hs) (entry_step allow hs) (variable_step allow hs) one)
+      ∙ ap (λ (x : Seen). x c.state (λ u s. all_seen (map (entry allow hs) (drop (i + 1) all)) s (refused_at at))) (entry_is allow hs one)
 
   pub entries_end : (all : List Entry) (i at : ℕ) → slice_get all i ≡ None → run allow hs (j.UnbuiltEntries all i at ∷ js) c ≡ run allow hs (j.Do (a.Unbuilt at) ∷ js) c
   unfolding run
@@ -211,39 +209,21 @@ module _ (allow : AllowList) (hs : List Header) (js : List Job) (c : Config) whe
   unfolding run
   try_goes at all = refl
 
-  -- the block of a catch of a class, whose name is declared
+  -- a catch whose name is declared: its block, and what is behind it
   abbrev pub catch_block : Catch → ℕ → State → Braces → Answer
   catch_block e class t block = block.steps t (λ ys s. (run allow hs js) (record c { catches = rules.caught (out-Catch e).at class (out-Catch e).name.spelling (rules.block_of block.at ys) ∷ c.catches; state = closed (length c.state.scopes) s }))
 
-  abbrev pub catch_name : Catch → ℕ → Out State
-  catch_name e class = declared (out-Catch e).name.at (out-Catch e).name.spelling (ty.Class class) c.state
-
-  catch_by : (e : Catch) → run allow hs (j.Catch_ e ∷ js) c ≡ and_then (caught_class (out-Catch e).of) (λ class. and_then (catch_name e class) (λ t. catch_block e class t (braces allow hs (out-Catch e).block)))
-  unfolding run
-  catch_by e = ap (λ (x : Doing Caught). x c.state (catch_to c (run allow hs js))) (fold_out-Catch (Doing Part) (Doing Step) Reading (Doing Step) Seen Doer Braces (Doing Caught) Doer Seen (Ty → Doing TypedVariable) (argument_step allow hs) (body_step allow hs) (expression_step allow hs) (first_step allow hs) (lambda_step allow hs) (statement_step allow hs) (block_step allow hs) (catch_step allow hs) (declaration_step allow hs) (entry_step allow hs) (variable_step allow hs) e)
-
   block_by : (e : Catch) (class : ℕ) (t : State) → catch_block e class t (braces allow hs (out-Catch e).block)
-      ≡ run allow hs (j.Statements (out-Block (out-Catch e).block).statements 0 false false ∷ j.DoStatement (sa.Block (out-Block (out-Catch e).block).at (length c.steps)) ∷ j.Caught (out-Catch e).at class (out-Catch e).name.spelling ∷ j.DoStatement (sa.Close (length c.state.scopes)) ∷ js) (record c { state = t })
-  unfolding run
+      ≡ statements false false (map (doer allow hs) (out-Block (out-Catch e).block).statements) t (λ ys s. and_then (above (length c.steps) (piled ys c.steps) (λ zs rest. Ok (record c { steps = rules.block_of (out-Block (out-Catch e).block).at zs ∷ rest; state = s }))) (λ d. and_then (one d.steps (λ y rest. bind (Ok class) (λ class. Ok (record d { steps = rest; catches = rules.caught (out-Catch e).at class (out-Catch e).name.spelling y ∷ d.catches })))) (λ d. run allow hs js (record d { state = closed (length c.state.scopes) d.state }))))
   block_by e class t =
-      ap (catch_block e class t) (fold_out-Block (Doing Part) (Doing Step) Reading (Doing Step) Seen Doer Braces (Doing Caught) Doer Seen (Ty → Doing TypedVariable) (argument_step allow hs) (body_step allow hs) (expression_step allow hs) (first_step allow hs) (lambda_step allow hs) (statement_step allow hs) (block_step allow hs) (catch_step allow hs) (declaration_step allow hs) (entry_step allow hs) (variable_step allow hs) (out-Catch e).block)
-      ∙ sym (λ i. statements false false (map (doer allow hs) (out-Block (out-Catch e).block).statements) t (λ ys s. and_then (above_piled ys c.steps (λ zs rest. Ok (record c { steps = rules.block_of (out-Block (out-Catch e).block).at zs ∷ rest; state = s })) i) (run allow hs (j.Caught (out-Catch e).at class (out-Catch e).name.spelling ∷ j.DoStatement (sa.Close (length c.state.scopes)) ∷ js))))
+      ap (catch_block e class t) (block_is allow hs (out-Catch e).block)
+      ∙ sym (λ i. statements false false (map (doer allow hs) (out-Block (out-Catch e).block).statements) t (λ ys s. and_then (above_piled ys c.steps (λ zs rest. Ok (record c { steps = rules.block_of (out-Block (out-Catch e).block).at zs ∷ rest; state = s })) i) (λ d. and_then (one d.steps (λ y rest. bind (Ok class) (λ class. Ok (record d { steps = rest; catches = rules.caught (out-Catch e).at class (out-Catch e).name.spelling y ∷ d.catches })))) (λ d. run allow hs js (record d { state = closed (length c.state.scopes) d.state })))))
 
-  pub catch_goes : (e : Catch) (class : ℕ) (t : State) → caught_class (out-Catch e).of ≡ Ok class → catch_name e class ≡ Ok t
-      → run allow hs (j.Catch_ e ∷ js) c ≡ run allow hs (j.Statements (out-Block (out-Catch e).block).statements 0 false false ∷ j.DoStatement (sa.Block (out-Block (out-Catch e).block).at (length c.steps)) ∷ j.Caught (out-Catch e).at class (out-Catch e).name.spelling ∷ j.DoStatement (sa.Close (length c.state.scopes)) ∷ js) (record c { state = t })
-  catch_goes e class t is named =
-      catch_by e
-      ∙ ap (λ (o : Out ℕ). and_then o (λ class. and_then (catch_name e class) (λ t. catch_block e class t (braces allow hs (out-Catch e).block)))) is
-      ∙ ap (λ (o : Out State). and_then o (λ t. catch_block e class t (braces allow hs (out-Catch e).block))) named
-      ∙ block_by e class t
-
-  -- a catch of what may not be caught
-  pub catch_refused : (e : Catch) (r : Refusal) → caught_class (out-Catch e).of ≡ Err r → run allow hs (j.Catch_ e ∷ js) c ≡ Err r
-  catch_refused e r is = catch_by e ∙ ap (λ (o : Out ℕ). and_then o (λ class. and_then (catch_name e class) (λ t. catch_block e class t (braces allow hs (out-Catch e).block)))) is
-
-  -- one whose name is in sight
-  pub name_refused : (e : Catch) (class : ℕ) (r : Refusal) → caught_class (out-Catch e).of ≡ Ok class → catch_name e class ≡ Err r → run allow hs (j.Catch_ e ∷ js) c ≡ Err r
-  name_refused e class r is named =
-      catch_by e
-      ∙ ap (λ (o : Out ℕ). and_then o (λ class. and_then (catch_name e class) (λ t. catch_block e class t (braces allow hs (out-Catch e).block)))) is
-      ∙ ap (λ (o : Out State). and_then o (λ t. catch_block e class t (braces allow hs (out-Catch e).block))) named
+  pub catch_goes : (e : Catch) → run allow hs (j.Catch_ e ∷ js) c ≡ run allow hs (catch_plan (length c.state.scopes) (length c.steps) (out-Catch e) ++ js) c
+  unfolding run
+  catch_goes e =
+      ap (λ (x : Doing Caught). x c.state (catch_to c (run allow hs js))) (catch_is allow hs e)
+      ∙ (λ i. and_then (caught_class (out-Catch e).of) (λ class. and_then (declared (out-Catch e).name.at (out-Catch e).name.spelling (ty.Class class) c.state) (λ t. block_by e class t i)))
+      ∙ again_with (caught_class (out-Catch e).of) (λ class p. and_then (declared (out-Catch e).name.at (out-Catch e).name.spelling (ty.Class class) c.state) (λ t.
+      statements false false (map (doer allow hs) (out-Block (out-Catch e).block).statements) t (λ ys s. and_then (above (length c.steps) (piled ys c.steps) (λ zs rest. Ok (record c { steps = rules.block_of (out-Block (out-Catch e).block).at zs ∷ rest; state = s }))) (λ d. and_then (one d.steps (λ y rest. bind p (λ class. Ok (record d { steps = rest; catches = rules.caught (out-Catch e).at class (out-Catch e).name.spelling y ∷ d.catches })))) (λ d. run allow hs js (record d { state = closed (length c.state.scopes) d.state }))))))
+      ∙ behind_two (caught_class (out-Catch e).of) (λ class. declared (out-Catch e).name.at (out-Catch e).name.spelling (ty.Class class) c.state) (λ t. record c { state = t }) (run allow hs (j.Statements (out-Block (out-Catch e).block).statements 0 false false ∷ j.DoStatement (sa.Block (out-Block (out-Catch e).block).at (length c.steps)) ∷ j.Caught (out-Catch e).at (out-Catch e).of (out-Catch e).name.spelling ∷ j.DoStatement (sa.Close (length c.state.scopes)) ∷ js))

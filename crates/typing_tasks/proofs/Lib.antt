@@ -7,3 +7,5 @@ pub mod Goings
 pub mod Firsts
 pub mod Runs
 pub mod Names
+pub mod Opened
+pub mod Families

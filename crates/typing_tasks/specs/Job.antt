@@ -59,9 +59,11 @@ pub data Job : Type 0 where
   FirstIf : Option First → Job
   First_ : First → Job
   Deed : Expr → Job
+  Begun : Expr → Job
   Condition : Option Expr → Job
   UpdateIf : Option Expr → Job
   Update : Expr → Job
+  Updated : Expr → Job
   Otherwise : ℕ → Option Body → Job
   Returned : ℕ → Option Argument → Job
   Declaration_ : Declaration → Job
@@ -75,7 +77,8 @@ pub data Job : Type 0 where
   Try : ℕ → List Catch → Job
   Catches : List Catch → ℕ → Job
   Catch_ : Catch → Job
-  Caught : ℕ → ℕ → List ℕ → Job
+  Catching : TypeName → Spelled → Job
+  Caught : ℕ → TypeName → List ℕ → Job
   -- what is not built
   Noted : List ℕ → TypeName → Job
   NotedDef : List ℕ → Job

@@ -10,6 +10,8 @@ use Rattle.typing_tasks.specs.declared.task.LoopTask.{LoopTask}
 use Rattle.typing_tasks.specs.declared.task.LoopTask.TheVariants as l
 use Rattle.typing_tasks.specs.declared.task.DeclarationTask.{DeclarationTask}
 use Rattle.typing_tasks.specs.declared.task.DeclarationTask.TheVariants as d
+use Rattle.typing_tasks.specs.declared.task.BindingTask.{BindingTask}
+use Rattle.typing_tasks.specs.declared.task.BindingTask.TheVariants as b
 use Rattle.typing_tasks.specs.declared.task.CatchTask.{CatchTask}
 use Rattle.typing_tasks.specs.declared.task.CatchTask.TheVariants as k
 use Rattle.typing_tasks.specs.declared.task.UnbuiltTask.{UnbuiltTask}
@@ -45,6 +47,16 @@ word_job (w.StaticCalled at access of name height) = j.StaticCalled at access of
 word_job (w.Made at of height) = j.Made at of.now height
 word_job (w.Read at access name) = j.Read at access name.now
 word_job (w.Field at access of name) = j.Field at access of.now name.now
+word_job (w.Begun x) = j.Begun x.now
+word_job (w.Updated x) = j.Updated x.now
+
+abbrev pub binding_job : BindingTask → Job
+binding_job (b.CastInitial of) = j.CastInitial of.now
+binding_job (b.Declare name of) = j.Declare name.now of.now
+binding_job (b.Noted name of) = j.Noted name.now of.now
+binding_job (b.NotedDef name) = j.NotedDef name.now
+binding_job (b.Catching of name) = j.Catching of.now name.now
+binding_job (b.Caught at of name) = j.Caught at of.now name.now
 
 abbrev pub statement_job : StatementTask → Job
 statement_job (s.One x last) = j.Statement_ x.now last
@@ -52,7 +64,6 @@ statement_job (s.Body x) = j.Body_ x.now
 statement_job (s.Scoped x) = j.Scoped x.now
 statement_job (s.Block x) = j.Block_ x.now
 statement_job (s.Statements all i in_main after) = j.Statements all.now i in_main after
-statement_job (s.Reached all i at in_main after) = j.Reached all.now i at in_main after
 statement_job (s.Otherwise at x) = j.Otherwise at x.now
 statement_job (s.Returned at x) = j.Returned at x.now
 
@@ -74,12 +85,8 @@ declaration_job (d.Whole x) = j.Declaration_ x.now
 declaration_job (d.Variables of all i) = j.Variables of.now all.now i
 declaration_job (d.Variable of x) = j.Variable_ of.now x.now
 declaration_job (d.Initial of x) = j.Initial of.now x.now
-declaration_job (d.CastInitial of) = j.CastInitial of.now
-declaration_job (d.Declare name of) = j.Declare name.now of.now
 
 abbrev pub unbuilt_job : UnbuiltTask → Job
-unbuilt_job (u.Noted name of) = j.Noted name.now of.now
-unbuilt_job (u.NotedDef name) = j.NotedDef name.now
 unbuilt_job (u.Parameters all i) = j.Parameters all.now i
 unbuilt_job (u.Inner x at) = j.UnbuiltInner x.now at
 unbuilt_job (u.Values all i at) = j.UnbuiltValues all.now i at
@@ -89,11 +96,11 @@ abbrev pub catch_job : CatchTask → Job
 catch_job (k.Try at all) = j.Try at all.now
 catch_job (k.All all i) = j.Catches all.now i
 catch_job (k.One x) = j.Catch_ x.now
-catch_job (k.Caught at class name) = j.Caught at class name.now
 
 abbrev pub job : Task → Job
 job (t.Expression x) = expression_job x
 job (t.Word x) = word_job x
+job (t.Binding x) = binding_job x
 job (t.Do act) = j.Do act
 job (t.Statement x) = statement_job x
 job (t.Loop x) = loop_job x
@@ -101,6 +108,7 @@ job (t.Declaration x) = declaration_job x
 job (t.DoStatement act) = j.DoStatement act
 job (t.Catch x) = catch_job x
 job (t.Unbuilt x) = unbuilt_job x
+job (t.Reached all i at in_main after) = j.Reached all.now i at in_main after
 
 -- the next task is taken
 abbrev pub Pops : Option Task → List Job → List Job → Type 0

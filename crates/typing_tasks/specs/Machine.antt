@@ -21,7 +21,7 @@ use Rattle.typing_rules.specs.Doing.{Answer, Doing, ◌>>=◌, pure, and_then}
 use Rattle.typing_rules.specs.Rules.Types.{type_of}
 use Rattle.typing_rules.specs.Rules.Statements.{loop_of, block_of, reached}
 use Rattle.typing_rules.specs.Typing as typing
-use Rattle.typing_rules.specs.Typing.{Reading, Seen, reading, argument, body, doer, braces, seen, all_seen, scoped, looping, perhaps, parts, handlers, call, statements, initial, returned, loop_condition, loop_step, loop_update, lambda_parameters}
+use Rattle.typing_rules.specs.Typing.{Reading, reading, argument, body, doer, braces, seen, all_seen, scoped, looping, perhaps, parts, handlers, call, statements, initial, returned, loop_condition, loop_step, loop_update, lambda_parameters}
 use Rattle.typing_acts.specs.declared.config.Config.{Config}
 use Rattle.typing_acts.specs.Piles.{one}
 use Rattle.typing_acts.specs.Expressions as expressions
@@ -33,6 +33,10 @@ use Rattle.typing_tasks.specs.declared.task.Act.{Act}
 use Rattle.typing_tasks.specs.declared.task.Act.TheVariants as a
 use Rattle.typing_tasks.specs.declared.task.StatementAct.{StatementAct}
 use Rattle.typing_tasks.specs.declared.task.StatementAct.TheVariants as s
+use Rattle.typing_tasks.specs.declared.task.WordTask.{WordTask}
+use Rattle.typing_tasks.specs.declared.task.WordTask.TheVariants as w
+use Rattle.typing_tasks.specs.declared.task.BindingTask.{BindingTask}
+use Rattle.typing_tasks.specs.declared.task.BindingTask.TheVariants as b
 use Rattle.typing_tasks.specs.Folds.{first, inner, handler, declaration, entry, variable, reading_if, argument_if, body_if, first_if}
 use Rattle.typing_tasks.specs.Job as j
 use Rattle.typing_tasks.specs.Job.{Job}
@@ -54,8 +58,6 @@ abbrev pub does_statement : StatementAct → Config → Out Config
 does_statement s.Test c = deeds.test c
 does_statement s.LoopTest c = deeds.loop_test c
 does_statement s.NoTest c = deeds.no_test c
-does_statement (s.First at) c = deeds.deed at c
-does_statement (s.Update at) c = deeds.update at c
 does_statement (s.Declaration at height) c = deeds.declaration at height c
 does_statement (s.Expression at last) c = deeds.expression at last c
 does_statement (s.ReturnValue at) c = deeds.return_value at c
@@ -71,6 +73,34 @@ does_statement (s.DoLoop at) c = deeds.do_loop at c
 does_statement (s.Try at height) c = deeds.whole_try at height c
 does_statement (s.Close height) c = Ok (bodies.close height c)
 does_statement (s.Looped is) c = Ok (bodies.looped is c)
+
+-- what is done with a name, a spelling, a type or an expression of the script
+abbrev pub does_word : AllowList → List Header → WordTask → Config → Out Config
+does_word allow hs (w.Called at name height) c = expressions.call hs at name.now height c
+does_word allow hs (w.Integer at spelling) c = expressions.integer at spelling.now c
+does_word allow hs (w.NegatedInteger minus at spelling) c = expressions.negated_integer minus at spelling.now c
+does_word allow hs (w.Text at spelling) c = expressions.text at spelling.now c
+does_word allow hs (w.Name at spelling) c = expressions.local at spelling.now c
+does_word allow hs (w.Written at spelling) c = places.written at spelling.now c
+does_word allow hs (w.TypeOf of) c = bodies.look_at of.now c
+does_word allow hs (w.Asked at of) c = expressions.asked at of.now c
+does_word allow hs (w.InstanceOf at of) c = expressions.instance_of at of.now c
+does_word allow hs (w.MethodCalled at access name height) c = members.method allow at access name.now height c
+does_word allow hs (w.StaticCalled at access of name height) c = members.static allow at access of.now name.now height c
+does_word allow hs (w.Made at of height) c = members.made allow at of.now height c
+does_word allow hs (w.Read at access name) c = members.read allow at access name.now c
+does_word allow hs (w.Field at access of name) c = members.field allow at access of.now name.now c
+does_word allow hs (w.Begun e) c = deeds.deed (reading allow hs e.now).first c
+does_word allow hs (w.Updated e) c = deeds.update (reading allow hs e.now).first c
+
+-- what is done with a name that a statement declares, or with its type
+abbrev pub does_binding : BindingTask → Config → Out Config
+does_binding (b.CastInitial of) c = deeds.initial of.now c
+does_binding (b.Declare name of) c = deeds.variable name.now of.now c
+does_binding (b.Noted name of) c = bodies.note_of name.now of.now c
+does_binding (b.NotedDef name) c = Ok (bodies.note name.now ty.Def c)
+does_binding (b.Catching of name) c = deeds.catching of.now name.now c
+does_binding (b.Caught at of name) c = deeds.catch at of.now name.now c
 
 -- some, the first first, are put on a stack
 abbrev pub piled : {A : Type 0} → List A → List A → List A
@@ -181,9 +211,11 @@ mean allow hs (j.ForParts at f d u b) c k = for_parts allow hs at f d u b c.stat
 mean allow hs (j.FirstIf e) c k = first_part allow hs e c k
 mean allow hs (j.First_ e) c k = first allow hs e c.state (step_to c k)
 mean allow hs (j.Deed e) c k = loop_step (reading allow hs e) c.state (step_to c k)
+mean allow hs (j.Begun e) c k = and_then (deeds.deed (reading allow hs e).first c) k
 mean allow hs (j.Condition e) c k = loop_condition (reading_if allow hs e) c.state (test_to c k)
 mean allow hs (j.UpdateIf e) c k = loop_update (reading_if allow hs e) c.state (test_to c k)
 mean allow hs (j.Update e) c k = loop_update (Some (reading allow hs e)) c.state (test_to c k)
+mean allow hs (j.Updated e) c k = and_then (deeds.update (reading allow hs e).first c) k
 mean allow hs (j.Otherwise at e) c k = otherwise allow hs at e c k
 mean allow hs (j.Returned at e) c k = returned at (argument_if allow hs e) c.state (step_to c k)
 mean allow hs (j.Declaration_ e) c k = (declaration allow hs e).typed false c.state (step_to c k)
@@ -202,7 +234,8 @@ mean allow hs (j.UnbuiltEntries all i at) c k = all_seen (map (entry allow hs) (
 mean allow hs (j.Try at all) c k = handlers (map (handler allow hs) all) c.state (catches_to c (λ d. and_then (deeds.whole_try at (length c.catches) d) k))
 mean allow hs (j.Catches all i) c k = handlers (map (handler allow hs) (drop i all)) c.state (catches_to c k)
 mean allow hs (j.Catch_ e) c k = handler allow hs e c.state (catch_to c k)
-mean allow hs (j.Caught at class name) c k = and_then (deeds.catch at class name c) k
+mean allow hs (j.Catching of name) c k = and_then (deeds.catching of name c) k
+mean allow hs (j.Caught at of name) c k = and_then (deeds.catch at of name c) k
 
 abbrev pub ended : Config → Answer
 ended c = Ok (reverse c.steps, c.state)

@@ -1,27 +1,38 @@
 -- What is to be done for each node, as a list of jobs.
-use Rattle.std.specs.Prelude.{ℕ, Bool, false, ◌&&◌, List, [], ◌∷◌, slice_get, Option, Some, None}
+use Rattle.std.specs.Prelude.{ℕ, ◌+◌, Bool, true, false, ◌&&◌, List, [], ◌∷◌, length, slice_get, Option, Some, None}
 use Rattle.pl_tree.specs.declared.operator.Access.{Access}
 use Rattle.pl_tree.specs.declared.operator.UnaryOperator.{UnaryOperator}
 use Rattle.pl_tree.specs.declared.operator.UnaryOperator.TheVariants as sign
 use Rattle.pl_tree.specs.declared.tree.TypeName.{TypeName}
-use Rattle.pl_tree.specs.declared.tree.Argument.{Argument}
-use Rattle.pl_tree.specs.declared.tree.Body.{Body}
+use Rattle.pl_tree.specs.declared.tree.Argument.{Argument, out-Argument}
+use Rattle.pl_tree.specs.declared.tree.Body.{Body, out-Body}
 use Rattle.pl_tree.specs.declared.tree.Expr.{Expr, out-Expr}
-use Rattle.pl_tree.specs.declared.tree.First.{First}
-use Rattle.pl_tree.specs.declared.tree.LambdaBody.{LambdaBody}
-use Rattle.pl_tree.specs.declared.tree.Statement.{Statement}
+use Rattle.pl_tree.specs.declared.tree.First.{First, out-First}
+use Rattle.pl_tree.specs.declared.tree.LambdaBody.{LambdaBody, out-LambdaBody}
+use Rattle.pl_tree.specs.declared.tree.Statement.{Statement, out-Statement}
 use Rattle.pl_tree.specs.declared.tree.Block.{Block, out-Block}
-use Rattle.pl_tree.specs.declared.tree.Catch.{Catch}
-use Rattle.pl_tree.specs.declared.tree.Declaration.{Declaration}
-use Rattle.pl_tree.specs.declared.tree.Entry.{Entry}
+use Rattle.pl_tree.specs.declared.tree.Catch.{Catch, out-Catch}
+use Rattle.pl_tree.specs.declared.tree.Declaration.{Declaration, out-Declaration}
+use Rattle.pl_tree.specs.declared.tree.Entry.{Entry, out-Entry}
+use Rattle.pl_tree.specs.declared.tree.Parameter.{Parameter}
 use Rattle.pl_tree.specs.declared.tree.Variable.{Variable, out-Variable}
-use Rattle.pl_tree.specs.declared.tree.Argument.TheOpen.{Argument-F, Body-F, Expr-F, First-F, LambdaBody-F, Statement-F}
+use Rattle.pl_tree.specs.declared.tree.Argument.TheOpen.{Argument-F, Body-F, Expr-F, First-F, LambdaBody-F, Statement-F, Block-F, Catch-F, Declaration-F}
 use Rattle.typed_tree.specs.declared.operation.Gives.TheVariants as g
 use Rattle.typing_tasks.specs.declared.task.Act.TheVariants as a
 use Rattle.typing_tasks.specs.declared.task.StatementAct.TheVariants as s
-use Rattle.allowlist.specs.Allow.{AllowList}
-use Rattle.typing_rules.specs.declared.header.Header.{Header}
-use Rattle.typing_rules.specs.Typing.{doer}
+use Rattle.typing_tasks.specs.declared.task.ExpressionTask.{ExpressionTask}
+use Rattle.typing_tasks.specs.declared.task.ExpressionTask.TheVariants as et
+use Rattle.typing_tasks.specs.declared.task.StatementTask.{StatementTask}
+use Rattle.typing_tasks.specs.declared.task.StatementTask.TheVariants as st
+use Rattle.typing_tasks.specs.declared.task.LoopTask.{LoopTask}
+use Rattle.typing_tasks.specs.declared.task.LoopTask.TheVariants as lt
+use Rattle.typing_tasks.specs.declared.task.DeclarationTask.{DeclarationTask}
+use Rattle.typing_tasks.specs.declared.task.DeclarationTask.TheVariants as dt
+use Rattle.typing_tasks.specs.declared.task.CatchTask.{CatchTask}
+use Rattle.typing_tasks.specs.declared.task.CatchTask.TheVariants as kt
+use Rattle.typing_tasks.specs.declared.task.UnbuiltTask.{UnbuiltTask}
+use Rattle.typing_tasks.specs.declared.task.UnbuiltTask.TheVariants as ut
+use Rattle.typing_acts.specs.declared.config.Config.{Config}
 use Rattle.typing_tasks.specs.Going.{is_there, none_left}
 use Rattle.typing_tasks.specs.Job as j
 use Rattle.typing_tasks.specs.Job.{Job}
@@ -152,16 +163,122 @@ abbrev pub for_plan : ℕ → Option First → Option Expr → Option Expr → O
 for_plan at first condition update body = j.FirstIf first ∷ j.Condition condition ∷ j.UpdateIf update ∷ j.LoopBody body ∷ j.DoStatement (s.Loop at (is_there first) (is_there body)) ∷ []
 
 -- a parameter of a function value
-abbrev pub parameter_plan : List ℕ → Option TypeName → List Job
-parameter_plan name None = j.NotedDef name ∷ []
-parameter_plan name (Some of) = j.Noted name of ∷ []
+abbrev pub parameter_job : List ℕ → Option TypeName → Job
+parameter_job name None = j.NotedDef name
+parameter_job name (Some of) = j.Noted name of
 
 abbrev pub variable_plan : TypeName → Variable → List Job
 variable_plan of e = j.TypeOf of ∷ j.Initial of (out-Variable e).value ∷ j.Declare (out-Variable e).name of ∷ []
 
--- a statement, and what is behind it, from a place of the list on
-abbrev pub following : AllowList → List Header → List Statement → ℕ → Statement → Bool → Bool → List Job
-following allow hs all i one in_main after = j.Statement_ one (in_main && none_left (slice_get all i)) ∷ j.Reached all i (doer allow hs one).at in_main after ∷ []
+-- Parts from one on: this one, and then the rest.
+abbrev pub arguments_plan : List Argument → ℕ → Option Argument → List Job
+arguments_plan all i None = []
+arguments_plan all i (Some one) = j.Given one ∷ j.Arguments all (i + 1) ∷ []
+
+abbrev pub variables_plan : TypeName → List Variable → ℕ → Option Variable → List Job
+variables_plan of all i None = j.TypeOf of ∷ []
+variables_plan of all i (Some one) = j.Variable_ of one ∷ j.Variables of all (i + 1) ∷ []
+
+abbrev pub catches_plan : List Catch → ℕ → Option Catch → List Job
+catches_plan all i None = []
+catches_plan all i (Some one) = j.Catch_ one ∷ j.Catches all (i + 1) ∷ []
+
+abbrev pub parameters_plan : List Parameter → ℕ → Option Parameter → List Job
+parameters_plan all i None = []
+parameters_plan all i (Some one) = parameter_job one.name.spelling one.of ∷ j.Parameters all (i + 1) ∷ []
+
+abbrev pub values_plan : List Expr → ℕ → ℕ → Option Expr → List Job
+values_plan all i at None = j.Do (a.Unbuilt at) ∷ []
+values_plan all i at (Some one) = j.Value one ∷ j.UnbuiltValues all (i + 1) at ∷ []
+
+abbrev pub entries_plan : List Entry → ℕ → ℕ → Option Entry → List Job
+entries_plan all i at None = j.Do (a.Unbuilt at) ∷ []
+entries_plan all i at (Some one) = j.Value (out-Entry one).key ∷ j.Value (out-Entry one).value ∷ j.UnbuiltEntries all (i + 1) at ∷ []
+
+-- where a statement stands
+abbrev pub statement_place : Open Statement-F → ℕ
+statement_place (Statement-F.If at condition chosen otherwise) = at
+statement_place (Statement-F.While at condition body) = at
+statement_place (Statement-F.For at first condition update body) = at
+statement_place (Statement-F.ForEach at of name over body) = at
+statement_place (Statement-F.ForIn at name over body) = at
+statement_place (Statement-F.Try at block catches) = at
+statement_place (Statement-F.Do at block condition) = at
+statement_place (Statement-F.«Statement::Declare» declaration) = (out-Declaration declaration).of.at
+statement_place (Statement-F.Continue at) = at
+statement_place (Statement-F.Break at) = at
+statement_place (Statement-F.Return at value) = at
+statement_place (Statement-F.Throw at value) = at
+statement_place (Statement-F.«Statement::Expression» at value) = at
+
+-- Statements from one on: this one, which may be the last of the main script, and then what is behind it.
+abbrev pub statements_plan : List Statement → ℕ → Bool → Bool → Option Statement → List Job
+statements_plan all i in_main after None = []
+statements_plan all i in_main after (Some one) =
+    j.Statement_ one (in_main && none_left (slice_get all (i + 1))) ∷ j.Reached all (i + 1) (statement_place (out-Statement one)) in_main after ∷ []
+
+-- a block in a scope of its own, where so many names are in sight and so many steps are done
+abbrev pub block_plan : ℕ → ℕ → Open Block-F → List Job
+block_plan names steps block = j.Statements block.statements 0 false false ∷ j.DoStatement (s.Close names) ∷ j.DoStatement (s.Block block.at steps) ∷ []
+
+abbrev pub declaration_plan : ℕ → Open Declaration-F → List Job
+declaration_plan variables e = j.Variables e.of e.variables 0 ∷ j.DoStatement (s.Declaration e.of.at variables) ∷ []
+
+-- a catch: its name, its block, and then the catch
+abbrev pub catch_plan : ℕ → ℕ → Open Catch-F → List Job
+catch_plan names steps e =
+    j.Catching e.of e.name ∷ j.Statements (out-Block e.block).statements 0 false false ∷ j.DoStatement (s.Block (out-Block e.block).at steps) ∷ j.Caught e.at e.of e.name.spelling ∷ j.DoStatement (s.Close names) ∷ []
+
+-- What is put in the place of each task, in what is known.
+abbrev pub expression_task : Config → ExpressionTask → List Job
+expression_task c (et.Value x) = value_plan (out-Expr x.now)
+expression_task c (et.Negated x minus) = negated_plan minus x.now (out-Expr x.now)
+expression_task c (et.Target x) = target_plan x.now (out-Expr x.now)
+expression_task c (et.Given x) = argument_plan (out-Argument x.now)
+expression_task c (et.Arguments all i) = arguments_plan all.now i (slice_get all.now i)
+expression_task c (et.Call at name all) = j.Arguments all.now 0 ∷ j.Called at name.now (length c.parts) ∷ []
+expression_task c (et.Method at access name all) = j.Arguments all.now 0 ∷ j.MethodCalled at access name.now (length c.parts) ∷ []
+expression_task c (et.Static at access of name all) = j.Arguments all.now 0 ∷ j.StaticCalled at access of.now name.now (length c.parts) ∷ []
+expression_task c (et.New at of all) = j.Arguments all.now 0 ∷ j.Made at of.now (length c.parts) ∷ []
+
+abbrev pub statement_task : Config → StatementTask → List Job
+statement_task c (st.One x last) = statement_plan last (out-Statement x.now)
+statement_task c (st.Body x) = body_plan (out-Body x.now)
+statement_task c (st.Scoped x) = j.Statement_ x.now false ∷ j.DoStatement (s.Close (length c.state.scopes)) ∷ []
+statement_task c (st.Block x) = block_plan (length c.state.scopes) (length c.steps) (out-Block x.now)
+statement_task c (st.Statements all i in_main after) = statements_plan all.now i in_main after (slice_get all.now i)
+statement_task c (st.Otherwise at x) = otherwise_plan at x.now
+statement_task c (st.Returned at x) = returned_plan at x.now
+
+abbrev pub loop_task : Config → LoopTask → List Job
+loop_task c (lt.Looping x) = j.DoStatement (s.Looped true) ∷ j.Body_ x.now ∷ j.DoStatement (s.Looped c.state.looped) ∷ []
+loop_task c (lt.Body x) = loop_body_plan x.now
+loop_task c (lt.Block x) = j.DoStatement (s.Looped true) ∷ j.Block_ x.now ∷ j.DoStatement (s.Looped c.state.looped) ∷ []
+loop_task c (lt.For at first condition update body) = j.ForParts at first.now condition.now update.now body.now ∷ j.DoStatement (s.Close (length c.state.scopes)) ∷ []
+loop_task c (lt.ForParts at first condition update body) = for_plan at first.now condition.now update.now body.now
+loop_task c (lt.FirstIf x) = first_if_plan x.now
+loop_task c (lt.First x) = first_plan (out-First x.now)
+loop_task c (lt.Deed x) = j.Value x.now ∷ j.Begun x.now ∷ []
+loop_task c (lt.Condition x) = condition_plan x.now
+loop_task c (lt.UpdateIf x) = update_if_plan x.now
+loop_task c (lt.Update x) = j.Value x.now ∷ j.Updated x.now ∷ []
+
+abbrev pub declaration_task : Config → DeclarationTask → List Job
+declaration_task c (dt.Whole x) = declaration_plan (length c.variables) (out-Declaration x.now)
+declaration_task c (dt.Variables of all i) = variables_plan of.now all.now i (slice_get all.now i)
+declaration_task c (dt.Variable of x) = variable_plan of.now x.now
+declaration_task c (dt.Initial of x) = initial_plan of.now x.now
+
+abbrev pub catch_task : Config → CatchTask → List Job
+catch_task c (kt.Try at all) = j.Catches all.now 0 ∷ j.DoStatement (s.Try at (length c.catches)) ∷ []
+catch_task c (kt.All all i) = catches_plan all.now i (slice_get all.now i)
+catch_task c (kt.One x) = catch_plan (length c.state.scopes) (length c.steps) (out-Catch x.now)
+
+abbrev pub unbuilt_task : UnbuiltTask → List Job
+unbuilt_task (ut.Parameters all i) = parameters_plan all.now i (slice_get all.now i)
+unbuilt_task (ut.Inner x at) = inner_plan at (out-LambdaBody x.now)
+unbuilt_task (ut.Values all i at) = values_plan all.now i at (slice_get all.now i)
+unbuilt_task (ut.Entries all i at) = entries_plan all.now i at (slice_get all.now i)
 
 -- The first token of an expression is that of the expression at its left end, or its own.
 abbrev pub left_of : Open Expr-F → Option Expr

@@ -1,6 +1,6 @@
 //! What is still to be typed.
 
-ghost use Rattle.std.specs.Prelude.{◌≡◌, ◌∷◌, [], OnOk};
+ghost use Rattle.std.specs.Prelude.{◌≡◌, ◌∷◌, ◌++◌, [], map, OnOk};
 ghost use Rattle.typing_tasks.specs.Jobs.{job, Pops};
 
 use pl_tree::{
@@ -37,9 +37,6 @@ pub enum StatementAct {
     LoopTest,
     /// A test or an update is missing.
     NoTest,
-    /// What a `for` begins with.
-    First(u32),
-    Update(u32),
     /// A declaration of the variables above a height.
     Declaration(u32, usize),
     Expression(u32, bool),
@@ -65,11 +62,11 @@ pub enum StatementAct {
 /// An expression that is to be typed.
 #[derive(Clone, Copy)]
 pub enum ExpressionTask<'a> {
-    Value(&'a Expr),
+    Value(&'a Subtree<Expr>),
     /// Directly behind a minus that stands at a place.
-    Negated(&'a Expr, u32),
+    Negated(&'a Subtree<Expr>, u32),
     /// What is written to.
-    Target(&'a Expr),
+    Target(&'a Subtree<Expr>),
     Given(&'a Argument),
     /// Those from one on.
     Arguments(&'a Items<Argument>, usize),
@@ -104,22 +101,39 @@ pub enum WordTask<'a> {
     Read(u32, Access, &'a Text),
     /// A name of a type.
     Field(u32, Access, &'a TypeName, &'a Text),
+    /// What a `for` begins with is typed.
+    Begun(&'a Subtree<Expr>),
+    /// What it goes on with is typed.
+    Updated(&'a Subtree<Expr>),
+}
+
+/// What is done with a name that a statement declares, or with its type.
+#[derive(Clone, Copy)]
+pub enum BindingTask<'a> {
+    /// The value that a variable of a type begins with is typed.
+    CastInitial(&'a TypeName),
+    Declare(&'a Spelled, &'a TypeName),
+    /// A name that a construct which is not built declares.
+    Noted(&'a Text, &'a TypeName),
+    NotedDef(&'a Text),
+    /// The name of a catch.
+    Catching(&'a TypeName, &'a Spelled),
+    /// The block of a catch is typed.
+    Caught(u32, &'a TypeName, &'a Text),
 }
 
 /// A statement that is to be typed.
 #[derive(Clone, Copy)]
 pub enum StatementTask<'a> {
     /// It may be the last of the main script.
-    One(&'a Statement, bool),
+    One(&'a Subtree<Statement>, bool),
     Body(&'a Body),
     /// With a scope of its own.
-    Scoped(&'a Statement),
+    Scoped(&'a Subtree<Statement>),
     /// A block with a scope of its own.
     Block(&'a Block),
     /// Those from one on, in the main script or not, behind one that escapes or not.
     Statements(&'a Items<Subtree<Statement>>, usize, bool, bool),
-    /// The statement before, which stands at a place, is typed.
-    Reached(&'a Items<Subtree<Statement>>, usize, u32, bool, bool),
     /// The `else` of an `if`, whose test and first body are typed.
     Otherwise(u32, &'a Option<Body>),
     Returned(u32, &'a Option<Argument>),
@@ -148,10 +162,10 @@ pub enum LoopTask<'a> {
     ),
     FirstIf(&'a Option<First>),
     First(&'a First),
-    Deed(&'a Expr),
+    Deed(&'a Subtree<Expr>),
     Condition(&'a Option<Subtree<Expr>>),
     UpdateIf(&'a Option<Subtree<Expr>>),
-    Update(&'a Expr),
+    Update(&'a Subtree<Expr>),
 }
 
 /// A declaration, or a part of one.
@@ -162,16 +176,11 @@ pub enum DeclarationTask<'a> {
     Variables(&'a TypeName, &'a Items<Variable>, usize),
     Variable(&'a TypeName, &'a Variable),
     Initial(&'a TypeName, &'a Option<Argument>),
-    CastInitial(&'a TypeName),
-    Declare(&'a Spelled, &'a TypeName),
 }
 
 /// Parts of a node that is not built: behind them it is refused.
 #[derive(Clone, Copy)]
 pub enum UnbuiltTask<'a> {
-    /// A name that it declares.
-    Noted(&'a Text, &'a TypeName),
-    NotedDef(&'a Text),
     Parameters(&'a Items<Parameter>, usize),
     Inner(&'a LambdaBody, u32),
     Values(&'a Items<Subtree<Expr>>, usize, u32),
@@ -186,8 +195,6 @@ pub enum CatchTask<'a> {
     /// Those from one on.
     All(&'a Items<Catch>, usize),
     One(&'a Catch),
-    /// One of a class and with a name, whose block is typed.
-    Caught(u32, u32, &'a Text),
 }
 
 /// A part that is to be typed, or what is done once parts are.
@@ -195,6 +202,7 @@ pub enum CatchTask<'a> {
 pub enum Task<'a> {
     Expression(ExpressionTask<'a>),
     Word(WordTask<'a>),
+    Binding(BindingTask<'a>),
     Do(Act),
     Statement(StatementTask<'a>),
     Loop(LoopTask<'a>),
@@ -202,6 +210,8 @@ pub enum Task<'a> {
     DoStatement(StatementAct),
     Catch(CatchTask<'a>),
     Unbuilt(UnbuiltTask<'a>),
+    /// The statement before those from one on, which stands at a place, is typed; in the main script or not, behind one that escapes or not.
+    Reached(&'a Items<Subtree<Statement>>, usize, u32, bool, bool),
 }
 
 /// Tasks. Contracts see the next one first.
@@ -261,53 +271,15 @@ impl<'a> Tasks<'a> {
         self.tasks.pop()
     }
 
-    /// Puts two tasks on, the first first.
-    pub fn push_two(&mut self, first: Task<'a>, second: Task<'a>) -> Result<(), AllocError>
-        ensures { OnOk result (self.new ≡ job first.entry ∷ job second.entry ∷ self.old) }
+    /// Puts tasks on, the first first.
+    pub fn put(&mut self, plan: &[Task<'a>]) -> Result<(), AllocError>
+        ensures { OnOk result (self.new ≡ map job plan.now ++ self.old) }
     {
-        self.push(second)?;
-        self.push(first)
-    }
-
-    /// Puts three tasks on, the first first.
-    pub fn push_three(
-        &mut self,
-        first: Task<'a>,
-        second: Task<'a>,
-        third: Task<'a>,
-    ) -> Result<(), AllocError>
-        ensures { OnOk result (self.new ≡ job first.entry ∷ job second.entry ∷ job third.entry ∷ self.old) }
-    {
-        self.push_two(second, third)?;
-        self.push(first)
-    }
-
-    /// Puts four tasks on, the first first.
-    pub fn push_four(
-        &mut self,
-        first: Task<'a>,
-        second: Task<'a>,
-        third: Task<'a>,
-        fourth: Task<'a>,
-    ) -> Result<(), AllocError>
-        ensures { OnOk result (self.new ≡ job first.entry ∷ job second.entry ∷ job third.entry ∷ job fourth.entry ∷ self.old) }
-    {
-        self.push_three(second, third, fourth)?;
-        self.push(first)
-    }
-
-    /// Puts five tasks on, the first first.
-    pub fn push_five(
-        &mut self,
-        first: Task<'a>,
-        second: Task<'a>,
-        third: Task<'a>,
-        fourth: Task<'a>,
-        fifth: Task<'a>,
-    ) -> Result<(), AllocError>
-        ensures { OnOk result (self.new ≡ job first.entry ∷ job second.entry ∷ job third.entry ∷ job fourth.entry ∷ job fifth.entry ∷ self.old) }
-    {
-        self.push_four(second, third, fourth, fifth)?;
-        self.push(first)
+        let mut left = plan.len();
+        while left > 0 {
+            left -= 1;
+            self.push(plan[left])?;
+        }
+        Ok(())
     }
 }

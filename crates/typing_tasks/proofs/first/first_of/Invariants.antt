@@ -1,6 +1,6 @@
 use Rattle.std.proofs.Common.{◌≡◌}
 use Rattle.typing_rules.specs.Typing.{reading}
-use Rattle.typing_order.proofs.first.first_of.Given as goal
+use Rattle.typing_tasks.proofs.first.first_of.Given as goal
 
 -- what is left begins as the whole does
 abbrev pub invariant-loop : goal.invariant-loop

@@ -106,7 +106,7 @@ fn place_of(e: &Expr) -> u32
 }
 
 /// The first token of an expression: that of the expression at its left end.
-#[tactic(auto, using(typing_tasks::proofs::Firsts::first_is))]
+#[tactic(auto, using(crate::proofs::Firsts::first_is))]
 pub fn first_of(_allow: &Allow, _headers: &[Header], e: &Expr) -> Result<u32, Fail>
     ensures { Keeps (Ok (reading _allow.now _headers.now e.now).first) result }
 {
