@@ -1,9 +1,10 @@
 -- What the instructions of code name, which is found once, before the code runs.
-use Rattle.std.specs.Prelude.{ℕ, List, [], map, Option, Some, None}
+use Rattle.std.specs.Prelude.{ℕ, List, [], map, Option, Some, None, option_map, slice_get}
 use Rattle.pl_types.specs.declared.ty.Ty.{Ty}
 use Rattle.pl_types.specs.Texts.{type_of_full}
 use Rattle.allowlist.specs.Allow.{AllowList}
 use Rattle.code_shapes.specs.Members.{method_of, constructor_of, field_of}
+use Rattle.code_meaning.specs.Machine.{Frame}
 use Rattle.pl_code.specs.declared.code.Code.{Code}
 use Rattle.pl_code.specs.declared.code.FunCode.{FunCode}
 use Rattle.pl_code.specs.declared.code.Instruction.{Instruction}
@@ -39,12 +40,12 @@ links_of allow f = map (link_of allow) f.lines
 abbrev pub links_in : AllowList → List FunCode → List (List Link)
 links_in allow functions = map (links_of allow) functions
 
-abbrev pub type_in : Link → Option Ty
-type_in (link.Type of) = Some of
+abbrev pub type_in : Option Link → Option Ty
+type_in (Some (link.Type of)) = Some of
 type_in other = None
 
-abbrev pub member_in : Link → Option ℕ
-member_in (link.Member number) = Some number
+abbrev pub member_in : Option Link → Option ℕ
+member_in (Some (link.Member number)) = Some number
 member_in other = None
 
 -- code with the list of the members that it may call, and how many words there is memory for in each frame
@@ -52,3 +53,11 @@ pub record Executable : Type 0 where
   pub code : Code
   pub allow : AllowList
   pub frame : ℕ
+
+-- the instruction at which a frame stands
+abbrev pub instruction_at : Executable → Frame → Option Instruction
+instruction_at e f = slice_get (lines_in (slice_get e.code.functions f.fun)) f.line
+
+-- what it names
+abbrev pub link_at : Executable → Frame → Option Link
+link_at e f = option_map (link_of e.allow) (instruction_at e f)

@@ -1,10 +1,12 @@
 //! Code that is ready to run.
-ghost use Rattle.std.specs.Prelude.{◌≡◌, ◌≤◌, ◌<◌, ◌^◌, ℕ, suc, None, Some, slice_get, IfOk, IfSome, MatchOption};
+ghost use Rattle.std.specs.Prelude.{◌≡◌, ◌≤◌, ◌<◌, ◌^◌, ℕ, suc, IfOk, IfSome, OnSome};
+ghost use Rattle.std.specs.Option.{option_copied};
 ghost use Rattle.allowlist.specs.Index.{member_at};
 ghost use Rattle.code_meaning.specs.Members.{count_of};
-ghost use Rattle.code_machine.specs.Links.{lines_in, link_of, links_of, links_in, member_link, type_link};
+ghost use Rattle.code_machine.specs.Links.{instruction_at, link_at, link_of, links_of, links_in, member_link, type_link};
 ghost use Rattle.pl_types.specs.Texts.{type_of_full};
 
+use crate::frames::Frames;
 use crate::members::count_of;
 use allowlist::{Allow, MEMBER_COUNT};
 use code_shapes::{constructor_of, field_of, method_of};
@@ -149,20 +151,24 @@ impl Executable {
         self.arguments
     }
 
-    /// The instruction at a line of a function, with what it names. Where there is one, there is a number for the next line.
-    pub(crate) fn at(&self, function: usize, line: usize) -> Option<(&Instruction, &Link)>
-        ensures instruction { MatchOption result (slice_get (lines_in (slice_get self.now.code.functions function)) line ≡ None) (λ p. slice_get (lines_in (slice_get self.now.code.functions function)) line ≡ Some p.0.now) }
-        ensures link { MatchOption result (Unit {0}) (λ p. p.1.now ≡ link_of self.now.allow p.0.now) }
-        ensures next { MatchOption result (Unit {0}) (λ p. suc line < 2 ^ 64) }
+    /// The instruction at which the newest frame stands. Where there is one, there is a number for the next line.
+    pub(crate) fn instruction(&self, frames: &Frames) -> Option<&Instruction>
+        ensures instruction { option_copied result ≡ instruction_at self.now frames.now.top }
+        ensures next { OnSome result (suc frames.now.top.line < 2 ^ 64) }
     {
-        let found = self.code.functions.get(function)?;
-        let links = self.links.get(function)?;
+        let found = self.code.functions.get(frames.fun() as usize)?;
+        let line = frames.line();
         if line >= found.lines.len() {
             return None;
         }
-        let instruction = found.lines.get(line)?;
-        let link = links.get(line)?;
-        Some((instruction, link))
+        found.lines.get(line)
+    }
+
+    /// What the instruction at which the newest frame stands names.
+    pub(crate) fn link(&self, frames: &Frames) -> Option<&Link>
+        ensures { option_copied result ≡ link_at self.now frames.now.top }
+    {
+        self.links.get(frames.fun() as usize)?.get(frames.line())
     }
 }
 

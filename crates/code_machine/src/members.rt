@@ -3,7 +3,7 @@ ghost use Rattle.std.specs.Prelude.{◌≡◌, ◌≤◌, ◌<◌, ◌+◌, ◌^
 ghost use Rattle.member_acts.specs.Members.{does};
 ghost use Rattle.member_acts.specs.Answers.{NeedsMemory};
 ghost use Rattle.code_machine.specs.Sparing.{CallSpares, MemberSpares, ReceivingSpares};
-ghost use Rattle.code_machine.specs.Links.{member_in};
+ghost use Rattle.code_machine.specs.Links.{link_at, member_in};
 ghost use Rattle.code_meaning.specs.declared.word.Word.{Word};
 ghost use Rattle.number_ops.specs.Outcomes.{effect, null_error};
 ghost use Rattle.run_world.specs.World.{acts_in, pay_member};
@@ -16,7 +16,7 @@ ghost use Rattle.code_machine.specs.Rows.{beside};
 ghost use Rattle.code_machine.specs.Members.{filled, receiving_of};
 
 use crate::configuration::{Configuration, End, Step};
-use crate::executable::Link;
+use crate::executable::{Executable, Link};
 use crate::frames::Frames;
 use crate::paying::pay_member;
 use crate::receiving::{Receiving, received};
@@ -30,14 +30,19 @@ use pl_code::Code;
 use pl_types::classes::NULL_POINTER_EXCEPTION;
 use std::alloc::AllocError;
 
-/// What a member does that a link names: a method is called, a value made by a constructor, or a field read.
-pub fn named(run: &mut Configuration, code: &Code, limits: &Rules<'_>, link: &Link) -> Step
-    ensures exact { Comes (spec.member_act code.now.functions limits.now (member_in link.now) run.old.frames.top run.old.frames.below (world_of run.old.world)) result run.new }
-    ensures memory { MemberSpares (member_in link.now) run.old.frames.top.stack run.old.world.heap.objects → HasSpace code.now.functions limits.now.depth run.old → suc run.old.frames.top.line < 2 ^ 64 → HasMemory result }
+/// What the member does that the instruction names: a method is called, a value made by a constructor, or a field read.
+pub fn named(run: &mut Configuration, executable: &Executable, limits: &Rules<'_>) -> Step
+    ensures exact { Comes (spec.member_act executable.now.code.functions limits.now (member_in (link_at executable.now run.old.frames.top)) run.old.frames.top run.old.frames.below (world_of run.old.world)) result run.new }
+    ensures memory { MemberSpares (member_in (link_at executable.now run.old.frames.top)) run.old.frames.top.stack run.old.world.heap.objects → HasSpace executable.now.code.functions limits.now.depth run.old → suc run.old.frames.top.line < 2 ^ 64 → HasMemory result }
     ensures room { room_of run.new ≡ room_of run.old }
 {
-    match link {
-        Link::Member(member) => call_numbered(run, code, limits, member.number()),
+    match executable.link(&run.frames) {
+        Some(Link::Member(member)) => call_numbered(
+            run,
+            executable.code(),
+            limits,
+            member.number(),
+        ),
         _ => Step::Ends(End::Stuck),
     }
 }

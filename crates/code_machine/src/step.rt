@@ -1,14 +1,14 @@
 //! One instruction.
 ghost use Rattle.code_meaning.specs.Machine.{act, step};
-ghost use Rattle.std.specs.Prelude.{◌≡◌, ◌<◌, ◌^◌, suc};
-ghost use Rattle.code_machine.specs.Links.{link_of};
+ghost use Rattle.std.specs.Prelude.{◌≡◌, ◌<◌, ◌^◌, suc, Some};
+ghost use Rattle.code_machine.specs.Links.{instruction_at};
 ghost use Rattle.code_machine.specs.Memory.{HasMemory, HasSpace};
 ghost use Rattle.code_machine.specs.Seen.{Comes, configuration_of, room_of, world_of};
 ghost use Rattle.code_machine.specs.Sparing.{InstructionSpares, Spares};
 
 use crate::boxes::{box_number, unbox};
 use crate::configuration::{Configuration, End, Step};
-use crate::executable::{Executable, Link};
+use crate::executable::Executable;
 use crate::jumps::numbered;
 use crate::members::named;
 use crate::operators::arithmetic;
@@ -17,7 +17,7 @@ use crate::rules::Rules;
 use crate::stacks::plain;
 use crate::typed::{cast, typed};
 use code_meaning::Word;
-use pl_code::{Code, Instruction};
+use pl_code::Instruction;
 
 /// Does the instruction at the line of the newest frame.
 pub fn step(run: &mut Configuration, executable: &Executable, limits: &Rules<'_>) -> Step
@@ -26,24 +26,25 @@ pub fn step(run: &mut Configuration, executable: &Executable, limits: &Rules<'_>
     ensures memory { Spares executable.now.code.functions limits.now.allowed (configuration_of run.old) → HasSpace executable.now.code.functions limits.now.depth run.old → HasMemory result }
     ensures room { room_of run.new ≡ room_of run.old }
 {
-    match executable.at(run.frames.fun() as usize, run.frames.line()) {
-        Some((instruction, link)) => execute(run, executable.code(), limits, instruction, link),
+    match executable.instruction(&run.frames) {
+        Some(instruction) => execute(run, executable, limits, instruction),
         None => Step::Ends(End::Stuck),
     }
 }
 
 fn execute(
     run: &mut Configuration,
-    code: &Code,
+    executable: &Executable,
     limits: &Rules<'_>,
     instruction: &Instruction,
-    link: &Link,
 ) -> Step
-    requires { link.now ≡ link_of limits.now.allowed instruction.now }
-    ensures exact { Comes (act code.now.functions limits.now instruction.now run.old.frames.top run.old.frames.below (world_of run.old.world)) result run.new }
-    ensures memory { InstructionSpares limits.now.allowed instruction.now run.old.frames.top run.old.world.heap.objects → HasSpace code.now.functions limits.now.depth run.old → suc run.old.frames.top.line < 2 ^ 64 → HasMemory result }
+    requires allowed { limits.now.allowed ≡ executable.now.allow }
+    requires instruction { instruction_at executable.now run.old.frames.top ≡ Some instruction.now }
+    ensures exact { Comes (act executable.now.code.functions limits.now instruction.now run.old.frames.top run.old.frames.below (world_of run.old.world)) result run.new }
+    ensures memory { InstructionSpares limits.now.allowed instruction.now run.old.frames.top run.old.world.heap.objects → HasSpace executable.now.code.functions limits.now.depth run.old → suc run.old.frames.top.line < 2 ^ 64 → HasMemory result }
     ensures room { room_of run.new ≡ room_of run.old }
 {
+    let code = executable.code();
     match instruction {
         Instruction::Plain(kind) => plain(run, code, limits, *kind),
         Instruction::Arithmetic(op, width) => arithmetic(run, code, limits, *op, *width),
@@ -53,11 +54,11 @@ fn execute(
         Instruction::Boxing(primitive) => box_number(run, *primitive),
         Instruction::Unboxing(primitive, way) => unbox(run, code, limits, *primitive, *way),
         Instruction::Quoted(kind, text) => quoted(run, code, limits, *kind, text),
-        Instruction::Typed(kind, _) => typed(run, code, limits, *kind, link),
-        Instruction::Cast(_, way) => cast(run, code, limits, link, *way),
-        Instruction::Invoke(_) => named(run, code, limits, link),
-        Instruction::New(_) => named(run, code, limits, link),
-        Instruction::Field(_) => named(run, code, limits, link),
+        Instruction::Typed(kind, _) => typed(run, executable, limits, *kind),
+        Instruction::Cast(_, way) => cast(run, executable, limits, *way),
+        Instruction::Invoke(_) => named(run, executable, limits),
+        Instruction::New(_) => named(run, executable, limits),
+        Instruction::Field(_) => named(run, executable, limits),
         _ => Step::Ends(End::Stuck),
     }
 }

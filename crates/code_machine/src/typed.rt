@@ -9,13 +9,13 @@ ghost use Rattle.code_meaning.specs.declared.word.Word.{Word};
 ghost use Rattle.code_meaning.specs.declared.word.Word.TheVariants.{I, R};
 ghost use Rattle.code_meaning.specs.Machine.{cast_act, typed_act, on_type, on_top, on_reference, on_outcome, to_line, is_written};
 ghost use Rattle.code_machine.specs.Sparing.{CastSpares, OnReference, OnType, OnValue};
-ghost use Rattle.code_machine.specs.Links.{type_in};
+ghost use Rattle.code_machine.specs.Links.{link_at, type_in};
 ghost use Rattle.code_machine.specs.Memory.{HasMemory};
 ghost use Rattle.code_machine.specs.Seen.{Comes, room_of, with_stack, world_of};
 
 use crate::boxes::is_written;
 use crate::configuration::{Configuration, End, Step};
-use crate::executable::Link;
+use crate::executable::{Executable, Link};
 use crate::rules::Rules;
 use crate::throwing::answered_whole;
 use code_meaning::Word;
@@ -23,14 +23,14 @@ use number_ops::{is_instance, to_type};
 use pl_code::{Code, Typed, Way};
 use pl_types::Ty;
 
-/// Casts the reference on the stack to the type that a link names.
-pub fn cast(run: &mut Configuration, code: &Code, limits: &Rules<'_>, link: &Link, way: Way) -> Step
-    ensures exact { Comes (on_type (type_in link.now) (λ to. cast_act code.now.functions limits.now to (is_written way) run.old.frames.top run.old.frames.below (world_of run.old.world))) result run.new }
-    ensures memory { OnType (type_in link.now) (λ to. OnValue run.old.frames.top.stack (CastSpares run.old.world.heap.objects to (is_written way))) → suc run.old.frames.top.line < 2 ^ 64 → HasMemory result }
+/// Casts the reference on the stack to the type that the instruction names.
+pub fn cast(run: &mut Configuration, executable: &Executable, limits: &Rules<'_>, way: Way) -> Step
+    ensures exact { Comes (on_type (type_in (link_at executable.now run.old.frames.top)) (λ to. cast_act executable.now.code.functions limits.now to (is_written way) run.old.frames.top run.old.frames.below (world_of run.old.world))) result run.new }
+    ensures memory { OnType (type_in (link_at executable.now run.old.frames.top)) (λ to. OnValue run.old.frames.top.stack (CastSpares run.old.world.heap.objects to (is_written way))) → suc run.old.frames.top.line < 2 ^ 64 → HasMemory result }
     ensures room { room_of run.new ≡ room_of run.old }
 {
-    match link {
-        Link::Type(to) => cast_top(run, code, limits, to, way),
+    match executable.link(&run.frames) {
+        Some(Link::Type(to)) => cast_top(run, executable.code(), limits, to, way),
         _ => Step::Ends(End::Stuck),
     }
 }
@@ -69,20 +69,19 @@ fn cast_word(
     }
 }
 
-/// An instruction with the type that a link names.
+/// An instruction with the type that it names.
 pub fn typed(
     run: &mut Configuration,
-    code: &Code,
+    executable: &Executable,
     limits: &Rules<'_>,
     kind: Typed,
-    link: &Link,
 ) -> Step
-    ensures exact { Comes (on_type (type_in link.now) (λ of. typed_act code.now.functions limits.now kind of run.old.frames.top run.old.frames.below (world_of run.old.world))) result run.new }
+    ensures exact { Comes (on_type (type_in (link_at executable.now run.old.frames.top)) (λ of. typed_act executable.now.code.functions limits.now kind of run.old.frames.top run.old.frames.below (world_of run.old.world))) result run.new }
     ensures memory { suc run.old.frames.top.line < 2 ^ 64 → HasMemory result }
     ensures room { room_of run.new ≡ room_of run.old }
 {
-    match link {
-        Link::Type(of) => typed_by(run, code, limits, kind, of),
+    match executable.link(&run.frames) {
+        Some(Link::Type(of)) => typed_by(run, executable.code(), limits, kind, of),
         _ => Step::Ends(End::Stuck),
     }
 }
