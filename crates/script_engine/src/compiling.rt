@@ -134,8 +134,8 @@ fn executable_of(alloc: Global, allow: &Allow, code: Code) -> Result<Executable,
     match verify(alloc, allow, code) {
         Ok(verified) => {
             let frame = verified.frame_words();
-            let allow = allow.share(alloc)?;
-            Executable::new(alloc, verified.into_code(), allow, frame)
+            let (code, allow) = verified.into_parts();
+            Executable::new(alloc, code, allow, frame)
         }
         Err(_) => Err(AllocError),
     }

@@ -50,8 +50,7 @@ impl VerifiedExecutable {
         ensures { IfOk result (λ e. code_under e ≡ verified) }
     {
         let frame = verified.frame_words();
-        let allow = verified.allow().share(alloc)?;
-        let code = verified.into_code();
+        let (code, allow) = verified.into_parts();
         Ok(VerifiedExecutable {
             executable: Executable::new(alloc, code, allow, frame)?,
         })

@@ -26,6 +26,10 @@ abbrev pub FrameWords : ℕ → CodeUnder → Type 0
 FrameWords most c = (k : ℕ) (f : FunCode) (line : ℕ) (kinds : List Slot) → slice_get c.code.functions k ≡ Some f → line < length f.lines
     → stands_at c.allow c.code.functions f line ≡ Known kinds → length f.params + length f.locals + length kinds ≤ most
 
+-- it is the least such number
+abbrev pub LeastWords : ℕ → CodeUnder → Type 0
+LeastWords most c = (n : ℕ) → FrameWords n c → most ≤ n
+
 -- a refusal is the fault that there is; want of memory is free
 abbrev pub Refuses : VerifyErr → Option (ℕ × FaultKind) → Type 0
 Refuses (BadShape line) fault = fault ≡ Some (line, kind.BadShape)

@@ -13,3 +13,11 @@ pub record LineWords (allow : AllowList) (functions : List FunCode) (f : FunCode
 -- in so many first functions a frame has so many words at most
 pub record FunctionWords (allow : AllowList) (functions : List FunCode) (count most : ℕ) : Type 0 where
   pub each : (k : ℕ) (f : FunCode) → k < count → slice_get functions k ≡ Some f → LineWords allow functions f (length f.lines) most
+
+-- a number that only a line of these raised: it is at most each that is so for them and was so before
+pub record LeastLines (allow : AllowList) (functions : List FunCode) (f : FunCode) (count before most : ℕ) : Type 0 where
+  pub least : (n : ℕ) → before ≤ n → LineWords allow functions f count n → most ≤ n
+
+-- the same of functions
+pub record LeastFunctions (allow : AllowList) (functions : List FunCode) (count before most : ℕ) : Type 0 where
+  pub least : (n : ℕ) → before ≤ n → FunctionWords allow functions count n → most ≤ n

@@ -3,7 +3,7 @@
 ghost use Rattle.std.specs.Prelude.{◌≡◌, ◌+◌, ◌<◌, ◌≤◌, ℕ, length, option_map, IfOk, None};
 ghost use Rattle.pl_code.specs.Reading.{told};
 ghost use Rattle.verifier.specs.Faults.{trap_fault, traps_fault, function_fault, code_fault, behind, told_fault, line_count};
-ghost use Rattle.verifier.specs.Words.{LineWords, FunctionWords};
+ghost use Rattle.verifier.specs.Words.{LineWords, FunctionWords, LeastLines, LeastFunctions};
 
 use crate::fault::FaultKind;
 use crate::pass::lines_fault;
@@ -65,6 +65,7 @@ fn function_fault(
 ) -> Result<Option<(u32, FaultKind)>, AllocError>
     ensures rises { most.old ≤ most.new }
     ensures words { IfOk result (λ found. found ≡ None → LineWords allow.now functions.now function.now (length function.now.lines) most.new) }
+    ensures least { IfOk result (λ found. found ≡ None → LeastLines allow.now functions.now function.now (length function.now.lines) most.old most.new) }
     ensures fault { IfOk result (λ found. (n : ℕ) → first ≡ told n → found ≡ option_map told_fault (behind n (function_fault allow.now functions.now function.now))) }
 {
     if function.lines.is_empty() {
@@ -103,6 +104,7 @@ pub(crate) fn code_fault(
     most: &mut usize,
 ) -> Result<Option<(u32, FaultKind)>, AllocError>
     ensures words { IfOk result (λ found. found ≡ None → FunctionWords allow.now functions.now (length functions.now) most.new) }
+    ensures least { IfOk result (λ found. found ≡ None → LeastFunctions allow.now functions.now (length functions.now) most.old most.new) }
     ensures fault { IfOk result (λ found. found ≡ option_map told_fault (code_fault allow.now functions.now)) }
 {
     if functions.is_empty() {

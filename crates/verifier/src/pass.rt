@@ -1,11 +1,11 @@
 //! The pass over a function's lines.
 
-ghost use Rattle.std.specs.Prelude.{◌≡◌, ◌+◌, ◌≤◌, List, length, IfOk, OnOk, None};
+ghost use Rattle.std.specs.Prelude.{◌≡◌, ◌+◌, ◌≤◌, ℕ, List, length, IfOk, OnOk, None};
 ghost use Rattle.pl_code.specs.declared.kinds.Slot.{Slot as SlotData};
 ghost use Rattle.shape_table.specs.Shapes.{Known};
 ghost use Rattle.verifier.specs.Acts.{at_line, Caught, Turned, Begins};
 ghost use Rattle.verifier.specs.Faults.{lines_fault};
-ghost use Rattle.verifier.specs.Words.{LineWords};
+ghost use Rattle.verifier.specs.Words.{LineWords, LeastLines};
 
 use crate::fault::FaultKind;
 use crate::lead::{lead_to, turn_back};
@@ -49,6 +49,7 @@ fn begin(alloc: Global, function: &FunCode) -> Result<ShapeTable, AllocError>
 fn raise(most: &mut usize, words: usize)
     ensures rises { most.old ≤ most.new }
     ensures covers { words ≤ most.new }
+    ensures least { (n : ℕ) → most.old ≤ n → words ≤ n → most.new ≤ n }
 {
     if words > *most {
         *most = words;
@@ -65,6 +66,7 @@ fn count_words(
     ensures lines { table.new.lines ≡ table.old.lines }
     ensures rises { most.old ≤ most.new }
     ensures covers { OnOk result ((kinds : List SlotData) → at_line table.old line ≡ Known kinds → locals + length kinds ≤ most.new) }
+    ensures least { OnOk result ((n : ℕ) → most.old ≤ n → ((kinds : List SlotData) → at_line table.old line ≡ Known kinds → locals + length kinds ≤ n) → most.new ≤ n) }
 {
     if !table.stand(line) {
         return Ok(());
@@ -98,6 +100,7 @@ pub(crate) fn lines_fault(
 ) -> Result<Option<(usize, FaultKind)>, AllocError>
     ensures rises { most.old ≤ most.new }
     ensures words { IfOk result (λ found. found ≡ None → LineWords allow.now functions.now function.now (length function.now.lines) most.new) }
+    ensures least { IfOk result (λ found. found ≡ None → LeastLines allow.now functions.now function.now (length function.now.lines) most.old most.new) }
     ensures fault { IfOk result (λ found. found ≡ lines_fault allow.now functions.now function.now) }
 {
     let locals = local_count(function)?;

@@ -3,7 +3,7 @@
 ghost use Rattle.std.specs.Prelude.{◌≡◌, None, IfOk, MatchResult};
 ghost use Rattle.verifier.specs.Faults.{shape_fault};
 ghost use Rattle.verifier.specs.Shaped.{IsWellShapedCode};
-ghost use Rattle.verifier.specs.Verified.{IsSound, FrameWords, Refuses};
+ghost use Rattle.verifier.specs.Verified.{IsSound, FrameWords, LeastWords, Refuses};
 
 use crate::fault::VerifyErr;
 use crate::functions::code_fault;
@@ -22,13 +22,13 @@ pub struct Verified {
 }
 
 impl Model for Verified {
-    ghost use Rattle.verifier.specs.Verified.{CodeUnder, IsSound, FrameWords};
+    ghost use Rattle.verifier.specs.Verified.{CodeUnder, IsSound, FrameWords, LeastWords};
 
     ghost Value = { CodeUnder };
 
     ghost view = { λ v. record { code = v.kept; allow = v.under } };
 
-    ghost invariant = { λ v. IsSound (record { code = v.kept; allow = v.under }) × FrameWords v.words (record { code = v.kept; allow = v.under }) };
+    ghost invariant = { λ v. IsSound (record { code = v.kept; allow = v.under }) × FrameWords v.words (record { code = v.kept; allow = v.under }) × LeastWords v.words (record { code = v.kept; allow = v.under }) };
 }
 
 impl Verified {
@@ -52,21 +52,24 @@ impl Verified {
 
     /// How many words a frame of the code has at most: its locals, and the operands at any of its lines.
     pub fn frame_words(&self) -> usize
-        ensures { FrameWords result self.now }
+        ensures words { FrameWords result self.now }
+        ensures least { LeastWords result self.now }
     {
         self.words
     }
 
-    /// The code, without the list.
-    pub fn into_code(self) -> Code
-        ensures { result ≡ self.code }
+    /// The code, and the list.
+    pub fn into_parts(self) -> (Code, Allow)
+        ensures code { result.0 ≡ self.code }
+        ensures allow { result.1 ≡ self.allow }
+        ensures sound { IsSound self }
     {
         let Verified {
             kept,
-            under: _under,
+            under,
             words: _words,
         } = self;
-        kept
+        (kept, under)
     }
 }
 

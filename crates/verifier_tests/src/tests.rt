@@ -335,7 +335,7 @@ fn what_is_handed_back_and_kept_is_the_code(rt: HostRuntime) -> Result<(), Fail>
             let written = listing(rt.alloc(), verified.code())?;
             assert!(rt; written.as_str() == text);
             assert!(rt; verified.allow().allows(0));
-            let code = verified.into_code();
+            let (code, _) = verified.into_parts();
             let again = listing(rt.alloc(), &code)?;
             assert!(rt; again.as_str() == text);
         }
