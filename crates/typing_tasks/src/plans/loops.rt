@@ -17,6 +17,7 @@ use plain_data::Subtree;
 use std::alloc::AllocError;
 use typing_acts::Config;
 
+/// Whether a `for` does something first.
 fn has_first(e: &Option<First>) -> bool
     ensures { result ≡ is_there e.now }
 {
@@ -26,7 +27,7 @@ fn has_first(e: &Option<First>) -> bool
     }
 }
 
-/// The same, for what a `for` does first.
+/// Puts on what is to be done for what a `for` does first.
 fn first<'a>(tasks: &mut Tasks<'a>, e: &'a First) -> Result<(), AllocError>
     ensures { OnOk result (tasks.new ≡ spec.first_plan (out-First e.now) ++ tasks.old) }
 {
