@@ -1,3 +1,5 @@
+//! Why an allowlist file gives no list.
+
 ghost use Rattle.std.specs.Prelude.{◌≡◌};
 
 use std::alloc::AllocError;

@@ -1,3 +1,5 @@
+//! What a member of the catalogue is.
+
 use pl_types::Ty;
 use plain_data::{Items, Text};
 

@@ -1,3 +1,5 @@
+//! Allowlist files and what they allow, and members of the catalogue by their names.
+
 use allowlist::{
     Accessor, Allow, AllowErr, Catalogue, MEMBER_COUNT, MemberKind, MemberType, Origin,
     catalogue_laws,

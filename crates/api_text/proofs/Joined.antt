@@ -3,9 +3,9 @@ use Rattle.std.proofs.Common.{◌≡◌, ℕ, zero, suc, ◌+◌, List, [], ◌�
 use Rattle.std.specs.Prelude.{Ok, Err}
 use Rattle.std.proofs.lemmas.List.{append-nil}
 use Rattle.object_values.specs.declared.object.Object.{Object}
-use Rattle.object_walks.specs.declared.error.TextErr.{TextErr}
-use Rattle.object_walks.specs.declared.error.TextErr.TheVariants.{Deep, Large, NoMemory}
-use Rattle.object_walks.specs.Texts.{Node, Text, Wrote, TooDeep, TooLarge, Writes}
+use Rattle.value_walks.specs.declared.error.TextErr.{TextErr}
+use Rattle.value_walks.specs.declared.error.TextErr.TheVariants.{Deep, Large, NoMemory}
+use Rattle.value_walks.specs.Texts.{Node, Text, Wrote, TooDeep, TooLarge, Writes}
 use Rattle.api_text.specs.declared.outcome.Outcome.{Outcome}
 use Rattle.api_text.specs.declared.outcome.Outcome.TheVariants.{Makes}
 use Rattle.api_text.specs.Joining.{Stopped, element_text, joined, more_joined, separator, with_texts}

@@ -21,12 +21,13 @@ use Rattle.object_heap.specs.Objects.{Kind, with_units, renewed_by}
 use Rattle.object_heap.specs.Store.{Store, changed_at, with_change}
 use Rattle.object_heap.proofs.Fitting.{added_fits, append_fits, renew_fits}
 use Rattle.object_heap.proofs.Keeping.{after_fits, throws_fits}
-use Rattle.object_walks.specs.Texts.{Node, Text, Wrote, TooDeep, TooLarge}
+use Rattle.value_walks.specs.Texts.{Node, Text, Wrote, TooDeep, TooLarge}
 use Rattle.api_text.specs.declared.outcome.ExceptionClass.{ExceptionClass}
 use Rattle.api_text.specs.declared.outcome.ExceptionClass.TheVariants as class
 use Rattle.api_text.specs.declared.outcome.Outcome.{Outcome}
 use Rattle.api_text.specs.declared.outcome.Outcome.TheVariants as outcome
-use Rattle.api_text.specs.Arguments.{object_at, object_in, with_one, with_two, with_three}
+use Rattle.member_arguments.specs.Arguments.{object_at, object_in}
+use Rattle.api_text.specs.Arguments.{with_one, with_two, with_three}
 use Rattle.api_text.specs.Builders as builders
 use Rattle.api_text.specs.Exceptions as exceptions
 use Rattle.api_text.specs.Joining as joining

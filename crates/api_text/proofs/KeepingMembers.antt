@@ -5,12 +5,12 @@ use Rattle.object_values.specs.declared.object.Object.{Object}
 use Rattle.object_values.specs.declared.value.Value.{Value}
 use Rattle.object_heap.specs.Fits.{Rules, AllFit, kinds}
 use Rattle.object_heap.specs.Parts.{message_of, units_of}
-use Rattle.object_walks.specs.declared.TheConstants.{VISITS}
-use Rattle.object_walks.specs.Texts.{text_of}
+use Rattle.value_walks.specs.declared.TheConstants.{VISITS}
+use Rattle.value_walks.specs.Texts.{text_of}
 use Rattle.api_text.specs.declared.outcome.Outcome.TheVariants.{Extends, Makes}
 use Rattle.api_text.specs.declared.member.Member.{Member}
 use Rattle.api_text.specs.declared.member.Member.TheVariants as m
-use Rattle.api_text.specs.Arguments.{int_at, object_at, sequence_at, text_at}
+use Rattle.member_arguments.specs.Arguments.{int_at, object_at, sequence_at, text_at}
 use Rattle.api_text.specs.Builders as builders
 use Rattle.api_text.specs.Exceptions as exceptions
 use Rattle.api_text.specs.Joining as joining

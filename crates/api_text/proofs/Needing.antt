@@ -5,8 +5,8 @@ use Rattle.object_values.specs.declared.value.Value.{Value}
 use Rattle.object_heap.specs.declared.answer.Answer.{Answer}
 use Rattle.object_heap.specs.declared.answer.Answer.TheVariants as a
 use Rattle.object_heap.specs.Parts.{units_of}
-use Rattle.object_walks.specs.declared.TheConstants.{VISITS}
-use Rattle.object_walks.specs.Texts.{Text, Wrote, TooDeep, TooLarge, text_of}
+use Rattle.value_walks.specs.declared.TheConstants.{VISITS}
+use Rattle.value_walks.specs.Texts.{Text, Wrote, TooDeep, TooLarge, text_of}
 use Rattle.api_text.specs.declared.outcome.Outcome.{Outcome}
 use Rattle.api_text.specs.declared.outcome.Outcome.TheVariants.{Extends, Makes}
 use Rattle.api_text.specs.Builders.{appended, inserted, put_at, put_in}

@@ -4,10 +4,11 @@ use Rattle.object_values.specs.declared.object.Object.{Object}
 use Rattle.object_values.specs.declared.value.Value.{Value}
 use Rattle.object_values.specs.declared.value.Value.TheVariants as v
 use Rattle.object_heap.specs.Parts.{units_of}
-use Rattle.object_walks.specs.declared.TheConstants.{VISITS}
-use Rattle.object_walks.specs.Texts.{Wrote, text_of}
+use Rattle.value_walks.specs.declared.TheConstants.{VISITS}
+use Rattle.value_walks.specs.Texts.{Wrote, text_of}
 use Rattle.api_text.specs.declared.outcome.Outcome.TheVariants.{Extends}
-use Rattle.api_text.specs.Arguments.{object_at, text_at, text_in, with_two}
+use Rattle.member_arguments.specs.Arguments.{object_at, text_at, text_in}
+use Rattle.api_text.specs.Arguments.{with_two}
 use Rattle.api_text.specs.Builders.{append, appended, inserted, put_at}
 use Rattle.api_text.specs.Outcomes.{followed_by}
 

@@ -4,11 +4,12 @@ use Rattle.object_values.specs.declared.object.Object.{Object}
 use Rattle.object_values.specs.declared.value.Value.{Value}
 use Rattle.object_values.specs.declared.value.Value.TheVariants as v
 use Rattle.object_heap.specs.Parts.{units_of}
-use Rattle.object_walks.specs.declared.TheConstants.{VISITS}
-use Rattle.object_walks.specs.Texts.{text_of}
+use Rattle.value_walks.specs.declared.TheConstants.{VISITS}
+use Rattle.value_walks.specs.Texts.{text_of}
 use Rattle.api_text.specs.declared.outcome.Outcome.{Outcome}
 use Rattle.api_text.specs.declared.outcome.Outcome.TheVariants.{NewBuilder, Extends, Becomes}
-use Rattle.api_text.specs.Arguments.{int_at, text_at, object_at, sequence_at, with_one, with_two, with_three}
+use Rattle.member_arguments.specs.Arguments.{int_at, text_at, object_at, sequence_at}
+use Rattle.api_text.specs.Arguments.{with_one, with_two, with_three}
 use Rattle.api_text.specs.Outcomes.{followed_by}
 use Rattle.api_text.specs.Sequences.{index_error, place_before, place_within}
 use Rattle.api_text.specs.Texts.{place_of}

@@ -7,7 +7,8 @@ use Rattle.object_heap.specs.Parts.{message_of}
 use Rattle.api_text.specs.declared.outcome.ExceptionClass.{ExceptionClass}
 use Rattle.api_text.specs.declared.outcome.Outcome.{Outcome}
 use Rattle.api_text.specs.declared.outcome.Outcome.TheVariants.{Gives, Makes, NewException}
-use Rattle.api_text.specs.Arguments.{object_at, text_at, with_one}
+use Rattle.member_arguments.specs.Arguments.{object_at, text_at}
+use Rattle.api_text.specs.Arguments.{with_one}
 
 -- without a message
 abbrev pub new_exception : ExceptionClass → Outcome

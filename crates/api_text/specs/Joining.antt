@@ -6,13 +6,14 @@ use Rattle.object_values.specs.declared.object.Part.{Part}
 use Rattle.object_values.specs.declared.object.Part.TheVariants as part
 use Rattle.object_values.specs.declared.value.Value.{Value}
 use Rattle.object_heap.specs.Parts.{map_of, pairs_in}
-use Rattle.object_walks.specs.declared.TheConstants.{VISITS}
-use Rattle.object_walks.specs.declared.error.TextErr.{TextErr}
-use Rattle.object_walks.specs.declared.error.TextErr.TheVariants.{Deep, Large, NoMemory}
-use Rattle.object_walks.specs.Texts.{Node, AValue, AnEntry, Text, text_of, entry_text_of}
+use Rattle.value_walks.specs.declared.TheConstants.{VISITS}
+use Rattle.value_walks.specs.declared.error.TextErr.{TextErr}
+use Rattle.value_walks.specs.declared.error.TextErr.TheVariants.{Deep, Large, NoMemory}
+use Rattle.value_walks.specs.Texts.{Node, AValue, AnEntry, Text, text_of, entry_text_of}
 use Rattle.api_text.specs.declared.outcome.Outcome.{Outcome}
 use Rattle.api_text.specs.declared.outcome.Outcome.TheVariants.{Makes}
-use Rattle.api_text.specs.Arguments.{object_at, sequence_at, with_two}
+use Rattle.member_arguments.specs.Arguments.{object_at, sequence_at}
+use Rattle.api_text.specs.Arguments.{with_two}
 use Rattle.api_text.specs.Outcomes.{NeedsMemory, followed_by, too_deep, too_large}
 
 -- the element that a view shows of a pair; an entry is no value, and no object is made for it

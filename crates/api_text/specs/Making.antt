@@ -3,11 +3,12 @@ use Rattle.std.specs.Prelude.{ℕ, ◌+◌, ◌-◌, nat_le, Option, Some, None,
 use Rattle.object_values.specs.declared.object.Object.{Object}
 use Rattle.object_values.specs.declared.value.Value.{Value}
 use Rattle.object_values.specs.declared.value.Value.TheVariants as v
-use Rattle.object_walks.specs.declared.TheConstants.{VISITS}
-use Rattle.object_walks.specs.Texts.{text_of}
+use Rattle.value_walks.specs.declared.TheConstants.{VISITS}
+use Rattle.value_walks.specs.Texts.{text_of}
 use Rattle.api_text.specs.declared.outcome.Outcome.{Outcome}
 use Rattle.api_text.specs.declared.outcome.Outcome.TheVariants.{Makes, Chars, Texts}
-use Rattle.api_text.specs.Arguments.{int_at, text_at, sequence_at, with_one, with_two, with_three}
+use Rattle.member_arguments.specs.Arguments.{int_at, text_at, sequence_at}
+use Rattle.api_text.specs.Arguments.{with_one, with_two, with_three}
 use Rattle.api_text.specs.Outcomes.{followed_by}
 use Rattle.api_text.specs.Pieces.{pieces, replaced}
 use Rattle.api_text.specs.Sequences.{index_error, place_within}

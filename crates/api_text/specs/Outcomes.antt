@@ -12,7 +12,7 @@ use Rattle.object_heap.specs.declared.answer.Answer.TheVariants as a
 use Rattle.object_heap.specs.Effects.{Effect, Gives, NoRoom, after_paying, gives_paid, gives_text, throws}
 use Rattle.object_heap.specs.Objects.{with_units, renewed_by}
 use Rattle.object_heap.specs.Store.{Store, paid, with_change}
-use Rattle.object_walks.specs.Texts.{Text, Wrote, TooDeep, TooLarge}
+use Rattle.value_walks.specs.Texts.{Text, Wrote, TooDeep, TooLarge}
 use Rattle.api_text.specs.declared.outcome.ExceptionClass.{ExceptionClass}
 use Rattle.api_text.specs.declared.outcome.ExceptionClass.TheVariants as class
 use Rattle.api_text.specs.declared.outcome.Outcome.{Outcome}

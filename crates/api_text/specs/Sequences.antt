@@ -7,7 +7,8 @@ use Rattle.object_values.specs.declared.value.Value.TheVariants as v
 use Rattle.api_text.specs.declared.outcome.ExceptionClass.TheVariants.{StringIndexOutOfBounds}
 use Rattle.api_text.specs.declared.outcome.Outcome.{Outcome}
 use Rattle.api_text.specs.declared.outcome.Outcome.TheVariants.{Gives}
-use Rattle.api_text.specs.Arguments.{int_at, sequence_at, with_one, with_two}
+use Rattle.member_arguments.specs.Arguments.{int_at, sequence_at}
+use Rattle.api_text.specs.Arguments.{with_one, with_two}
 use Rattle.api_text.specs.Outcomes.{says}
 
 -- a count of units as an int, at most the greatest one

@@ -6,7 +6,8 @@ use Rattle.object_values.specs.declared.value.Value.{Value}
 use Rattle.object_values.specs.declared.value.Value.TheVariants as v
 use Rattle.api_text.specs.declared.outcome.Outcome.{Outcome}
 use Rattle.api_text.specs.declared.outcome.Outcome.TheVariants.{Gives}
-use Rattle.api_text.specs.Arguments.{int_at, text_at, sequence_at, with_one, with_two, with_three}
+use Rattle.member_arguments.specs.Arguments.{int_at, text_at, sequence_at}
+use Rattle.api_text.specs.Arguments.{with_one, with_two, with_three}
 use Rattle.api_text.specs.Sequences.{count_as_int}
 
 abbrev pub flag : Bool → Outcome

@@ -6,17 +6,18 @@ ghost use Rattle.api_text.specs.declared.outcome.Outcome.{Outcome};
 ghost use Rattle.api_text.specs.Builders as spec;
 ghost use Rattle.api_text.specs.Outcomes.{Tells, WantsMemory, effect};
 
-use crate::arguments::{int_at, object_at, sequence_at, text_at, value_at};
 use crate::errors::{index_error, null_error, too_deep, too_large};
 use crate::outcome::Outcome;
 use crate::paying::extend;
 use crate::sequences::{place_before, place_within};
 use crate::texts::place_of;
+use member_arguments::{int_at, object_at, sequence_at, text_at, value_at};
 use object_heap::{Answer, Heap};
 use object_values::{Elements, Object, Value};
-use object_walks::{TextErr, VISITS, text};
 use std::alloc::{AllocError, Global};
+use value_walks::{TextErr, VISITS, text};
 
+/// `new StringBuilder()`.
 pub fn new_builder(heap: &Heap) -> Outcome
     ensures { result ≡ Outcome.NewBuilder [] }
 {
@@ -32,6 +33,7 @@ fn copied(heap: &Heap, units: &[u16]) -> Outcome
     }
 }
 
+/// `new StringBuilder(CharSequence)`.
 pub fn new_builder_of(heap: &Heap, args: &[Value]) -> Outcome
     ensures { Tells heap.now (spec.new_builder_of heap.now.objects args.now) result }
 {
@@ -54,6 +56,7 @@ fn appended(heap: &Heap, builder: u32, value: &Value) -> Outcome
     }
 }
 
+/// `append(def)`.
 pub fn append_value(heap: &Heap, args: &[Value]) -> Outcome
     ensures { Tells heap.now (spec.append heap.now.objects args.now) result }
 {
@@ -123,6 +126,7 @@ fn inserted(heap: &Heap, builder: u32, at: i32, value: &Value) -> Outcome
     }
 }
 
+/// `insert(int, def)`.
 pub fn insert(heap: &Heap, args: &[Value]) -> Outcome
     ensures { Tells heap.now (spec.insert heap.now.objects args.now) result }
 {
@@ -162,6 +166,7 @@ fn deleted(heap: &Heap, builder: u32, at: i32) -> Outcome
     }
 }
 
+/// `deleteCharAt(int)`.
 pub fn delete_char_at(heap: &Heap, args: &[Value]) -> Outcome
     ensures { Tells heap.now (spec.delete_char_at heap.now.objects args.now) result }
 {
@@ -171,6 +176,7 @@ pub fn delete_char_at(heap: &Heap, args: &[Value]) -> Outcome
     }
 }
 
+/// `indexOf(String)` of a builder.
 pub fn builder_index_of(heap: &Heap, args: &[Value]) -> Outcome
     ensures { Tells heap.now (spec.builder_index_of heap.now.objects args.now) result }
 {
@@ -231,6 +237,7 @@ fn resized(heap: &Heap, builder: u32, count: i32) -> Outcome
     set_there(heap, builder, count as usize)
 }
 
+/// `setLength(int)`.
 pub fn set_length(heap: &Heap, args: &[Value]) -> Outcome
     ensures { Tells heap.now (spec.set_length heap.now.objects args.now) result }
 {

@@ -61,6 +61,7 @@ pub fn index_error(heap: &Heap, at: i32, count: usize) -> Outcome
     }
 }
 
+/// The exception of a walk that goes too deep.
 pub fn too_deep(heap: &Heap) -> Outcome
     ensures { Tells heap.now too_deep result }
 {
@@ -71,6 +72,7 @@ pub fn too_deep(heap: &Heap) -> Outcome
     )
 }
 
+/// The exception of a walk that visits too much.
 pub fn too_large(heap: &Heap) -> Outcome
     ensures { Tells heap.now too_large result }
 {

@@ -1,17 +1,18 @@
 //! The constructors of exceptions, and getMessage.
 ghost use Rattle.std.specs.Prelude.{◌≡◌, IfOk};
-ghost use Rattle.api_text.specs.Arguments as arguments;
+ghost use Rattle.member_arguments.specs.Arguments as arguments;
 ghost use Rattle.api_text.specs.Exceptions as spec;
 ghost use Rattle.api_text.specs.Outcomes.{Tells};
 
-use crate::arguments::{object_at, text_at};
 use crate::errors::null_error;
 use crate::outcome::{ExceptionClass, Outcome};
+use member_arguments::{object_at, text_at};
 use object_heap::Heap;
 use object_values::Value;
 use pl_units::UText;
 use std::alloc::AllocError;
 
+/// The constructor of an exception without a message.
 pub fn new_exception(class: ExceptionClass) -> Outcome
     ensures { result ≡ spec.new_exception class }
 {
@@ -28,6 +29,7 @@ fn text_of(args: &[Value], at: usize) -> Result<Option<UText>, AllocError>
     }
 }
 
+/// The constructor of an exception with a message.
 pub fn new_exception_saying(heap: &Heap, class: ExceptionClass, args: &[Value]) -> Outcome
     ensures { Tells heap.now (spec.new_exception_saying class args.now) result }
 {
@@ -55,6 +57,7 @@ fn shared(heap: &Heap, message: &UText) -> Outcome
     }
 }
 
+/// `getMessage()`.
 pub fn get_message(heap: &Heap, args: &[Value]) -> Outcome
     ensures { Tells heap.now (spec.get_message heap.now.objects args.now) result }
 {

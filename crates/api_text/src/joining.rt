@@ -2,18 +2,18 @@
 ghost use Rattle.std.specs.Prelude.{◌≡◌, ◌++◌, ◌≤◌, [], IfErr, IfNone, IfSome, OnOk, Some, length, map, slice_get};
 ghost use Rattle.std.specs.Option.{option_copied};
 ghost use Rattle.object_heap.specs.Parts.{pairs_in};
-ghost use Rattle.object_walks.specs.Texts.{AValue, Writes};
+ghost use Rattle.value_walks.specs.Texts.{AValue, Writes};
 ghost use Rattle.api_text.specs.declared.outcome.Outcome.{Outcome};
 ghost use Rattle.api_text.specs.Outcomes.{Tells};
 ghost use Rattle.api_text.specs.Joining as spec;
 
-use crate::arguments::{object_at, sequence_at, value_at};
 use crate::errors::{null_error, too_deep, too_large};
 use crate::outcome::Outcome;
+use member_arguments::{object_at, sequence_at, value_at};
 use object_heap::Heap;
 use object_values::{Object, Pairs, Part, Value};
-use object_walks::{TextErr, VISITS, push_entry, push_text};
 use pl_units::UText;
+use value_walks::{TextErr, VISITS, push_entry, push_text};
 
 // What a walk that stopped comes to.
 fn stopped(heap: &Heap, cause: TextErr) -> Outcome
@@ -171,6 +171,7 @@ fn joined_of(heap: &Heap, between: &[u16], id: u32) -> Outcome
     }
 }
 
+/// `String.join(CharSequence, Iterable)`.
 pub fn join(heap: &Heap, args: &[Value]) -> Outcome
     ensures { Tells heap.now (spec.join heap.now.objects args.now) result }
 {

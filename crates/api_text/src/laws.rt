@@ -1,3 +1,4 @@
+//! Laws on what members keep, and on pieces of texts.
 ghost use Rattle.api_text.specs.Laws.{MembersKeepFit, PiecesJoin, ReplacedJoins, CutsEnd};
 
 /// A law that callers may cite: where the heap and the arguments fit a program or a code, what comes of a member fits it too.

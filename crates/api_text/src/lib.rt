@@ -1,7 +1,6 @@
 //! The members of CharSequence, String and StringBuilder, and the constructors and messages of exceptions.
 #![tactic(auto)]
 
-mod arguments;
 mod builders;
 mod errors;
 mod exceptions;

@@ -10,18 +10,18 @@ ghost use Rattle.api_text.specs.Making as spec;
 ghost use Rattle.api_text.specs.Pieces.{pieces};
 ghost use Rattle.api_text.specs.Texts as texts;
 
-use crate::arguments::{int_at, sequence_at, text_at, value_at};
 use crate::errors::{index_error, null_error, too_deep, too_large};
 use crate::outcome::Outcome;
 use crate::pieces::{pieces, replaced};
 use crate::sequences::place_within;
 use crate::texts::{to_lower, to_upper};
 use crate::writing::{array_made, made};
+use member_arguments::{int_at, sequence_at, text_at, value_at};
 use object_heap::Heap;
 use object_values::{Elements, Value};
-use object_walks::{TextErr, VISITS, text};
 use pl_units::UText;
 use std::alloc::{AllocError, Global};
+use value_walks::{TextErr, VISITS, text};
 
 // The text of these units.
 fn text_of(heap: &Heap, units: &[u16]) -> Outcome
@@ -152,6 +152,7 @@ fn to_text(heap: &Heap, value: &Value) -> Outcome
     }
 }
 
+/// `String.valueOf(def)`.
 pub fn value_of(heap: &Heap, args: &[Value]) -> Outcome
     ensures { Tells heap.now (spec.value_of heap.now.objects args.now) result }
 {
@@ -167,6 +168,7 @@ fn both(heap: &Heap, text: &[u16], other: &[u16]) -> Outcome
     of_units(joined_units(heap.alloc(), text, other))
 }
 
+/// `concat(String)`.
 pub fn concat(heap: &Heap, args: &[Value]) -> Outcome
     ensures { Tells heap.now (spec.concat heap.now.objects args.now) result }
 {
@@ -185,6 +187,7 @@ fn with_replaced(heap: &Heap, text: &[u16], target: &[u16], by: &[u16]) -> Outco
     )
 }
 
+/// `replace(CharSequence, CharSequence)`.
 pub fn replace(heap: &Heap, args: &[Value]) -> Outcome
     ensures { Tells heap.now (spec.replace heap.now.objects args.now) result }
 {
@@ -216,6 +219,7 @@ fn split(heap: &Heap, text: &UText, token: Option<&UText>, limit: i32) -> Outcom
     }
 }
 
+/// `splitOnToken(String)`.
 pub fn split_on_token(heap: &Heap, args: &[Value]) -> Outcome
     ensures { Tells heap.now (spec.split_on_token heap.now.objects args.now) result }
 {
@@ -225,6 +229,7 @@ pub fn split_on_token(heap: &Heap, args: &[Value]) -> Outcome
     }
 }
 
+/// `splitOnToken(String, int)`.
 pub fn split_on_token_limited(heap: &Heap, args: &[Value]) -> Outcome
     ensures { Tells heap.now (spec.split_on_token_limited heap.now.objects args.now) result }
 {
@@ -234,6 +239,7 @@ pub fn split_on_token_limited(heap: &Heap, args: &[Value]) -> Outcome
     }
 }
 
+/// `substring(int)`.
 pub fn substring_from(heap: &Heap, args: &[Value]) -> Outcome
     ensures { Tells heap.now (spec.substring_from heap.now.objects args.now) result }
 {
@@ -243,6 +249,7 @@ pub fn substring_from(heap: &Heap, args: &[Value]) -> Outcome
     }
 }
 
+/// `substring(int, int)`.
 pub fn substring(heap: &Heap, args: &[Value]) -> Outcome
     ensures { Tells heap.now (spec.substring heap.now.objects args.now) result }
 {
@@ -252,6 +259,7 @@ pub fn substring(heap: &Heap, args: &[Value]) -> Outcome
     }
 }
 
+/// `toCharArray()`.
 pub fn to_char_array(heap: &Heap, args: &[Value]) -> Outcome
     ensures { Tells heap.now (spec.to_char_array heap.now.objects args.now) result }
 {
@@ -267,6 +275,7 @@ fn lowered(heap: &Heap, text: &[u16]) -> Outcome
     of_units(lower_units(heap.alloc(), text))
 }
 
+/// `toLowerCase()`.
 pub fn to_lower_case(heap: &Heap, args: &[Value]) -> Outcome
     ensures { Tells heap.now (spec.to_lower_case heap.now.objects args.now) result }
 {
@@ -282,6 +291,7 @@ fn raised(heap: &Heap, text: &[u16]) -> Outcome
     of_units(upper_units(heap.alloc(), text))
 }
 
+/// `toUpperCase()`.
 pub fn to_upper_case(heap: &Heap, args: &[Value]) -> Outcome
     ensures { Tells heap.now (spec.to_upper_case heap.now.objects args.now) result }
 {
@@ -297,6 +307,7 @@ fn trimmed(heap: &Heap, text: &[u16]) -> Outcome
     text_of(heap, trimmed_behind(trimmed_in_front(text)))
 }
 
+/// `trim()`.
 pub fn trim(heap: &Heap, args: &[Value]) -> Outcome
     ensures { Tells heap.now (spec.trim heap.now.objects args.now) result }
 {

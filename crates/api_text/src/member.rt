@@ -4,7 +4,7 @@ ghost use Rattle.object_heap.specs.Effects.{Answers};
 ghost use Rattle.object_heap.specs.Fits.{Rules, Fits, AllFit, AnswerFits};
 ghost use Rattle.api_text.specs.Outcomes.{Tells, WantsMemory, effect};
 ghost use Rattle.api_text.specs.Members as spec;
-ghost use Rattle.api_text.specs.Members.{does, does_found, does_numbered, numbered};
+ghost use Rattle.api_text.specs.Members.{does, does_numbered, numbered};
 
 use crate::outcome::{ExceptionClass, Outcome};
 use crate::{builders, exceptions, joining, making, sequences, texts};

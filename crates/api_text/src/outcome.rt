@@ -5,7 +5,8 @@ ghost use Rattle.api_text.specs.declared.outcome.Outcome.{Outcome};
 ghost use Rattle.api_text.specs.Outcomes as spec;
 ghost use Rattle.api_text.specs.Outcomes.{effect, Tells, WantsMemory};
 
-use crate::paying::{add, extend, pay_text, pay_texts, renew};
+use crate::paying::{add, extend, pay_texts, renew};
+use member_arguments::pay_text;
 use object_heap::{Answer, Heap, throw};
 use object_values::{Elements, Object, Value};
 use pl_types::classes::{

@@ -1,6 +1,6 @@
 //! How what members come to is paid, and what it changes.
 ghost use Rattle.std.specs.Prelude.{◌≡◌, ◌+◌, ◌-◌, ◌<◌, ◌≤◌, ◌↔◌, IsTrue, length};
-ghost use Rattle.object_heap.specs.Effects.{Answers, gives_paid, gives_text};
+ghost use Rattle.object_heap.specs.Effects.{Answers, gives_paid};
 ghost use Rattle.object_heap.specs.Objects.{with_units, renewed_by};
 ghost use Rattle.object_heap.specs.Store.{with_change};
 ghost use Rattle.pl_types.specs.declared.ty.Ty.TheVariants as ty;
@@ -12,26 +12,8 @@ use object_heap::{Answer, Heap, HeapErr};
 use object_values::{Elements, Object, Value};
 use pl_types::Ty;
 use pl_types::classes::STRING;
-use pl_units::UText;
 
-// Pays for a text that was made: its units and one.
-pub fn pay_text(heap: &mut Heap, text: UText) -> Answer
-    ensures { Answers (gives_text heap.old text) heap.old heap.new result }
-{
-    match heap.charge(text.len() as u64 + 1) {
-        Ok(()) => Answer::Value(Value::Str(text)),
-        Err(HeapErr::Room) => {
-            drop(text);
-            Answer::Room
-        }
-        Err(HeapErr::NoMemory) => {
-            drop(text);
-            Answer::NoMemory
-        }
-    }
-}
-
-// Adds an object, which costs its weight.
+/// Adds an object, which costs its weight.
 pub fn add(heap: &mut Heap, object: Object) -> Answer
     ensures { Answers (gives_new heap.old object 0) heap.old heap.new result }
 {
@@ -80,7 +62,7 @@ fn add_texts(heap: &mut Heap, items: Elements<Value>, made: u64) -> Answer
     }
 }
 
-// Adds an array of texts that are made, which costs its weight and what they cost.
+/// Adds an array of texts that are made, which costs its weight and what they cost.
 #[tactic(auto, using(crate::proofs::Room::no_room_for_array))]
 pub fn pay_texts(heap: &mut Heap, items: Elements<Value>, made: u64) -> Answer
     ensures { Answers (gives_new heap.old (o.Array (ty.Class STRING) items) made) heap.old heap.new result }
@@ -93,7 +75,7 @@ pub fn pay_texts(heap: &mut Heap, items: Elements<Value>, made: u64) -> Answer
     }
 }
 
-// Writes units at the end of a builder, which costs what it grows by.
+/// Writes units at the end of a builder, which costs what it grows by.
 pub fn extend(heap: &mut Heap, builder: u32, more: &[u16]) -> Answer
     ensures { Answers (gives_paid heap.old (with_change heap.old.objects builder (with_units more.now)) (v.Ref builder)) heap.old heap.new result }
 {
@@ -104,7 +86,7 @@ pub fn extend(heap: &mut Heap, builder: u32, more: &[u16]) -> Answer
     }
 }
 
-// Gives a builder other units, which costs what it grows by.
+/// Gives a builder other units, which costs what it grows by.
 pub fn renew(heap: &mut Heap, builder: u32, units: Elements<u16>, value: Value) -> Answer
     ensures { Answers (gives_paid heap.old (with_change heap.old.objects builder (renewed_by (o.Builder units))) value) heap.old heap.new result }
 {

@@ -3,13 +3,13 @@ ghost use Rattle.std.specs.Prelude.{◌≡◌};
 ghost use Rattle.api_text.specs.Outcomes.{Tells};
 ghost use Rattle.api_text.specs.Sequences as spec;
 
-use crate::arguments::{int_at, sequence_at};
 use crate::errors::{index_error, null_error};
 use crate::outcome::Outcome;
+use member_arguments::{int_at, sequence_at};
 use object_heap::Heap;
 use object_values::Value;
 
-// A count of units as an int, at most the greatest one.
+/// A count of units as an int, at most the greatest one.
 pub fn count_as_int(count: usize) -> i32
     ensures { result ≡ spec.count_as_int count }
 {
@@ -20,7 +20,7 @@ pub fn count_as_int(count: usize) -> i32
     }
 }
 
-// A place from one up to another.
+/// A place from one up to another.
 pub fn place_within(least: usize, most: usize, at: i32) -> Option<usize>
     ensures { result ≡ spec.place_within least most at }
 {
@@ -35,7 +35,7 @@ pub fn place_within(least: usize, most: usize, at: i32) -> Option<usize>
     }
 }
 
-// A place at which there is a unit.
+/// A place at which there is a unit.
 pub fn place_before(count: usize, at: i32) -> Option<usize>
     ensures { result ≡ spec.place_before count at }
 {
@@ -67,6 +67,7 @@ fn char_of(heap: &Heap, text: &[u16], at: i32) -> Outcome
     }
 }
 
+/// `charAt(int)`.
 pub fn char_at(heap: &Heap, args: &[Value]) -> Outcome
     ensures { Tells heap.now (spec.char_at heap.now.objects args.now) result }
 {
@@ -76,6 +77,7 @@ pub fn char_at(heap: &Heap, args: &[Value]) -> Outcome
     }
 }
 
+/// `length()`.
 pub fn sequence_length(heap: &Heap, args: &[Value]) -> Outcome
     ensures { Tells heap.now (spec.sequence_length heap.now.objects args.now) result }
 {

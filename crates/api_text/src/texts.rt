@@ -4,10 +4,10 @@ ghost use Rattle.std.specs.Option.{option_copied};
 ghost use Rattle.api_text.specs.Outcomes.{Tells};
 ghost use Rattle.api_text.specs.Texts as spec;
 
-use crate::arguments::{int_at, sequence_at, text_at};
 use crate::errors::null_error;
 use crate::outcome::Outcome;
 use crate::sequences::count_as_int;
+use member_arguments::{int_at, sequence_at, text_at};
 use object_heap::Heap;
 use object_values::Value;
 use pl_units::{UText, find_units};
@@ -122,6 +122,7 @@ fn has_none(text: &[u16]) -> bool
     }
 }
 
+/// `contains(CharSequence)`.
 pub fn contains(heap: &Heap, args: &[Value]) -> Outcome
     ensures { Tells heap.now (spec.contains heap.now.objects args.now) result }
 {
@@ -131,6 +132,7 @@ pub fn contains(heap: &Heap, args: &[Value]) -> Outcome
     }
 }
 
+/// `endsWith(String)`.
 pub fn ends_with(heap: &Heap, args: &[Value]) -> Outcome
     ensures { Tells heap.now (spec.ends_with heap.now.objects args.now) result }
 {
@@ -142,6 +144,7 @@ pub fn ends_with(heap: &Heap, args: &[Value]) -> Outcome
     }
 }
 
+/// `startsWith(String)`.
 pub fn starts_with(heap: &Heap, args: &[Value]) -> Outcome
     ensures { Tells heap.now (spec.starts_with heap.now.objects args.now) result }
 {
@@ -151,6 +154,7 @@ pub fn starts_with(heap: &Heap, args: &[Value]) -> Outcome
     }
 }
 
+/// `startsWith(String, int)`.
 pub fn starts_with_at(heap: &Heap, args: &[Value]) -> Outcome
     ensures { Tells heap.now (spec.starts_with_at heap.now.objects args.now) result }
 {
@@ -160,6 +164,7 @@ pub fn starts_with_at(heap: &Heap, args: &[Value]) -> Outcome
     }
 }
 
+/// `equalsIgnoreCase(String)`.
 pub fn equals_ignore_case(heap: &Heap, args: &[Value]) -> Outcome
     ensures { Tells heap.now (spec.equals_ignore_case heap.now.objects args.now) result }
 {
@@ -169,6 +174,7 @@ pub fn equals_ignore_case(heap: &Heap, args: &[Value]) -> Outcome
     }
 }
 
+/// `indexOf(String)`.
 pub fn index_of(heap: &Heap, args: &[Value]) -> Outcome
     ensures { Tells heap.now (spec.index_of heap.now.objects args.now) result }
 {
@@ -178,6 +184,7 @@ pub fn index_of(heap: &Heap, args: &[Value]) -> Outcome
     }
 }
 
+/// `indexOf(String, int)`.
 pub fn index_of_from(heap: &Heap, args: &[Value]) -> Outcome
     ensures { Tells heap.now (spec.index_of_from heap.now.objects args.now) result }
 {
@@ -187,6 +194,7 @@ pub fn index_of_from(heap: &Heap, args: &[Value]) -> Outcome
     }
 }
 
+/// `lastIndexOf(String)`.
 pub fn last_index_of(heap: &Heap, args: &[Value]) -> Outcome
     ensures { Tells heap.now (spec.last_index_of heap.now.objects args.now) result }
 {
@@ -196,6 +204,7 @@ pub fn last_index_of(heap: &Heap, args: &[Value]) -> Outcome
     }
 }
 
+/// `isEmpty()`.
 pub fn is_empty(heap: &Heap, args: &[Value]) -> Outcome
     ensures { Tells heap.now (spec.is_empty heap.now.objects args.now) result }
 {

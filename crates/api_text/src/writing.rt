@@ -46,7 +46,7 @@ impl Texts {
     }
 }
 
-// Writes units behind what is there, if there is room for a text of them all.
+/// Writes units behind what is there, if there is room for a text of them all.
 pub fn write(out: &mut Vec<u16>, units: &[u16], room: u64) -> Result<(), Stop>
     ensures ok { OnOk result (out.new.items ≡ out.old.items ++ units.now) }
     ensures stop { IfErr result (λ stop. Stops room (length out.old.items + length units.now) stop) }
@@ -60,7 +60,7 @@ pub fn write(out: &mut Vec<u16>, units: &[u16], room: u64) -> Result<(), Stop>
     }
 }
 
-// Writes units and then others.
+/// Writes units and then others.
 pub fn write_both(out: &mut Vec<u16>, units: &[u16], others: &[u16], room: u64) -> Result<(), Stop>
     ensures ok { OnOk result (out.new.items ≡ out.old.items ++ units.now ++ others.now) }
     ensures stop { IfErr result (λ stop. Stops room (length out.old.items + length units.now + length others.now) stop) }
@@ -69,7 +69,7 @@ pub fn write_both(out: &mut Vec<u16>, units: &[u16], others: &[u16], room: u64) 
     write(out, others, room)
 }
 
-// The outcome of a text that was made, or was not.
+/// The outcome of a text that was made, or was not.
 #[tactic(auto, using(crate::proofs::Room::no_room_for_text))]
 pub fn made(heap: &Heap, made: Result<UText, Stop>) -> Outcome
     ensures { (text : List ℕ) → Made heap.now.room text made → Tells heap.now (Outcome.Makes text) result }
@@ -81,7 +81,7 @@ pub fn made(heap: &Heap, made: Result<UText, Stop>) -> Outcome
     }
 }
 
-// The outcome of texts that were made for an array, or were not.
+/// The outcome of texts that were made for an array, or were not.
 #[tactic(auto, using(crate::proofs::Room::no_room_for_texts))]
 pub fn array_made(heap: &Heap, made: Result<Texts, Stop>) -> Outcome
     ensures { (texts : List (List ℕ)) → MadeTexts heap.now.room texts made → Tells heap.now (array_of texts) result }
@@ -116,7 +116,7 @@ fn push_value(items: &mut Vec<Value>, value: Value) -> Result<(), Stop>
     }
 }
 
-// Makes one text more for an array, if there is room for it: what it costs, with its place in the array, goes from what is spare.
+/// Makes one text more for an array, if there is room for it: what it costs, with its place in the array, goes from what is spare.
 pub fn push_piece(
     alloc: Global,
     items: &mut Vec<Value>,

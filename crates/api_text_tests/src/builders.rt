@@ -1,3 +1,4 @@
+//! Rows of the members of StringBuilder.
 use crate::rows::Arg::{Char, Int, Null, Object, Word};
 use crate::rows::{Row, Wanted};
 use crate::running::first_wrong;

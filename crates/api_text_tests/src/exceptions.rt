@@ -1,3 +1,4 @@
+//! Rows of exceptions.
 use crate::rows::Arg::{Null, Object, Word};
 use crate::rows::{Row, Wanted};
 use crate::running::first_wrong;

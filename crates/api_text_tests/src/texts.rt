@@ -1,3 +1,4 @@
+//! Rows of the members of String.
 use crate::rows::Arg::{self, Int, Null, Object, Units, Word};
 use crate::rows::{Row, Wanted};
 use crate::running::first_wrong;

@@ -57,7 +57,9 @@ pub enum Op {
 /// A number of the type `int` or `long`.
 #[derive(Clone, Copy, Debug, PartialEq, Eq)]
 pub enum Num {
+    /// An `int`.
     Int(i32),
+    /// A `long`.
     Long(i64),
 }
 

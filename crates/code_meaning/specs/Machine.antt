@@ -12,14 +12,14 @@ use Rattle.object_values.specs.declared.value.Value.TheVariants as v
 use Rattle.object_values.specs.declared.object.Object.{Object}
 use Rattle.object_values.specs.declared.object.Object.TheVariants as o
 use Rattle.object_values.specs.declared.object.Owner.{Owner}
-use Rattle.object_values.specs.declared.object.Owner.TheVariants.{Script}
+use Rattle.object_values.specs.declared.object.Owner.TheVariants.{Script, Prelude}
 use Rattle.arithmetic.specs.Arithmetic.{wrapped, low_bits}
 use Rattle.number_ops.specs.Outcomes.{effect, zero_divisor, null_error}
 use Rattle.object_heap.specs.Effects.{Effect}
 use Rattle.allowlist.specs.declared.member.MemberType.{MemberType}
 use Rattle.allowlist.specs.Index.{member_at}
-use Rattle.code_shapes.specs.Members.{method_of, constructor_of, field_of}
-use Rattle.member_acts.specs.Members.{does}
+use Rattle.instruction_types.specs.Members.{method_of, constructor_of, field_of}
+use Rattle.member_calls.specs.Members.{does}
 use Rattle.number_ops.specs.Casts.{cast_at_run_time}
 use Rattle.number_ops.specs.Operators.{concatenated}
 use Rattle.number_ops.specs.Relations.{equal, is_same, thrown}
@@ -39,11 +39,20 @@ use Rattle.pl_code.specs.declared.code.Trap.{Trap}
 use Rattle.pl_code.specs.declared.code.FunCode.{FunCode}
 use Rattle.pl_code.specs.declared.code.Instruction.{Instruction}
 use Rattle.pl_code.specs.declared.code.Instruction.TheVariants as i
-use Rattle.run_world.specs.World.{World, Limits, Room, End, Result, Uncaught, Limited, Outcome, Given, Raised, Full, acts_in, Counted, Counts, Passes, take_turn, enter, pay_member}
+use Rattle.run_state.specs.World.{World, Limits, Room, End, Result, Uncaught, Limited, Outcome, Given, Raised, Full, acts_in, Counted, Counts, Passes, allowed_in, take_turn, enter, pay_member}
 use Rattle.code_meaning.specs.declared.word.Word.{Word}
 use Rattle.code_meaning.specs.declared.word.Word.TheVariants.{I, J, R}
 use Rattle.code_meaning.specs.Members.{Receiving, Unfit, OnNull, Receives, Reads, received, count_of, given_as}
 use Rattle.code_meaning.specs.Words.{start_of, word_of, Calculation, NoRow, Calculates, calculation, boxed, unboxed, bit}
+
+-- The code of the two texts of a run: the script's, and the prelude's.
+pub record Codes : Type 0 where
+  pub script : List FunCode
+  pub prelude : List FunCode
+
+abbrev pub code_in : Codes → Owner → List FunCode
+code_in codes Script = codes.script
+code_in codes Prelude = codes.prelude
 
 pub record Frame : Type 0 where
   -- the script's code, or the prelude's
@@ -74,9 +83,9 @@ start_at None words w = Stuck
 start_at (Some f) words w =
     Goes (record { top = record { text = Script; fun = 0; line = 0; locals = words ++ map start_of f.locals; stack = []; turns = 0; due = [] }; below = []; world = w })
 
--- the first configuration of code
-abbrev pub start : List FunCode → List Word → World → Next
-start code words w = start_at (slice_get code 0) words w
+-- the first configuration of code: function 0 of the script's
+abbrev pub start : Codes → List Word → World → Next
+start codes words w = start_at (slice_get codes.script 0) words w
 
 -- ---- what is thrown
 
@@ -114,9 +123,13 @@ lands (h ∷ hs) text fun locals turns due below id w further =
     then Goes (record { top = record { text = text; fun = fun; line = h.at; locals = locals; stack = R (v.Ref id) ∷ []; turns = turns; due = due }; below = below; world = w })
     else lands hs text fun locals turns due below id w further
 
-abbrev pub unwind : List FunCode → List Frame → ℕ → World → Next
-unwind code [] id w = Ends (Uncaught id w)
-unwind code (f ∷ fs) id w = lands (traps_of (slice_get code f.fun) f.line) f.text f.fun f.locals f.turns f.due fs id w (unwind code fs id w)
+-- the function of a frame, in the code of its text
+abbrev pub function_of : Codes → Frame → Option FunCode
+function_of codes f = slice_get (code_in codes f.text) f.fun
+
+abbrev pub unwind : Codes → List Frame → ℕ → World → Next
+unwind codes [] id w = Ends (Uncaught id w)
+unwind codes (f ∷ fs) id w = lands (traps_of (function_of codes f) f.line) f.text f.fun f.locals f.turns f.due fs id w (unwind codes fs id w)
 
 -- ---- one frame
 
@@ -200,17 +213,17 @@ abbrev pub is_written : Way → Bool
 is_written way.Implicit = false
 is_written way.Explicit = true
 
-module _ (code : List FunCode) (limits : Limits) where
+module _ (codes : Codes) (limits : Limits) where
   -- what an operation on the store gives goes on the stack
   abbrev pub on_outcome : Outcome Value → (Value → Word) → Frame → List Frame → World → List Word → Next
   on_outcome (Given value w') word f below w stack = to_line f below w' (suc f.line) (word value ∷ stack)
-  on_outcome (Raised id w') word f below w stack = unwind code (f ∷ below) id w'
+  on_outcome (Raised id w') word f below w stack = unwind codes (f ∷ below) id w'
   on_outcome Full word f below w stack = Ends (Limited Room w)
 
   -- what is thrown; what gives a value throws nothing
   abbrev pub on_thrown : Outcome Value → Frame → List Frame → World → Next
   on_thrown (Given value w') f below w = Stuck
-  on_thrown (Raised id w') f below w = unwind code (f ∷ below) id w'
+  on_thrown (Raised id w') f below w = unwind codes (f ∷ below) id w'
   on_thrown Full f below w = Ends (Limited Room w)
 
   abbrev pub on_calculation : Calculation → Frame → List Frame → World → Next
@@ -246,6 +259,11 @@ module _ (code : List FunCode) (limits : Limits) where
   on_call (Some g) k f below w =
       on_words (take_words (length g.params) f.stack []) (λ args stack. on_enter (enter limits (depth_of below) w) k g [] f below w args stack)
 
+  -- whether a function has a limit of turns
+  abbrev pub on_loops : Option FunCode → (Bool → Next) → Next
+  on_loops None next = Stuck
+  on_loops (Some g) next = next g.loops
+
   -- what is returned: a word, or none where the function has no result
   abbrev pub returns_of : Option Slot → List Word → (Option Word → Next) → Next
   returns_of None stack next = next None
@@ -262,7 +280,7 @@ module _ (code : List FunCode) (limits : Limits) where
   plain_act plain.IntToByte f below w = on_top f.stack (λ word stack. on_int word (λ a. to_line f below w (suc f.line) (I (wrapped w8 a) ∷ stack)))
   plain_act plain.IntToShort f below w = on_top f.stack (λ word stack. on_int word (λ a. to_line f below w (suc f.line) (I (wrapped w16 a) ∷ stack)))
   plain_act plain.IntToChar f below w = on_top f.stack (λ word stack. on_int word (λ a. to_line f below w (suc f.line) (I (pos (low_bits 16 a)) ∷ stack)))
-  plain_act plain.Ret f below w = returns (slice_get code f.fun) f.stack (λ result. gives_back below f.due result w)
+  plain_act plain.Ret f below w = returns (function_of codes f) f.stack (λ result. gives_back below f.due result w)
   plain_act plain.Concat f below w =
       on_top f.stack (λ upper rest. on_reference upper (λ b. on_top rest (λ lower stack. on_reference lower (λ a.
       on_outcome (acts_in w (effect w.store (concatenated w.store.objects a b))) R f below w stack))))
@@ -288,8 +306,9 @@ module _ (code : List FunCode) (limits : Limits) where
   numbered_act numbered.IfNull to f below w =
       on_top f.stack (λ word stack. on_reference word (λ value. if_null value (to_line f below w to stack) (to_line f below w (suc f.line) stack)))
   numbered_act numbered.Loop to f below w =
-      on_top f.stack (λ word stack. on_int word (λ a. unless_zero a (on_turn (take_turn limits f.turns w) to f below w stack) (to_line f below w (suc f.line) stack)))
-  numbered_act numbered.Call k f below w = on_call (slice_get code k) k f below w
+      on_loops (function_of codes f) (λ limited. on_top f.stack (λ word stack. on_int word (λ a.
+      unless_zero a (on_turn (take_turn limits limited f.turns w) to f below w stack) (to_line f below w (suc f.line) stack))))
+  numbered_act numbered.Call k f below w = on_call (slice_get (code_in codes f.text) k) k f below w
   numbered_act other k f below w = Stuck
 
   abbrev pub quoted_act : Quoting → List ℕ → Frame → List Frame → World → Next
@@ -313,14 +332,14 @@ module _ (code : List FunCode) (limits : Limits) where
 
   abbrev pub on_paid : Counted → ℕ → List Value → MemberType → Frame → List Frame → List Word → Next
   on_paid (Passes limit w) number arguments t f below stack = Ends (Limited limit w)
-  on_paid (Counts w) number arguments t f below stack = on_act (does number arguments w.store) t f below w stack
+  on_paid (Counts w) number arguments t f below stack = on_act (does limits.host number arguments w.store) t f below w stack
 
   -- a receiver that is null throws before the call is paid; a field is read without a tick
   abbrev pub on_received : Receiving → ℕ → MemberType → Frame → List Frame → World → List Word → Next
   on_received Unfit number t f below w stack = Stuck
   on_received OnNull number t f below w stack = on_outcome (acts_in w (effect w.store null_error)) (given_as t.result) f below w stack
-  on_received (Receives arguments) number t f below w stack = on_paid (pay_member number w) number arguments t f below stack
-  on_received Reads number t f below w stack = on_act (does number [] w.store) t f below w stack
+  on_received (Receives arguments) number t f below w stack = on_paid (pay_member f.text number w) number arguments t f below stack
+  on_received Reads number t f below w stack = on_act (does limits.host number [] w.store) t f below w stack
 
   -- a call of the member of this number, if there is one
   abbrev pub member_act : Option ℕ → Frame → List Frame → World → Next
@@ -343,9 +362,9 @@ module _ (code : List FunCode) (limits : Limits) where
   act (i.Quoted q text) f below w = quoted_act q text f below w
   act (i.Typed t of) f below w = on_type (type_of_full of) (λ of. typed_act t of f below w)
   act (i.Cast to way) f below w = on_type (type_of_full to) (λ to. cast_act to (is_written way) f below w)
-  act (i.Invoke method) f below w = member_act (method_of limits.allowed method) f below w
-  act (i.New constructor) f below w = member_act (constructor_of limits.allowed constructor) f below w
-  act (i.Field field) f below w = member_act (field_of limits.allowed field) f below w
+  act (i.Invoke method) f below w = member_act (method_of (allowed_in limits f.text) method) f below w
+  act (i.New constructor) f below w = member_act (constructor_of (allowed_in limits f.text) constructor) f below w
+  act (i.Field field) f below w = member_act (field_of (allowed_in limits f.text) field) f below w
   act other f below w = Stuck
 
   abbrev pub lines_of : Option FunCode → List Instruction
@@ -357,7 +376,7 @@ module _ (code : List FunCode) (limits : Limits) where
   acts (Some instruction) f below w = act instruction f below w
 
   abbrev pub step : Config → Next
-  step c = acts (slice_get (lines_of (slice_get code c.top.fun)) c.top.line) c.top c.below c.world
+  step c = acts (slice_get (lines_of (function_of codes c.top)) c.top.line) c.top c.below c.world
 
   -- so many steps
   abbrev pub after : ℕ → Next → Next

@@ -1,6 +1,7 @@
 //! Prints what the calls of the heap take, in nanoseconds, over a map of few and of many keys, and what a sum of two Integers
-//! takes whose types are found at run time. It measures where it is given an argument, and else prints nothing:
-//! `rt run -- times`.
+//! takes whose types are found at run time: `rt run -- times`. And makes a million objects of a kind, so that the memory of the
+//! process tells what one takes: `/usr/bin/time -v` over the program with `builders`, `exceptions`, `lists`, `maps` or `sets`,
+//! where a list, a map and a set have no element, or one with a second word. With no argument it does nothing.
 #![tactic(auto)]
 
 ghost use Rattle.std.specs.Prelude.{◌<◌};
@@ -8,7 +9,7 @@ ghost use Rattle.std.specs.Prelude.{◌<◌};
 use number_ops::{Op, def_op};
 use object_heap::{Answer, Heap};
 use object_values::{Elements, Guard, Object, Pairs, Value};
-use pl_types::classes::{ARRAY_LIST, HASH_MAP};
+use pl_types::classes::{ARRAY_LIST, EXCEPTION, HASH_MAP, HASH_SET};
 use std::alloc::Global;
 use std::rt::Clock;
 use std::time::Instant;
@@ -38,6 +39,11 @@ fn name(call: Call) -> &'static str {
 }
 
 const TIMES: u32 = 1_000_000;
+
+// What the pages say of memory rests on this.
+const _: () = prove!(size_of::<Object>() == 56);
+
+const _: () = prove!(size_of::<Value>() == 32);
 
 fn number(turn: u32) -> Value {
     Value::Long(i64::from(turn))
@@ -117,12 +123,78 @@ fn measure(rt: &(impl Clock + Print), heap: &mut Heap, call: Call, keys: u32) ->
     println!(rt; "{name}, {keys} keys: {spent} ns ({done} of {TIMES} came to something)")
 }
 
-fn main(rt: HostRuntime) -> io::Result<()> {
-    if env::args(&rt)?.nth(1).is_none() {
-        return Ok(());
+/// A kind of object that is made often.
+#[derive(Clone, Copy)]
+enum Kind {
+    Builder,
+    Exception,
+    List,
+    Map,
+    Set,
+}
+
+fn kind_of(word: &str) -> Option<Kind> {
+    match word {
+        "builders" => Some(Kind::Builder),
+        "exceptions" => Some(Kind::Exception),
+        "lists" => Some(Kind::List),
+        "maps" => Some(Kind::Map),
+        "sets" => Some(Kind::Set),
+        _ => None,
     }
+}
+
+fn empty_object(alloc: Global, kind: Kind) -> Object {
+    match kind {
+        Kind::Builder => Object::Builder {
+            units: Elements::new(alloc),
+        },
+        Kind::Exception => Object::Exc {
+            class: EXCEPTION,
+            message: None,
+        },
+        Kind::List => empty_list(alloc),
+        Kind::Map => Object::Map {
+            class: HASH_MAP,
+            pairs: Pairs::new(alloc),
+            guard: Guard::Open,
+            changes: 0,
+        },
+        Kind::Set => Object::Set {
+            class: HASH_SET,
+            items: Pairs::new(alloc),
+            guard: Guard::Open,
+            changes: 0,
+        },
+    }
+}
+
+// Puts one element into what may have one.
+fn give_one(heap: &mut Heap, kind: Kind, id: u32) {
+    let _ = match kind {
+        Kind::Builder => heap.append(id, &[65]).is_ok(),
+        Kind::Exception => false,
+        Kind::List => heap.grow(id, 0, number(id)).is_ok(),
+        Kind::Map => heap.map_put(id, number(id), Value::Null).is_ok(),
+        Kind::Set => heap.map_put(id, number(id), Value::Null).is_ok(),
+    };
+}
+
+// How much room a million objects of a kind take.
+fn fill(alloc: Global, kind: Kind, has_one: bool) -> u64 {
+    let mut heap = Heap::new(alloc, u64::MAX);
+    for id in 0..TIMES {
+        let _ = heap.add(empty_object(alloc, kind));
+        if has_one {
+            give_one(&mut heap, kind, id);
+        }
+    }
+    u64::MAX - heap.room_left()
+}
+
+fn measure_all(rt: &(impl Clock + Print), alloc: Global) -> io::Result<()> {
     for keys in [10, 400_000] {
-        let mut heap = filled(rt.alloc(), keys);
+        let mut heap = filled(alloc, keys);
         for call in [
             Call::MapGet,
             Call::MapPut,
@@ -132,8 +204,22 @@ fn main(rt: HostRuntime) -> io::Result<()> {
             Call::Add,
             Call::DefAdd,
         ] {
-            measure(&rt, &mut heap, call, keys)?;
+            measure(rt, &mut heap, call, keys)?;
         }
     }
     Ok(())
+}
+
+fn main(rt: HostRuntime) -> io::Result<()> {
+    let mut args = env::args(&rt)?;
+    let Some(word) = args.nth(1) else {
+        return Ok(());
+    };
+    match kind_of(word.as_str()) {
+        Some(kind) => {
+            let room = fill(rt.alloc(), kind, args.next().is_some());
+            println!(rt; "{TIMES} objects: {room} of room")
+        }
+        None => measure_all(&rt, rt.alloc()),
+    }
 }

@@ -3,7 +3,7 @@
 #![tactic(auto)]
 
 use allowlist::Catalogue;
-use code_machine::{Activation, Executable, Limits};
+use machine::{Activation, Executable, Limits};
 use object_heap::Heap;
 use object_values::Elements;
 use pl_code::read_listing;

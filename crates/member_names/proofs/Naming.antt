@@ -20,7 +20,7 @@ use Rattle.allowlist.specs.Index.{member_at}
 use Rattle.allowlist.proofs.Members.{own_of, first_gives}
 use Rattle.allowlist.proofs.Places.{own_found}
 use Rattle.allowlist.proofs.Tables.{length-catalogue}
-use Rattle.code_shapes.specs.Members.{owner_part, name_part, called_part, arity_part, own_named, member_named, method_of, constructor_of, field_of}
+use Rattle.instruction_types.specs.Members.{owner_part, name_part, called_part, arity_part, own_named, member_named, method_of, constructor_of, field_of}
 use Rattle.member_names.specs.Names.{text_of, named_by, has_form}
 
 abbrev is_number : ℕ → Option ℕ → Bool

@@ -7,7 +7,7 @@ use Rattle.allowlist.specs.declared.member.MemberKind.TheVariants as kind
 use Rattle.allowlist.specs.declared.member.MemberType.{MemberType}
 use Rattle.allowlist.specs.Allow.{AllowList, flag}
 use Rattle.allowlist.specs.Catalogue.{catalogue}
-use Rattle.code_shapes.specs.Members.{method_of, constructor_of, field_of}
+use Rattle.instruction_types.specs.Members.{method_of, constructor_of, field_of}
 
 -- how many arguments a call gives, the receiver left out
 abbrev pub arity_text : MemberType → List ℕ

@@ -16,11 +16,11 @@ use Rattle.object_heap.specs.Effects as e
 use Rattle.object_heap.specs.Fits.{Rules, Fits, ValueFits, EffectFits, value_is_of, value_is_array, kinds}
 use Rattle.object_heap.specs.Store.{Store}
 use Rattle.object_heap.proofs.Keeping.{after_fits, throws_fits}
-use Rattle.object_walks.specs.declared.equality.Walked.{Walked}
-use Rattle.object_walks.specs.declared.equality.Walked.TheVariants.{On, Deep, Large}
-use Rattle.object_walks.specs.Equality.{equal_of}
-use Rattle.object_walks.specs.Texts.{Text, Wrote, TooDeep, TooLarge, text_of}
-use Rattle.object_walks.specs.declared.TheConstants.{VISITS}
+use Rattle.value_walks.specs.declared.equality.Walked.{Walked}
+use Rattle.value_walks.specs.declared.equality.Walked.TheVariants.{On, Deep, Large}
+use Rattle.value_walks.specs.Equality.{equal_of}
+use Rattle.value_walks.specs.Texts.{Text, Wrote, TooDeep, TooLarge, text_of}
+use Rattle.value_walks.specs.declared.TheConstants.{VISITS}
 use Rattle.arithmetic.specs.declared.operator.Op.{Op}
 use Rattle.arithmetic.specs.declared.operator.Op.TheVariants as op
 use Rattle.arithmetic.specs.declared.operator.Num.{Num}
@@ -44,7 +44,8 @@ use Rattle.number_ops.specs.declared.chars.OneChar.{OneChar}
 use Rattle.number_ops.specs.declared.chars.OneChar.TheVariants as char
 use Rattle.number_ops.specs.declared.member.Member.{Member}
 use Rattle.number_ops.specs.declared.member.Member.TheVariants as m
-use Rattle.number_ops.specs.Arguments.{with_one, with_two, int_at, long_at, byte_at, char_at, flag_at}
+use Rattle.member_arguments.specs.Arguments.{int_at, long_at, byte_at, char_at, flag_at}
+use Rattle.number_ops.specs.Arguments.{with_one, with_two}
 use Rattle.number_ops.specs.Casts as casts
 use Rattle.number_ops.specs.Chars as chars
 use Rattle.number_ops.specs.Members as members

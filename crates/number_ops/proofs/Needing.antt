@@ -2,8 +2,8 @@
 use Rattle.std.proofs.Common.{ℕ, List, ◌++◌}
 use Rattle.object_values.specs.declared.object.Object.{Object}
 use Rattle.object_values.specs.declared.value.Value.{Value}
-use Rattle.object_walks.specs.declared.TheConstants.{VISITS}
-use Rattle.object_walks.specs.Texts.{Text, Wrote, TooDeep, TooLarge, text_of}
+use Rattle.value_walks.specs.declared.TheConstants.{VISITS}
+use Rattle.value_walks.specs.Texts.{Text, Wrote, TooDeep, TooLarge, text_of}
 use Rattle.number_ops.specs.declared.outcome.Outcome.{Outcome}
 use Rattle.number_ops.specs.declared.outcome.Outcome.TheVariants.{Makes}
 use Rattle.number_ops.specs.Operators.{followed_by, after, concatenated}

@@ -12,10 +12,10 @@ use Rattle.object_heap.specs.Effects.{Effect, Gives, Throws, NoRoom, after_payin
 use Rattle.object_heap.specs.Fits.{is_primitive}
 use Rattle.object_heap.specs.Store.{Store, paid}
 use Rattle.arithmetic.specs.declared.operator.Num.{Num}
-use Rattle.object_walks.specs.declared.TheConstants.{VISITS}
-use Rattle.object_walks.specs.declared.equality.Walked.{Walked}
-use Rattle.object_walks.specs.declared.equality.Walked.TheVariants.{On, Deep, Large}
-use Rattle.object_walks.specs.Equality.{equal_of}
+use Rattle.value_walks.specs.declared.TheConstants.{VISITS}
+use Rattle.value_walks.specs.declared.equality.Walked.{Walked}
+use Rattle.value_walks.specs.declared.equality.Walked.TheVariants.{On, Deep, Large}
+use Rattle.value_walks.specs.Equality.{equal_of}
 use Rattle.number_ops.specs.declared.outcome.Outcome.{Outcome}
 use Rattle.number_ops.specs.declared.outcome.Outcome.TheVariants as outcome
 use Rattle.number_ops.specs.declared.outcome.Raised.{Raised}

@@ -18,7 +18,8 @@ use Rattle.number_ops.specs.declared.chars.OneChar.TheVariants as char
 use Rattle.number_ops.specs.declared.outcome.Outcome.{Outcome}
 use Rattle.number_ops.specs.declared.outcome.Outcome.TheVariants.{Gives}
 use Rattle.number_ops.specs.Outcomes.{nothing}
-use Rattle.number_ops.specs.Arguments.{int_at, long_at, byte_at, char_at, flag_at, with_one, with_two}
+use Rattle.member_arguments.specs.Arguments.{int_at, long_at, byte_at, char_at, flag_at}
+use Rattle.number_ops.specs.Arguments.{with_one, with_two}
 use Rattle.number_ops.specs.Operators.{number_in}
 use Rattle.number_ops.specs.Casts.{number_as}
 use Rattle.number_ops.specs.Numbers.{constant_of, of_int, of_long, of_ints, of_longs, unsigned_byte, parse_int_of, parse_long_of}

@@ -12,8 +12,8 @@ use Rattle.arithmetic.specs.declared.operator.Op.TheVariants as op
 use Rattle.arithmetic.specs.declared.operator.Num.{Num}
 use Rattle.arithmetic.specs.declared.operator.Num.TheVariants as n
 use Rattle.arithmetic.specs.Operators.{arith_of}
-use Rattle.object_walks.specs.declared.TheConstants.{VISITS}
-use Rattle.object_walks.specs.Texts.{Text, Wrote, TooDeep, TooLarge, text_of}
+use Rattle.value_walks.specs.declared.TheConstants.{VISITS}
+use Rattle.value_walks.specs.Texts.{Text, Wrote, TooDeep, TooLarge, text_of}
 use Rattle.number_ops.specs.declared.outcome.Outcome.{Outcome}
 use Rattle.number_ops.specs.declared.outcome.Outcome.TheVariants.{Gives, Makes}
 use Rattle.number_ops.specs.Outcomes.{is_text, null_error, zero_divisor, too_deep, too_large}

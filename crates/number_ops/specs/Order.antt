@@ -3,11 +3,11 @@ use Rattle.std.specs.Prelude.{ℕ, ◌==◌, nat_le, Bool, true, false, Option, 
 use Rattle.object_values.specs.declared.object.Object.{Object}
 use Rattle.object_values.specs.declared.value.Value.{Value}
 use Rattle.object_values.specs.declared.value.Value.TheVariants as v
-use Rattle.object_walks.specs.declared.TheConstants.{VISITS}
-use Rattle.object_walks.specs.declared.equality.Walked.{Walked}
-use Rattle.object_walks.specs.declared.equality.Walked.TheVariants.{On, Deep, Large}
-use Rattle.object_walks.specs.Equality.{equal_of}
-use Rattle.object_walks.specs.Texts.{text_of}
+use Rattle.value_walks.specs.declared.TheConstants.{VISITS}
+use Rattle.value_walks.specs.declared.equality.Walked.{Walked}
+use Rattle.value_walks.specs.declared.equality.Walked.TheVariants.{On, Deep, Large}
+use Rattle.value_walks.specs.Equality.{equal_of}
+use Rattle.value_walks.specs.Texts.{text_of}
 use Rattle.number_ops.specs.declared.outcome.Outcome.{Outcome}
 use Rattle.number_ops.specs.declared.outcome.Outcome.TheVariants.{Gives, Makes}
 use Rattle.number_ops.specs.Outcomes.{null_error, too_deep, too_large}

@@ -6,7 +6,6 @@ ghost use Rattle.pl_types.specs.Types.{same_primitives};
 ghost use Rattle.object_heap.specs.Effects.{Answers};
 ghost use Rattle.number_ops.specs.Outcomes.{Tells, WantsMemory, effect};
 ghost use Rattle.number_ops.specs.declared.outcome.Outcome.TheVariants.{Gives};
-ghost use Rattle.number_ops.specs.Operators as operators;
 ghost use Rattle.number_ops.specs.Casts as spec;
 ghost use Rattle.number_ops.specs.Casts.{cast_at_run_time, number_as, text_to_char, char_to_text};
 
@@ -207,7 +206,7 @@ fn converted(to: Primitive, number: Option<Num>) -> Casted
     }
 }
 
-// A number as a primitive's: it keeps the low bits.
+/// A number as a primitive's: it keeps the low bits.
 pub fn number_as(to: Primitive, number: Num) -> Value
     ensures { result ≡ number_as to number }
 {

@@ -63,6 +63,7 @@ fn to_upper(unit: u16) -> u16
     }
 }
 
+/// What a member of Character with one char comes to.
 pub fn of_char(member: OneChar, unit: u16) -> Value
     ensures { result ≡ of_char member unit }
 {
@@ -96,6 +97,7 @@ fn is_true(t: u16, r: u16, u: u16, e: u16) -> bool
     t == 116 && r == 114 && u == 117 && e == 101
 }
 
+/// Whether a text is `true`, in whatever case.
 pub fn parse_flag(value: &Value) -> bool
     ensures { result ≡ parse_flag value.now }
 {
@@ -105,6 +107,7 @@ pub fn parse_flag(value: &Value) -> bool
     }
 }
 
+/// The order of two truth values: false comes first.
 pub fn flag_order(a: bool, b: bool) -> i32
     ensures { result ≡ flag_order a b }
 {

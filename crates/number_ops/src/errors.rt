@@ -1,5 +1,5 @@
 //! Exceptions and their messages.
-ghost use Rattle.std.specs.Prelude.{◌≡◌, ◌++◌, codes, IfOk, OnOk, ℕ};
+ghost use Rattle.std.specs.Prelude.{◌≡◌, IfOk};
 ghost use Rattle.std.specs.String.{string_bytes};
 ghost use Rattle.number_ops.specs.Names as spec;
 ghost use Rattle.number_ops.specs.Outcomes.{Tells, says, null_error};

@@ -1,3 +1,4 @@
+//! Laws on what operators and members keep.
 ghost use Rattle.number_ops.specs.Relations.{EqualityGivesFlags, EqualityMakesNothing, CastsGivePrimitives, CastsToPrimitivesMakeNothing, ThrowsAlone};
 ghost use Rattle.number_ops.specs.Laws.{OperatorsKeepFit, ConcatenationKeepsFit, CastsKeepFit, MembersKeepFit};
 

@@ -1,7 +1,6 @@
 //! Operators and casts of values whose types are found at run time, and the members of numbers, chars and truth values.
 #![tactic(auto)]
 
-mod arguments;
 mod casts;
 mod chars;
 mod errors;

@@ -5,7 +5,6 @@ ghost use Rattle.number_ops.specs.Outcomes.{Tells, WantsMemory, effect, nothing}
 ghost use Rattle.number_ops.specs.Members as spec;
 ghost use Rattle.number_ops.specs.Members.{does, does_numbered, members, numbered, number_value};
 
-use crate::arguments::{byte_at, char_at, flag_at, int_at, long_at};
 use crate::casts::number_as;
 use crate::chars::{OneChar, flag_order, of_char, parse_flag};
 use crate::numbers::{
@@ -15,6 +14,7 @@ use crate::numbers::{
 use crate::order::{compare, equals, to_text};
 use crate::outcome::Outcome;
 use crate::values::number_in;
+use member_arguments::{byte_at, char_at, flag_at, int_at, long_at};
 use object_heap::{Answer, Heap};
 use object_values::Value;
 use pl_types::Primitive;

@@ -1,5 +1,5 @@
 //! The names of values' classes and of operators, as messages have them.
-ghost use Rattle.std.specs.Prelude.{◌≡◌, ◌++◌, IfOk, OnOk, ℕ};
+ghost use Rattle.std.specs.Prelude.{◌≡◌, ◌++◌, OnOk};
 ghost use Rattle.std.specs.String.{string_bytes};
 ghost use Rattle.pl_types.specs.Classes.{short_name};
 ghost use Rattle.object_heap.specs.Fits.{class_of_view};
@@ -22,7 +22,7 @@ fn push_class(text: &mut String, class: u32) -> Result<(), AllocError>
     push_type(text, &Ty::Class(class), ClassNames::Short)
 }
 
-// Writes the short name of a value's class; of an array its type, and of a function value without an interface `lambda`.
+/// Writes the short name of a value's class; of an array its type, and of a function value without an interface `lambda`.
 pub fn push_name(text: &mut String, heap: &Heap, value: &Value) -> Result<(), AllocError>
     ensures { OnOk result (string_bytes text.new ≡ string_bytes text.old ++ name_of heap.now.objects value.now) }
 {
@@ -75,7 +75,7 @@ fn push_array(text: &mut String, elem: &Ty) -> Result<(), AllocError>
     text.push_str("[]")
 }
 
-// The class of a view.
+/// The class of a view.
 pub fn class_of_view(part: Part) -> u32
     ensures { result ≡ class_of_view part }
 {
@@ -86,7 +86,7 @@ pub fn class_of_view(part: Part) -> u32
     }
 }
 
-// The sign of an operator.
+/// The sign of an operator.
 pub fn sign_of(op: Op) -> &'static str
     ensures { result.now ≡ sign_of op }
 {

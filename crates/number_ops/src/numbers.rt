@@ -67,6 +67,7 @@ pub enum Two {
     FloorMod,
 }
 
+/// The value of a constant of Integer, Long and the like.
 pub fn constant_of(constant: Constant) -> Value
     ensures { result ≡ constant_of constant }
 {
@@ -132,6 +133,7 @@ fn gives_count(count: u32) -> Outcome
     Outcome::Gives(Value::Int(count as i32))
 }
 
+/// What a member with one int comes to.
 pub fn of_int(heap: &Heap, member: OneInt, a: i32) -> Outcome
     ensures { Tells (of_int member a) result }
 {
@@ -173,6 +175,7 @@ fn sign_of(a: i64) -> Outcome
     }
 }
 
+/// What a member with one long comes to.
 pub fn of_long(heap: &Heap, member: OneLong, a: i64) -> Outcome
     ensures { Tells (of_long member a) result }
 {
@@ -188,6 +191,7 @@ pub fn of_long(heap: &Heap, member: OneLong, a: i64) -> Outcome
     }
 }
 
+/// The order of two numbers, as -1, 0 or 1.
 pub fn comparison(a: i64, b: i64) -> i32
     ensures { result ≡ spec.comparison a b }
 {
@@ -200,6 +204,7 @@ pub fn comparison(a: i64, b: i64) -> i32
     }
 }
 
+/// What a member with two ints comes to.
 pub fn of_ints(member: Two, a: i32, b: i32) -> Outcome
     ensures { result ≡ of_ints member a b }
 {
@@ -250,6 +255,7 @@ fn floor_rest(heap: &Heap, b: i64, rest: Option<i64>) -> Outcome
     }
 }
 
+/// What a member with two longs comes to.
 pub fn of_longs(heap: &Heap, member: Two, a: i64, b: i64) -> Outcome
     ensures { Tells (of_longs member a b) result }
 {
@@ -262,7 +268,7 @@ pub fn of_longs(heap: &Heap, member: Two, a: i64, b: i64) -> Outcome
     }
 }
 
-// The number from 0 to 255 with the bits of a byte.
+/// The number from 0 to 255 with the bits of a byte.
 pub fn unsigned_byte(a: i8) -> Outcome
     ensures { result ≡ spec.unsigned_byte a }
 {
@@ -275,6 +281,7 @@ fn not_a_number(heap: &Heap) -> Outcome
     says(heap.alloc(), Raised::NumberFormat, "not a number")
 }
 
+/// The int that a text writes, or NumberFormatException.
 pub fn parse_int_of(heap: &Heap, value: &Value) -> Outcome
     ensures { Tells (spec.parse_int_of value.now) result }
 {
@@ -293,6 +300,7 @@ fn int_parsed(heap: &Heap, number: Option<i32>) -> Outcome
     }
 }
 
+/// The long that a text writes, or NumberFormatException.
 pub fn parse_long_of(heap: &Heap, value: &Value) -> Outcome
     ensures { Tells (spec.parse_long_of value.now) result }
 {

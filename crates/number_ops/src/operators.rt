@@ -12,8 +12,8 @@ use crate::values::{boxed, compares, is_null, is_text, number_in, truth_in};
 use arithmetic::{Num, Op, arith};
 use object_heap::{Answer, Heap};
 use object_values::Value;
-use object_walks::{TextErr, VISITS, push_text};
 use pl_units::UText;
+use value_walks::{TextErr, VISITS, push_text};
 
 /// An operator whose operands have types that are found here. Bytes, shorts and chars become ints, and where one side is a long
 /// both become longs; a shift has the type of its left side. `+` concatenates the texts of both sides where one is a text. `&`,
@@ -83,6 +83,7 @@ fn followed(heap: &Heap, mut text: Vec<u16>, value: &Value) -> Outcome
     }
 }
 
+/// The exception of a walk that goes too deep.
 pub fn too_deep(heap: &Heap) -> Outcome
     ensures { Tells too_deep result }
 {
@@ -93,6 +94,7 @@ pub fn too_deep(heap: &Heap) -> Outcome
     )
 }
 
+/// The exception of a walk that visits too much.
 pub fn too_large(heap: &Heap) -> Outcome
     ensures { Tells too_large result }
 {
@@ -103,6 +105,7 @@ pub fn too_large(heap: &Heap) -> Outcome
     )
 }
 
+/// The exception of a division by zero.
 pub fn zero_divisor(heap: &Heap) -> Outcome
     ensures { Tells zero_divisor result }
 {

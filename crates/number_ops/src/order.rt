@@ -12,7 +12,7 @@ use crate::outcome::Outcome;
 use crate::values::is_null;
 use object_heap::Heap;
 use object_values::Value;
-use object_walks::{TextErr, VISITS, Walked, equal, text};
+use value_walks::{TextErr, VISITS, Walked, equal, text};
 
 // The length of a text as an int, at most the greatest one.
 fn length_as_int(length: usize) -> i32
@@ -138,7 +138,7 @@ fn natural(a: &Value, b: &Value) -> Option<i32>
     }
 }
 
-// Natural order.
+/// Natural order.
 pub fn compare(heap: &Heap, a: &Value, b: &Value) -> Outcome
     ensures { Tells (compare heap.now.objects a.now b.now) result }
 {
@@ -160,7 +160,7 @@ fn not_ordered(heap: &Heap, a: &Value, b: &Value) -> Outcome
     }
 }
 
-// Deep equality.
+/// Deep equality.
 pub fn equals(heap: &Heap, a: &Value, b: &Value) -> Outcome
     ensures { Tells (equals heap.now.objects a.now b.now) result }
 {
@@ -171,7 +171,7 @@ pub fn equals(heap: &Heap, a: &Value, b: &Value) -> Outcome
     }
 }
 
-// The text of a value.
+/// The text of a value.
 #[tactic(auto, using(crate::proofs::Needing::text_needs))]
 pub fn to_text(heap: &Heap, value: &Value) -> Outcome
     ensures { Tells (to_text heap.now.objects value.now) result }

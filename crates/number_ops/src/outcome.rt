@@ -1,10 +1,11 @@
 //! What operators, casts and members come to, and how that is paid.
 ghost use Rattle.std.specs.Prelude.{◌≡◌};
-ghost use Rattle.object_heap.specs.Effects.{Answers, gives_text};
+ghost use Rattle.object_heap.specs.Effects.{Answers};
 ghost use Rattle.number_ops.specs.Outcomes.{class_raised, effect, Tells, WantsMemory};
 ghost use Rattle.number_ops.specs.declared.outcome.Outcome.{Outcome};
 
-use object_heap::{Answer, Heap, HeapErr, throw};
+use member_arguments::pay_text;
+use object_heap::{Answer, Heap, throw};
 use object_values::Value;
 use pl_types::classes::{
     ARITHMETIC_EXCEPTION, CLASS_CAST_EXCEPTION, ILLEGAL_STATE_EXCEPTION, NULL_POINTER_EXCEPTION,
@@ -53,23 +54,6 @@ fn class_raised(raised: Raised) -> u32
         Raised::IllegalState => ILLEGAL_STATE_EXCEPTION,
         Raised::NullPointer => NULL_POINTER_EXCEPTION,
         Raised::NumberFormat => NUMBER_FORMAT_EXCEPTION,
-    }
-}
-
-// Pays for a text that was made: its units and one.
-fn pay_text(heap: &mut Heap, text: UText) -> Answer
-    ensures { Answers (gives_text heap.old text) heap.old heap.new result }
-{
-    match heap.charge(text.len() as u64 + 1) {
-        Ok(()) => Answer::Value(Value::Str(text)),
-        Err(HeapErr::Room) => {
-            drop(text);
-            Answer::Room
-        }
-        Err(HeapErr::NoMemory) => {
-            drop(text);
-            Answer::NoMemory
-        }
     }
 }
 

@@ -16,7 +16,7 @@ use pl_types::classes::{
 };
 use pl_types::{Primitive, Ty, class_below};
 
-// The number in a box, as an operator takes it.
+/// The number in a box, as an operator takes it.
 pub fn number_in(value: &Value) -> Option<Num>
     ensures { result ≡ spec.number_in value.now }
 {
@@ -30,6 +30,7 @@ pub fn number_in(value: &Value) -> Option<Num>
     }
 }
 
+/// Whether a value is null.
 pub fn is_null(value: &Value) -> bool
     ensures { result ≡ spec.is_null value.now }
 {
@@ -39,6 +40,7 @@ pub fn is_null(value: &Value) -> bool
     }
 }
 
+/// Whether a value is a text.
 pub fn is_text(value: &Value) -> bool
     ensures { result ≡ is_text value.now }
 {
@@ -48,6 +50,7 @@ pub fn is_text(value: &Value) -> bool
     }
 }
 
+/// A number in its box.
 pub fn boxed(number: Num) -> Value
     ensures { result ≡ boxed number }
 {
@@ -57,7 +60,7 @@ pub fn boxed(number: Num) -> Value
     }
 }
 
-// The truth value that the number of a comparison stands for.
+/// The truth value that the number of a comparison stands for.
 pub fn truth_in(number: Num) -> Value
     ensures { result ≡ truth_in number }
 {
@@ -67,13 +70,14 @@ pub fn truth_in(number: Num) -> Value
     }
 }
 
+/// Whether an operator compares.
 pub fn compares(op: Op) -> bool
     ensures { result ≡ compares op }
 {
     matches!(op, Op::Lt | Op::Le | Op::Gt | Op::Ge | Op::Eq | Op::Ne)
 }
 
-// The primitive type of what is in a box.
+/// The primitive type of what is in a box.
 pub fn primitive_in(value: &Value) -> Option<Primitive>
     ensures { result ≡ primitive_in value.now }
 {
@@ -88,7 +92,7 @@ pub fn primitive_in(value: &Value) -> Option<Primitive>
     }
 }
 
-// Whether a value is of a class.
+/// Whether a value is of a class.
 pub fn is_of(heap: &Heap, class: u32, value: &Value) -> bool
     ensures { result ≡ value_is_of (kinds heap.now.objects) class value.now }
 {
@@ -146,7 +150,7 @@ fn interface_is_of(wanted: u32, class: Option<u32>) -> bool
     }
 }
 
-// Whether a value is an array of this element type, or null.
+/// Whether a value is an array of this element type, or null.
 pub fn is_array(heap: &Heap, elem: &Ty, value: &Value) -> bool
     ensures { result ≡ value_is_array (kinds heap.now.objects) elem.now value.now }
 {

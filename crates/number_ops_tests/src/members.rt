@@ -1,3 +1,4 @@
+//! Rows of members.
 use crate::rows::Row::{self, Byte, Char, Flag, Int, Long, Null, Object, Short, Throws, Word};
 use crate::rows::{gave, sample, value};
 use number_ops::call;

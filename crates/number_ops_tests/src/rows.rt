@@ -27,6 +27,7 @@ pub enum Row {
     Throws(char, &'static str),
 }
 
+/// The value of a row.
 pub fn value(alloc: Global, row: Row) -> Result<Value, AllocError> {
     match row {
         Row::Null => Ok(Value::Null),

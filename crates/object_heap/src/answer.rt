@@ -1,4 +1,4 @@
-ghost use Rattle.std.specs.Prelude.{◌≡◌};
+//! What a call of a member or an operator comes to.
 ghost use Rattle.object_heap.specs.Effects.{Answers, throws};
 
 use crate::error::HeapErr;

@@ -1,5 +1,5 @@
 //! Changes of one object. What a change does not apply to stays as it is.
-ghost use Rattle.std.specs.Prelude.{◌≡◌, IfOk, OnOk, OnErr, ◌++◌, slice_get, remove};
+ghost use Rattle.std.specs.Prelude.{◌≡◌, IfOk, OnOk, OnErr, slice_get, remove};
 ghost use Rattle.object_values.specs.Pairs.{value_of, with_pair, without_key};
 ghost use Rattle.object_heap.specs.Objects.{with_inserted, with_item, with_removed, with_put, with_key_cut, with_pair_cut, with_units, put_counted, cut_counted, pair_counted};
 ghost use Rattle.object_heap.specs.Parts.{object_items, list_items, object_pairs, items_of, list_items_of, pairs_of};
@@ -8,7 +8,7 @@ ghost use Rattle.object_heap.specs.Store.{with_change};
 use object_values::{Object, Pairs, Value};
 use std::alloc::AllocError;
 
-// Inserts an item into a list.
+/// Inserts an item into a list.
 pub fn insert_item(
     objects: &mut Vec<Object>,
     id: u32,
@@ -48,7 +48,7 @@ fn insert_into(object: &mut Object, at: usize, value: Value) -> Result<(), Alloc
     }
 }
 
-// Writes an item of a list or an array.
+/// Writes an item of a list or an array.
 pub fn put_item(objects: &mut Vec<Object>, id: u32, at: usize, value: Value) -> Option<Value>
     ensures before { result ≡ slice_get (items_of objects.old.items id) at }
     ensures written { objects.new.items ≡ with_change objects.old.items id (with_item at value) }
@@ -76,7 +76,7 @@ fn put_into(object: &mut Object, at: usize, value: Value) -> Option<Value>
     }
 }
 
-// Takes an item out of a list.
+/// Takes an item out of a list.
 pub fn cut_item(objects: &mut Vec<Object>, id: u32, at: usize) -> Option<Value>
     ensures item { result ≡ slice_get (list_items_of objects.old.items id) at }
     ensures rest { objects.new.items ≡ with_change objects.old.items id (with_removed at) }
@@ -100,7 +100,7 @@ fn cut_from(object: &mut Object, at: usize) -> Option<Value>
     }
 }
 
-// Puts a value under a key of a map, or a key into a set.
+/// Puts a value under a key of a map, or a key into a set.
 pub fn put_key(
     objects: &mut Vec<Object>,
     id: u32,
@@ -163,7 +163,7 @@ fn put_pair(
     }
 }
 
-// Takes a key out of a map or a set.
+/// Takes a key out of a map or a set.
 pub fn cut_key(objects: &mut Vec<Object>, id: u32, key: &Value) -> Option<Value>
     ensures before { result ≡ value_of (pairs_of objects.old.items id) key.now }
     ensures rest { objects.new.items ≡ with_change objects.old.items id (with_key_cut key.now) }
@@ -185,7 +185,7 @@ fn cut_key_from(object: &mut Object, key: &Value) -> Option<Value>
     }
 }
 
-// Takes the pair at a place out of a map or a set.
+/// Takes the pair at a place out of a map or a set.
 pub fn cut_pair_at(objects: &mut Vec<Object>, id: u32, at: usize) -> Option<(Value, Value)>
     ensures pair { result ≡ slice_get (pairs_of objects.old.items id) at }
     ensures rest { objects.new.items ≡ with_change objects.old.items id (with_pair_cut at) }
@@ -222,7 +222,7 @@ fn remove_pair(pairs: &mut Pairs, changes: &mut u64, at: usize) -> Option<(Value
     }
 }
 
-// Writes units at the end of a builder.
+/// Writes units at the end of a builder.
 pub fn append_units(objects: &mut Vec<Object>, id: u32, units: &[u16]) -> Result<(), AllocError>
     ensures ok { OnOk result (objects.new.items ≡ with_change objects.old.items id (with_units units.now)) }
     ensures err { OnErr result (objects.new.items ≡ objects.old.items) }

@@ -1,3 +1,4 @@
+//! Why an operation on the heap came to nothing.
 /// Why an operation on the heap came to nothing. The heap is then as before.
 #[derive(Clone, Copy, Debug, PartialEq, Eq)]
 pub enum HeapErr {

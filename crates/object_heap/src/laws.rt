@@ -1,3 +1,4 @@
+//! Laws on what the calls of the heap keep.
 ghost use Rattle.object_heap.specs.Laws.{NewFits, RefillFits, ChargeFits, PlaceFits, AddFits, RenewFits, PutFits, GrowFits, CutFits, MapPutFits, MapCutFits, MapCutAtFits, AppendFits, ThrowFits, AnswersFit, ItemsFit, ValuesFit, CapturesFit};
 
 /// Laws that callers may cite: each call keeps the fit of the heap.

@@ -1,3 +1,4 @@
+//! What a run comes to, and what it leaves.
 use crate::heap::Heap;
 use object_values::{Elements, Value};
 

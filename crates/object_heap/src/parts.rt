@@ -8,6 +8,7 @@ use object_values::{Guard, Object, Pairs, Target, Value};
 use pl_types::Ty;
 use pl_units::UText;
 
+/// The items of a list or an array.
 pub fn items(object: &Object) -> &[Value]
     ensures { result.now ≡ object_items object.now }
 {
@@ -18,6 +19,7 @@ pub fn items(object: &Object) -> &[Value]
     }
 }
 
+/// The pairs of a map or a set.
 pub fn pairs(object: &Object) -> Option<&Pairs>
     ensures { option_copied result ≡ object_map object.now }
 {
@@ -28,6 +30,7 @@ pub fn pairs(object: &Object) -> Option<&Pairs>
     }
 }
 
+/// How many elements a list, an array, a map or a set has.
 pub fn size(object: &Object) -> usize
     ensures { result ≡ object_size object.now }
 {
@@ -40,6 +43,7 @@ pub fn size(object: &Object) -> usize
     }
 }
 
+/// The class of a list, a map, a set or an exception.
 pub fn class(object: &Object) -> Option<u32>
     ensures { result ≡ object_class object.now }
 {
@@ -52,6 +56,7 @@ pub fn class(object: &Object) -> Option<u32>
     }
 }
 
+/// What may change a list, a map or a set.
 pub fn guard(object: &Object) -> Option<&Guard>
     ensures { option_copied result ≡ object_guard object.now }
 {
@@ -63,6 +68,7 @@ pub fn guard(object: &Object) -> Option<&Guard>
     }
 }
 
+/// Whether nothing may change it.
 pub fn is_frozen(object: &Object) -> bool
     ensures { result ≡ spec.is_frozen object.now }
 {
@@ -83,6 +89,7 @@ fn guard_is_closed(guard: &Guard) -> bool
     }
 }
 
+/// The change count of a list, a map or a set.
 pub fn changes(object: &Object) -> u64
     ensures { result ≡ object_changes object.now }
 {
@@ -94,6 +101,7 @@ pub fn changes(object: &Object) -> u64
     }
 }
 
+/// The units of a builder.
 pub fn units(object: &Object) -> &[u16]
     ensures { result.now ≡ object_units object.now }
 {
@@ -103,6 +111,7 @@ pub fn units(object: &Object) -> &[u16]
     }
 }
 
+/// The type of the elements of an array.
 pub fn elem(object: &Object) -> Option<&Ty>
     ensures { option_copied result ≡ object_elem object.now }
 {
@@ -112,6 +121,7 @@ pub fn elem(object: &Object) -> Option<&Ty>
     }
 }
 
+/// The message of an exception.
 pub fn message(object: &Object) -> Option<&UText>
     ensures { option_copied result ≡ object_message object.now }
 {
@@ -121,6 +131,7 @@ pub fn message(object: &Object) -> Option<&UText>
     }
 }
 
+/// The interface of a function value.
 pub fn iface(object: &Object) -> Option<u32>
     ensures { result ≡ object_iface object.now }
 {
@@ -130,6 +141,7 @@ pub fn iface(object: &Object) -> Option<u32>
     }
 }
 
+/// What a function value calls.
 pub fn target(object: &Object) -> Option<&Target>
     ensures { option_copied result ≡ object_target object.now }
 {
@@ -139,6 +151,7 @@ pub fn target(object: &Object) -> Option<&Target>
     }
 }
 
+/// What a function value has captured.
 pub fn captures(object: &Object) -> &[Value]
     ensures { result.now ≡ object_captures object.now }
 {

@@ -1,5 +1,5 @@
 //! Objects in the place of others, and lambdas that are gone.
-ghost use Rattle.std.specs.Prelude.{◌≡◌, ◌≤◌, length, map, slice_get};
+ghost use Rattle.std.specs.Prelude.{◌≡◌, map, slice_get};
 ghost use Rattle.object_heap.specs.Objects.{kind_of, may_become, may_take, renewed_by, renewal_growth, retired, retired_target};
 ghost use Rattle.object_heap.specs.Parts.{asked};
 ghost use Rattle.object_heap.specs.Store.{with_change};
@@ -7,7 +7,7 @@ ghost use Rattle.object_heap.specs.Store.{with_change};
 use crate::weights::elements;
 use object_values::{Object, Owner, Target};
 
-// Whether an object may be replaced by another: its kind stays, and its class, type, part or interface.
+/// Whether an object may be replaced by another: its kind stays, and its class, type, part or interface.
 pub fn may_be_renewed(object: &Object, after: &Object) -> bool
     ensures { result ≡ may_become (kind_of object.now) (kind_of after.now) }
 {
@@ -39,7 +39,7 @@ fn iface_may_become(iface: Option<u32>, after: Option<u32>) -> bool
     }
 }
 
-// How much a renewal adds to the weight.
+/// How much a renewal adds to the weight.
 pub fn renewal_growth_at(objects: &[Object], id: u32, after: &Object) -> u64
     ensures { result ≡ asked (renewal_growth after.now) 0 (slice_get objects.now id) }
 {
@@ -60,7 +60,7 @@ fn growth_between(object: &Object, after: &Object) -> u64
     }
 }
 
-// Replaces an object, if it may be.
+/// Replaces an object, if it may be.
 pub fn renew_at(objects: &mut Vec<Object>, id: u32, after: Object)
     ensures { objects.new.items ≡ with_change objects.old.items id (renewed_by after) }
 {
@@ -80,7 +80,7 @@ fn renew_one(object: &mut Object, after: Object)
     }
 }
 
-// Every lambda of a script is gone.
+/// Every lambda of a script is gone.
 pub fn retire_all(objects: &mut Vec<Object>)
     ensures { objects.new.items ≡ map retired objects.old.items }
 {

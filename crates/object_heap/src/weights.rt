@@ -8,7 +8,7 @@ ghost use Rattle.object_heap.specs.Objects as spec;
 use object_values::{Object, Pairs, Value};
 use pl_units::UText;
 
-// How many elements count in the weight, which is one more.
+/// How many elements count in the weight, which is one more.
 #[tactic(auto, unfolding(crate::specs::Objects::weight_of))]
 pub fn elements(object: &Object) -> u64
     ensures { suc result ≡ weight_of object.now }
@@ -36,7 +36,7 @@ fn message_units(message: &Option<UText>) -> u64
     }
 }
 
-// The weight of an object, or `None` where it is above the room.
+/// The weight of an object, or `None` where it is above the room.
 pub fn weight_within(object: &Object, room: u64) -> Option<u64>
     ensures { MatchOption result (room < weight_of object.now) (λ weight. (weight ≡ weight_of object.now) × (weight ≤ room)) }
 {
@@ -48,7 +48,7 @@ pub fn weight_within(object: &Object, room: u64) -> Option<u64>
     }
 }
 
-// How much the insertion of an item adds to the weight.
+/// How much the insertion of an item adds to the weight.
 pub fn insert_growth(objects: &[Object], id: u32, at: usize) -> u64
     ensures { result ≡ asked (spec.insert_growth at) 0 (slice_get objects.now id) }
 {
@@ -58,7 +58,7 @@ pub fn insert_growth(objects: &[Object], id: u32, at: usize) -> u64
     }
 }
 
-// How much units at the end of a builder add to the weight.
+/// How much units at the end of a builder add to the weight.
 pub fn units_growth(objects: &[Object], id: u32, count: usize) -> u64
     ensures { result ≡ asked (spec.units_growth count) 0 (slice_get objects.now id) }
 {
@@ -68,7 +68,7 @@ pub fn units_growth(objects: &[Object], id: u32, count: usize) -> u64
     }
 }
 
-// How much a put adds to the weight.
+/// How much a put adds to the weight.
 pub fn put_growth(objects: &[Object], id: u32, key: &Value) -> u64
     ensures { result ≡ asked (spec.put_growth key.now) 0 (slice_get objects.now id) }
 {

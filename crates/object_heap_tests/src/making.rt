@@ -5,7 +5,7 @@ use object_values::{Elements, Guard, Object, Owner, Pairs, Part, Target, Value};
 use pl_types::classes::HASH_MAP;
 use pl_types::{Primitive, Ty};
 use pl_units::UText;
-use plain_data::Text;
+use plain_data::{Boxed, Text};
 use std::alloc::{AllocError, Global};
 
 /// A value, as a row writes it.
@@ -22,6 +22,7 @@ pub enum Plain {
     Ref(u32),
 }
 
+/// The value of a row.
 pub fn made(alloc: Global, plain: Plain) -> Result<Value, AllocError> {
     match plain {
         Plain::Null => Ok(Value::Null),
@@ -46,6 +47,7 @@ pub fn number(value: Option<&Value>) -> i32 {
     }
 }
 
+/// The number in an int that was taken out, and -1 for anything else.
 pub fn taken(value: Option<Value>) -> i32 {
     number(value.as_ref())
 }
@@ -113,12 +115,12 @@ fn map(alloc: Global, class: u32, count: i32, guard: Guard) -> Result<Object, Al
     })
 }
 
-fn guard(alloc: Global, number: u8) -> Guard {
+fn guard(alloc: Global, number: u8) -> Result<Guard, AllocError> {
     match number {
-        0 => Guard::Open,
-        1 => Guard::Frozen,
-        2 => Guard::Keys(Elements::new(alloc)),
-        _ => Guard::Mapped,
+        0 => Ok(Guard::Open),
+        1 => Ok(Guard::Frozen),
+        2 => Ok(Guard::Keys(Boxed::new(alloc, Elements::new(alloc))?)),
+        _ => Ok(Guard::Mapped),
     }
 }
 
@@ -163,7 +165,7 @@ fn reference(alloc: Global, class: u32) -> Result<Object, AllocError> {
     let name = Text::new(alloc, "size")?;
     Ok(Object::Fun {
         iface: None,
-        target: Target::Member(class, name),
+        target: Target::Member(class, Boxed::new(alloc, name)?),
         captures: Elements::new(alloc),
     })
 }
@@ -181,7 +183,7 @@ fn object(alloc: Global, shape: Shape) -> Result<Object, AllocError> {
     match shape {
         Shape::List(class, count) => list(alloc, class, count),
         Shape::Map(class, count) => map(alloc, class, count, Guard::Open),
-        Shape::Guarded(number) => map(alloc, HASH_MAP, 0, guard(alloc, number)),
+        Shape::Guarded(number) => map(alloc, HASH_MAP, 0, guard(alloc, number)?),
         Shape::Set(class, count) => set(alloc, class, count),
         Shape::Ints(count) => array(alloc, Ty::Prim(Primitive::Int), count),
         Shape::Longs(count) => array(alloc, Ty::Prim(Primitive::Long), count),
@@ -206,7 +208,7 @@ fn object(alloc: Global, shape: Shape) -> Result<Object, AllocError> {
         Shape::Reference(class) => reference(alloc, class),
         Shape::Constructor => Ok(Object::Fun {
             iface: None,
-            target: Target::New(Ty::Def),
+            target: Target::New(Boxed::new(alloc, Ty::Def)?),
             captures: Elements::new(alloc),
         }),
         Shape::Exception(class, message) => exception(alloc, class, message),

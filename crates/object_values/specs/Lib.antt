@@ -1,3 +1,4 @@
+pub mod Held
 pub mod Keys
 pub mod Pairs
 pub mod Values

@@ -1,4 +1,5 @@
-ghost use Rattle.std.specs.Prelude.{◌≡◌, ◌<◌, ◌≤◌, [], ◌∷◌, ◌++◌, length, slice_get, slice_set, insert, remove, IfOk, OnOk, OnErr};
+//! Vectors that contracts see as lists.
+ghost use Rattle.std.specs.Prelude.{◌≡◌, ◌<◌, ◌≤◌, [], ◌∷◌, ◌++◌, length, slice_get, slice_set, insert, remove, OnOk, OnErr};
 
 use std::alloc::{AllocError, Global};
 use std::marker::Model;

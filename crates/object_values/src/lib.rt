@@ -4,6 +4,7 @@
 mod elements;
 mod object;
 mod pairs;
+mod table;
 mod value;
 
 pub use elements::Elements;

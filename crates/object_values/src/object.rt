@@ -1,3 +1,4 @@
+//! Objects: every kind, what guards them, and what function values call.
 ghost use Rattle.std.specs.Prelude.{◌≡◌, IfOk};
 
 use crate::elements::Elements;
@@ -5,7 +6,7 @@ use crate::pairs::Pairs;
 use crate::value::Value;
 use pl_types::Ty;
 use pl_units::UText;
-use plain_data::Text;
+use plain_data::{Boxed, Text};
 use std::alloc::{AllocError, Global};
 
 /// What may change a list, a map or a set.
@@ -15,7 +16,7 @@ pub enum Guard {
     /// Nothing.
     Frozen,
     /// Puts under these keys alone.
-    Keys(Elements<UText>),
+    Keys(Boxed<Elements<UText>>),
     /// Nothing, and only the keys that it has may be asked for.
     Mapped,
 }
@@ -34,15 +35,20 @@ impl Drop for Guard {
 /// Which part of a map a view shows.
 #[derive(Clone, Copy, Debug, PartialEq, Eq)]
 pub enum Part {
+    /// The keys.
     Keys,
+    /// The values.
     Values,
+    /// The pairs, each as an entry.
     Entries,
 }
 
 /// Whose lambda it is.
 #[derive(Clone, Copy, Debug, PartialEq, Eq)]
 pub enum Owner {
+    /// The script's.
     Script,
+    /// The prelude's.
     Prelude,
 }
 
@@ -51,9 +57,9 @@ pub enum Target {
     /// A function of its owner's, by its number.
     Lambda(Owner, u32),
     /// The member of this name of a class.
-    Member(u32, Text),
+    Member(u32, Boxed<Text>),
     /// The constructor of a class, or the making of an array.
-    New(Ty),
+    New(Boxed<Ty>),
     /// Nothing any more: the script whose lambda it was has ended.
     Gone,
 }
@@ -76,11 +82,14 @@ impl Target {
     {
         match self {
             Target::Lambda(owner, number) => Ok(Target::Lambda(*owner, *number)),
-            Target::Member(class, name) => Ok(Target::Member(
-                *class,
-                Text::new(alloc, name.as_str())?,
-            )),
-            Target::New(made) => Ok(Target::New(made.share(alloc)?)),
+            Target::Member(class, name) => {
+                let name = Text::new(alloc, name.get().as_str())?;
+                Ok(Target::Member(*class, Boxed::new(alloc, name)?))
+            }
+            Target::New(made) => {
+                let made = made.get().share(alloc)?;
+                Ok(Target::New(Boxed::new(alloc, made)?))
+            }
             Target::Gone => Ok(Target::Gone),
         }
     }
@@ -89,25 +98,28 @@ impl Target {
 /// An object of the heap. Classes and interfaces go by their numbers, and objects by theirs. A change count is counted
 /// modulo 2^64.
 pub enum Object {
+    /// A list.
     List {
         class: u32,
         items: Elements<Value>,
         guard: Guard,
         changes: u64,
     },
+    /// A map.
     Map {
         class: u32,
         pairs: Pairs,
         guard: Guard,
         changes: u64,
     },
-    /// Its items are the keys, each with the value null.
+    /// A set. Its items are the keys, each with the value null.
     Set {
         class: u32,
         items: Pairs,
         guard: Guard,
         changes: u64,
     },
+    /// An array, with the type of its elements.
     Array {
         elem: Ty,
         items: Elements<Value>,
@@ -130,6 +142,7 @@ pub enum Object {
         seen: u64,
         last: Option<u64>,
     },
+    /// A text that is being built.
     Builder {
         units: Elements<u16>,
     },

@@ -1,29 +1,36 @@
-ghost use Rattle.std.specs.Prelude.{◌≡◌, ◌<◌, ◌^◌, [], IfOk, OnOk, OnErr, length, slice_get, remove};
-ghost use Rattle.std.specs.Option.{option_copied, option_map};
+//! Pairs of keys and values, as maps and sets hold them.
+ghost use Rattle.std.specs.Prelude.{◌≡◌, ◌<◌, ◌^◌, [], ◌∷◌, IfOk, OnOk, OnErr, length, slice_get, remove};
+ghost use Rattle.std.specs.Option.{option_copied};
 
+use crate::table::Table;
 use crate::value::Value;
-use indexmap::IndexMap;
 use std::alloc::{AllocError, Global};
 use std::marker::Model;
 
 /// Pairs of a key and a value with distinct keys, in the order in which the keys came. Contracts see the list of the pairs.
-/// What a key has is found by its hash, at the same cost in few pairs and in many.
+/// What a key has is found by its hash, at the same cost in few pairs and in many. Before the first pair comes there is no
+/// table.
 pub struct Pairs {
-    map: IndexMap<Value, Value>,
+    table: Option<Box<Table>>,
+    alloc: Global,
 }
 
 impl Model for Pairs {
     ghost use Rattle.std.specs.Prelude.{List};
-    ghost use Rattle.object_values.specs.declared.value.Value as declared;
+    ghost use Rattle.object_values.specs.declared.value.Value.{Value as declared};
+    ghost use Rattle.object_values.specs.Held.{held};
 
-    ghost Value = { List (declared.Value × declared.Value) };
+    ghost Value = { List (declared × declared) };
 
-    ghost view = { λ p. p.map.entries };
+    ghost view = { λ p. held p.table };
 }
 
 impl Drop for Pairs {
     fn drop(self) {
-        let Pairs { map: _map } = self;
+        let Pairs {
+            table: _table,
+            alloc: _,
+        } = self;
     }
 }
 
@@ -34,9 +41,7 @@ impl Pairs {
     pub fn new(alloc: Global) -> Pairs
         ensures { result ≡ [] }
     {
-        Pairs {
-            map: IndexMap::new(alloc),
-        }
+        Pairs { table: None, alloc }
     }
 
     /// How many pairs there are.
@@ -45,22 +50,28 @@ impl Pairs {
         ensures fits { length self.now < 2 ^ 63 }
         ensures distinct { HasDistinctKeys self.now }
     {
-        self.map.as_slice().len()
+        match &self.table {
+            Some(table) => table.len(),
+            None => 0,
+        }
     }
 
     /// The value of a key. It takes no memory.
     pub fn get(&self, key: &Value) -> Option<&Value>
         ensures { option_copied result ≡ value_of self.now key.now }
     {
-        self.map.get(key)
+        match &self.table {
+            Some(table) => table.get(key),
+            None => None,
+        }
     }
 
     /// The key at a place.
     pub fn key_at(&self, at: usize) -> Option<&Value>
         ensures { option_copied result ≡ key_at self.now at }
     {
-        match self.map.get_index(at) {
-            Some((key, _)) => Some(key),
+        match &self.table {
+            Some(table) => table.key_at(at),
             None => None,
         }
     }
@@ -69,8 +80,8 @@ impl Pairs {
     pub fn value_at(&self, at: usize) -> Option<&Value>
         ensures { option_copied result ≡ pair_value_at self.now at }
     {
-        match self.map.get_index(at) {
-            Some((_, value)) => Some(value),
+        match &self.table {
+            Some(table) => table.value_at(at),
             None => None,
         }
     }
@@ -82,11 +93,14 @@ impl Pairs {
         ensures ok { OnOk result (self.new ≡ with_pair self.old key value) }
         ensures err { OnErr result (self.new ≡ self.old) }
     {
-        match self.map.insert(key, value) {
-            Ok(before) => return Ok(before),
-            Err(refused) => drop(refused),
+        match &mut self.table {
+            Some(table) => table.put(key, value),
+            None => {
+                let table = first_pair(self.alloc, key, value)?;
+                self.table = Some(table);
+                Ok(None)
+            }
         }
-        Err(AllocError)
     }
 
     /// Takes a key out, and gives the value that it had; the pairs behind it move up. It takes no memory.
@@ -94,7 +108,10 @@ impl Pairs {
         ensures before { result ≡ value_of self.old key.now }
         ensures rest { self.new ≡ without_key self.old key.now }
     {
-        self.map.shift_remove(key)
+        match &mut self.table {
+            Some(table) => table.cut(key),
+            None => None,
+        }
     }
 
     /// Takes the pair at a place out, if there is one; those behind it move up. It takes no memory.
@@ -102,6 +119,18 @@ impl Pairs {
         ensures pair { result ≡ slice_get self.old at }
         ensures rest { self.new ≡ remove self.old at }
     {
-        self.map.shift_remove_index(at)
+        match &mut self.table {
+            Some(table) => table.remove(at),
+            None => None,
+        }
     }
+}
+
+// A table of one pair.
+fn first_pair(alloc: Global, key: Value, value: Value) -> Result<Box<Table>, AllocError>
+    ensures { IfOk result (λ table. table.value ≡ (key, value) ∷ []) }
+{
+    let mut table = Table::new(alloc);
+    table.put(key, value)?;
+    Ok(Box::new(alloc, table)?)
 }

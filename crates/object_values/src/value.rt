@@ -1,3 +1,4 @@
+//! Values of scripts: which of them are one, and how they are hashed.
 ghost use Rattle.std.specs.Prelude.{◌≡◌, IfOk};
 
 use pl_units::UText;
@@ -7,13 +8,21 @@ use std::hash::{Hash, Hasher};
 /// A value of a script. Two values are equal where they are of one kind and have one content, so `1` as an int and `1` as
 /// a long are two, and a reference is equal to itself alone.
 pub enum Value {
+    /// No object.
     Null,
+    /// A truth value.
     Bool(bool),
+    /// A number of 8 bits.
     Byte(i8),
+    /// A number of 16 bits.
     Short(i16),
+    /// A UTF-16 unit.
     Char(u16),
+    /// A number of 32 bits.
     Int(i32),
+    /// A number of 64 bits.
     Long(i64),
+    /// A text.
     Str(UText),
     /// An object of the heap, by its number.
     Ref(u32),

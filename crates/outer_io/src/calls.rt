@@ -1,4 +1,5 @@
-// Which calls fail.
+//! Which calls fail.
+
 ghost use Rattle.std.specs.Prelude.{◌≡◌, ◌↔◌, Contains, IsTrue};
 ghost use Rattle.outer_io.specs.Memory.{uncalled, number_of, called};
 

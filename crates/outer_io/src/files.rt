@@ -1,4 +1,5 @@
-// Files that are read by their names.
+//! Files that are read by their names.
+
 ghost use Rattle.std.specs.Prelude.{◌≡◌, ℕ, List, Option, IfSome};
 ghost use Rattle.outer_io.specs.Content.{IsWithin, Shows};
 ghost use Rattle.outer_io.specs.Faults.{HasCause};

@@ -1,4 +1,5 @@
-// What is taken from a source, piece by piece, and not given out yet.
+//! What is taken from a source, piece by piece, and not given out yet.
+
 ghost use Rattle.std.specs.Prelude.{◌≡◌, ℕ, ◌+◌, ◌≤◌, List, [], ◌++◌, length, true, false, IfOk, IfSome, IfNone};
 ghost use Rattle.outer_io.specs.Faults.{HasCause};
 ghost use Rattle.outer_io.specs.Lines.{IsUnbroken};

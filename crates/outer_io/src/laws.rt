@@ -1,4 +1,5 @@
-// What holds of every step of a reader of lines.
+//! What holds of every step of a reader of lines.
+
 ghost use Rattle.std.specs.Prelude.{◌≡◌, ℕ, List, Option, Some, Result, is_ok, true};
 ghost use Rattle.outer_io.specs.declared.lines.Line.{Line};
 ghost use Rattle.outer_io.specs.declared.lines.ReadErr.{ReadErr};

@@ -1,4 +1,5 @@
-// The lines of a source.
+//! The lines of a source.
+
 ghost use Rattle.std.specs.Prelude.{◌≡◌, ◌↔◌, ℕ, ◌≤◌, List, [], ◌++◌, map, false, is_err, IsTrue, IfOk, OnOk, IfSome};
 ghost use Rattle.outer_io.specs.Faults.{HasCause};
 ghost use Rattle.outer_io.specs.Gathering.{Holds, Gives, GivesLast};

@@ -1,4 +1,5 @@
-// Files in memory.
+//! Files in memory.
+
 ghost use Rattle.std.specs.Prelude.{◌≡◌, ◌↔◌, Contains, Some, IsOkUnless, IsErrOf};
 ghost use Rattle.std.specs.Option.{option_copied};
 ghost use Rattle.outer_io.specs.Content.{IsWithin, Shows};

@@ -1,4 +1,5 @@
-// Sinks in memory.
+//! Sinks in memory.
+
 ghost use Rattle.std.specs.Prelude.{◌≡◌, ◌<◌, ◌≤◌, ◌↔◌, [], length, Contains, Some, IfOk, IsOkUnless, IsErrOf, min};
 ghost use Rattle.std.specs.Io.KnownBytes.{WriteAppends};
 ghost use Rattle.outer_io.specs.Faults.{HasCause};

@@ -1,4 +1,5 @@
-// Sources in memory.
+//! Sources in memory.
+
 ghost use Rattle.std.specs.Prelude.{◌≡◌, ◌≤◌, ◌↔◌, length, Contains, Some, Ok, IfOk, IsErrOf, min, take, drop};
 ghost use Rattle.std.specs.Io.KnownBytes.{ReadConsumes};
 ghost use Rattle.outer_io.specs.Faults.{HasCause};

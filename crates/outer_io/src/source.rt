@@ -1,4 +1,5 @@
-// Where bytes come from.
+//! Where bytes come from.
+
 ghost use Rattle.std.specs.Prelude.{ℕ, ◌≤◌, List, length, Option, IfOk};
 ghost use Rattle.std.specs.Io.KnownBytes.{ReadConsumes};
 ghost use Rattle.outer_io.specs.Faults.{HasCause};

@@ -1,4 +1,5 @@
-// The standard streams and the file system, as a source, a sink and files.
+//! The standard streams and the file system, as a source, a sink and files.
+
 ghost use Rattle.std.specs.Prelude.{◌≡◌, ◌↔◌, None, Some, IfSome, IsOk, IfOk, IfErr, IsTrue};
 ghost use Rattle.std.specs.IoError.{error_kind};
 ghost use Rattle.outer_io.specs.Content.{IsWithin, Shows};

@@ -7,7 +7,7 @@ use Rattle.painless_cli.specs.declared.status.Status.{Status}
 use Rattle.painless_cli.specs.declared.status.Status.TheVariants as s
 use Rattle.pl_types.specs.declared.refusal.Refusal.{Refusal}
 use Rattle.object_values.specs.declared.value.Value.{Value}
-use Rattle.run_world.specs.World.{End}
+use Rattle.run_state.specs.World.{End}
 use Rattle.json_replies.specs.Replies.{is_error}
 use Rattle.painless_cli.proofs.Once.{same_name}
 use Rattle.painless_cli.specs.Script.{Means}

@@ -3,7 +3,7 @@ use Rattle.std.proofs.Common.{◌≡◌, ℕ, List, [], ◌∷◌, codes, Option
 use Rattle.pl_types.specs.declared.refusal.Refusal.{Refusal}
 use Rattle.object_values.specs.declared.value.Value.{Value}
 use Rattle.allowlist.specs.Allow.{full_list}
-use Rattle.run_world.specs.World.{End}
+use Rattle.run_state.specs.World.{End}
 use Rattle.typed_tree.specs.declared.program.Program.{Program}
 use Rattle.script_engine.specs.Programs.{IsProgramOf}
 use Rattle.script_engine.specs.Laws.{TextsAreAnsweredOnce, ProgramsEndOnce}

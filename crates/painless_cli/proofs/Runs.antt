@@ -13,16 +13,16 @@ use Rattle.object_heap.specs.declared.outcome.Which.TheVariants as which
 use Rattle.object_heap.specs.declared.outcome.End as left_end
 use Rattle.object_heap.specs.declared.outcome.End.TheVariants as l
 use Rattle.object_heap.specs.declared.outcome.Outcome.{Outcome}
-use Rattle.run_world.specs.World.{World, End}
+use Rattle.run_state.specs.World.{World, End}
 use Rattle.typed_tree.specs.declared.program.Program.{Program}
-use Rattle.code_machine.specs.Seen.{limit_of}
+use Rattle.machine.specs.Seen.{limit_of}
 use Rattle.json_replies.specs.Replies.{reply_of}
 use Rattle.script_engine.specs.declared.compiling.Script.{Script}
 use Rattle.script_engine.specs.Stages.{GoesOn, Then}
 use Rattle.script_engine.specs.Programs.{IsProgramOf}
 use Rattle.script_engine.specs.Compiling.{IsScriptOf, Compiles}
 use Rattle.script_engine.specs.Ends.{RunsTo}
-use Rattle.script_engine.specs.Running.{IsRead, end_seen, world_left, IsOutcome, RunsAsItsProgram}
+use Rattle.script_engine.specs.Running.{end_seen, world_left, IsOutcome, RunsAsItsProgram}
 use Rattle.script_engine.proofs.Ends.{ends_once}
 use Rattle.painless_cli.specs.declared.reply.Answer.{Answer}
 use Rattle.painless_cli.specs.Script.{Decodes, eval_types, eval_limits, eval_world, RunsProgram, MeansText, Means}
@@ -113,11 +113,7 @@ tells_refusal_only script refusal (Err error) only h told t = tt
 
 -- ---- the run
 
-def_is_read : IsRead eval_types.result
-unfolding out-Ty denote.Hole.Carrier.out
-def_is_read = tt
-
--- `eval` has no variables, and its result is read
+-- `eval` has no variables
 pub runs_as_eval : (script : Script) (result : Result Outcome AllocError) → IfOk result (RunsAsItsProgram script eval_world.store [] machine_limits) → IfOk result (RunsAsEval script)
-runs_as_eval script (Ok o) h = λ p is. h full_list eval_types p is tt def_is_read
+runs_as_eval script (Ok o) h = λ p is. h full_list eval_types p is tt
 runs_as_eval script (Err error) h = tt

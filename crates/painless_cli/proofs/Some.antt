@@ -10,8 +10,8 @@ use Rattle.pl_types.specs.declared.ty.Ty.{out-Ty}
 use Rattle.pl_types.specs.declared.ty.Ty.TheVariants as t
 use Rattle.allowlist.specs.Allow.{full_list}
 use Rattle.typed_tree.specs.declared.program.Program.{Program}
-use Rattle.typing_laws.specs.Laws.{IsContext}
-use Rattle.typing_laws.proofs.Types.{built_named, def_built}
+use Rattle.typing_soundness.specs.Laws.{IsContext}
+use Rattle.typing_soundness.proofs.Types.{built_named, def_built}
 use Rattle.script_engine.specs.Programs.{IsProgramOf}
 use Rattle.script_engine.specs.Laws.{TextsAreAnswered, ProgramsEnd}
 use Rattle.script_engine.proofs.Texts.{Answered, then_some}

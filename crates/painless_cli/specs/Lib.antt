@@ -3,3 +3,4 @@ pub mod Whole
 pub mod Told
 pub mod Outcomes
 pub mod Delivers
+pub mod Process

@@ -6,12 +6,12 @@ use Rattle.pl_types.specs.declared.refusal.Fail.TheVariants.{Refused, NoMemory}
 use Rattle.allowlist.specs.Allow.{full_list}
 use Rattle.object_values.specs.declared.value.Value.{Value}
 use Rattle.object_heap.specs.declared.outcome.Outcome.{Outcome}
-use Rattle.run_world.specs.World.{End}
+use Rattle.run_state.specs.World.{End}
 use Rattle.typed_tree.specs.declared.program.Program.{Program}
 use Rattle.script_engine.specs.declared.compiling.Script.{Script}
 use Rattle.script_engine.specs.Compiling.{IsScriptOf}
 use Rattle.script_engine.specs.Running.{end_seen, world_left, IsOutcome}
-use Rattle.code_machine.specs.declared.configuration.Limits.{Limits}
+use Rattle.machine.specs.declared.configuration.Limits.{Limits}
 use Rattle.painless_cli.specs.Script.{eval_types, eval_limits, eval_world}
 
 -- an outcome is this end, with some ticks left

@@ -3,9 +3,10 @@ use Rattle.std.specs.Prelude.{◌≡◌, ℕ, List, [], Result, Ok, Err}
 use Rattle.std.specs.Str.{IsUtf8, IsValidUpTo}
 use Rattle.pl_types.specs.declared.refusal.Refusal.{Refusal}
 use Rattle.pl_types.specs.declared.ty.Ty.TheVariants.{Def}
+use Rattle.pl_types.specs.Host.{no_host}
 use Rattle.allowlist.specs.Allow.{full_list}
 use Rattle.object_values.specs.declared.value.Value.{Value}
-use Rattle.run_world.specs.World.{World, Limits, End}
+use Rattle.run_state.specs.World.{World, Limits, End}
 use Rattle.typing_rules.specs.declared.header.ContextTypes.{ContextTypes}
 use Rattle.typed_tree.specs.declared.program.Program.{Program}
 use Rattle.script_engine.specs.Stages.{Then}
@@ -23,7 +24,7 @@ abbrev pub eval_types : ContextTypes
 eval_types = record { variables = []; result = Def }
 
 abbrev pub eval_limits : Limits
-eval_limits = record { loop = 1000000; depth = 256; allowed = full_list }
+eval_limits = record { loop = 1000000; depth = 256; allowed = full_list; prelude_allowed = record { classes = []; members = [] }; host = no_host }
 
 -- no objects, the default room and ticks, and no member was reached
 abbrev pub eval_world : World

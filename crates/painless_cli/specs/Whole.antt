@@ -8,7 +8,7 @@ use Rattle.object_values.specs.declared.value.Value.{Value}
 use Rattle.object_heap.specs.declared.outcome.Which.{Which}
 use Rattle.object_heap.specs.declared.outcome.Which.TheVariants as which
 use Rattle.object_heap.specs.declared.outcome.End.TheVariants as e
-use Rattle.run_world.specs.World.{Limit, Loop, Depth, Ticks, Room, End, Result as Gives, Uncaught, Limited}
+use Rattle.run_state.specs.World.{Limit, Loop, Depth, Ticks, Room, End, Result as Gives, Uncaught, Limited}
 use Rattle.json_replies.specs.Replies.{is_error, line_of, refusal_of, reply_of}
 use Rattle.painless_cli.specs.Script.{Means}
 

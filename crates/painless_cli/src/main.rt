@@ -7,6 +7,7 @@ mod report;
 mod script;
 mod status;
 mod top;
+mod words;
 
 pub use laws::{one_thing_is_told, painless_surely};
 use outer_io::{StdFiles, StdSink, StdSource};
@@ -17,37 +18,38 @@ use std::process::ExitCode;
 use std::rt::Env;
 use std::{env, io};
 pub use top::painless;
+pub use words::words_behind;
 
-/// The words after the program's name.
-fn words(rt: &(impl Env + AllocGlobal)) -> io::Result<Vec<String>> {
+/// All words with which the process was called, the program's name first.
+fn all_words(rt: &(impl Env + AllocGlobal)) -> io::Result<Vec<String>> {
     let mut words = Vec::new(rt.alloc());
-    for word in env::args(rt)?.skip(1) {
+    for word in env::args(rt)? {
         words.push(word).map_err(|_| AllocError)?;
     }
     Ok(words)
 }
 
-/// Runs the command that the program's words say, over the real files, input and output. The status is the report's.
+/// Runs the command that the words of the process say, over the real files, input and output. The status is the report's.
 /// Words that cannot be had, since one is no UTF-8, are no command.
 fn main(rt: HostRuntime) -> ExitCode {
-    let words = match words(&rt) {
+    let words = match all_words(&rt) {
         Ok(words) => words,
         Err(error) if error.kind() == io::ErrorKind::OutOfMemory => {
-            return ExitCode::from(Status::NoMemory as u8);
+            return ExitCode::from(Status::NoMemory.exit_status());
         }
-        Err(_) => return ExitCode::from(Status::Usage as u8),
+        Err(_) => return ExitCode::from(Status::Usage.exit_status()),
     };
     let mut files = StdFiles::new(&rt);
     let mut input = StdSource::new(rt.reader());
     let mut out = StdSink::new(io::writer(&rt));
     let report = painless(
         rt.alloc(),
-        words.as_slice(),
+        words_behind(words.as_slice()),
         &mut files,
         &mut input,
         &mut out,
     );
-    ExitCode::from(report.status as u8)
+    ExitCode::from(report.status.exit_status())
 }
 
 #[cfg(test)]

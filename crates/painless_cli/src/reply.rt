@@ -2,7 +2,7 @@
 
 ghost use Rattle.std.specs.Prelude.{◌≡◌, ◌≤◌, Err, IfOk, Ok, length};
 ghost use Rattle.object_values.specs.declared.value.Value.{Value};
-ghost use Rattle.run_world.specs.World.{End};
+ghost use Rattle.run_state.specs.World.{End};
 ghost use Rattle.painless_cli.specs.Outcomes.{EndsSo};
 ghost use Rattle.painless_cli.specs.Whole.{TellsScript, Told, told_of, file_limit, status_of};
 ghost use Rattle.painless_cli.specs.Told.{told_by};

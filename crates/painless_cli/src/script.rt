@@ -5,7 +5,7 @@ ghost use Rattle.pl_types.specs.Answers.{Answers};
 ghost use Rattle.pl_types.specs.declared.refusal.Refusal.{Refusal};
 ghost use Rattle.allowlist.specs.Allow.{full_list};
 ghost use Rattle.object_values.specs.declared.value.Value.{Value};
-ghost use Rattle.run_world.specs.World.{End};
+ghost use Rattle.run_state.specs.World.{End};
 ghost use Rattle.typed_tree.specs.declared.program.Program.{Program};
 ghost use Rattle.script_engine.specs.Programs.{IsProgramOf};
 ghost use Rattle.script_engine.specs.Compiling.{Compiles};
@@ -14,7 +14,7 @@ ghost use Rattle.painless_cli.specs.Outcomes.{Comes, RunsAsEval};
 ghost use Rattle.painless_cli.specs.Whole.{file_limit};
 
 use allowlist::{Allow, Catalogue};
-use code_machine::Limits;
+use machine::Limits;
 use object_heap::{Heap, Outcome};
 use pl_types::{Fail, Refusal, Ty, rules};
 use plain_data::Items;

@@ -453,7 +453,8 @@ fn brackets(rt: HostRuntime) -> Result<(), Fail> {
         ("if(true){", "1", "}", 200, "NotAStatement", 11, 1800),
         ("([", "1", "])", 100, "OutOfProfile", 19, 199),
         ("([", "1", "])", 101, "NestingDeep", 3, 200),
-        ("[f(x->{", "((1))", "})]", 66, "NotAStatement", 11, 462),
+        ("[f(()->{", "((1))", "})]", 66, "NotAStatement", 11, 528),
+        ("[f(x->{", "1", "})]", 66, "AlreadyDefined", 5, 10),
         ("[f(x->{", "1", "})]", 67, "NestingDeep", 3, 468),
         // Near both bounds at once, where productions nest deepest.
         ("x=-(", "1", ")", 200, "UnknownVariable", 4, 0),

@@ -54,8 +54,9 @@ pub fn painless<F: Files, S: Source, K: Sink>(
     // With every other status none was counted: no call failed.
     ensures written { result.status ≢ Status.WriteFault → K.faults out.new ≡ K.faults out.old }
     ensures filed { result.status ≢ Status.FileFault → F.faults files.new ≡ F.faults files.old }
-    // No command reads the input.
+    // No command reads the input, and none changes a file.
     ensures untouched { input.new ≡ input.old }
+    ensures contents { F.content files.new ≡ F.content files.old }
 
     ensures listings { result.listings.items ≡ [] }
     ensures steps { result.steps ≡ 0 }
@@ -88,6 +89,7 @@ fn eval<F: Files, K: Sink>(alloc: Global, name: &str, files: &mut F, out: &mut K
     ensures file { result ≡ Status.FileFault → F.faults files.new ≡ next_count (F.faults files.old) }
     ensures written { result ≢ Status.WriteFault → K.faults out.new ≡ K.faults out.old }
     ensures filed { result ≢ Status.FileFault → F.faults files.new ≡ F.faults files.old }
+    ensures contents { F.content files.new ≡ F.content files.old }
 {
     match files.read(alloc, name, FILE_LIMIT) {
         Ok(Found::Bytes(script)) => write_answer(alloc, script.as_slice(), out),

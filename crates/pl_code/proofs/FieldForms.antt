@@ -75,13 +75,13 @@ pub loops_plain : (b : Bool) → IsPlain (loop_word b)
 loops_plain true = refl
 loops_plain false = refl
 
-letter_back : (s : Slot) → letter_of (slot_letter s) ≡ Some s
+pub letter_back : (s : Slot) → letter_of (slot_letter s) ≡ Some s
 unfolding letter_of
 letter_back slot.I = refl
 letter_back slot.J = refl
 letter_back slot.R = refl
 
-letter_sound : (b : ℕ) (s : Slot) → letter_of b ≡ Some s → slot_letter s ≡ b
+pub letter_sound : (b : ℕ) (s : Slot) → letter_of b ≡ Some s → slot_letter s ≡ b
 unfolding letter_of
 letter_sound b s h = eqb-true (slot_letter s) b (found_passes (λ y. slot_letter y == b) SLOTS s h)
 

@@ -187,7 +187,7 @@ bare_sound (head.Dynamic op) l e = stands (head.Dynamic op) (Do (code.Dynamic op
 bare_sound head.End l e = stands head.End End l (record { fits = refl; text = refl }) e
 bare_sound h l e = absurd (none-some l e)
 
-head_sound : (s : List ℕ) (h : Head) → head_of s ≡ Some h → head_word h ≡ s
+pub head_sound : (s : List ℕ) (h : Head) → head_of s ≡ Some h → head_word h ≡ s
 unfolding head_of
 head_sound s h e = (bytes_eq-Decides (head_word h) s).0 (found_passes (λ y. bytes_eq (head_word y) s) HEADS h e)
 

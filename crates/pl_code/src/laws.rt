@@ -1,6 +1,6 @@
 //! What holds of all code.
 
-ghost use Rattle.std.specs.Prelude.{◌≡◌, ◌^◌, nat_lt, true, Result, Ok};
+ghost use Rattle.std.specs.Prelude.{◌≡◌, ◌^◌, ◌↔◌, ℕ, Bool, List, Some, nat_lt, true, Result, Ok};
 ghost use Rattle.std.specs.Int.Signed.{mag};
 ghost use Rattle.std.specs.Str.{is_utf8};
 ghost use Rattle.std.specs.List.{list_all};
@@ -8,6 +8,12 @@ ghost use Rattle.pl_code.specs.Instructions.{is_instruction, is_number, is_inter
 ghost use Rattle.pl_code.specs.Listing.{is_trap, is_function, is_code, written};
 ghost use Rattle.pl_code.specs.Reading.{Gives};
 ghost use Rattle.pl_code.specs.Faults.{IsReading};
+ghost use Rattle.pl_code.specs.Words.{head_of, head_word, way_word, primitive_word, slot_letter, loop_word};
+ghost use Rattle.pl_code.specs.Lines.{way_of, primitive_of, loops_of, letter_of};
+ghost use Rattle.pl_types.specs.declared.primitive.Primitive.{Primitive as PrimitiveData};
+ghost use Rattle.pl_code.specs.declared.head.Head.{Head as HeadData};
+ghost use Rattle.pl_code.specs.declared.kinds.Way.{Way as WayData};
+ghost use Rattle.pl_code.specs.declared.kinds.Slot.{Slot as SlotData};
 ghost use Rattle.pl_code.specs.declared.code.Code.{Code as CodeData};
 ghost use Rattle.pl_code.specs.declared.error.ListingErr.{ListingErr as Refusal};
 
@@ -22,6 +28,16 @@ use std::alloc::Global;
 pub fn listing_laws()
     ensures one_code { (c d : CodeData) → is_code c ≡ true → is_code d ≡ true → written c ≡ written d → c ≡ d }
     ensures read_back { (c : CodeData) → is_code c ≡ true → (read : Result CodeData Refusal) → IsReading (written c) read → Gives read (Ok c) }
+{}
+
+/// A word of a listing is read as the one thing that is written by it, and every other word as none: the tables that reading goes
+/// by have each instruction, way, primitive, kind and header of a function.
+pub fn word_laws()
+    ensures heads { (word : List ℕ) (head : HeadData) → (head_of word ≡ Some head) ↔ (head_word head ≡ word) }
+    ensures ways { (word : List ℕ) (way : WayData) → (way_of word ≡ Some way) ↔ (way_word way ≡ word) }
+    ensures primitives { (word : List ℕ) (primitive : PrimitiveData) → (primitive_of word ≡ Some primitive) ↔ (primitive_word primitive ≡ word) }
+    ensures loops { (word : List ℕ) (loops : Bool) → (loops_of word ≡ Some loops) ↔ (loop_word loops ≡ word) }
+    ensures slots { (letter : ℕ) (slot : SlotData) → (letter_of letter ≡ Some slot) ↔ (slot_letter slot ≡ letter) }
 {}
 
 fn number_is_formed(number: u32)

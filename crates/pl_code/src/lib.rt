@@ -17,6 +17,6 @@ pub use head::{HEADS, Head, head_of, head_word};
 pub use kinds::{
     ArithmeticOp, DynamicOp, Numbered, Plain, Quoting, Sized, Slot, Typed, Way, Width,
 };
-pub use laws::{code_is_formed, listing_laws, read_back};
+pub use laws::{code_is_formed, listing_laws, read_back, word_laws};
 pub use reading::read_listing;
 pub use writing::listing;

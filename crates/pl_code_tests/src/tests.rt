@@ -1,3 +1,5 @@
+//! Lines of listings that are read and written, and those that are refused.
+
 use listing_parts::TypeName;
 use pl_code::{Code, ListingErr, code_is_formed, listing, read_back, read_listing};
 use std::alloc::{AllocError, Global};

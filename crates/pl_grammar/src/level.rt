@@ -19,14 +19,23 @@ pub enum Level {
 /// A level with another inside it, tightest first.
 #[derive(Clone, Copy)]
 pub enum Looser {
+    /// `+` and `-`.
     Sum,
+    /// `<<`, `>>` and `>>>`.
     Shift,
+    /// `<`, `<=`, `>` and `>=`.
     Relational,
+    /// `==`, `!=`, `===` and `!==`.
     Equality,
+    /// `&`
     And,
+    /// `^`
     Xor,
+    /// `|`
     Or,
+    /// `&&`
     AndAnd,
+    /// `||`
     OrOr,
 }
 

@@ -6,7 +6,9 @@ use plain_data::{Items, Subtree, Text};
 /// An expression, and where its first token begins.
 #[derive(Drop)]
 pub struct Placed {
+    /// The first byte of its first token, counted from 0.
     pub start: u32,
+    /// The expression.
     pub expr: Subtree<Expr>,
 }
 
@@ -31,7 +33,9 @@ pub enum ExprRest {
 /// `?:` and its right side.
 #[derive(Drop)]
 pub struct ElvisRest {
+    /// The place of the `?:`.
     pub at: u32,
+    /// The right side.
     pub right: Subtree<Expr>,
 }
 
@@ -53,6 +57,7 @@ pub enum Suffix {
 pub enum Member {
     /// A name, and what it is called with, if it is.
     Named(Spelled, Option<Items<Argument>>),
+    /// A number.
     Numbered(Spelled),
 }
 
@@ -72,12 +77,14 @@ pub enum New {
 pub enum Contents {
     /// A `:` alone.
     NoEntries,
+    /// The first expression, and what follows it.
     Filled(Subtree<Expr>, Option<More>),
 }
 
 /// What follows the first expression there.
 #[derive(Drop)]
 pub enum More {
+    /// The further items of a list.
     Items(Items<Subtree<Expr>>),
     /// The first value, and the further entries.
     Entries(Subtree<Expr>, Items<Entry>),
@@ -86,22 +93,30 @@ pub enum More {
 /// What follows the first part of a `for`.
 #[derive(Drop)]
 pub struct Three {
+    /// The condition, if there is one.
     pub condition: Option<Subtree<Expr>>,
+    /// What runs after each turn, if anything does.
     pub update: Option<Subtree<Expr>>,
+    /// What the loop runs. `None` where it is a `;`.
     pub body: Option<Body>,
 }
 
 /// What follows the condition of a `for`.
 #[derive(Drop)]
 pub struct Tail {
+    /// What runs after each turn, if anything does.
     pub update: Option<Subtree<Expr>>,
+    /// What the loop runs. `None` where it is a `;`.
     pub body: Option<Body>,
 }
 
 /// What follows `for (`.
 #[derive(Drop)]
 pub enum ForRest {
+    /// `first; condition; update)` and the body.
     Three(Option<First>, Three),
+    /// `type name : over)` and the body.
     Each(TypeName, Spelled, Subtree<Expr>, Body),
+    /// `name in over)` and the body.
     In(Spelled, Subtree<Expr>, Body),
 }

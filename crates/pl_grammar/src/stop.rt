@@ -7,6 +7,7 @@ use std::alloc::{AllocError, AllocFailed};
 /// Why a part of a script is not read.
 #[derive(Drop)]
 pub enum Stop {
+    /// Memory ran out.
     NoMemory,
     /// With this many tokens left, the next one continues no script.
     Unexpected(usize),

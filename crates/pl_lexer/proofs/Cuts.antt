@@ -3,13 +3,12 @@ use Rattle.std.proofs.Common.{◌≡◌, ℕ, ◌+◌, ◌-◌, ◌<◌, ◌≤�
 use Rattle.std.proofs.lemmas.List.{drop_all, length-drop, length-take-le, take-append-drop, length-append}
 use Rattle.pl_lexer.specs.declared.token.Token.{Token}
 use Rattle.pl_lexer.specs.declared.token.Kind.{Kind}
-use Rattle.pl_lexer.specs.declared.TheConstants.{MOST_BYTES}
 use Rattle.pl_lexer.specs.Lexeme.{Lexeme}
 use Rattle.pl_lexer.specs.Longest.{Leads, LeadsBy}
 use Rattle.pl_lexer.specs.Spelling.{spelling}
 use Rattle.std.specs.Prelude.{◌≢◌}
 use Rattle.pl_lexer.proofs.Leading.{Leads-some}
-use Rattle.pl_lexer.specs.Tokens.{Part, lexeme_of, dot_after, Cuts, dot_after_all, size_of, told, tokens_of, Tokenizes, Wrong, LexFault, breaks}
+use Rattle.pl_lexer.specs.Tokens.{Part, lexeme_of, dot_after, Cuts, dot_after_all, size_of, told, tokens_of, Tokenizes, Wrong, LexFault, breaks, most_bytes}
 
 -- one part more
 pub Cuts-push : (names : List ℕ → Option ℕ) (parts : List Part) (part : Part) (dot : Bool) (text rest behind : List ℕ) → Cuts names dot parts text rest → Leads (spelling names (dot_after_all dot parts)) rest part.bytes behind (lexeme_of part.kind) → Cuts names dot (parts ++ part ∷ []) text behind
@@ -38,7 +37,7 @@ tokens_of-push (p ∷ ps) part at =
 
 -- the text is cut up to `at`, with these tokens, and `rest` is left
 pub record CutsSoFar (names : List ℕ → Option ℕ) (text : List ℕ) (tokens : List Token) (rest : List ℕ) (at : ℕ) (dot : Bool) : Type 0 where
-  pub small : length text ≤ MOST_BYTES
+  pub small : length text ≤ most_bytes
   pub parts : List Part
   pub cuts : Cuts names false parts text rest
   pub tokens_are : tokens ≡ tokens_of 0 parts
@@ -46,7 +45,7 @@ pub record CutsSoFar (names : List ℕ → Option ℕ) (text : List ℕ) (tokens
   pub left : at + length rest ≡ length text
   pub dotted : dot ≡ dot_after_all false parts
 
-pub none_cut : (names : List ℕ → Option ℕ) (text : List ℕ) → length text ≤ MOST_BYTES → CutsSoFar names text [] text 0 false
+pub none_cut : (names : List ℕ → Option ℕ) (text : List ℕ) → length text ≤ most_bytes → CutsSoFar names text [] text 0 false
 none_cut names text small = record { small = small; parts = []; cuts = refl; tokens_are = refl; place = refl; left = omega arith; dotted = refl }
 
 pub all_cut : (names : List ℕ → Option ℕ) (text : List ℕ) (tokens : List Token) (rest : List ℕ) (at : ℕ) (dot : Bool) → rest ≡ [] → CutsSoFar names text tokens rest at dot → Tokenizes text names tokens

@@ -1,5 +1,5 @@
 -- What holds of each row of the tables, and the longest sign at the front of a text.
-use Rattle.std.proofs.Common.{◌≡◌, ℕ, ◌-◌, ◌<◌, ◌≤◌, min, Bool, true, false, List, [], ◌∷◌, ◌++◌, length, take, drop, Option, Some, None, sym, refl, ap, ◌∙◌, subst, arith, nat_le, ⊎_elim, ◌⊎◌, inl, inr}
+use Rattle.std.proofs.Common.{◌≡◌, ℕ, ◌-◌, ◌<◌, ◌≤◌, min, Bool, true, false, List, [], ◌∷◌, ◌++◌, length, take, drop, Option, Some, None, map, sym, refl, ap, ◌∙◌, subst, arith, nat_le, ⊎_elim, ◌⊎◌, inl, inr}
 use Rattle.std.specs.Prelude.{IsSome}
 use Rattle.std.specs.List.{list_all}
 use Rattle.std.specs.Str.{bytes_eq}
@@ -13,9 +13,11 @@ use Rattle.pl_lexer.specs.declared.found.Found.TheVariants.{Nothing, Foreign, Bl
 use Rattle.pl_lexer.specs.declared.token.Sign.{Sign}
 use Rattle.pl_lexer.specs.Lexeme.{Lexeme, token, foreign}
 use Rattle.pl_lexer.specs.Longest.{LeadsBy, NothingLeads, Finds, Shows}
-use Rattle.pl_lexer.specs.Tables.{look_up, is_listed, signs, foreign_signs, sign_token, sign_of, statement_words, expression_words, keyword_or, primitives, foreign_words, word_token, reserved_of}
+use Rattle.pl_lexer.specs.Tables.{look_up, is_listed, signs, foreign_signs, sign_token, sign_of, statement_words, expression_words, keyword_or, foreign_words, word_token, reserved_of}
 use Rattle.pl_lexer.specs.declared.token.Word.{Word}
 use Rattle.pl_types.specs.declared.primitive.Primitive.{Primitive}
+use Rattle.pl_types.specs.declared.primitive.Primitive.TheVariants as prim
+use Rattle.pl_types.specs.Texts.{primitive_word, primitive_of}
 use Rattle.pl_lexer.proofs.Runs.{both}
 use Rattle.pl_lexer.proofs.Integers.{either}
 use Rattle.pl_lexer.proofs.Tested.{lead_by, none_is}
@@ -97,16 +99,20 @@ unfolding sign_of
 no_sign text a [] left e some = false≢true some
 no_sign text a (c ∷ cs) left e some = omega (arith, sign_most text 0 a (c ∷ cs) left e some)
 
+-- the keywords of the primitive types, as a table
+abbrev pub primitive_rows : List (List ℕ × Primitive)
+primitive_rows = map (λ p. (primitive_word p, p)) (prim.Boolean ∷ prim.Byte ∷ prim.Short ∷ prim.Char ∷ prim.Int ∷ prim.Long ∷ [])
+
 -- a test that each keyword, primitive type and foreign word passes
-pub word_passes : (test : List ℕ → Bool) (bytes : List ℕ) (l : Lexeme) → list_all test foreign_words ≡ true → list_all (λ (row : List ℕ × Word). test row.0) statement_words ≡ true → list_all (λ (row : List ℕ × Word). test row.0) expression_words ≡ true → list_all (λ (row : List ℕ × Primitive). test row.0) primitives ≡ true → reserved_of bytes ≡ Some l → test bytes ≡ true
+pub word_passes : (test : List ℕ → Bool) (bytes : List ℕ) (l : Lexeme) → list_all test foreign_words ≡ true → list_all (λ (row : List ℕ × Word). test row.0) statement_words ≡ true → list_all (λ (row : List ℕ × Word). test row.0) expression_words ≡ true → list_all (λ (row : List ℕ × Primitive). test row.0) primitive_rows ≡ true → reserved_of bytes ≡ Some l → test bytes ≡ true
 unfolding reserved_of
 word_passes test bytes l foreigns statements expressions types found = at_listed (is_listed bytes foreign_words) refl where
-  at_words : (o : Option Word) (p : Option Word) (q : Option Primitive) → look_up bytes statement_words ≡ o → look_up bytes expression_words ≡ p → look_up bytes primitives ≡ q → word_token (keyword_or o p) q ≡ Some l → test bytes ≡ true
+  at_words : (o : Option Word) (p : Option Word) (q : Option Primitive) → look_up bytes statement_words ≡ o → look_up bytes expression_words ≡ p → primitive_of bytes ≡ q → word_token (keyword_or o p) q ≡ Some l → test bytes ≡ true
   at_words (Some w) p q e f h some = look_up-passes test statement_words bytes w statements e
   at_words None (Some w) q e f h some = look_up-passes test expression_words bytes w expressions f
-  at_words None None (Some t) e f h some = look_up-passes test primitives bytes t types h
+  at_words None None (Some t) e f h some = look_up-passes test primitive_rows bytes t types h
   at_words None None None e f h some = absurd cc
 
   at_listed : (v : Bool) → is_listed bytes foreign_words ≡ v → test bytes ≡ true
   at_listed true f = is_listed-passes test foreign_words bytes foreigns f
-  at_listed false f = at_words (look_up bytes statement_words) (look_up bytes expression_words) (look_up bytes primitives) refl refl refl (rw f at found)
+  at_listed false f = at_words (look_up bytes statement_words) (look_up bytes expression_words) (primitive_of bytes) refl refl refl (rw f at found)

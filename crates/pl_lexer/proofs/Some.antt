@@ -4,11 +4,10 @@ use Rattle.std.proofs.lemmas.List.{length-append}
 use Rattle.std.proofs.str.Laws.{order}
 use Rattle.pl_types.specs.declared.refusal.Refusal.{Refusal}
 use Rattle.pl_lexer.specs.declared.token.Token.{Token}
-use Rattle.pl_lexer.specs.declared.TheConstants.{MOST_BYTES}
 use Rattle.pl_lexer.specs.Lexeme.{Lexeme, blank, token, foreign}
 use Rattle.pl_lexer.specs.Longest.{Leads, NothingLeads}
 use Rattle.pl_lexer.specs.Spelling.{spelling, is_dot}
-use Rattle.pl_lexer.specs.Tokens.{Part, lexeme_of, dot_after, Cuts, dot_after_all, size_of, tokens_of, Wrong, no_spelling, foreign_spelling, breaks, too_large, Lexes}
+use Rattle.pl_lexer.specs.Tokens.{Part, lexeme_of, dot_after, Cuts, dot_after_all, size_of, tokens_of, Wrong, no_spelling, foreign_spelling, breaks, too_large, Lexes, most_bytes}
 use Rattle.pl_lexer.proofs.Leading.{Leads-some}
 use Rattle.pl_lexer.proofs.Led.{Led, leads_or_not}
 
@@ -43,10 +42,10 @@ cut_far names (suc fuel) dot (b ∷ bs) within = at_front (leads_or_not (spellin
 
 -- a text has tokens or a fault
 pub Lexes-some : (text : List ℕ) (names : List ℕ → Option ℕ) → (reading : Result (List Token) Refusal) × Lexes text names reading
-Lexes-some text names = ⊎_elim (λ large. (Err (record { number = 20; offset = MOST_BYTES }), too_large large refl)) small (order MOST_BYTES (length text)) where
-  at_end : (far : CutsFar names false text) → length text ≤ MOST_BYTES → ((far.rest ≡ []) ⊎ ((number : ℕ) × Wrong (spelling names (dot_after_all false far.parts)) far.rest number)) → (reading : Result (List Token) Refusal) × Lexes text names reading
+Lexes-some text names = ⊎_elim (λ large. (Err (record { number = 20; offset = most_bytes }), too_large large refl)) small (order most_bytes (length text)) where
+  at_end : (far : CutsFar names false text) → length text ≤ most_bytes → ((far.rest ≡ []) ⊎ ((number : ℕ) × Wrong (spelling names (dot_after_all false far.parts)) far.rest number)) → (reading : Result (List Token) Refusal) × Lexes text names reading
   at_end far fits (inl none) = (Ok (tokens_of 0 far.parts), record { small = fits; parts = far.parts; cuts = subst (λ r. Cuts names false far.parts text r) none far.cuts; tokens_are = refl })
   at_end far fits (inr wrong) = (Err (record { number = wrong.0; offset = size_of far.parts }), breaks (record { small = fits; parts = far.parts; rest = far.rest; cuts = far.cuts; wrong = wrong.1; place = refl }))
 
-  small : length text ≤ MOST_BYTES → (reading : Result (List Token) Refusal) × Lexes text names reading
+  small : length text ≤ most_bytes → (reading : Result (List Token) Refusal) × Lexes text names reading
   small fits = let far = cut_far names (length text) false text (omega arith) in at_end far fits far.ends

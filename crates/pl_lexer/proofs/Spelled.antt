@@ -9,6 +9,7 @@ use Rattle.std.proofs.lemmas.Bool.Decides.{nat_tests}
 use Rattle.std.proofs.lemmas.Str.{IsCharBoundary-before_ascii, IsCharBoundary-after_ascii}
 use Rattle.std.proofs.lemmas.List.{length-append, append_assoc, take_at, drop_at, get_or-append-add, get_or_append_left}
 use Rattle.pl_types.specs.declared.primitive.Primitive.{Primitive}
+use Rattle.pl_types.specs.Texts.{primitive_of}
 use Rattle.pl_lexer.specs.declared.token.Token.{Token}
 use Rattle.pl_lexer.specs.declared.token.Kind.{Kind}
 use Rattle.pl_lexer.specs.declared.token.Kind.TheVariants as kind
@@ -16,7 +17,7 @@ use Rattle.pl_lexer.specs.declared.token.Sign.{Sign}
 use Rattle.pl_lexer.specs.declared.token.Word.{Word}
 use Rattle.pl_lexer.specs.Lexeme.{Lexeme, blank, token, foreign}
 use Rattle.pl_lexer.specs.Bytes.{begins, is_nil, is_blank, is_letter, is_name_byte, is_quote, is_octal_digit, after_run, in_line}
-use Rattle.pl_lexer.specs.Tables.{sign_of, signs, foreign_signs, is_listed, look_up, reserved_of, keyword_of, primitives, foreign_words}
+use Rattle.pl_lexer.specs.Tables.{sign_of, signs, foreign_signs, is_listed, look_up, reserved_of, keyword_of, foreign_words}
 use Rattle.pl_lexer.specs.Numbers.{is_long_mark, ends_integer, digits_end, ends_hexadecimal, is_integer, is_decimal, number_of, is_dot_integer}
 use Rattle.pl_lexer.specs.Words.{is_word, plain_of, is_dotted, goes_on, class_of, is_path, word_of, dot_word_of}
 use Rattle.pl_lexer.specs.Enclosed.{closes, text_next, text_of, comment_next, slash_of}
@@ -187,7 +188,7 @@ sign_kind k bytes e = at_listed (is_listed bytes foreign_signs) refl where
 reserved_kind : (k : Kind) (bytes : List ℕ) → reserved_of bytes ≡ Some (token k) → Spells k bytes
 unfolding reserved_of
 reserved_kind k bytes e = at_listed (is_listed bytes foreign_words) refl where
-  at_word : (o : Option Word) (p : Option Primitive) → is_listed bytes foreign_words ≡ false → keyword_of bytes ≡ o → look_up bytes primitives ≡ p → Spells k bytes
+  at_word : (o : Option Word) (p : Option Primitive) → is_listed bytes foreign_words ≡ false → keyword_of bytes ≡ o → primitive_of bytes ≡ p → Spells k bytes
   at_word (Some w) p f h i =
       let some : Some (token (kind.Word w)) ≡ Some (token k) = rw (f, h) at e in
       let kinds : kind.Word w ≡ k = cc in
@@ -200,7 +201,7 @@ reserved_kind k bytes e = at_listed (is_listed bytes foreign_words) refl where
 
   at_listed : (v : Bool) → is_listed bytes foreign_words ≡ v → Spells k bytes
   at_listed true f = let some : Some foreign ≡ Some (token k) = rw f at e in absurd cc
-  at_listed false f = at_word (keyword_of bytes) (look_up bytes primitives) f refl refl
+  at_listed false f = at_word (keyword_of bytes) (primitive_of bytes) f refl refl
 
 -- what a test tells
 tested_kind : (v : Bool) (l k : Kind) (bytes : List ℕ) → (if v then Some (token l) else None) ≡ Some (token k) → (v ≡ true → Spells l bytes) → Spells k bytes

@@ -2,7 +2,7 @@
 use Rattle.std.specs.Prelude.{codes, ℕ, Bool, false, ◌||◌, if◌then◌else◌, List, [], ◌∷◌, Option, Some, None}
 use Rattle.std.specs.Str.{bytes_eq}
 use Rattle.pl_types.specs.declared.primitive.Primitive.{Primitive}
-use Rattle.pl_types.specs.declared.primitive.Primitive.TheVariants as primitive
+use Rattle.pl_types.specs.Texts.{primitive_of}
 use Rattle.pl_lexer.specs.declared.token.Kind.TheVariants as kind
 use Rattle.pl_lexer.specs.declared.token.Sign.{Sign}
 use Rattle.pl_lexer.specs.declared.token.Sign.TheVariants as sign
@@ -68,12 +68,6 @@ keyword_or None other = other
 abbrev pub keyword_of : List ℕ → Option Word
 keyword_of bytes = keyword_or (look_up bytes statement_words) (look_up bytes expression_words)
 
--- the names of the primitive types
-abbrev pub primitives : List (List ℕ × Primitive)
-primitives =
-    (codes "boolean", primitive.Boolean) ∷ (codes "byte", primitive.Byte) ∷ (codes "short", primitive.Short)
-    ∷ (codes "char", primitive.Char) ∷ (codes "int", primitive.Int) ∷ (codes "long", primitive.Long) ∷ []
-
 -- the words that the language leaves out
 abbrev pub foreign_words : List (List ℕ)
 foreign_words = codes "float" ∷ codes "double" ∷ codes "finally" ∷ []
@@ -86,4 +80,4 @@ word_token None None = None
 
 -- what the word is, if it is no name
 unfoldable pub reserved_of : List ℕ → Option Lexeme
-reserved_of bytes = if is_listed bytes foreign_words then Some foreign else word_token (keyword_of bytes) (look_up bytes primitives)
+reserved_of bytes = if is_listed bytes foreign_words then Some foreign else word_token (keyword_of bytes) (primitive_of bytes)

@@ -4,10 +4,13 @@ use Rattle.pl_types.specs.declared.refusal.Refusal.{Refusal}
 use Rattle.pl_lexer.specs.declared.token.Token.{Token}
 use Rattle.pl_lexer.specs.declared.token.Kind.{Kind}
 use Rattle.pl_types.specs.declared.rules.TheConstants.{BAD_TOKEN, OUT_OF_PROFILE, TOO_LARGE}
-use Rattle.pl_lexer.specs.declared.TheConstants.{MOST_BYTES}
 use Rattle.pl_lexer.specs.Lexeme.{Lexeme, blank, token, foreign}
 use Rattle.pl_lexer.specs.Longest.{Leads, NothingLeads}
 use Rattle.pl_lexer.specs.Spelling.{spelling, is_dot}
+
+-- the most bytes that a script has
+abbrev pub most_bytes : ℕ
+most_bytes = 65535
 
 -- a part of a text: its bytes, and the kind of the token that they are, if they are no blank
 pub record Part : Type 0 where
@@ -49,7 +52,7 @@ tokens_of at (part ∷ parts) = told part.kind at (at + length part.bytes) (toke
 
 -- these are the tokens of the text
 pub record Tokenizes (text : List ℕ) (names : List ℕ → Option ℕ) (tokens : List Token) : Type 0 where
-  pub small : length text ≤ MOST_BYTES
+  pub small : length text ≤ most_bytes
   pub parts : List Part
   pub cuts : Cuts names false parts text []
   pub tokens_are : tokens ≡ tokens_of 0 parts
@@ -61,7 +64,7 @@ pub data Wrong (spelling : List ℕ → List ℕ → Option Lexeme) (rest : List
 
 -- the text is cut from its front up to the first place where something is wrong
 pub record Breaks (text : List ℕ) (names : List ℕ → Option ℕ) (refusal : Refusal) : Type 0 where
-  pub small : length text ≤ MOST_BYTES
+  pub small : length text ≤ most_bytes
   pub parts : List Part
   pub rest : List ℕ
   pub cuts : Cuts names false parts text rest
@@ -70,7 +73,7 @@ pub record Breaks (text : List ℕ) (names : List ℕ → Option ℕ) (refusal :
 
 -- the text has no tokens, for this reason
 pub data LexFault (text : List ℕ) (names : List ℕ → Option ℕ) (refusal : Refusal) : Type 0 where
-  too_large : MOST_BYTES < length text → refusal ≡ record { number = TOO_LARGE; offset = MOST_BYTES } → LexFault text names refusal
+  too_large : most_bytes < length text → refusal ≡ record { number = TOO_LARGE; offset = most_bytes } → LexFault text names refusal
   breaks : Breaks text names refusal → LexFault text names refusal
 
 -- the text has these tokens, or is refused so

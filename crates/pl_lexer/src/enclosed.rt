@@ -1,3 +1,5 @@
+//! Texts and comments, and what begins with a slash.
+
 ghost use Rattle.std.specs.Prelude.{◌≡◌, ◌≤◌, true, false, length, IfSome};
 ghost use Rattle.pl_lexer.specs.Bytes.{begins, is_quote};
 ghost use Rattle.pl_lexer.specs.Enclosed.{text_next, comment_next, text_of, slash_of};

@@ -1,3 +1,5 @@
+//! What leads a text.
+
 use crate::Kind;
 
 /// What leads a text: the longest that its first bytes spell.

@@ -1,3 +1,5 @@
+//! The laws of the definition of tokens.
+
 ghost use Rattle.std.specs.Prelude.{◌≡◌, ℕ, List, Option, Result};
 ghost use Rattle.pl_types.specs.declared.refusal.Refusal.{Refusal};
 ghost use Rattle.pl_lexer.specs.declared.token.Token.{Token};

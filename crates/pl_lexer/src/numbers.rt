@@ -1,3 +1,5 @@
+//! Numbers.
+
 ghost use Rattle.std.specs.Prelude.{◌≡◌, ◌+◌, ◌≤◌, true, length, drop};
 ghost use Rattle.std.specs.Char.{is_ascii_digit, is_ascii_hexdigit};
 ghost use Rattle.pl_lexer.specs.Bytes.{begins, is_octal_digit};

@@ -1,3 +1,5 @@
+//! Operators, brackets and separators.
+
 ghost use Rattle.std.specs.Prelude.{◌≡◌, ◌≢◌, ◌∷◌, [], length};
 ghost use Rattle.pl_lexer.specs.Tables.{look_up, signs, sign_of};
 ghost use Rattle.pl_lexer.specs.Longest.{Finds, Shows};

@@ -1,8 +1,11 @@
+//! What a token is.
+
 use pl_types::Primitive;
 
 /// A token of a script: what it is, and the bytes of the script that spell it.
 #[derive(Clone, Copy, Debug, PartialEq, Eq)]
 pub struct Token {
+    /// What it is.
     pub kind: Kind,
     /// Its first byte, counted from 0.
     pub start: u32,
@@ -36,24 +39,43 @@ pub enum Kind {
 /// A keyword, but for the names of the primitive types.
 #[derive(Clone, Copy, Debug, PartialEq, Eq)]
 pub enum Word {
+    /// `if`
     If,
+    /// `else`
     Else,
+    /// `while`
     While,
+    /// `do`
     Do,
+    /// `for`
     For,
+    /// `in`
     In,
+    /// `continue`
     Continue,
+    /// `break`
     Break,
+    /// `return`
     Return,
+    /// `new`
     New,
+    /// `try`
     Try,
+    /// `catch`
     Catch,
+    /// `throw`
     Throw,
+    /// `this`
     This,
+    /// `instanceof`
     Instanceof,
+    /// `true`
     True,
+    /// `false`
     False,
+    /// `null`
     Null,
+    /// `def`
     Def,
 }
 

@@ -1,8 +1,10 @@
+//! Names, keywords and names of classes.
+
 ghost use Rattle.std.specs.Prelude.{◌≡◌, ◌+◌, ◌≤◌, true, None, length, drop, take};
 ghost use Rattle.std.specs.List.{prefix_len};
 ghost use Rattle.std.specs.Str.{IsCharBoundary};
 ghost use Rattle.pl_lexer.specs.Bytes.{begins, is_letter, is_name_byte};
-ghost use Rattle.pl_lexer.specs.Tables.{look_up, statement_words, expression_words, keyword_of, primitives, reserved_of};
+ghost use Rattle.pl_lexer.specs.Tables.{look_up, statement_words, expression_words, keyword_of, reserved_of};
 ghost use Rattle.pl_lexer.specs.Words.{class_of, word_of, dot_word_of};
 ghost use Rattle.pl_lexer.specs.Lengths.{dot_word_length, class_or};
 ghost use Rattle.pl_lexer.specs.Longest.{Finds, Shows};
@@ -10,7 +12,7 @@ ghost use Rattle.pl_lexer.specs.Longest.{Finds, Shows};
 use crate::bytes::{is_letter, name_bytes};
 use crate::found::Found;
 use crate::{Kind, Word};
-use pl_types::{Primitive, TypeNames};
+use pl_types::{TypeNames, primitive_of_word};
 
 // The keyword of a statement that a word is.
 fn statement_word(word: &[u8]) -> Option<Word>
@@ -68,27 +70,7 @@ fn expression_word(word: &[u8]) -> Option<Word>
     }
 }
 
-// The primitive type that a word is.
-fn primitive(word: &[u8]) -> Option<Primitive>
-    ensures { result ≡ look_up word.now primitives }
-{
-    if word == b"boolean".as_slice() {
-        Some(Primitive::Boolean)
-    } else if word == b"byte".as_slice() {
-        Some(Primitive::Byte)
-    } else if word == b"short".as_slice() {
-        Some(Primitive::Short)
-    } else if word == b"char".as_slice() {
-        Some(Primitive::Char)
-    } else if word == b"int".as_slice() {
-        Some(Primitive::Int)
-    } else if word == b"long".as_slice() {
-        Some(Primitive::Long)
-    } else {
-        None
-    }
-}
-
+// The keyword that a word is, but for the names of the primitive types.
 fn keyword(word: &[u8]) -> Option<Word>
     ensures { result ≡ keyword_of word.now }
 {
@@ -112,7 +94,7 @@ fn reserved(word: &[u8]) -> Found
     if let Some(keyword) = keyword(word) {
         return Found::Leading(Kind::Word(keyword), word.len());
     }
-    match primitive(word) {
+    match primitive_of_word(word) {
         Some(primitive) => Found::Leading(Kind::Prim(primitive), word.len()),
         None => Found::Nothing,
     }

@@ -1,3 +1,5 @@
+//! Scripts and their tokens, and scripts that have none.
+
 use pl_lexer::{MOST_BYTES, each_text_has_one_reading, lex};
 use pl_types::{Fail, TypeNames};
 use std::alloc::{AllocError, Global};

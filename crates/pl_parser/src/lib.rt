@@ -8,9 +8,9 @@ ghost use Rattle.pl_tree.specs.declared.tree.Tree as tree;
 ghost use Rattle.pl_grammar.specs.Lexeme.{AllLieIn};
 ghost use Rattle.pl_grammar.specs.Parses.{Parses};
 
-use pl_builders::Builder;
+use parse_actions::Builder;
+use parse_driver::parse_by;
 use pl_lexer::Token;
-use pl_reader::parse_by;
 use pl_tree::Tree;
 use pl_types::Fail;
 use std::alloc::Global;

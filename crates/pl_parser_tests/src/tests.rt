@@ -1,3 +1,5 @@
+//! What the parser makes of scripts, and what it refuses.
+
 mod deep;
 mod piece;
 mod pieces;

@@ -1,9 +1,12 @@
 //! How many nodes a tree has. Each count is a sum of those of its children, and stands still at the largest.
 
+ghost use Rattle.std.specs.Prelude.{◌≡◌, IfOk};
+
 use crate::tree::{
     Argument, Block, Body, Catch, Declaration, Entry, Expr, First, LambdaBody, Statement, Variable,
 };
 use plain_data::{Items, Subtree, nodes_of};
+use std::alloc::{AllocError, Global};
 
 impl Block {
     pub(crate) fn nodes(&self) -> u32 {
@@ -129,6 +132,14 @@ fn nodes_of_arguments(arguments: &Items<Argument>) -> u32 {
 }
 
 impl Statement {
+    /// In a box, with the count of its nodes.
+    pub fn held(alloc: Global, statement: Statement) -> Result<Subtree<Statement>, AllocError>
+        ensures { IfOk result (λ held. held ≡ statement) }
+    {
+        let nodes = statement.nodes();
+        Subtree::new(alloc, statement, nodes)
+    }
+
     /// The number of nodes, or the largest count.
     pub(crate) fn nodes(&self) -> u32 {
         self.nodes_below().saturating_add(1)
@@ -197,6 +208,14 @@ impl Statement {
 }
 
 impl Expr {
+    /// In a box, with the count of its nodes.
+    pub fn held(alloc: Global, expr: Expr) -> Result<Subtree<Expr>, AllocError>
+        ensures { IfOk result (λ held. held ≡ expr) }
+    {
+        let nodes = expr.nodes();
+        Subtree::new(alloc, expr, nodes)
+    }
+
     /// The number of nodes, or the largest count.
     pub(crate) fn nodes(&self) -> u32 {
         self.nodes_below().saturating_add(1)

@@ -81,7 +81,10 @@ pub enum Access {
 /// A literal that is a keyword.
 #[derive(Clone, Copy, Debug, PartialEq, Eq)]
 pub enum Constant {
+    /// `true`
     True,
+    /// `false`
     False,
+    /// `null`
     Null,
 }

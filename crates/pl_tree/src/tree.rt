@@ -1,14 +1,18 @@
-ghost use Rattle.std.specs.Prelude.{◌≡◌, [], IfOk};
+//! The tree of a script. A place, `at`, is the first byte of a token, counted from 0.
+
+ghost use Rattle.std.specs.Prelude.{◌≡◌, []};
 
 use crate::operator::{Access, BinaryOperator, Constant, Step, UnaryOperator};
 use pl_types::Primitive;
 use plain_data::{Items, Subtree, Text};
-use std::alloc::{AllocError, Global};
+use std::alloc::Global;
 
 /// A script: its functions, then its statements.
 #[derive(Drop)]
 pub struct Tree {
+    /// The functions, in their order.
     pub functions: Items<Function>,
+    /// The statements, in their order.
     pub statements: Items<Subtree<Statement>>,
 }
 
@@ -30,13 +34,17 @@ impl Tree {
 /// A token with the bytes that spell it.
 #[derive(Drop)]
 pub struct Spelled {
+    /// The place of the token.
     pub at: u32,
+    /// Its bytes.
     pub spelling: Text,
 }
 
 /// A type, as it is written.
 pub struct TypeName {
+    /// The place of its first token.
     pub at: u32,
+    /// What it begins with.
     pub base: TypeBase,
     /// Where each `[` of its `[]` stands.
     pub brackets: Items<u32>,
@@ -69,7 +77,9 @@ impl TypeName {
 /// What a type begins with.
 #[derive(Drop)]
 pub enum TypeBase {
+    /// `def`
     Def,
+    /// A primitive type.
     Primitive(Primitive),
     /// The number of a class.
     Class(u32),
@@ -79,9 +89,13 @@ pub enum TypeBase {
 
 /// A user's function.
 pub struct Function {
+    /// The type of its result.
     pub result: TypeName,
+    /// Its name.
     pub name: Spelled,
+    /// Its parameters, in their order.
     pub parameters: Items<Parameter>,
+    /// Its block.
     pub body: Block,
 }
 
@@ -98,7 +112,9 @@ impl Drop for Function {
 
 /// A parameter of a function or of a lambda. A function's has a type.
 pub struct Parameter {
+    /// The type, if it has one.
     pub of: Option<TypeName>,
+    /// The name.
     pub name: Spelled,
 }
 
@@ -114,7 +130,9 @@ impl Drop for Parameter {
 /// `{ .. }`, at its `{`.
 #[cycle(tree)]
 pub struct Block {
+    /// The place of the `{`.
     pub at: u32,
+    /// The statements, in their order.
     pub statements: Items<Subtree<Statement>>,
 }
 
@@ -132,13 +150,16 @@ impl Drop for Block {
 #[cycle(tree)]
 #[derive(Drop)]
 pub enum Body {
+    /// A block.
     Block(Block),
+    /// A statement alone.
     Statement(Subtree<Statement>),
 }
 
 /// A statement.
 #[cycle(tree)]
 pub enum Statement {
+    /// `if (condition) then`, or with `else otherwise` behind it.
     If {
         at: u32,
         condition: Subtree<Expr>,
@@ -180,22 +201,28 @@ pub enum Statement {
         block: Block,
         catches: Items<Catch>,
     },
+    /// `do block while (condition)`
     Do {
         at: u32,
         block: Block,
         condition: Subtree<Expr>,
     },
+    /// A declaration.
     Declare(Declaration),
+    /// `continue`
     Continue {
         at: u32,
     },
+    /// `break`
     Break {
         at: u32,
     },
+    /// `return`, or with a value.
     Return {
         at: u32,
         value: Option<Argument>,
     },
+    /// `throw value`
     Throw {
         at: u32,
         value: Subtree<Expr>,
@@ -294,20 +321,12 @@ impl Drop for Statement {
     }
 }
 
-impl Statement {
-    /// In a box, with the count of its nodes.
-    pub fn held(alloc: Global, statement: Statement) -> Result<Subtree<Statement>, AllocError>
-        ensures { IfOk result (λ held. held ≡ statement) }
-    {
-        let nodes = statement.nodes();
-        Subtree::new(alloc, statement, nodes)
-    }
-}
-
 /// What a `for` does first.
 #[cycle(tree)]
 pub enum First {
+    /// A declaration.
     Declare(Declaration),
+    /// An expression.
     Expression(Subtree<Expr>),
 }
 
@@ -324,7 +343,9 @@ impl Drop for First {
 /// Variables of one type, one at least.
 #[cycle(tree)]
 pub struct Declaration {
+    /// The type.
     pub of: TypeName,
+    /// The variables, in their order.
     pub variables: Items<Variable>,
 }
 
@@ -341,7 +362,9 @@ impl Drop for Declaration {
 /// A variable, at its name.
 #[cycle(tree)]
 pub struct Variable {
+    /// The name.
     pub name: Spelled,
+    /// What is assigned to it, if anything is.
     pub value: Option<Argument>,
 }
 
@@ -358,9 +381,13 @@ impl Drop for Variable {
 /// `catch (of name) block`
 #[cycle(tree)]
 pub struct Catch {
+    /// The place of the `catch`.
     pub at: u32,
+    /// The class of the exceptions that are caught.
     pub of: TypeName,
+    /// The name of the exception in the block.
     pub name: Spelled,
+    /// The block.
     pub block: Block,
 }
 
@@ -412,6 +439,7 @@ pub enum Expr {
         operand: Subtree<Expr>,
         of: TypeName,
     },
+    /// An operator before its operand, at the operator.
     Unary {
         operator: UnaryOperator,
         at: u32,
@@ -440,6 +468,7 @@ pub enum Expr {
         at: u32,
         inner: Subtree<Expr>,
     },
+    /// A whole number.
     Integer {
         at: u32,
         spelling: Text,
@@ -449,18 +478,22 @@ pub enum Expr {
         at: u32,
         spelling: Text,
     },
+    /// `true`, `false` or `null`.
     Constant {
         constant: Constant,
         at: u32,
     },
+    /// `[items]`, at the `[`.
     List {
         at: u32,
         items: Items<Subtree<Expr>>,
     },
+    /// `[key: value, ..]`, at the `[`.
     Map {
         at: u32,
         entries: Items<Entry>,
     },
+    /// A name.
     Name {
         at: u32,
         spelling: Text,
@@ -524,8 +557,7 @@ pub enum Expr {
 }
 
 impl Drop for Expr {
-    /// Expressions inside expressions are let go in a loop, since they may nest too deep for the machine's stack: it goes on with the
-    /// one of most nodes, and the others are let go by calls, which nest at most as the logarithm of the number of nodes.
+    /// In a loop, as a `Statement`: it goes on with the expression of most nodes, and lets the others go by calls.
     #[cycle(letting_go)]
     fn drop(mut self) {
         loop {
@@ -678,20 +710,12 @@ impl Drop for Expr {
     }
 }
 
-impl Expr {
-    /// In a box, with the count of its nodes.
-    pub fn held(alloc: Global, expr: Expr) -> Result<Subtree<Expr>, AllocError>
-        ensures { IfOk result (λ held. held ≡ expr) }
-    {
-        let nodes = expr.nodes();
-        Subtree::new(alloc, expr, nodes)
-    }
-}
-
 /// A key of a map, and its value.
 #[cycle(tree)]
 pub struct Entry {
+    /// The key.
     pub key: Subtree<Expr>,
+    /// The value.
     pub value: Subtree<Expr>,
 }
 
@@ -708,6 +732,7 @@ impl Drop for Entry {
 /// What is passed, assigned at a declaration, or returned.
 #[cycle(tree)]
 pub enum Argument {
+    /// An expression.
     Value(Subtree<Expr>),
     /// A lambda, at its first token.
     Lambda {
@@ -757,7 +782,9 @@ impl Drop for Argument {
 /// What a lambda runs.
 #[cycle(tree)]
 pub enum LambdaBody {
+    /// A block.
     Block(Block),
+    /// An expression.
     Expression(Subtree<Expr>),
 }
 

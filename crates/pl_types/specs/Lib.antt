@@ -1,6 +1,7 @@
 pub mod Answers
 pub mod Casts
 pub mod Classes
+pub mod Host
 pub mod Names
 pub mod Promotions
 pub mod Refusals

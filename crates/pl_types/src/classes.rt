@@ -475,6 +475,7 @@ pub fn class_laws()
     ensures transitive { (a b c : ℕ) → IsTrue (class_is_below a b) → IsTrue (class_is_below b c) → IsTrue (class_is_below a c) }
     // Each name of a class's number is its place in the table.
     ensures numbers { class_numbers ≡ range_with_len 0 57 }
+    ensures count { CLASS_COUNT ≡ 57 }
     // Parents stand before their classes.
     ensures earlier { (a : ℕ) → All (λ parent. parent < a) (parents_of a) }
 {}

@@ -1,3 +1,5 @@
+//! What casts do to values.
+
 use crate::primitive::Primitive;
 
 /// What a cast does to a value.

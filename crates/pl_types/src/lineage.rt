@@ -1,3 +1,5 @@
+//! Which classes stand below which, as a trait.
+
 ghost use Rattle.std.specs.Prelude.{◌≡◌, ℕ, Bool};
 
 /// Which classes stand below which.

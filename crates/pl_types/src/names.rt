@@ -1,3 +1,5 @@
+//! Which names mean classes, as a trait.
+
 ghost use Rattle.std.specs.Prelude.{◌≡◌, ℕ, List, Option};
 
 /// Which names mean classes.

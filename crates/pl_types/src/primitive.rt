@@ -1,3 +1,5 @@
+//! The primitive types.
+
 /// A primitive type.
 #[derive(Clone, Copy, Debug, PartialEq, Eq)]
 pub enum Primitive {

@@ -1,3 +1,5 @@
+//! Why a script is refused, and why a stage that reads one gives nothing.
+
 ghost use Rattle.std.specs.Prelude.{◌≡◌};
 
 use std::alloc::{AllocError, AllocFailed};

@@ -1,8 +1,9 @@
 //! The numbers and names of refusals: of the rules that a script may break, and of what a job, an allowlist or a listing
 //! is refused for.
 
-ghost use Rattle.std.specs.Prelude.{◌≡◌, ◌<◌, ◌≤◌};
-ghost use Rattle.pl_types.specs.Refusals.{rule_name};
+ghost use Rattle.std.specs.Prelude.{◌≡◌, ◌<◌, ◌≤◌, ℕ, List, map};
+ghost use Rattle.std.specs.List.{range_with_len};
+ghost use Rattle.pl_types.specs.Refusals.{refusal_rows, rule_name};
 
 /// No token of the language.
 pub const BAD_TOKEN: u8 = 1;
@@ -125,3 +126,12 @@ pub fn name_of_rule(number: u8) -> &'static str
 {
     NAMES[number as usize - 1]
 }
+
+/// The laws of the numbers of refusals.
+pub fn rule_laws()
+    // A refusal's number is its place in the table, counted from 1.
+    ensures numbers { map (λ (row : ℕ × ℕ × List ℕ). row.0) refusal_rows ≡ range_with_len 1 34 }
+    // Each constant that names a refusal is its number.
+    ensures constants { map (λ (row : ℕ × ℕ × List ℕ). row.1) refusal_rows ≡ map (λ (row : ℕ × ℕ × List ℕ). row.0) refusal_rows }
+    ensures counts { (RULE_COUNT ≡ 20) × (REFUSAL_COUNT ≡ 34) }
+{}

@@ -1,3 +1,5 @@
+//! The types of scripts.
+
 ghost use Rattle.std.specs.Prelude.{◌≡◌, ◌↔◌, IsTrue, IfOk};
 ghost use Rattle.pl_types.specs.Types.{same_types};
 

@@ -1,3 +1,5 @@
+//! Classes, casts, promotions, refusals and the texts of types.
+
 ghost use Rattle.pl_types.specs.Classes.{class_is_below};
 
 use pl_types::classes::{

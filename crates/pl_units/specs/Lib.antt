@@ -1,4 +1,5 @@
 pub mod Order
+pub mod Periods
 pub mod Places
 pub mod Utf16
 pub mod WholeNumber

@@ -1,9 +1,10 @@
+//! Units from scalar values.
 ghost use Rattle.std.specs.Prelude.{◌≡◌, ◌++◌, OnOk};
 ghost use Rattle.pl_units.specs.Utf16.{units_of_scalar};
 
 use std::alloc::AllocError;
 
-// Appends the one or two units of a scalar value.
+/// Appends the one or two units of a scalar value.
 pub fn push_scalar(text: &mut Vec<u16>, scalar: char) -> Result<(), AllocError>
     ensures { OnOk result (text.new.items ≡ text.old.items ++ units_of_scalar scalar) }
 {

@@ -1,3 +1,4 @@
+//! Laws of texts that callers may cite: functions whose contracts are the laws, with nothing to run.
 ghost use Rattle.std.specs.Prelude.{◌≡◌, ℕ, List};
 ghost use Rattle.std.specs.Cmp.{IsTotalOrder};
 ghost use Rattle.std.specs.Cmp.Lexicographic.{slice_cmp};

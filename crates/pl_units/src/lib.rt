@@ -2,8 +2,10 @@
 #![tactic(auto)]
 
 mod convert;
+mod direction;
 mod laws;
 mod number;
+mod periods;
 mod search;
 mod text;
 

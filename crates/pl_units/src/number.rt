@@ -1,3 +1,4 @@
+//! Whole numbers as texts, and the numbers that texts write.
 ghost use Rattle.std.specs.Prelude.{◌≡◌, ◌*◌, ◌+◌, ◌-◌, ◌^◌, ◌<◌, FitsSigned, IfOk, IsTrue, Some};
 ghost use Rattle.std.specs.Char.{IsAsciiDigit};
 ghost use Rattle.std.specs.Fmt.{signed_decimal};

@@ -99,7 +99,7 @@ fn parts(rt: HostRuntime) -> Result<(), Fail> {
 }
 
 /// A text, a part, a start, and the first and the last place.
-const PLACES: [(&str, &str, usize, Option<usize>, Option<usize>); 18] = [
+const PLACES: [(&str, &str, usize, Option<usize>, Option<usize>); 35] = [
     ("", "", 0, Some(0), Some(0)),
     ("", "", 1, None, Some(0)),
     ("abc", "", 0, Some(0), Some(3)),
@@ -118,6 +118,77 @@ const PLACES: [(&str, &str, usize, Option<usize>, Option<usize>); 18] = [
     ("aaaa", "aa", 1, Some(1), Some(2)),
     ("aab", "ab", 0, Some(1), Some(1)),
     ("\u{1F600}b", "b", 0, Some(2), Some(2)),
+    ("aaaaaaab", "aaaab", 0, Some(3), Some(3)),
+    ("aaaaaaaaaa", "aaaaab", 0, None, None),
+    ("baaaaaaaaa", "baaaaa", 0, Some(0), Some(0)),
+    ("aaaaaaaaaa", "aaaaaa", 3, Some(3), Some(4)),
+    ("aaaaaaaaaa", "aaaaaa", 5, None, Some(4)),
+    ("abababababac", "ababac", 0, Some(6), Some(6)),
+    ("ababababab", "ababab", 1, Some(2), Some(4)),
+    ("ababababab", "bababb", 0, None, None),
+    (
+        "abaababaabaababaababaabaababaabaab",
+        "abaababaabaababaababa",
+        0,
+        Some(0),
+        Some(0),
+    ),
+    (
+        "abaababaabaababaababaabaababaabaab",
+        "abaababaabaababaababa",
+        1,
+        None,
+        Some(0),
+    ),
+    (
+        "abaababaabaababaababaabaababaabaab",
+        "abaababaabaababaababab",
+        0,
+        None,
+        None,
+    ),
+    (
+        "abaababaabaababaababaabaababaabaab",
+        "abaababaabaababaababaabaababaabaab",
+        0,
+        Some(0),
+        Some(0),
+    ),
+    (
+        "abaababaabaababaababaabaababaabaab",
+        "abaababaabaababaababaabaababaabaab",
+        34,
+        None,
+        Some(0),
+    ),
+    (
+        "abaababaabaababaababaabaababaabaab",
+        "",
+        34,
+        Some(34),
+        Some(34),
+    ),
+    (
+        "aaabaaabaaabaaabaaabaaab",
+        "aaabaaabaaabaaaa",
+        0,
+        None,
+        None,
+    ),
+    (
+        "aaabaaabaaabaaabaaabaaabaaaa",
+        "aaabaaabaaabaaaa",
+        0,
+        Some(12),
+        Some(12),
+    ),
+    (
+        "aaaabaaabaaabaaabaaabaaab",
+        "aaabaaabaaabaaab",
+        2,
+        Some(5),
+        Some(9),
+    ),
 ];
 
 fn stands(

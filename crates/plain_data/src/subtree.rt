@@ -1,3 +1,5 @@
+//! Parts of trees.
+
 ghost use Rattle.std.specs.Prelude.{◌≡◌, IfOk};
 
 use std::alloc::{AllocError, Global};
@@ -27,12 +29,14 @@ impl<T> Model for Subtree<T> {
 }
 
 impl<T> Subtree<T> {
+    /// The part.
     pub fn get(&self) -> &T
         ensures { result.now ≡ self.now }
     {
         &self.inner
     }
 
+    /// Takes the part out of its box.
     pub fn into_inner(self) -> T
         ensures { result ≡ self }
     {
@@ -56,6 +60,7 @@ pub fn nodes_of<T>(parts: &[Subtree<T>]) -> u32 {
 }
 
 impl<T: Drop> Subtree<T> {
+    /// Puts a part in a box, with the count of its nodes.
     pub fn new(alloc: Global, part: T, nodes: u32) -> Result<Subtree<T>, AllocError>
         ensures { IfOk result (λ subtree. subtree ≡ part) }
     {

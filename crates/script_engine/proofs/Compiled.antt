@@ -11,13 +11,13 @@ use Rattle.typing_rules.specs.declared.header.ContextTypes.{ContextTypes}
 use Rattle.typing_rules.specs.Rules.Functions.{headers, main_start, main}
 use Rattle.typing_rules.specs.Typing.{doer, statements, ran, functions, main_of, program, typing_of}
 use Rattle.typed_tree.specs.declared.program.Program.{Program}
-use Rattle.program_meaning.specs.Programs.{fun_of, program_of, variable_of}
-use Rattle.program_types.specs.Agreeing.{known, WellFormed}
-use Rattle.program_types.specs.Reached.{Reached}
-use Rattle.program_code.specs.Correct.{IsCodeOf}
-use Rattle.typing_laws.specs.Laws.{IsContext}
-use Rattle.typing_laws.proofs.Parts.{passed, accepted, settled}
-use Rattle.typing_laws.proofs.Functions.{typing_is_sound, typing_reaches}
+use Rattle.source_meaning.specs.Programs.{fun_of, program_of, variable_of}
+use Rattle.program_typing.specs.Agreeing.{known, WellFormed}
+use Rattle.program_typing.specs.Reached.{Reached}
+use Rattle.compiler_relation.specs.Correct.{IsCodeOf}
+use Rattle.typing_soundness.specs.Laws.{IsContext}
+use Rattle.typing_soundness.proofs.Parts.{passed, accepted, settled}
+use Rattle.typing_soundness.proofs.Functions.{typing_is_sound, typing_reaches}
 use Rattle.allowlist.specs.Allow.{AllowList}
 use Rattle.script_engine.specs.declared.compiling.Script.{Script}
 use Rattle.script_engine.specs.Programs.{TypesTokens, IsProgramOf}

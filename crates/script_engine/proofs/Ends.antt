@@ -1,21 +1,22 @@
 -- A program's run ends in one way.
-use Rattle.std.proofs.Common.{◌≡◌, ℕ, ◌≤◌, ◌+◌, List, [], Option, Some, None, refl, ap, ◌∙◌, arith}
+use Rattle.std.proofs.Common.{◌≡◌, ℕ, ◌≤◌, ◌+◌, List, [], Option, Some, None, refl, sym, subst, ap, ◌∙◌, arith}
 use Rattle.pl_types.specs.declared.ty.Ty.{Ty}
 use Rattle.allowlist.specs.Allow.{AllowList}
 use Rattle.object_values.specs.declared.value.Value.{Value}
 use Rattle.object_values.specs.declared.object.Owner.TheVariants.{Script}
-use Rattle.run_world.specs.World.{World, Limits, End, Result, Uncaught, Limited}
+use Rattle.run_state.specs.World.{World, Limits, End, Result, Uncaught, Limited}
 use Rattle.typed_tree.specs.declared.program.Program.{Program}
-use Rattle.program_meaning.specs.Programs.{fun_of, program_of}
-use Rattle.program_meaning.specs.Tree.{Fun}
-use Rattle.program_meaning.specs.Meaning.{Env, Out, Done, Thrown, Over, More, Flow, Normal, Broke, Continued, Returned, default_of, entry, meaning}
-use Rattle.program_meaning.specs.Laws.{Stays}
-use Rattle.program_meaning.proofs.Greater.{stays_above}
-use Rattle.program_types.specs.Types.{HaveAll}
-use Rattle.program_types.specs.Agreeing.{known, types_in, WellFormed}
-use Rattle.program_types.specs.Enough.{enough, IsEnough}
-use Rattle.program_types.proofs.Enough.{comes_to_an_end}
-use Rattle.script_engine.specs.Ends.{given, end_of, end_in, end_at, RunsTo}
+use Rattle.source_meaning.specs.Programs.{fun_of, program_of}
+use Rattle.source_meaning.specs.Tree.{Fun}
+use Rattle.source_meaning.specs.Meaning.{Env, Out, Done, Thrown, Over, More, Flow, Normal, Broke, Continued, Returned, default_of, entry, meaning}
+use Rattle.source_meaning.specs.Laws.{Stays}
+use Rattle.source_meaning.proofs.Greater.{stays_above}
+use Rattle.program_typing.specs.Types.{HaveAll}
+use Rattle.program_typing.specs.Agreeing.{known, types_in, WellFormed}
+use Rattle.program_typing.specs.Enough.{enough, IsEnough}
+use Rattle.program_typing.proofs.Enough.{comes_to_an_end}
+use Rattle.script_engine.specs.Ends.{alone, given, end_of, end_in, end_at, RunsTo}
+use Rattle.script_engine.proofs.Alone.{with_no_prelude}
 
 -- what was come to at a bound is come to at every greater one
 stays_end : (of : Ty) (o other : Out Flow) (end : End Value) → Stays o other → end_of of o ≡ Some end → end_of of other ≡ Some end
@@ -28,7 +29,7 @@ stays_in : (p : Program) (limits : Limits) (k m : ℕ) → k ≤ m → (main : F
     → end_in p limits k main o w ≡ Some end → end_in p limits m main o w ≡ Some end
 stays_in p limits k m h main None w end is = cc
 stays_in p limits k m h main (Some e) w end is =
-    stays_end main.result _ _ end ((stays_above (program_of p) limits k m h).stmts main.body (record { text = Script; depth = 0 }) (record { world = w; turns = 0 }) e) is
+    stays_end main.result _ _ end ((stays_above (alone p) limits k m h).stmts main.body (record { text = Script; depth = 0 }) (record { world = w; turns = 0 }) e) is
 
 pub ends_once : (p : Program) (limits : Limits) (args : List Value) (w : World) (end other : End Value) → RunsTo p limits args w end → RunsTo p limits args w other → end ≡ other
 ends_once p limits args w end other a b =
@@ -54,9 +55,10 @@ comes of More x = absurd x
 pub ends_some : (allow : AllowList) (p : Program) → WellFormed (known allow (program_of p)) → (limits : Limits) → limits.allowed ≡ allow → (args : List Value) → HaveAll (types_in (fun_of p.main).params) args → (w : World)
     → (end : End Value) × RunsTo p limits args w end
 ends_some allow p formed limits allowed args have w =
-    let funs = program_of p in
+    let funs = alone p in
     let main = fun_of p.main in
     let bound = enough funs w in
-    let ran = comes_to_an_end (known allow funs) formed limits main allowed refl args have w bound (omega arith) in
+    let held = with_no_prelude p limits (subst (λ list. WellFormed (known list (program_of p))) (sym allowed) formed) in
+    let ran = comes_to_an_end funs limits held main refl args have w bound (omega arith) in
     let last = comes main.result ((meaning funs limits bound).stmts (record { text = Script; depth = 0 }) (record { world = w; turns = 0 }) ran.0 main.body) ran.2 in
     (last.end, record { bound = bound; is = ap (λ o. end_in p limits bound main o w) ran.1 ∙ last.is })

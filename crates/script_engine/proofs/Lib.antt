@@ -1,3 +1,4 @@
+pub mod Alone
 pub mod Stages
 pub mod Placed
 pub mod Compiled

@@ -13,36 +13,37 @@ use Rattle.object_heap.specs.Store.{Store}
 use Rattle.object_heap.specs.declared.outcome.End as left_end
 use Rattle.object_heap.specs.declared.outcome.End.TheVariants as l
 use Rattle.object_heap.specs.declared.outcome.Outcome.{Outcome}
-use Rattle.run_world.specs.World as run
-use Rattle.run_world.specs.World.{World, Limit, End, Result, Uncaught, Limited}
+use Rattle.run_state.specs.World as run
+use Rattle.run_state.specs.World.{World, Limit, End, Result, Uncaught, Limited}
 use Rattle.typed_tree.specs.declared.program.Program.{Program}
-use Rattle.program_meaning.specs.Programs.{fun_of, program_of}
-use Rattle.program_meaning.specs.Tree.{Variable, Fun}
-use Rattle.program_meaning.specs.Meaning.{Env, Out, Done, Thrown, Over, More, Flow, Normal, Broke, Continued, Returned, entry, returned, default_of, default_of_layer, default_of_primitive, meaning}
+use Rattle.source_meaning.specs.Programs.{fun_of, program_of}
+use Rattle.source_meaning.specs.Tree.{Variable, Fun}
+use Rattle.source_meaning.specs.Meaning.{Env, Out, Done, Thrown, Over, More, Flow, Normal, Broke, Continued, Returned, entry, returned, default_of, default_of_layer, default_of_primitive, meaning}
 use Rattle.object_values.specs.declared.object.Owner.TheVariants.{Script as script_text}
-use Rattle.program_types.specs.Types.{Has, HasLayer, HasPrimitive, HaveAll}
-use Rattle.program_types.specs.Agreeing.{known, types_in, WellFormed}
-use Rattle.program_types.specs.Enough.{enough, FlowOut, IsEnough}
-use Rattle.program_types.proofs.Enough.{comes_to_an_end}
-use Rattle.program_code.specs.Lying.{lying_of, lying_of_layer, low, kind_of, kind_of_layer, kind_of_primitive}
-use Rattle.program_code.specs.Stands.{kinds_of}
-use Rattle.program_code.specs.Correct as code
-use Rattle.program_code.specs.Correct.{EndsAs, Words}
-use Rattle.program_outcome.specs.Outcome.{CodeEndsAsPrograms}
+use Rattle.program_typing.specs.Types.{Has, HasLayer, HasPrimitive, HaveAll}
+use Rattle.program_typing.specs.Agreeing.{known, types_in, WellFormed}
+use Rattle.program_typing.specs.Enough.{enough, FlowOut, IsEnough}
+use Rattle.program_typing.proofs.Enough.{comes_to_an_end}
+use Rattle.compiler_relation.specs.Lying.{lying_of, lying_of_layer, low, kind_of, kind_of_layer, kind_of_primitive}
+use Rattle.compiler_relation.specs.Stands.{kinds_of}
+use Rattle.compiler_relation.specs.Correct as code
+use Rattle.compiler_relation.specs.Correct.{EndsAs, Words}
+use Rattle.compiled_outcome.specs.Outcome.{CodeEndsAsPrograms}
 use Rattle.code_meaning.specs.declared.word.Word.{Word}
 use Rattle.code_meaning.specs.Words.{bit, unboxed}
 use Rattle.code_meaning.specs.Machine as code_config
 use Rattle.code_meaning.specs.Machine.{Next, Goes, Ends, start, after}
-use Rattle.code_machine.specs.declared.configuration.Limits.{Limits}
-use Rattle.code_machine.specs.declared.configuration.End as run_end
-use Rattle.code_machine.specs.declared.configuration.End.TheVariants as r
-use Rattle.code_machine.specs.Seen.{limits_of, limit_of, ended}
+use Rattle.machine.specs.declared.configuration.Limits.{Limits}
+use Rattle.machine.specs.declared.configuration.End as run_end
+use Rattle.machine.specs.declared.configuration.End.TheVariants as r
+use Rattle.machine.specs.Seen.{codes_of, limits_of, limit_of, ended}
 use Rattle.task_core.specs.declared.task.Turn.TheVariants as turn
-use Rattle.code_machine.specs.Activations.{Activation, later, is_over, Turned}
-use Rattle.code_machine.proofs.Turning.{comes_to_its_end}
+use Rattle.machine.specs.Activations.{Activation, later, is_over, Turned}
+use Rattle.machine.proofs.Turning.{comes_to_its_end}
 use Rattle.script_engine.specs.declared.compiling.Script.{Script}
-use Rattle.script_engine.specs.Ends.{end_of, end_in, end_with, given, given_layer}
-use Rattle.script_engine.specs.Running.{is_read_layer, IsRead, value_by, value_of, word_in, words_in, params_of, end_left, end_seen, world_left, world_at, LeftBy, IsOutcome, RunsAsItsProgram}
+use Rattle.script_engine.specs.Ends.{alone, end_of, end_in, end_with, given, given_layer}
+use Rattle.script_engine.proofs.Alone.{no_prelude_code, with_no_prelude}
+use Rattle.script_engine.specs.Running.{value_by, value_of, word_in, words_in, params_of, end_left, end_seen, world_left, world_at, LeftBy, IsOutcome, RunsAsItsProgram}
 
 -- ---- where a run of code stands that has ended
 
@@ -55,13 +56,13 @@ first_or_last n m = elim (cases_order n m) [
   | inr lt ↦ elim lt [ inl below ↦ inl (omega arith) | inr above ↦ inr above ]
 ]
 
-ends_there : (a : Activation) (from : Next) (end : End (Option Word)) → a.now ≡ Some from → EndsAs a.code (limits_of a.limits a.allow) from end → (q : ℕ)
+ends_there : (a : Activation) (from : Next) (end : End (Option Word)) → a.now ≡ Some from → EndsAs (codes_of a.code) (limits_of a.limits a.allow) from end → (q : ℕ)
     → IsTrue (is_over (later q a).now) → (later q a).now ≡ Some (Ends end)
 ends_there a from end stands ran q over = elim (first_or_last ran.steps q) [
   | inl within ↦ comes_to_its_end a from ran.steps q end stands ran.ends within
   | inr early ↦
       (let c = ran.before q early in
-      let goes : (later q a).now ≡ Some (Goes c.0) = ap (option_map (after a.code (limits_of a.limits a.allow) q)) stands ∙ ap (λ n. Some n) c.1 in
+      let goes : (later q a).now ≡ Some (Goes c.0) = ap (option_map (after (codes_of a.code) (limits_of a.limits a.allow) q)) stands ∙ ap (λ n. Some n) c.1 in
       absurd (not_going c.0 (subst (λ now. IsTrue (is_over now)) goes over)))
 ]
 
@@ -71,22 +72,22 @@ boolean_read : (flag : Bool) → v.Bool (not (int_eq (bit flag) (pos 0))) ≡ v.
 boolean_read true = refl
 boolean_read false = refl
 
-read_primitive : (p : Primitive) → is_read_layer (Ty-F.Prim p) → (value : Value) → HasPrimitive p value → value_by (Ty-F.Prim p) (Some (unboxed value)) ≡ value
-read_primitive prim.Boolean read value has = subst (λ x. value_by (Ty-F.Prim prim.Boolean) (Some (unboxed x)) ≡ x) (sym has.1) (boolean_read has.0)
-read_primitive prim.Byte read value has = absurd read
-read_primitive prim.Short read value has = absurd read
-read_primitive prim.Char read value has = absurd read
-read_primitive prim.Int read value has = subst (λ x. value_by (Ty-F.Prim prim.Int) (Some (unboxed x)) ≡ x) (sym has.1) refl
-read_primitive prim.Long read value has = subst (λ x. value_by (Ty-F.Prim prim.Long) (Some (unboxed x)) ≡ x) (sym has.1) refl
+read_primitive : (p : Primitive) (value : Value) → HasPrimitive p value → value_by (Ty-F.Prim p) (Some (unboxed value)) ≡ given_layer (Ty-F.Prim p) value
+read_primitive prim.Boolean value has = subst (λ x. value_by (Ty-F.Prim prim.Boolean) (Some (unboxed x)) ≡ given_layer (Ty-F.Prim prim.Boolean) x) (sym has.1) (boolean_read has.0)
+read_primitive prim.Byte value has = subst (λ x. value_by (Ty-F.Prim prim.Byte) (Some (unboxed x)) ≡ given_layer (Ty-F.Prim prim.Byte) x) (sym has.1) refl
+read_primitive prim.Short value has = subst (λ x. value_by (Ty-F.Prim prim.Short) (Some (unboxed x)) ≡ given_layer (Ty-F.Prim prim.Short) x) (sym has.1) refl
+read_primitive prim.Char value has = subst (λ x. value_by (Ty-F.Prim prim.Char) (Some (unboxed x)) ≡ given_layer (Ty-F.Prim prim.Char) x) (sym has.1) refl
+read_primitive prim.Int value has = subst (λ x. value_by (Ty-F.Prim prim.Int) (Some (unboxed x)) ≡ given_layer (Ty-F.Prim prim.Int) x) (sym has.1) refl
+read_primitive prim.Long value has = subst (λ x. value_by (Ty-F.Prim prim.Long) (Some (unboxed x)) ≡ given_layer (Ty-F.Prim prim.Long) x) (sym has.1) refl
 
 -- a value of a type that is read, by its word
-read_back : (l : Ty-F Ty) → is_read_layer l → (value : Value) → HasLayer l value → value_by l (low (lying_of_layer l) value) ≡ given_layer l value
-read_back Ty-F.Void read value has = refl
-read_back Ty-F.Null read value has = refl
-read_back Ty-F.Def read value has = refl
-read_back (Ty-F.Prim p) read value has = read_primitive p read value has
-read_back (Ty-F.Class class) read value has = refl
-read_back (Ty-F.Array of) read value has = refl
+read_back : (l : Ty-F Ty) (value : Value) → HasLayer l value → value_by l (low (lying_of_layer l) value) ≡ given_layer l value
+read_back Ty-F.Void value has = refl
+read_back Ty-F.Null value has = refl
+read_back Ty-F.Def value has = refl
+read_back (Ty-F.Prim p) value has = read_primitive p value has
+read_back (Ty-F.Class class) value has = refl
+read_back (Ty-F.Array of) value has = refl
 
 default_has_primitive : (p : Primitive) → HasPrimitive p (default_of_primitive p)
 default_has_primitive prim.Boolean = (false, refl)
@@ -117,21 +118,21 @@ given_has of (Returned value) out x is = subst (Has of) (same_given value x is) 
 result_at : (value other : Value) (s w : World) → value ≡ other → s ≡ w → Some (Result value s) ≡ Some (Result other w)
 result_at value other s w v e = ap (λ x. Some (Result x s)) v ∙ ap (λ x. Some (Result other x)) e
 
-with_value : (of : Ty) → IsRead of → (value : Option Value) → ((x : Value) → value ≡ Some x → Has of x) → (s w : World) (word : Option Word)
+with_value : (of : Ty) (value : Option Value) → ((x : Value) → value ≡ Some x → Has of x) → (s w : World) (word : Option Word)
     → code.end_with of value s ≡ Some (Result word w) → end_with of value s ≡ Some (Result (value_of of word) w)
-with_value of read None has s w word is = cc
-with_value of read (Some value) has s w word is =
+with_value of None has s w word is = cc
+with_value of (Some value) has s w word is =
     let words : low (lying_of of) value ≡ word = cc in
     let worlds : s ≡ w = cc in
-    let back : value_of of (low (lying_of of) value) ≡ given of value = read_back (out-Ty of) read value (has value refl) in
+    let back : value_of of (low (lying_of of) value) ≡ given of value = read_back (out-Ty of) value (has value refl) in
     result_at (given of value) (value_of of word) s w (sym back ∙ ap (value_of of) words) worlds
 
-value_end : (of : Ty) → IsRead of → (o : Out Flow) → IsEnough of o → (word : Option Word) (w : World) → code.end_of of o ≡ Some (Result word w)
+value_end : (of : Ty) (o : Out Flow) → IsEnough of o → (word : Option Word) (w : World) → code.end_of of o ≡ Some (Result word w)
     → end_of of o ≡ Some (Result (value_of of word) w)
-value_end of read (Done flow s e) enough word w is = with_value of read (returned of flow) (given_has of flow enough) s.world w word is
-value_end of read (Thrown id s e) enough word w is = cc
-value_end of read (Over limit s) enough word w is = cc
-value_end of read More enough word w is = cc
+value_end of (Done flow s e) enough word w is = with_value of (returned of flow) (given_has of flow enough) s.world w word is
+value_end of (Thrown id s e) enough word w is = cc
+value_end of (Over limit s) enough word w is = cc
+value_end of More enough word w is = cc
 
 not_thrown : (of : Ty) (value : Option Value) (s w : World) (id : ℕ) → code.end_with of value s ≡ Some (Uncaught id w) → ⊥
 not_thrown of None s w id is = cc
@@ -169,26 +170,26 @@ limited_end of More limit w is = cc
 
 abbrev main_out : Program → run.Limits → ℕ → Fun → World → Env → Out Flow
 main_out p limits bound main begun e =
-    (meaning (program_of p) limits bound).stmts (record { text = script_text; depth = 0 }) (record { world = begun; turns = 0 }) e main.body
+    (meaning (alone p) limits bound).stmts (record { text = script_text; depth = 0 }) (record { world = begun; turns = 0 }) e main.body
 
-end_read : (p : Program) (limits : run.Limits) (bound : ℕ) (main : Fun) → IsRead main.result → (o : Option Env) (begun : World)
+end_read : (p : Program) (limits : run.Limits) (bound : ℕ) (main : Fun) (o : Option Env) (begun : World)
     → ((e : Env) → o ≡ Some e → IsEnough main.result (main_out p limits bound main begun e)) → (end : run_end.End) (left : left_end.End) (w : World)
-    → end_left main.result end ≡ Some left → (whole : End (Option Word)) → code.source_in (program_of p) limits bound main o begun ≡ Some whole → Ends whole ≡ ended end w
+    → end_left main.result end ≡ Some left → (whole : End (Option Word)) → code.source_in (alone p) limits bound main o begun ≡ Some whole → Ends whole ≡ ended end w
     → end_in p limits bound main o begun ≡ Some (end_seen left w)
-end_read p limits bound main read None begun enough end left w seen whole is same = cc
-end_read p limits bound main read (Some e) begun enough (r.Result word) left w seen whole is same =
+end_read p limits bound main None begun enough end left w seen whole is same = cc
+end_read p limits bound main (Some e) begun enough (r.Result word) left w seen whole is same =
     let ends : whole ≡ Result word w = cc in
-    value_end main.result read (main_out p limits bound main begun e) (enough e refl) word w (is ∙ ap (λ x. Some x) ends)
+    value_end main.result (main_out p limits bound main begun e) (enough e refl) word w (is ∙ ap (λ x. Some x) ends)
     ∙ ap (λ x. Some (end_seen x w)) (let given : l.Value (value_of main.result word) ≡ left = cc in given)
-end_read p limits bound main read (Some e) begun enough (r.Thrown id) left w seen whole is same =
+end_read p limits bound main (Some e) begun enough (r.Thrown id) left w seen whole is same =
     let ends : whole ≡ Uncaught id w = cc in
     thrown_end main.result (main_out p limits bound main begun e) id w (is ∙ ap (λ x. Some x) ends)
     ∙ ap (λ x. Some (end_seen x w)) (let given : l.Thrown id ≡ left = cc in given)
-end_read p limits bound main read (Some e) begun enough (r.Limit which) left w seen whole is same =
+end_read p limits bound main (Some e) begun enough (r.Limit which) left w seen whole is same =
     let ends : whole ≡ Limited (limit_of which) w = cc in
     limited_end main.result (main_out p limits bound main begun e) (limit_of which) w (is ∙ ap (λ x. Some x) ends)
     ∙ ap (λ x. Some (end_seen x w)) (let given : l.Limit which ≡ left = cc in given)
-end_read p limits bound main read (Some e) begun enough r.Stuck left w seen whole is same = cc
+end_read p limits bound main (Some e) begun enough r.Stuck left w seen whole is same = cc
 
 -- ---- arguments
 
@@ -228,45 +229,44 @@ same_env : (o : Option Env) (e e' : Env) → o ≡ Some e → o ≡ Some e' → 
 same_env o e e' is is' = cc
 
 pub runs_as_its_program : CodeEndsAsPrograms → (script : Script) (store : Store) (args : List Value) (limits : Limits) (a : Activation) (q : ℕ) (o : Outcome)
-    → a ≡ record { code = script.executable.code.functions; limits = limits; allow = script.executable.allow; frame = script.executable.frame; now = Some (start script.executable.code.functions (words_in (params_of (slice_get script.executable.code.functions 0)) args) (world_at store limits)); steps = 0 }
+    → a ≡ record { code = script.executable.code.functions; limits = limits; allow = script.executable.allow; frame = script.executable.frame; now = Some (start (codes_of script.executable.code.functions) (words_in (params_of (slice_get script.executable.code.functions 0)) args) (world_at store limits)); steps = 0 }
     → IsTrue (is_over (later q a).now) → LeftBy script.result (later q a) o → RunsAsItsProgram script store args limits o
-runs_as_its_program outcomes script store args limits a q o begun over by allow context p is have read =
-    let funs = program_of p in
+runs_as_its_program outcomes script store args limits a q o begun over by allow context p is have =
+    let funs = alone p in
     let main = fun_of p.main in
     let functions = script.executable.code.functions in
     let gives : script.result ≡ main.result = is.kept ∙ sym is.result in
-    let reads : IsRead main.result = subst IsRead (sym is.result) read in
     let have' : HaveAll (types_in main.params) args = subst (λ ps. HaveAll (types_in ps) args) (sym is.variables) have in
     let w = world_at store limits in
     let kept = limits_of limits script.executable.allow in
-    let formed = subst (λ list. WellFormed (known list funs)) (sym is.allowed) is.formed in
-    let out = outcomes p functions kept formed is.code args have' w in
+    let formed = with_no_prelude p kept (subst (λ list. WellFormed (known list (program_of p))) (sym is.allowed) is.formed) in
+    let out = outcomes p [] (codes_of functions) kept formed is.code no_prelude_code args have' w in
     let first = is.code.each 0 main refl in
     let kinds : params_of (slice_get functions 0) ≡ kinds_of main.params = ap params_of first.is ∙ first.params in
     let words : out.words ≡ words_in (params_of (slice_get functions 0)) args = words_match main.params args out.words out.are.are ∙ ap (λ ks. words_in ks args) (sym kinds) in
     let begin = words_in (params_of (slice_get functions 0)) args in
-    let b : Activation = record { code = functions; limits = limits; allow = script.executable.allow; frame = script.executable.frame; now = Some (start functions begin w); steps = 0 } in
+    let b : Activation = record { code = functions; limits = limits; allow = script.executable.allow; frame = script.executable.frame; now = Some (start (codes_of functions) begin w); steps = 0 } in
     let stands : (later q b).now ≡ Some (Ends out.end) =
-    ends_there b (start functions begin w) out.end refl (subst (λ ws. EndsAs functions kept (start functions ws w) out.end) words out.code_ends) q
+    ends_there b (start (codes_of functions) begin w) out.end refl (subst (λ ws. EndsAs (codes_of functions) kept (start (codes_of functions) ws w) out.end) words out.code_ends) q
     (subst (λ x. IsTrue (is_over (later q x).now)) begun over) in
     let there : Some (Ends out.end) ≡ Some (ended by.end (world_left o by.left)) = sym stands ∙ sym (ap (λ x. (later q x).now) begun) ∙ by.stands in
     let same : Ends out.end ≡ ended by.end (world_left o by.left) = cc in
     let bound = enough funs w in
-    let ran = comes_to_an_end (known script.executable.allow funs) formed kept main refl refl args have' w bound (omega arith) in
+    let ran = comes_to_an_end funs kept formed main refl args have' w bound (omega arith) in
     let enough' : (e : Env) → entry main.params args [] ≡ Some e → IsEnough main.result (main_out p kept bound main w e) =
     λ e h. subst (λ x. IsEnough main.result (main_out p kept bound main w x)) (same_env (entry main.params args []) ran.0 e ran.1 h) ran.2 in
     subst (λ list. IsOutcome list p store args limits o) is.allowed (record {
       left = by.left;
       ends = record {
         bound = bound;
-        is = end_read p kept bound main reads (entry main.params args []) w enough' by.end o.end (world_left o by.left) (subst (λ of. end_left of by.end ≡ Some o.end) gives by.read) out.end (out.ends.always bound (omega arith)) same;
+        is = end_read p kept bound main (entry main.params args []) w enough' by.end o.end (world_left o by.left) (subst (λ of. end_left of by.end ≡ Some o.end) gives by.read) out.end (out.ends.always bound (omega arith)) same;
       };
       ticks = by.ticks ∙ ap (λ x. (later q x).limits.ticks - by.left) begun;
     })
 
 -- .. and so does what a turn that came to the end has left
 pub turned_runs : CodeEndsAsPrograms → (script : Script) (store : Store) (args : List Value) (limits : Limits) (a new : Activation) (q : ℕ) (o : Outcome)
-    → a ≡ record { code = script.executable.code.functions; limits = limits; allow = script.executable.allow; frame = script.executable.frame; now = Some (start script.executable.code.functions (words_in (params_of (slice_get script.executable.code.functions 0)) args) (world_at store limits)); steps = 0 }
+    → a ≡ record { code = script.executable.code.functions; limits = limits; allow = script.executable.allow; frame = script.executable.frame; now = Some (start (codes_of script.executable.code.functions) (words_in (params_of (slice_get script.executable.code.functions 0)) args) (world_at store limits)); steps = 0 }
     → Turned q a new turn.Done → LeftBy script.result new o → RunsAsItsProgram script store args limits o
 turned_runs outcomes script store args limits a new q o begun turned by =
     runs_as_its_program outcomes script store args limits a q o begun (subst (λ x. IsTrue (is_over x.now)) turned.0 turned.1) (subst (λ x. LeftBy script.result x o) turned.0 by)

@@ -1,19 +1,21 @@
 -- How the run of a program ends.
-use Rattle.std.specs.Prelude.{◌≡◌, ℕ, List, [], Option, Some, None}
+use Rattle.std.specs.Prelude.{◌≡◌, ℕ, List, [], Option, Some, None, unwrap_or}
 use Rattle.object_values.specs.declared.value.Value.{Value}
 use Rattle.object_values.specs.declared.object.Owner.TheVariants.{Script}
 use Rattle.object_values.specs.declared.value.Value.TheVariants as v
 use Rattle.pl_types.specs.declared.ty.Ty.{Ty, out-Ty}
 use Rattle.pl_types.specs.declared.ty.Ty.TheOpen.{Ty-F}
-use Rattle.run_world.specs.World.{World, Limits, End, Result, Uncaught, Limited}
+use Rattle.run_state.specs.World.{World, Limits, End, Result, Uncaught, Limited}
 use Rattle.typed_tree.specs.declared.program.Program.{Program}
-use Rattle.program_meaning.specs.Programs.{fun_of, program_of}
-use Rattle.program_meaning.specs.Tree.{Fun}
-use Rattle.program_meaning.specs.Meaning.{Env, Out, Done, Thrown, Over, More, Flow, entry, returned, meaning}
+use Rattle.source_meaning.specs.Programs.{fun_of, program_of}
+use Rattle.source_meaning.specs.Tree.{Fun, Programs}
+use Rattle.source_meaning.specs.Operating.{in_box}
+use Rattle.source_meaning.specs.Meaning.{Env, Out, Done, Thrown, Over, More, Flow, entry, returned, meaning}
 
--- what a function of this result type gives: without a result it is null
+-- what a function of this result type gives: without a result null, and of a primitive type a value in its box
 abbrev pub given_layer : Ty-F Ty → Value → Value
 given_layer Ty-F.Void value = v.Null
+given_layer (Ty-F.Prim p) value = unwrap_or (in_box p value) value
 given_layer other value = value
 
 abbrev pub given : Ty → Value → Value
@@ -30,10 +32,14 @@ end_of of (Thrown id s e) = Some (Uncaught id s.world)
 end_of of (Over limit w) = Some (Limited limit w)
 end_of of More = None
 
+-- a script's program, beside a prelude that has no function yet
+abbrev pub alone : Program → Programs
+alone p = record { script = program_of p; prelude = [] }
+
 abbrev pub end_in : Program → Limits → ℕ → Fun → Option Env → World → Option (End Value)
 end_in p limits bound main None w = None
 end_in p limits bound main (Some e) w =
-    end_of main.result ((meaning (program_of p) limits bound).stmts (record { text = Script; depth = 0 }) (record { world = w; turns = 0 }) e main.body)
+    end_of main.result ((meaning (alone p) limits bound).stmts (record { text = Script; depth = 0 }) (record { world = w; turns = 0 }) e main.body)
 
 -- how the main script's run on these arguments ends at a bound
 abbrev pub end_at : Program → Limits → ℕ → List Value → World → Option (End Value)

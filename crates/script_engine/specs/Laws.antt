@@ -3,13 +3,13 @@ use Rattle.std.specs.Prelude.{◌≡◌, ℕ, List, map, Result, Ok}
 use Rattle.pl_types.specs.declared.refusal.Refusal.{Refusal}
 use Rattle.object_values.specs.declared.value.Value.{Value}
 use Rattle.allowlist.specs.Allow.{AllowList}
-use Rattle.run_world.specs.World.{World, Limits, End}
+use Rattle.run_state.specs.World.{World, Limits, End}
 use Rattle.typing_rules.specs.declared.header.ContextTypes.{ContextTypes}
 use Rattle.typed_tree.specs.declared.program.Program.{Program}
-use Rattle.program_meaning.specs.Programs.{variable_of}
-use Rattle.program_types.specs.Types.{HaveAll}
-use Rattle.program_types.specs.Agreeing.{types_in}
-use Rattle.typing_laws.specs.Laws.{IsContext}
+use Rattle.source_meaning.specs.Programs.{variable_of}
+use Rattle.program_typing.specs.Types.{HaveAll}
+use Rattle.program_typing.specs.Agreeing.{types_in}
+use Rattle.typing_soundness.specs.Laws.{IsContext}
 use Rattle.script_engine.specs.Programs.{IsProgramOf}
 use Rattle.script_engine.specs.Ends.{RunsTo}
 

@@ -1,33 +1,31 @@
 -- What a run of a script leaves.
-use Rattle.std.specs.Prelude.{◌≡◌, ℕ, ◌-◌, ℤ, pos, not, List, [], ◌∷◌, map, Option, Some, None}
-use Rattle.std.specs.Ordering.{int_eq}
+use Rattle.std.specs.Prelude.{◌≡◌, ℕ, ◌-◌, List, [], ◌∷◌, map, Option, Some, None, unwrap_or}
 use Rattle.object_values.specs.declared.value.Value.{Value}
 use Rattle.object_values.specs.declared.value.Value.TheVariants as v
 use Rattle.object_heap.specs.Store.{Store}
 use Rattle.object_heap.specs.declared.outcome.End as left_end
 use Rattle.object_heap.specs.declared.outcome.End.TheVariants as l
 use Rattle.object_heap.specs.declared.outcome.Outcome.{Outcome}
-use Rattle.run_world.specs.World.{World, End, Result, Uncaught, Limited}
+use Rattle.run_state.specs.World.{World, End, Result, Uncaught, Limited}
 use Rattle.typed_tree.specs.declared.program.Program.{Program}
 use Rattle.allowlist.specs.Allow.{AllowList}
 use Rattle.typing_rules.specs.declared.header.ContextTypes.{ContextTypes}
-use Rattle.pl_types.specs.declared.primitive.Primitive.TheVariants as prim
 use Rattle.pl_types.specs.declared.ty.Ty.{Ty, out-Ty}
 use Rattle.pl_types.specs.declared.ty.Ty.TheOpen.{Ty-F}
 use Rattle.pl_code.specs.declared.kinds.Slot.{Slot}
 use Rattle.pl_code.specs.declared.kinds.Slot.TheVariants as slot
 use Rattle.pl_code.specs.declared.code.FunCode.{FunCode}
-use Rattle.program_meaning.specs.Programs.{variable_of}
-use Rattle.program_types.specs.Types.{HaveAll}
-use Rattle.program_types.specs.Agreeing.{types_in}
-use Rattle.code_meaning.specs.Words.{unboxed}
+use Rattle.source_meaning.specs.Programs.{variable_of}
+use Rattle.program_typing.specs.Types.{HaveAll}
+use Rattle.program_typing.specs.Agreeing.{types_in}
+use Rattle.code_meaning.specs.Words.{boxed, unboxed}
 use Rattle.code_meaning.specs.declared.word.Word.{Word}
 use Rattle.code_meaning.specs.declared.word.Word.TheVariants.{I, J, R}
-use Rattle.code_machine.specs.declared.configuration.End as run_end
-use Rattle.code_machine.specs.declared.configuration.End.TheVariants as r
-use Rattle.code_machine.specs.declared.configuration.Limits.{Limits}
-use Rattle.code_machine.specs.Seen.{limits_of, limit_of, ended}
-use Rattle.code_machine.specs.Activations.{Activation}
+use Rattle.machine.specs.declared.configuration.End as run_end
+use Rattle.machine.specs.declared.configuration.End.TheVariants as r
+use Rattle.machine.specs.declared.configuration.Limits.{Limits}
+use Rattle.machine.specs.Seen.{limits_of, limit_of, ended}
+use Rattle.machine.specs.Activations.{Activation}
 use Rattle.script_engine.specs.declared.compiling.Script.{Script}
 use Rattle.script_engine.specs.Compiling.{IsScriptOf}
 use Rattle.script_engine.specs.Ends.{RunsTo}
@@ -51,26 +49,17 @@ params_of (Some f) = f.params
 
 -- ---- results
 
--- the types of results that are read from words: void, a boolean, an int, a long, and every reference
-abbrev pub is_read_layer : Ty-F Ty → Type 0
-is_read_layer (Ty-F.Prim prim.Byte) = ⊥
-is_read_layer (Ty-F.Prim prim.Short) = ⊥
-is_read_layer (Ty-F.Prim prim.Char) = ⊥
-is_read_layer other = Unit {0}
+-- the value of a word that is of no primitive type
+abbrev pub plain_value : Word → Value
+plain_value (I a) = v.Int a
+plain_value (J a) = v.Long a
+plain_value (R value) = value
 
-abbrev pub IsRead : Ty → Type 0
-IsRead of = is_read_layer (out-Ty of)
-
--- an int is a boolean where one is wanted
-abbrev pub value_of_int : Ty-F Ty → ℤ → Value
-value_of_int (Ty-F.Prim prim.Boolean) a = v.Bool (not (int_eq a (pos 0)))
-value_of_int other a = v.Int a
-
+-- a number is read by the primitive type that is wanted
 abbrev pub value_by : Ty-F Ty → Option Word → Value
 value_by layer None = v.Null
-value_by layer (Some (I a)) = value_of_int layer a
-value_by layer (Some (J a)) = v.Long a
-value_by layer (Some (R value)) = value
+value_by (Ty-F.Prim p) (Some word) = unwrap_or (boxed p word) v.Null
+value_by other (Some word) = plain_value word
 
 -- the value of a word that a script of this result type gives
 abbrev pub value_of : Ty → Option Word → Value
@@ -110,8 +99,8 @@ pub record IsOutcome (allow : AllowList) (p : Program) (store : Store) (args : L
   pub ends : RunsTo p (limits_of limits allow) args (world_at store limits) (end_seen o.end (world_left o left))
   pub ticks : o.ticks ≡ limits.ticks - left
 
--- A script runs as its program does, on arguments of the types of the context's variables, where the context's result is read.
+-- A script runs as its program does, on arguments of the types of the context's variables.
 abbrev pub RunsAsItsProgram : Script → Store → List Value → Limits → Outcome → Type 0
 RunsAsItsProgram script store args limits o =
     (allow : AllowList) (context : ContextTypes) (p : Program) → IsScriptOf allow context p script → HaveAll (types_in (map variable_of context.variables)) args
-    → IsRead context.result → IsOutcome allow p store args limits o
+    → IsOutcome allow p store args limits o

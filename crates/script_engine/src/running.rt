@@ -1,17 +1,16 @@
 //! Runs of scripts.
 
 ghost use Rattle.std.specs.Prelude.{◌≡◌, IfOk, slice_get};
-ghost use Rattle.pl_types.specs.declared.ty.Ty.{out-Ty};
-ghost use Rattle.script_engine.specs.Running.{RunsAsItsProgram, LeftBy, value_of, value_of_int, word_in, words_in, end_left, params_of};
+ghost use Rattle.script_engine.specs.Running.{RunsAsItsProgram, LeftBy, plain_value, value_of, word_in, words_in, end_left, params_of};
 
 use crate::compiling::Script;
-use code_machine::{Activation, Limits, unboxed};
 use code_meaning::Word;
+use compiled_outcome::programs_end;
+use machine::{Activation, Limits, boxed, unboxed};
 use object_heap::{End, Heap, Outcome};
 use object_values::{Elements, Value};
 use pl_code::{Code, Slot};
-use pl_types::{Primitive, Ty};
-use program_outcome::programs_end;
+use pl_types::Ty;
 use std::alloc::{AllocError, Global};
 use task_core::Turn;
 
@@ -55,12 +54,14 @@ fn params_of(code: &Code) -> &[Slot]
     }
 }
 
-fn value_of_int(of: &Ty, number: i32) -> Value
-    ensures { result ≡ value_of_int (out-Ty of.now) number }
+/// The value of a word that is of no primitive type. It takes memory for a text alone.
+fn plain_value(word: &Word) -> Result<Value, AllocError>
+    ensures { IfOk result (λ value. value ≡ plain_value word.now) }
 {
-    match of {
-        Ty::Prim(Primitive::Boolean) => Value::Bool(number != 0),
-        _ => Value::Int(number),
+    match word {
+        Word::I(number) => Ok(Value::Int(*number)),
+        Word::J(number) => Ok(Value::Long(*number)),
+        Word::R(value) => value.share(),
     }
 }
 
@@ -68,23 +69,22 @@ fn value_of_int(of: &Ty, number: i32) -> Value
 fn value_of(of: &Ty, word: &Option<Word>) -> Result<Value, AllocError>
     ensures { IfOk result (λ value. value ≡ value_of of.now word.now) }
 {
-    match word {
-        None => Ok(Value::Null),
-        Some(Word::I(number)) => Ok(value_of_int(of, *number)),
-        Some(Word::J(number)) => Ok(Value::Long(*number)),
-        Some(Word::R(value)) => value.share(),
+    match (word, of) {
+        (None, _) => Ok(Value::Null),
+        (Some(word), Ty::Prim(primitive)) => Ok(boxed(*primitive, word).unwrap_or(Value::Null)),
+        (Some(word), _) => plain_value(word),
     }
 }
 
 /// The end of a run, with its value.
-fn end_left(of: &Ty, end: &code_machine::End) -> Result<Option<End>, AllocError>
+fn end_left(of: &Ty, end: &machine::End) -> Result<Option<End>, AllocError>
     ensures { IfOk result (λ left. left ≡ end_left of.now end.now) }
 {
     match end {
-        code_machine::End::Result(word) => Ok(Some(End::Value(value_of(of, word)?))),
-        code_machine::End::Thrown(id) => Ok(Some(End::Thrown(*id))),
-        code_machine::End::Limit(which) => Ok(Some(End::Limit(*which))),
-        code_machine::End::Stuck => Ok(None),
+        machine::End::Result(word) => Ok(Some(End::Value(value_of(of, word)?))),
+        machine::End::Thrown(id) => Ok(Some(End::Thrown(*id))),
+        machine::End::Limit(which) => Ok(Some(End::Limit(*which))),
+        machine::End::Stuck => Ok(None),
     }
 }
 
@@ -95,7 +95,7 @@ fn left(of: &Ty, activation: Activation<'_>) -> Result<Outcome, AllocError>
     let Some(ran) = activation.outcome() else {
         return Err(AllocError);
     };
-    let code_machine::Outcome {
+    let machine::Outcome {
         end,
         heap,
         ticks,

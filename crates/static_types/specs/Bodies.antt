@@ -12,10 +12,10 @@ use Rattle.typing_rules.specs.declared.state.State.{State}
 use Rattle.typing_rules.specs.Doing.{Answer}
 use Rattle.typing_rules.specs.Outcomes.{Out, bind}
 use Rattle.typing_rules.specs.Typing.{ran, doer, statements}
-use Rattle.typing_acts.specs.declared.config.Config.{Config}
-use Rattle.typing_jobs.specs.Job as j
-use Rattle.typing_jobs.specs.Job.{Job}
-use Rattle.typing_jobs.specs.Machine.{ended}
+use Rattle.typing_actions.specs.declared.config.Config.{Config}
+use Rattle.typing_driver.specs.Item as j
+use Rattle.typing_driver.specs.Item.{Item}
+use Rattle.typing_driver.specs.Machine.{ended}
 
 abbrev pub steps_of : AllowList → List Header → Bool → List Statement → State → Out (List Step)
 steps_of allow hs in_main all s = bind (ran (statements in_main false (map (doer allow hs) all)) s) (λ whole. Ok whole.0)
@@ -31,10 +31,10 @@ abbrev pub fresh : State → Config
 fresh s = record { state = s; parts = []; places = []; tests = []; variables = []; steps = []; catches = [] }
 
 -- what is to be done for a body
-abbrev pub jobs_of : Bool → List Statement → List Job
-jobs_of in_main all = j.Statements all 0 in_main false ∷ []
+abbrev pub items_of : Bool → List Statement → List Item
+items_of in_main all = j.Statements all 0 in_main false ∷ []
 
--- what jobs come to is where they end
+-- what items come to is where they end
 abbrev pub Ends : Answer → Result Config Fail → Type 0
 Ends o (Ok c) = o ≡ ended c
 Ends o (Err (Refused r)) = o ≡ Err r

@@ -1,7 +1,7 @@
 //! The statements of a body.
 
 ghost use Rattle.std.specs.Prelude.{◌≡◌, IfOk};
-ghost use Rattle.typing_jobs.specs.Machine as machine;
+ghost use Rattle.typing_driver.specs.Machine as worklist;
 ghost use Rattle.static_types.specs.Bodies as spec;
 
 use allowlist::Allow;
@@ -9,8 +9,8 @@ use pl_tree::Statement;
 use pl_types::Fail;
 use plain_data::{Items, Subtree};
 use std::alloc::{AllocError, Global};
-use typing_acts::{Config, Pile};
-use typing_jobs::{StatementTask, Task, Tasks, run};
+use typing_actions::{Config, Stack};
+use typing_driver::{StatementItem, WorkItem, Worklist, run};
 use typing_rules::{Header, State, Step};
 
 /// Nothing is typed so far.
@@ -19,27 +19,27 @@ fn fresh(alloc: Global, state: State) -> Config
 {
     Config {
         state,
-        parts: Pile::new(alloc),
-        places: Pile::new(alloc),
-        tests: Pile::new(alloc),
-        variables: Pile::new(alloc),
-        steps: Pile::new(alloc),
-        catches: Pile::new(alloc),
+        parts: Stack::new(alloc),
+        places: Stack::new(alloc),
+        tests: Stack::new(alloc),
+        variables: Stack::new(alloc),
+        steps: Stack::new(alloc),
+        catches: Stack::new(alloc),
     }
 }
 
 /// What is to be done for a body.
-fn tasks_of<'a>(
+fn worklist_of<'a>(
     alloc: Global,
     all: &'a Items<Subtree<Statement>>,
     in_main: bool,
-) -> Result<Tasks<'a>, AllocError>
-    ensures { IfOk result (λ tasks. tasks ≡ spec.jobs_of in_main all.now) }
+) -> Result<Worklist<'a>, AllocError>
+    ensures { IfOk result (λ worklist. worklist ≡ spec.items_of in_main all.now) }
 {
-    let mut tasks = Tasks::new(alloc);
-    let task = Task::Statement(StatementTask::Statements(all, 0, in_main, false));
-    tasks.push(task)?;
-    Ok(tasks)
+    let mut worklist = Worklist::new(alloc);
+    let item = WorkItem::Statement(StatementItem::Statements(all, 0, in_main, false));
+    worklist.push(item)?;
+    Ok(worklist)
 }
 
 /// What is known, and the statements, where a body ends.
@@ -51,11 +51,11 @@ fn ended(
     all: &Items<Subtree<Statement>>,
     in_main: bool,
 ) -> Result<Config, Fail>
-    ensures { spec.Ends (machine.run allow.now headers.now (spec.jobs_of in_main all.now) (spec.fresh state)) result }
+    ensures { spec.Ends (worklist.run allow.now headers.now (spec.items_of in_main all.now) (spec.fresh state)) result }
 {
     let mut config = fresh(alloc, state);
-    let mut tasks = tasks_of(alloc, all, in_main)?;
-    run(alloc, allow, headers, &mut config, &mut tasks)?;
+    let mut worklist = worklist_of(alloc, all, in_main)?;
+    run(alloc, allow, headers, &mut config, &mut worklist)?;
     Ok(config)
 }
 

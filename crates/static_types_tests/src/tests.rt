@@ -1,3 +1,5 @@
+//! Scripts that break no rule, and scripts that break one.
+
 mod reading;
 mod rows;
 

@@ -1,4 +1,5 @@
-// What runs in slices.
+//! What runs in slices.
+
 ghost use Rattle.std.specs.Prelude.{◌≡◌, ℕ, ◌<◌, ◌==◌};
 ghost use Rattle.task_core.specs.Turns.{Turns};
 

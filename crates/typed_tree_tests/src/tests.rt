@@ -1,3 +1,5 @@
+//! Typed trees, let go of without depth.
+
 use arithmetic::Op;
 use pl_types::{Primitive, Ty};
 use plain_data::{Items, Subtree, Text};

@@ -2,3 +2,4 @@ pub mod Worth
 pub mod Lists
 pub mod Escapes
 pub mod Members
+pub mod NamePlaces

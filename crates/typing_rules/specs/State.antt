@@ -22,11 +22,3 @@ declared_if None at name of s = Ok (record s { scopes = s.scopes ++ variable nam
 -- a name is not declared again while it is in sight
 abbrev pub declared : ℕ → List ℕ → Ty → State → Out State
 declared at name of s = declared_if (find name s.scopes) at name of s
-
-abbrev pub noted_if : Option ℕ → List ℕ → Ty → State → State
-noted_if (Some _) name of s = s
-noted_if None name of s = record s { scopes = s.scopes ++ variable name of ∷ [] }
-
--- a name that a construct which is not built declares: whether it may is a rule of that construct
-abbrev pub noted : List ℕ → Ty → State → State
-noted name of s = noted_if (find name s.scopes) name of s

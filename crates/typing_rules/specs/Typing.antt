@@ -3,9 +3,10 @@
 use Rattle.std.specs.Prelude.{ℕ, Bool, true, false, ◌&&◌, List, [], ◌∷◌, length, map, Option, Some, None, Ok}
 use Rattle.pl_types.specs.declared.ty.Ty.{Ty}
 use Rattle.pl_types.specs.declared.ty.Ty.TheVariants as t
-use Rattle.pl_types.specs.declared.rules.TheConstants.{OUT_OF_PROFILE}
+use Rattle.pl_types.specs.declared.rules.TheConstants.{OUT_OF_PROFILE, UNKNOWN_MEMBER}
 use Rattle.pl_tree.specs.declared.operator.UnaryOperator.{UnaryOperator}
 use Rattle.pl_tree.specs.declared.operator.UnaryOperator.TheVariants as sign
+use Rattle.pl_tree.specs.declared.tree.Spelled.{Spelled}
 use Rattle.pl_tree.specs.declared.tree.TypeName.{TypeName}
 use Rattle.pl_tree.specs.declared.tree.Parameter.{Parameter}
 use Rattle.pl_tree.specs.declared.tree.Function.{Function}
@@ -31,7 +32,7 @@ use Rattle.typing_rules.specs.declared.part.Step.{Step}
 use Rattle.typing_rules.specs.declared.part.Caught.{Caught}
 use Rattle.typing_rules.specs.declared.state.State.{State}
 use Rattle.typing_rules.specs.Outcomes.{Out, refuse, bind}
-use Rattle.typing_rules.specs.State.{closed, declared, noted}
+use Rattle.typing_rules.specs.State.{closed, declared}
 use Rattle.typing_rules.specs.Doing.{Answer, Doing, ◌>>=◌, ◌>>◌, pure, by_rule, looking, changing, setting, stating, known}
 use Rattle.typing_rules.specs.Rules.Types.{type_of, caught_class}
 use Rattle.typing_rules.specs.Rules.Nodes.{bracketed}
@@ -41,6 +42,7 @@ use Rattle.typing_rules.specs.Rules.Operators.{binary_of, unary_of, choice_of, e
 use Rattle.typing_rules.specs.Rules.Places.{local, written, assign_of, step_of}
 use Rattle.allowlist.specs.Allow.{AllowList}
 use Rattle.pl_tree.specs.declared.operator.Access.{Access}
+use Rattle.pl_tree.specs.declared.operator.Access.TheVariants as access
 use Rattle.typing_rules.specs.Rules.Calls.{call_of}
 use Rattle.typing_rules.specs.Rules.Members.{read_of, field_of, method_of, static_of, new_of}
 use Rattle.typing_rules.specs.Rules.Statements.{reached, deed, expression_of, variable_of, declaration_of, test, loop_test, if_of, loop_of, do_of, break_of, continue_of, return_of, nothing_returned, throw_of, block_of, caught, try_of}
@@ -68,6 +70,10 @@ pub record Braces : Type 0 where
 abbrev pub Seen : Type 0
 Seen = Doing (Unit {0})
 
+-- what is no variable is not written to
+abbrev pub fixed : Doing Part → Doing Place
+fixed value = do x ← value; pure place.Fixed
+
 -- what is no literal and no name
 abbrev pub plain : ℕ → Doing Part → Reading
 plain first value = record {
@@ -75,7 +81,7 @@ plain first value = record {
   names = None;
   value = value;
   negated = λ minus. (do x ← value; by_rule (unary_of sign.Minus minus x));
-  place = (do x ← value; pure place.Fixed);
+  place = fixed value;
 }
 
 -- what is not built
@@ -143,7 +149,7 @@ abbrev pub loop_update : Option Reading → Doing (Option Typed)
 loop_update None = pure None
 loop_update (Some e) = do x ← e.value; y ← by_rule (deed e.first x); pure (Some x.typed)
 
--- A function value is not built: its parameters' types and its body are looked through. It copies the names around it, and no loop is
+-- A function value is not built: its parameters are declared, and its body is looked through. It copies the names around it, and no loop is
 -- around its body. A parameter without a type, and its result, are of type def.
 abbrev pub alone : State → State
 alone s = record s { base = length s.scopes; result = t.Def; looped = false }
@@ -154,7 +160,7 @@ parameter_type (Some of) = type_of of
 
 abbrev pub lambda_parameters : List Parameter → Seen
 lambda_parameters [] = pure tt
-lambda_parameters (p ∷ ps) = do of ← by_rule (parameter_type p.of); setting (noted p.name.spelling of); lambda_parameters ps
+lambda_parameters (p ∷ ps) = do of ← by_rule (parameter_type p.of); changing (declared p.name.at p.name.spelling of); lambda_parameters ps
 
 abbrev pub lambda : ℕ → List Parameter → Seen → Doing Part
 lambda at ps body = do setting alone; lambda_parameters ps; body; unbuilt at
@@ -164,13 +170,21 @@ abbrev pub handlers : List (Doing Caught) → Doing (List Caught)
 handlers [] = pure []
 handlers (m ∷ rest) = do x ← m; xs ← handlers rest; pure (x ∷ xs)
 
--- loops over elements are not built
-abbrev pub for_each : ℕ → Doing Ty → List ℕ → Reading → Doing Step → Doing Step
-for_each at type name over body = do of ← type; x ← over.value; setting (noted name of); y ← looping body; unbuilt at
+-- Loops over elements are not built. The variable is declared behind what is gone over, and before the body.
+abbrev pub for_each : ℕ → Doing Ty → Spelled → Reading → Doing Step → Doing Step
+for_each at type name over body = do of ← type; x ← over.value; changing (declared name.at name.spelling of); y ← looping body; unbuilt at
 
--- a member is not written to yet
-abbrev pub member_place : ℕ → Reading → Doing Place
-member_place at receiver = do x ← receiver.value; unbuilt at
+-- A name behind a dot as what is written to: that of a value is not built. A name of a class, and one behind `?.`, are read, and are not
+-- written to.
+abbrev pub member_place : Access → ℕ → Reading → Option (Doing Ty) → Doing Part → Doing Place
+member_place access.Plain at receiver None read = do x ← receiver.value; unbuilt at
+member_place access.Plain at receiver (Some type) read = fixed read
+member_place access.Guarded at receiver names read = fixed read
+
+-- an element of a list by its number; a class has none
+abbrev pub element : ℕ → Reading → Option (Doing Ty) → Doing Part
+element at receiver None = do x ← receiver.value; unbuilt at
+element at receiver (Some type) = do t ← type; by_rule (refuse UNKNOWN_MEMBER at)
 
 module _ (allow : AllowList) (hs : List Header) where
   abbrev pub call : ℕ → List ℕ → List (Doing Part) → Doing Part
@@ -220,7 +234,7 @@ module _ (allow : AllowList) (hs : List Header) where
     names = None;
     value = by_rule (integer at spelling);
     negated = (λ minus. by_rule (negated_integer minus at spelling));
-    place = (do x ← by_rule (integer at spelling); pure place.Fixed);
+    place = fixed (by_rule (integer at spelling));
   }
   expression_step (Expr-F.Text at spelling) = plain at (by_rule (text at spelling))
   expression_step (Expr-F.Constant constant_ at) = plain at (by_rule (constant at constant_))
@@ -238,9 +252,9 @@ module _ (allow : AllowList) (hs : List Header) where
   expression_step (Expr-F.NewArray at of sizes) = plain at (do t ← by_rule (type_of of); all_seen (map (λ (e : Reading). seen e.value) sizes); unbuilt at)
   expression_step (Expr-F.NewItems at of items) = plain at (do t ← by_rule (type_of of); all_seen (map (λ (e : Reading). seen e.value) items); unbuilt at)
   expression_step (Expr-F.Type of) = record (plain of.at (do t ← by_rule (type_of of); unbuilt of.at)) { names = Some (by_rule (type_of of)) }
-  expression_step (Expr-F.Member access at receiver spelling) = record (plain receiver.first (read access at receiver receiver.names spelling)) { place = member_place at receiver }
+  expression_step (Expr-F.Member access at receiver spelling) = record (plain receiver.first (read access at receiver receiver.names spelling)) { place = member_place access at receiver receiver.names (read access at receiver receiver.names spelling) }
   expression_step (Expr-F.Method access at receiver spelling given) = plain receiver.first (method access at receiver receiver.names spelling given)
-  expression_step (Expr-F.Element access at receiver spelling) = plain receiver.first (do x ← receiver.value; unbuilt at)
+  expression_step (Expr-F.Element access at receiver spelling) = plain receiver.first (element at receiver receiver.names)
   expression_step (Expr-F.Index at receiver index) = plain receiver.first (do x ← receiver.value; y ← index.value; unbuilt at)
 
   abbrev pub first_step : Open First-F → Doing Step
@@ -259,8 +273,8 @@ module _ (allow : AllowList) (hs : List Header) where
     typed = λ last.
         scoped (do f ← perhaps first; c ← loop_condition condition; u ← loop_update update; y ← looping (perhaps body); pure (loop_of at f c u y));
   }
-  statement_step (Statement-F.ForEach at of name over body) = record { at = at; typed = λ last. for_each at (by_rule (type_of of)) name.spelling over body }
-  statement_step (Statement-F.ForIn at name over body) = record { at = at; typed = λ last. for_each at (pure t.Def) name.spelling over body }
+  statement_step (Statement-F.ForEach at of name over body) = record { at = at; typed = λ last. for_each at (by_rule (type_of of)) name over body }
+  statement_step (Statement-F.ForIn at name over body) = record { at = at; typed = λ last. for_each at (pure t.Def) name over body }
   statement_step (Statement-F.Try at block catches) = record { at = at; typed = λ last. (do ys ← scoped block.steps; cs ← handlers catches; pure (try_of at (block_of block.at ys) cs)) }
   statement_step (Statement-F.Do at block condition) = record {
     at = at;

@@ -1,3 +1,5 @@
+//! Headers of functions, and the variables and the result of a context.
+
 ghost use Rattle.std.specs.Prelude.{◌≡◌};
 ghost use Rattle.typing_rules.specs.Rules.Functions as spec;
 

@@ -1,3 +1,5 @@
+//! The classes of the catalogue, as casts between types ask for them.
+
 ghost use Rattle.pl_types.specs.Classes.{class_is_below};
 
 use pl_types::{Lineage, class_below};

@@ -1,3 +1,5 @@
+//! A rule that is broken.
+
 ghost use Rattle.std.specs.Prelude.{◌≡◌};
 ghost use Rattle.typing_rules.specs.Outcomes.{refusal};
 

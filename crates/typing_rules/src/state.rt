@@ -52,7 +52,7 @@ impl State {
         }
         let name = copy(alloc, name)?;
         let standing = Standing::Variable;
-        match self.scopes.push(Entry { name, of, standing }) {
+        match self.scopes.push(alloc, Entry { name, of, standing }) {
             Ok(()) => Ok(()),
             Err(_) => Err(Fail::NoMemory),
         }

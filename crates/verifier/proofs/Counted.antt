@@ -7,7 +7,7 @@ use Rattle.pl_code.specs.declared.kinds.Slot.{Slot}
 use Rattle.pl_code.specs.declared.code.FunCode.{FunCode}
 use Rattle.pl_code.specs.declared.code.Code.{Code}
 use Rattle.allowlist.specs.Allow.{AllowList}
-use Rattle.shape_table.specs.Shapes.{Nowhere, Known, Table}
+use Rattle.verifier_table.specs.Shapes.{Nowhere, Known, Table}
 use Rattle.verifier.specs.Meets.{stands_at}
 use Rattle.verifier.specs.Acts.{at_line}
 use Rattle.verifier.specs.Words.{LineWords, FunctionWords, LeastLines, LeastFunctions}

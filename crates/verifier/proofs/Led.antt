@@ -5,8 +5,8 @@ use Rattle.std.proofs.lemmas.List.{length-set, get_or-set_other}
 use Rattle.std.proofs.lemmas.Grind.{get_or-set_at}
 use Rattle.std.proofs.lemmas.Bool.Decides.{eqb_tells}
 use Rattle.pl_code.specs.declared.kinds.Slot.{Slot}
-use Rattle.shape_table.specs.Shapes.{Meeting, Nowhere, Known, Torn, Table, meets, same_kinds}
-use Rattle.shape_table.proofs.SameKinds.{kinds_themselves}
+use Rattle.verifier_table.specs.Shapes.{Meeting, Nowhere, Known, Torn, Table, meets, same_kinds}
+use Rattle.verifier_table.proofs.SameKinds.{kinds_themselves}
 use Rattle.verifier.specs.Meets.{met_if}
 use Rattle.verifier.specs.Acts.{at_line, LeadsOn}
 

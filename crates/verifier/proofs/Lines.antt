@@ -6,9 +6,9 @@ use Rattle.pl_code.specs.declared.kinds.Slot.{Slot}
 use Rattle.pl_code.specs.declared.code.FunCode.{FunCode}
 use Rattle.pl_code.specs.declared.code.Instruction.{Instruction}
 use Rattle.allowlist.specs.Allow.{AllowList}
-use Rattle.code_shapes.specs.Effects.{flow_of}
-use Rattle.code_shapes.specs.Faults.{is_bad_target, is_bad_member, is_bad_jump}
-use Rattle.shape_table.specs.Shapes.{Table, Nowhere}
+use Rattle.instruction_types.specs.Effects.{flow_of}
+use Rattle.instruction_types.specs.Faults.{is_bad_target, is_bad_member, is_bad_jump}
+use Rattle.verifier_table.specs.Shapes.{Table, Nowhere}
 use Rattle.verifier.specs.declared.fault.FaultKind.TheVariants.{BadShape}
 use Rattle.verifier.specs.Meets.{goes_to, left_at, led_to, passed, met_if}
 use Rattle.verifier.specs.Faults.{fault_of, falls, has_shape, instruction_fault}

@@ -7,9 +7,9 @@ use Rattle.pl_code.specs.declared.code.FunCode.{FunCode}
 use Rattle.pl_code.specs.declared.code.Trap.{Trap}
 use Rattle.pl_code.specs.declared.code.Instruction.{Instruction}
 use Rattle.allowlist.specs.Allow.{AllowList}
-use Rattle.code_shapes.specs.Effects.{flow_of}
-use Rattle.shape_table.specs.Shapes.{Meeting, Nowhere, Known, Torn, meets, same_kinds}
-use Rattle.shape_table.proofs.SameKinds.{one_list, kinds_themselves}
+use Rattle.instruction_types.specs.Effects.{flow_of}
+use Rattle.verifier_table.specs.Shapes.{Meeting, Nowhere, Known, Torn, meets, same_kinds}
+use Rattle.verifier_table.proofs.SameKinds.{one_list, kinds_themselves}
 use Rattle.std.proofs.lemmas.Bool.{true≢false, false≢true}
 use Rattle.verifier.specs.Meets.{goes_to, turns_to, met_if, caught_at, turned_at, starts, left_at, led_to, passed, met, stands_at}
 

@@ -7,11 +7,11 @@ use Rattle.pl_code.specs.declared.code.FunCode.{FunCode}
 use Rattle.pl_code.specs.declared.code.Trap.{Trap}
 use Rattle.pl_code.specs.declared.code.Instruction.{Instruction}
 use Rattle.allowlist.specs.Allow.{AllowList}
-use Rattle.code_shapes.specs.Effects.{flow_of}
+use Rattle.instruction_types.specs.Effects.{flow_of}
 use Rattle.std.specs.Prelude.{replicate}
 use Rattle.std.proofs.lemmas.List.{get_or-replicate, length-replicate}
 use Rattle.std.proofs.Math.ListN.{drop_of_length-le}
-use Rattle.shape_table.specs.Shapes.{Nowhere, Table}
+use Rattle.verifier_table.specs.Shapes.{Nowhere, Table}
 use Rattle.verifier.specs.declared.fault.FaultKind.{FaultKind}
 use Rattle.verifier.specs.Meets.{met_if, caught_at, turned_at, turns_to, starts, passed, met}
 use Rattle.verifier.specs.Faults.{instruction_fault, fault_in, line_fault, found, first_from}

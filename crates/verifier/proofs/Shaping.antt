@@ -10,11 +10,11 @@ use Rattle.pl_code.specs.declared.code.FunCode.{FunCode}
 use Rattle.pl_code.specs.declared.code.Trap.{Trap}
 use Rattle.pl_code.specs.declared.code.Instruction.{Instruction}
 use Rattle.allowlist.specs.Allow.{AllowList}
-use Rattle.code_shapes.specs.declared.flow.Flow.{Flow}
-use Rattle.code_shapes.specs.declared.flow.Flow.TheVariants as flow
-use Rattle.code_shapes.specs.Effects.{effect_of, flow_of}
-use Rattle.code_shapes.specs.Faults.{goes_wrong}
-use Rattle.shape_table.specs.Shapes.{Meeting, Known}
+use Rattle.instruction_types.specs.declared.flow.Flow.{Flow}
+use Rattle.instruction_types.specs.declared.flow.Flow.TheVariants as flow
+use Rattle.instruction_types.specs.Effects.{effect_of, flow_of}
+use Rattle.instruction_types.specs.Faults.{goes_wrong}
+use Rattle.verifier_table.specs.Shapes.{Meeting, Known}
 use Rattle.verifier.specs.Meets.{goes_to, turns_to, left_in, left_at, stands_at}
 use Rattle.verifier.specs.Shaped.{Leads, begins, catches, turns, passes}
 use Rattle.verifier.proofs.Meeting.{CaughtBy, TurnedBy, StartsBy, PassedBy, By}

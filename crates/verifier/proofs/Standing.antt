@@ -8,9 +8,9 @@ use Rattle.pl_code.specs.declared.kinds.Slot.{Slot}
 use Rattle.pl_code.specs.declared.code.FunCode.{FunCode}
 use Rattle.pl_code.specs.declared.code.Instruction.{Instruction}
 use Rattle.allowlist.specs.Allow.{AllowList}
-use Rattle.code_shapes.specs.Effects.{flow_of}
-use Rattle.code_shapes.specs.Faults.{is_bad_target, is_bad_member, is_bad_jump}
-use Rattle.shape_table.specs.Shapes.{Meeting, Nowhere, Known, Torn, known_of}
+use Rattle.instruction_types.specs.Effects.{flow_of}
+use Rattle.instruction_types.specs.Faults.{is_bad_target, is_bad_member, is_bad_jump}
+use Rattle.verifier_table.specs.Shapes.{Meeting, Nowhere, Known, Torn, known_of}
 use Rattle.verifier.specs.Meets.{goes_to, left_at, stands_at}
 use Rattle.verifier.specs.Faults.{has_shape, instruction_fault, fault_of, fault_in, line_fault}
 use Rattle.verifier.specs.Shaped.{InstructionFits, LineStands, Shaped, HasShapes}

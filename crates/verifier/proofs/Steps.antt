@@ -13,11 +13,11 @@ use Rattle.pl_code.specs.declared.code.FunCode.{FunCode}
 use Rattle.pl_code.specs.declared.code.Instruction.{Instruction}
 use Rattle.pl_code.specs.declared.code.Instruction.TheVariants as code
 use Rattle.allowlist.specs.Allow.{AllowList}
-use Rattle.code_shapes.specs.declared.flow.Flow.{Flow}
-use Rattle.code_shapes.specs.declared.flow.Flow.TheVariants as flow
-use Rattle.code_shapes.specs.Effects.{effect_of, plain_flow, numbered_flow, flow_of}
-use Rattle.code_shapes.specs.Faults.{is_bad_target, numbered_out}
-use Rattle.shape_table.specs.Shapes.{Meeting, Known}
+use Rattle.instruction_types.specs.declared.flow.Flow.{Flow}
+use Rattle.instruction_types.specs.declared.flow.Flow.TheVariants as flow
+use Rattle.instruction_types.specs.Effects.{effect_of, plain_flow, numbered_flow, flow_of}
+use Rattle.instruction_types.specs.Faults.{is_bad_target, numbered_out}
+use Rattle.verifier_table.specs.Shapes.{Meeting, Known}
 use Rattle.verifier.specs.Meets.{goes_to, turns_to, left_in}
 use Rattle.verifier.specs.Faults.{falls, has_shape}
 use Rattle.verifier.specs.Shaped.{Leads, turns, passes, LineStands, IsWellShaped}

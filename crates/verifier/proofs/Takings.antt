@@ -5,10 +5,10 @@ use Rattle.std.proofs.Math.Seq.{take-suc, take-length}
 use Rattle.std.proofs.lemmas.List.{reverse-append, map-append}
 use Rattle.pl_types.specs.declared.ty.Ty.{Ty}
 use Rattle.pl_code.specs.declared.kinds.Slot.{Slot}
-use Rattle.code_shapes.specs.Effects.{same_slots, taken}
-use Rattle.shape_table.specs.Shapes.{Table}
-use Rattle.code_shapes.specs.Types.{kind_of_type}
-use Rattle.code_shapes.specs.Members.{argument_kinds}
+use Rattle.instruction_types.specs.Effects.{same_slots, taken}
+use Rattle.verifier_table.specs.Shapes.{Table}
+use Rattle.instruction_types.specs.Types.{kind_of_type}
+use Rattle.instruction_types.specs.Members.{argument_kinds}
 
 -- what the code has taken, so far
 abbrev pub so_far : Bool → List Slot → Option (List Slot)

@@ -6,7 +6,7 @@ use Rattle.pl_code.specs.declared.code.FunCode.{FunCode}
 use Rattle.pl_code.specs.declared.code.Trap.{Trap}
 use Rattle.pl_code.specs.declared.code.Instruction.{Instruction}
 use Rattle.allowlist.specs.Allow.{AllowList}
-use Rattle.shape_table.specs.Shapes.{Meeting, Nowhere, Table}
+use Rattle.verifier_table.specs.Shapes.{Meeting, Nowhere, Table}
 use Rattle.verifier.specs.Meets.{met_if, passed, caught_at, turned_at, starts}
 
 -- A stack came to what is left, where something is, and the lines stayed.

@@ -7,11 +7,11 @@ use Rattle.pl_code.specs.declared.code.Code.{Code}
 use Rattle.pl_code.specs.declared.code.Instruction.{Instruction}
 use Rattle.pl_code.specs.Reading.{told}
 use Rattle.allowlist.specs.Allow.{AllowList}
-use Rattle.code_shapes.specs.declared.flow.Flow.{Flow}
-use Rattle.code_shapes.specs.declared.flow.Flow.TheVariants as flow
-use Rattle.code_shapes.specs.Effects.{flow_of}
-use Rattle.code_shapes.specs.Faults.{is_bad_target, is_bad_member, is_bad_jump, is_bad_trap_target, is_bad_trap_class, is_bad_trap_order}
-use Rattle.shape_table.specs.Shapes.{Meeting}
+use Rattle.instruction_types.specs.declared.flow.Flow.{Flow}
+use Rattle.instruction_types.specs.declared.flow.Flow.TheVariants as flow
+use Rattle.instruction_types.specs.Effects.{flow_of}
+use Rattle.instruction_types.specs.Faults.{is_bad_target, is_bad_member, is_bad_jump, is_bad_trap_target, is_bad_trap_class, is_bad_trap_order}
+use Rattle.verifier_table.specs.Shapes.{Meeting}
 use Rattle.verifier.specs.declared.fault.FaultKind.{FaultKind}
 use Rattle.verifier.specs.declared.fault.FaultKind.TheVariants.{BadShape, BadTarget, BadMember, BackJump}
 use Rattle.verifier.specs.Meets.{left_at, stands_at}

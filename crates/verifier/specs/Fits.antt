@@ -4,8 +4,8 @@ use Rattle.pl_code.specs.declared.kinds.Slot.{Slot}
 use Rattle.pl_code.specs.declared.code.FunCode.{FunCode}
 use Rattle.pl_code.specs.declared.code.Instruction.{Instruction}
 use Rattle.allowlist.specs.Allow.{AllowList}
-use Rattle.code_shapes.specs.Effects.{effect_of, flow_of, result_kinds}
-use Rattle.shape_table.specs.Shapes.{Known}
+use Rattle.instruction_types.specs.Effects.{effect_of, flow_of, result_kinds}
+use Rattle.verifier_table.specs.Shapes.{Known}
 use Rattle.verifier.specs.Meets.{goes_to, turns_to, left_in, stands_at}
 
 -- the kinds of a frame: its function, its line, its locals and its operands, the top first

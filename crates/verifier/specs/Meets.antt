@@ -6,10 +6,10 @@ use Rattle.pl_code.specs.declared.code.FunCode.{FunCode}
 use Rattle.pl_code.specs.declared.code.Trap.{Trap}
 use Rattle.pl_code.specs.declared.code.Instruction.{Instruction}
 use Rattle.allowlist.specs.Allow.{AllowList}
-use Rattle.code_shapes.specs.declared.flow.Flow.{Flow}
-use Rattle.code_shapes.specs.declared.flow.Flow.TheVariants as flow
-use Rattle.code_shapes.specs.Effects.{Effect, effect_of, flow_of, left_by}
-use Rattle.shape_table.specs.Shapes.{Meeting, Nowhere, meets, known_of}
+use Rattle.instruction_types.specs.declared.flow.Flow.{Flow}
+use Rattle.instruction_types.specs.declared.flow.Flow.TheVariants as flow
+use Rattle.instruction_types.specs.Effects.{Effect, effect_of, flow_of, left_by}
+use Rattle.verifier_table.specs.Shapes.{Meeting, Nowhere, meets, known_of}
 
 -- whether an instruction at a line goes on at another
 abbrev pub goes_to : Flow → ℕ → ℕ → Bool

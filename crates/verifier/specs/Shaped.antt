@@ -6,8 +6,8 @@ use Rattle.pl_code.specs.declared.code.FunCode.{FunCode}
 use Rattle.pl_code.specs.declared.code.Trap.{Trap}
 use Rattle.pl_code.specs.declared.code.Instruction.{Instruction}
 use Rattle.allowlist.specs.Allow.{AllowList}
-use Rattle.code_shapes.specs.Effects.{effect_of, flow_of}
-use Rattle.code_shapes.specs.Faults.{is_bad_target, is_bad_member, is_bad_jump}
+use Rattle.instruction_types.specs.Effects.{effect_of, flow_of}
+use Rattle.instruction_types.specs.Faults.{is_bad_target, is_bad_member, is_bad_jump}
 use Rattle.verifier.specs.Meets.{goes_to, turns_to, left_in}
 use Rattle.verifier.specs.Faults.{has_shape, trap_fault}
 

@@ -8,7 +8,7 @@ use Rattle.verifier.specs.declared.fault.FaultKind.{FaultKind}
 use Rattle.verifier.specs.declared.fault.FaultKind.TheVariants as kind
 use Rattle.verifier.specs.declared.fault.VerifyErr.{VerifyErr}
 use Rattle.verifier.specs.declared.fault.VerifyErr.TheVariants.{BadShape, BadTarget, BadMember, BackJump, NoMemory}
-use Rattle.shape_table.specs.Shapes.{Known}
+use Rattle.verifier_table.specs.Shapes.{Known}
 use Rattle.verifier.specs.Meets.{stands_at}
 use Rattle.verifier.specs.Faults.{shape_fault}
 

@@ -3,7 +3,7 @@ use Rattle.std.specs.Prelude.{◌≡◌, ℕ, ◌+◌, ◌<◌, ◌≤◌, List,
 use Rattle.pl_code.specs.declared.kinds.Slot.{Slot}
 use Rattle.pl_code.specs.declared.code.FunCode.{FunCode}
 use Rattle.allowlist.specs.Allow.{AllowList}
-use Rattle.shape_table.specs.Shapes.{Known}
+use Rattle.verifier_table.specs.Shapes.{Known}
 use Rattle.verifier.specs.Meets.{stands_at}
 
 -- at each of so many first lines of a function a frame has so many words at most

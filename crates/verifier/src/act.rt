@@ -1,16 +1,16 @@
 //! What an instruction does to the stack.
 
 ghost use Rattle.std.specs.Prelude.{◌≡◌, ◌∷◌, ◌++◌, Some, None, if◌then◌else◌, IfOk, OnOk, MatchOption};
-ghost use Rattle.code_shapes.specs.Effects.{Exchanges, copied, emptied, result_kinds, left_by};
-ghost use Rattle.code_shapes.specs.Seen.{seen_action, seen_takes};
+ghost use Rattle.instruction_types.specs.Effects.{Exchanges, copied, emptied, result_kinds, left_by};
+ghost use Rattle.instruction_types.specs.Seen.{seen_action, seen_takes};
 ghost use Rattle.verifier.specs.Acts.{Does, HasNoTwo};
-ghost use Rattle.code_shapes.specs.declared.copying.Copying.TheVariants as copying;
+ghost use Rattle.instruction_types.specs.declared.copying.Copying.TheVariants as copying;
 
 use crate::take::take;
-use code_shapes::{Action, Copying, Takes};
+use instruction_types::{Action, Copying, Takes};
 use pl_code::Slot;
-use shape_table::ShapeTable;
 use std::alloc::AllocError;
+use verifier_table::ShapeTable;
 
 fn give(table: &mut ShapeTable, gives: Option<Slot>) -> Result<(), AllocError>
     ensures { OnOk result (table.new ≡ record { stack = result_kinds gives ++ table.old.stack; lines = table.old.lines }) }
@@ -125,7 +125,7 @@ fn empty(table: &mut ShapeTable) -> bool
     }
 }
 
-#[tactic(auto, unfolding(code_shapes::specs::Seen::seen_action, code_shapes::specs::Effects::left_by))]
+#[tactic(auto, unfolding(instruction_types::specs::Seen::seen_action, instruction_types::specs::Effects::left_by))]
 /// Does to the stack what an instruction does. `false` where the stack does not fit it.
 pub(crate) fn act(table: &mut ShapeTable, action: Action<'_>) -> Result<bool, AllocError>
     ensures { IfOk result (λ fits. Does table.old table.new fits (left_by (seen_action action.entry) table.old.stack)) }

@@ -8,7 +8,7 @@ ghost use Rattle.verifier.specs.Words.{LineWords, FunctionWords, LeastLines, Lea
 use crate::fault::FaultKind;
 use crate::pass::lines_fault;
 use allowlist::Allow;
-use code_shapes::{is_bad_trap_class, is_bad_trap_order, is_bad_trap_target};
+use instruction_types::{is_bad_trap_class, is_bad_trap_order, is_bad_trap_target};
 use pl_code::{FunCode, Trap};
 use std::alloc::{AllocError, Global};
 

@@ -4,8 +4,8 @@ ghost use Rattle.std.specs.Prelude.{◌+◌, ◌^◌, ◌<◌, ◌==◌, ◌||�
 ghost use Rattle.verifier.specs.Acts.{LeadsOn};
 ghost use Rattle.verifier.specs.Meets.{goes_to, turns_to};
 
-use code_shapes::Flow;
-use shape_table::ShapeTable;
+use instruction_types::Flow;
+use verifier_table::ShapeTable;
 
 /// What lies on the stack leads to a line.
 pub(crate) fn lead_to(table: &mut ShapeTable, line: usize)

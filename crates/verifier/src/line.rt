@@ -9,10 +9,10 @@ use crate::act::act;
 use crate::fault::FaultKind;
 use crate::lead::lead;
 use allowlist::Allow;
-use code_shapes::{Flow, action_of, flow_of, is_bad_jump, is_bad_member, is_bad_target};
+use instruction_types::{Flow, action_of, flow_of, is_bad_jump, is_bad_member, is_bad_target};
 use pl_code::{FunCode, Instruction};
-use shape_table::ShapeTable;
 use std::alloc::AllocError;
+use verifier_table::ShapeTable;
 
 /// Whether an instruction may go on at the next line.
 fn falls(flow: Flow) -> bool

@@ -2,7 +2,7 @@
 
 ghost use Rattle.std.specs.Prelude.{◌≡◌, ◌+◌, ◌≤◌, ℕ, List, length, IfOk, OnOk, None};
 ghost use Rattle.pl_code.specs.declared.kinds.Slot.{Slot as SlotData};
-ghost use Rattle.shape_table.specs.Shapes.{Known};
+ghost use Rattle.verifier_table.specs.Shapes.{Known};
 ghost use Rattle.verifier.specs.Acts.{at_line, Caught, Turned, Begins};
 ghost use Rattle.verifier.specs.Faults.{lines_fault};
 ghost use Rattle.verifier.specs.Words.{LineWords, LeastLines};
@@ -11,10 +11,10 @@ use crate::fault::FaultKind;
 use crate::lead::{lead_to, turn_back};
 use crate::line::instruction_fault;
 use allowlist::Allow;
-use code_shapes::flow_of;
+use instruction_types::flow_of;
 use pl_code::{FunCode, Instruction, Slot, Trap};
-use shape_table::ShapeTable;
 use std::alloc::{AllocError, Global};
+use verifier_table::ShapeTable;
 
 fn catch(table: &mut ShapeTable, traps: &[Trap])
     ensures { Caught traps.now table.old table.new }

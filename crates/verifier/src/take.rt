@@ -2,14 +2,14 @@
 
 ghost use Rattle.std.specs.Prelude.{◌≡◌, [], ◌∷◌, ◌++◌, Some, None, if◌then◌else◌, replicate, reverse};
 ghost use Rattle.pl_code.specs.declared.kinds.Slot.TheVariants.{R};
-ghost use Rattle.code_shapes.specs.Effects.{taken};
-ghost use Rattle.code_shapes.specs.Members.{argument_kinds};
-ghost use Rattle.code_shapes.specs.Seen.{seen_takes};
+ghost use Rattle.instruction_types.specs.Effects.{taken};
+ghost use Rattle.instruction_types.specs.Members.{argument_kinds};
+ghost use Rattle.instruction_types.specs.Seen.{seen_takes};
 
-use code_shapes::{Takes, kind_of_type};
+use instruction_types::{Takes, kind_of_type};
 use pl_code::Slot;
 use pl_types::Ty;
-use shape_table::{ShapeTable, is_same_slot};
+use verifier_table::{ShapeTable, is_same_slot};
 
 fn one(table: &mut ShapeTable, kind: Slot) -> bool
     ensures stack { (if result then Some table.new.stack else None) ≡ taken (kind ∷ []) table.old.stack }
@@ -91,7 +91,7 @@ fn received(table: &mut ShapeTable, params: &[Ty]) -> bool
 }
 
 /// Takes off what an instruction takes. `false` where other kinds lie there.
-#[tactic(auto, unfolding(code_shapes::specs::Seen::seen_takes))]
+#[tactic(auto, unfolding(instruction_types::specs::Seen::seen_takes))]
 pub(crate) fn take(table: &mut ShapeTable, takes: Takes<'_>) -> bool
     ensures stack { (if result then Some table.new.stack else None) ≡ taken (seen_takes takes.entry) table.old.stack }
     ensures lines { table.new.lines ≡ table.old.lines }

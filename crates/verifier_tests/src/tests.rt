@@ -1,3 +1,5 @@
+//! Listings with what the verifier answers of them.
+
 use allowlist::{Allow, Catalogue};
 use pl_code::{Code, listing, read_listing};
 use std::alloc::{AllocError, Global};

@@ -39,6 +39,7 @@ pub const FAR_TOKENS: [(usize, (&str, &str, &str), (&str, &str, &str)); 10] = [
     ),
 ];
 
+/// What nests deeper than the nesting rule allows: so many times the parts around the middle, and the place of the refusal.
 pub const TOO_DEEP_SCRIPTS: [(usize, (&str, &str, &str), u32); 14] = [
     (201, ("(", "1", ")"), 200),
     (201, ("[", "1", "]"), 200),

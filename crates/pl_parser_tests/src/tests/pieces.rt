@@ -1,5 +1,4 @@
-//! What is still to be written of a tree: words, and nodes by their kinds. The nodes of a kind stand on a stack of their own, so that
-//! no value is of many kinds.
+//! What is still to be written of a tree. The nodes of a kind stand on a stack of their own, so that no value is of many kinds.
 
 use super::piece::Piece;
 use super::words::{
@@ -49,6 +48,7 @@ fn put_list<'a, T>(
 }
 
 impl<'a> Pieces<'a> {
+    /// With nothing to write.
     pub fn new(alloc: Global) -> Pieces<'a> {
         Pieces {
             left: Vec::new(alloc),
@@ -68,10 +68,12 @@ impl<'a> Pieces<'a> {
         }
     }
 
+    /// Takes the next piece.
     pub fn next(&mut self) -> Option<Piece> {
         self.left.pop()
     }
 
+    /// Takes the next spelling.
     pub fn spelling(&mut self) -> Option<&'a Text> {
         self.spellings.pop()
     }
@@ -182,6 +184,7 @@ impl<'a> Pieces<'a> {
         )
     }
 
+    /// Puts statements before what is left.
     pub fn statements(&mut self, items: &'a Items<Subtree<Statement>>) -> Result<(), AllocError> {
         put_list(
             &mut self.statements,
@@ -192,6 +195,7 @@ impl<'a> Pieces<'a> {
         )
     }
 
+    /// Puts functions before what is left.
     pub fn functions(&mut self, items: &'a Items<Function>) -> Result<(), AllocError> {
         put_list(
             &mut self.functions,

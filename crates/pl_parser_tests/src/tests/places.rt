@@ -1,5 +1,6 @@
 //! Scripts and the places of their nodes.
 
+/// Scripts of one expression, and their trees with places.
 pub const PLACES_OF_EXPRESSIONS: [(&str, &str); 25] = [
     (" 8-3-2", "@1(-@4 (-@2 8@1 3@3) 2@5)"),
     ("a ? b : c", "@0(?@2 a@0 b@4 c@8)"),
@@ -28,6 +29,7 @@ pub const PLACES_OF_EXPRESSIONS: [(&str, &str); 25] = [
     ("'\u{e9}' + 1", "@0(+@5 '\u{e9}'@0 1@7)"),
 ];
 
+/// Scripts of statements and functions, and their trees with places.
 pub const PLACES_OF_STATEMENTS: [(&str, &str); 15] = [
     (
         " int[] f(List a) {x}",

@@ -8,6 +8,7 @@ use std::alloc::{AllocError, Global};
 /// What is written of a node.
 #[derive(Clone, Copy)]
 pub enum Detail {
+    /// Its form alone.
     Shape,
     /// Its place too, after an `@`.
     Places,

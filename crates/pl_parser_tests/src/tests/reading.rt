@@ -46,6 +46,7 @@ fn tokens_of(alloc: Global, text: &str) -> Result<Vec<Token>, Fail>
     lex(alloc, text, &Classes)
 }
 
+/// The tree of a script.
 pub fn tree_of(rt: &impl Abort, alloc: Global, text: &str) -> Result<Tree, Fail> {
     assert!(rt; text.len() <= MOST_BYTES as usize);
     let tokens = tokens_of(alloc, text)?;

@@ -1,5 +1,6 @@
 //! Scripts that Syntax refuses, and where.
 
+/// Statements that are refused, and the place of the refusal.
 pub const REFUSED_STATEMENTS: [(&str, u32); 25] = [
     (";", 0),
     ("x;;", 2),
@@ -28,6 +29,7 @@ pub const REFUSED_STATEMENTS: [(&str, u32); 25] = [
     ("do x", 3),
 ];
 
+/// Jumps, declarations, functions and types that are refused, and the place of the refusal.
 pub const REFUSED_DECLARATIONS: [(&str, u32); 25] = [
     ("do {} while (a) b", 16),
     ("throw;", 5),
@@ -56,6 +58,7 @@ pub const REFUSED_DECLARATIONS: [(&str, u32); 25] = [
     ("this.x", 0),
 ];
 
+/// Expressions that are refused, and the place of the refusal.
 pub const REFUSED_EXPRESSIONS: [(&str, u32); 25] = [
     ("(", 1),
     ("1 + ", 4),
@@ -84,6 +87,7 @@ pub const REFUSED_EXPRESSIONS: [(&str, u32); 25] = [
     ("'\u{e9}' 1", 5),
 ];
 
+/// Creations, calls, lambdas and references that are refused, and the place of the refusal.
 pub const REFUSED_CREATIONS_AND_ARGUMENTS: [(&str, u32); 25] = [
     ("new", 3),
     ("new int", 7),

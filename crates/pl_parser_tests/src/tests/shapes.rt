@@ -1,5 +1,6 @@
 //! Scripts and the shapes of their trees.
 
+/// Whole scripts, with functions, and their trees.
 pub const SCRIPTS_AND_FUNCTIONS: [(&str, &str); 11] = [
     ("", ""),
     (" // nothing", ""),
@@ -26,6 +27,7 @@ pub const SCRIPTS_AND_FUNCTIONS: [(&str, &str); 11] = [
     ),
 ];
 
+/// Statements and their trees.
 pub const STATEMENTS: [(&str, &str); 20] = [
     ("if (a) b", "(if a b)"),
     ("if (a) b; else c", "(if a b else c)"),
@@ -64,6 +66,7 @@ pub const STATEMENTS: [(&str, &str); 20] = [
     ),
 ];
 
+/// Loops with `for` and their trees.
 pub const FOR_LOOPS: [(&str, &str); 17] = [
     ("for (;;) {}", "(for _ _ _ {})"),
     ("for (;;);", "(for _ _ _ ;)"),
@@ -90,6 +93,7 @@ pub const FOR_LOOPS: [(&str, &str); 17] = [
     ("for (x in l) for (y in x) z", "(in x l (in y x z))"),
 ];
 
+/// Declarations, conditionals and assignments, and their trees.
 pub const DECLARATIONS_AND_EXPRESSIONS: [(&str, &str); 18] = [
     ("int x, y = 1", "(declare int x y=1)"),
     ("List x", "(declare List x)"),
@@ -146,6 +150,7 @@ pub const NEIGHBOURING_LEVELS: [(&str, &str); 25] = [
     ("a ? b : c ?: d", "(? a b (?: c d))"),
 ];
 
+/// Operators of one level, and their trees.
 pub const OPERATORS_IN_A_ROW: [(&str, &str); 25] = [
     ("8-3-2;", "(- (- 8 3) 2)"),
     ("a + b - c", "(- (+ a b) c)"),
@@ -177,6 +182,7 @@ pub const OPERATORS_IN_A_ROW: [(&str, &str); 25] = [
     ("a instanceof Foo[]", "(instanceof a Foo[])"),
 ];
 
+/// Unary operators and casts, and their trees.
 pub const UNARY_OPERATORS_AND_CASTS: [(&str, &str); 25] = [
     ("-x.y[0]++", "(neg (post++ (index (. x y) 0)))"),
     ("!a instanceof B", "(instanceof (! a) B)"),
@@ -205,6 +211,7 @@ pub const UNARY_OPERATORS_AND_CASTS: [(&str, &str); 25] = [
     ("(x = 1)", "(paren (= x 1))"),
 ];
 
+/// Literals, brackets, names, calls and members, and their trees.
 pub const PRIMARIES_AND_MEMBERS: [(&str, &str); 22] = [
     ("[true, false, null]", "[true false null]"),
     ("0x1F; 010L; 'a'; \"b\"", "0x1F 010L 'a' \"b\""),
@@ -233,6 +240,7 @@ pub const PRIMARIES_AND_MEMBERS: [(&str, &str); 22] = [
     ("x[y = 1]", "(index x (= y 1))"),
 ];
 
+/// New objects and arrays, and their trees.
 pub const CREATIONS: [(&str, &str); 14] = [
     ("new List()", "(new List)"),
     ("new Foo(1, x -> x)", "(new Foo 1 (-> (x) x))"),
@@ -253,6 +261,7 @@ pub const CREATIONS: [(&str, &str); 14] = [
     ),
 ];
 
+/// Lambdas and references to functions, and their trees.
 pub const LAMBDAS_AND_REFERENCES: [(&str, &str); 23] = [
     (
         "f(x -> x, (a,b) -> { return a }, this::g, List::size, int[]::new)",

@@ -3,6 +3,7 @@
 use pl_tree::{Access, BinaryOperator, Constant, Step, UnaryOperator};
 use pl_types::Primitive;
 
+/// A binary operator, as it is written.
 pub fn sign_of(operator: BinaryOperator) -> &'static str {
     match operator {
         BinaryOperator::Multiply => "*",
@@ -29,6 +30,7 @@ pub fn sign_of(operator: BinaryOperator) -> &'static str {
     }
 }
 
+/// A unary operator, as the printer writes it.
 pub fn unary_sign(operator: UnaryOperator) -> &'static str {
     match operator {
         UnaryOperator::Plus => "pos",
@@ -38,6 +40,7 @@ pub fn unary_sign(operator: UnaryOperator) -> &'static str {
     }
 }
 
+/// `++` or `--` before its operand, as the printer writes it.
 pub fn prefix_sign(step: Step) -> &'static str {
     match step {
         Step::Increment => "pre++",
@@ -45,6 +48,7 @@ pub fn prefix_sign(step: Step) -> &'static str {
     }
 }
 
+/// `++` or `--` after its operand, as the printer writes it.
 pub fn postfix_sign(step: Step) -> &'static str {
     match step {
         Step::Increment => "post++",
@@ -52,6 +56,7 @@ pub fn postfix_sign(step: Step) -> &'static str {
     }
 }
 
+/// How a member is reached, as the printer writes it.
 pub fn access_sign(access: Access) -> &'static str {
     match access {
         Access::Plain => "(.",
@@ -59,6 +64,7 @@ pub fn access_sign(access: Access) -> &'static str {
     }
 }
 
+/// A literal that is a keyword.
 pub fn word_of(constant: Constant) -> &'static str {
     match constant {
         Constant::True => "true",
@@ -67,6 +73,7 @@ pub fn word_of(constant: Constant) -> &'static str {
     }
 }
 
+/// A primitive type, as it is written.
 pub fn primitive_word(primitive: Primitive) -> &'static str {
     match primitive {
         Primitive::Boolean => "boolean",

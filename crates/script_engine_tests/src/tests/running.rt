@@ -1,7 +1,7 @@
 //! How the tests compile scripts and run them.
 
 use allowlist::{Allow, Catalogue};
-use code_machine::Limits;
+use machine::Limits;
 use object_heap::{End, Heap, Outcome, Which};
 use object_values::Value;
 use pl_types::classes::CLASS_COUNT;

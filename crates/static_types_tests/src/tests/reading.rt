@@ -34,6 +34,7 @@ fn context_of(alloc: Global, wanted: Ty) -> Result<ContextTypes, AllocError> {
     })
 }
 
+/// The program of a script, or why there is none.
 pub fn program_of(rt: &impl Abort, alloc: Global, wanted: Ty, text: &str) -> Result<Program, Fail> {
     assert!(rt; text.len() <= MOST_BYTES as usize);
     let allow = Catalogue::full(alloc)?;

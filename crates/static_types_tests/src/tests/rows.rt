@@ -33,7 +33,7 @@ pub const NAMES: [(&str, u8, u32); 28] = [
 ];
 
 /// What is declared again.
-pub const DECLARED_AGAIN: [(&str, u8, u32); 11] = [
+pub const DECLARED_AGAIN: [(&str, u8, u32); 15] = [
     ("int x = 1; int x = 2; x", 5, 15),
     ("int x = 1, x = 2; x", 5, 11),
     ("int x = 1; if (true) { int x = 2; } x", 5, 27),
@@ -49,6 +49,10 @@ pub const DECLARED_AGAIN: [(&str, u8, u32); 11] = [
     ),
     ("int f(int a) { int a = 1; return a } f(1)", 5, 19),
     ("for (int i = 0; i < 1; ++i) { int i = 1; } 1", 5, 34),
+    ("int x = 1; for (int x : 1) { }", 5, 20),
+    ("int x = 1; for (x in 1) { y }", 5, 16),
+    ("int f(int a) { return a } f(n -> y)", 5, 28),
+    ("int f(int a) { return a } f((x, x) -> 1)", 5, 32),
 ];
 
 /// Functions that are not there.
@@ -295,7 +299,7 @@ pub const JUMPS: [(&str, u8, u32); 7] = [
 ];
 
 /// What is not written to.
-pub const NOT_WRITTEN_TO: [(&str, u8, u32); 10] = [
+pub const NOT_WRITTEN_TO: [(&str, u8, u32); 14] = [
     ("1 = 2", 15, 2),
     ("1 += 2", 15, 2),
     ("n = 1L", 15, 2),
@@ -306,6 +310,10 @@ pub const NOT_WRITTEN_TO: [(&str, u8, u32); 10] = [
     ("int f() { return 1 } f() = 1", 15, 25),
     ("1 = true", 15, 2),
     ("n = true", 15, 2),
+    ("Exception e = null; e?.message = 'a'", 15, 31),
+    ("Exception e = null; e?.message += 'a'", 15, 31),
+    ("Exception e = null; e?.message++; 1", 15, 20),
+    ("Exception e = null; --e?.message; 1", 15, 20),
 ];
 
 /// Literals out of range.
@@ -441,7 +449,7 @@ pub const TRIES: [(&str, u8, u32); 30] = [
 ];
 
 /// Two broken rules, of which the first is told.
-pub const FIRST_OF_TWO: [(&str, u8, u32); 31] = [
+pub const FIRST_OF_TWO: [(&str, u8, u32); 32] = [
     ("int x = y; z", 4, 8),
     ("byte b = 200; x", 9, 9),
     (
@@ -481,6 +489,7 @@ pub const FIRST_OF_TWO: [(&str, u8, u32); 31] = [
     ("x + 2147483648", 4, 0),
     ("do { x } while (y)", 4, 5),
     ("do { } while (y); z", 4, 14),
+    ("int x = 1; for (int x : y) { }", 4, 24),
 ];
 
 /// Where the context wants no result.
@@ -672,7 +681,7 @@ pub const WORKED_REFUSED: [(&str, u8, u32); 10] = [
 ];
 
 /// Members: none of that name, of another kind, or with arguments that are not cast.
-pub const MEMBERS: [(&str, u8, u32); 19] = [
+pub const MEMBERS: [(&str, u8, u32); 26] = [
     ("(1).x", 7, 4),
     ("(1).x()", 7, 4),
     ("null.toString()", 7, 5),
@@ -692,4 +701,11 @@ pub const MEMBERS: [(&str, u8, u32); 19] = [
     ("def d = 'a'; d.length()", 19, 15),
     ("StringBuilder b; b.length = 1", 19, 19),
     ("void f() { } f().x(); 1", 7, 17),
+    ("String s = 'a'; s?.foo = 1", 7, 19),
+    ("String s = 'a'; s?.empty = true", 17, 19),
+    ("String.foo = 1", 7, 7),
+    ("String.foo++; 1", 7, 7),
+    ("String.length += 1", 7, 7),
+    ("String.0", 7, 7),
+    ("String.0 = 1", 7, 7),
 ];

@@ -25,7 +25,7 @@ fn entries(alloc: Global, standing: Standing, names: &[Named]) -> Result<Scopes,
     let mut scopes = Scopes::new(alloc);
     for n in names {
         let (name, of) = copies(alloc, &n.name, &n.of)?;
-        scopes.push(Entry { name, of, standing })?;
+        scopes.push(alloc, Entry { name, of, standing })?;
     }
     Ok(scopes)
 }

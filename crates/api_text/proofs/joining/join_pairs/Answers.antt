@@ -1,6 +1,6 @@
 use Rattle.std.proofs.Common.{◌+◌, ◌++◌, ◌∙◌, ap, sym, subst, drop}
 use Rattle.std.specs.Prelude.{map}
-use Rattle.object_walks.proofs.Stepping.{got}
+use Rattle.value_walks.proofs.Stepping.{got}
 use Rattle.api_text.proofs.Joined.{behind, next, stops}
 use Rattle.api_text.specs.Joining.{Stopped, separator, element_of}
 use Rattle.api_text.proofs.joining.join_pairs.Goals as goal

@@ -1,7 +1,7 @@
 -- Behind what is written come the texts of the values that are left.
 use Rattle.std.proofs.Common.{◌≡◌, drop}
 use Rattle.std.specs.Prelude.{map}
-use Rattle.object_walks.specs.Texts.{AValue}
+use Rattle.value_walks.specs.Texts.{AValue}
 use Rattle.api_text.specs.Joining as spec
 use Rattle.api_text.proofs.Joined.{behind}
 use Rattle.api_text.proofs.joining.join_values.Given as goal

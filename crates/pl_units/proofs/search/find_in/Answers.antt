@@ -1,12 +1,8 @@
-use Rattle.std.proofs.Common.{◌<◌, arith}
+use Rattle.pl_units.proofs.MatchLemmas.{found_forward, not_found_forward}
 use Rattle.pl_units.proofs.search.find_in.Goals as goal
 
-pub stands_at-requires : goal.stands_at-requires
-stands_at-requires c = (c.place_count-place-end.ensures c.loop-place.place).0 c.loop-place-test.true
+pub returns-in-Some-clause-found : goal.returns-in-Some-clause-found
+returns-in-Some-clause-found c = found_forward c.args.text.now c.args.part.now c.args.from c.search.result c.search.ensures.found
 
--- a place in the loop's range is one that the loop has passed
-pub returns-clause-none : goal.returns-clause-none
-returns-clause-none c =
-    λ place after stands.
-    let within : place < c.place_count-place-end.result = (c.place_count-place-end.ensures place).1 stands.0 in
-    c.loop-place.invariant place after (omega arith) stands
+pub returns-in-Some-clause-none : goal.returns-in-Some-clause-none
+returns-in-Some-clause-none c = not_found_forward c.args.text.now c.args.part.now c.args.from c.search.result c.search.ensures.none

@@ -2,7 +2,7 @@
 use Rattle.std.proofs.Common.{◌≡◌, None, sym, subst}
 use Rattle.std.proofs.lemmas.Result.{err_from_is_err_and}
 use Rattle.pl_code.specs.declared.code.Code.{Code}
-use Rattle.program_code.specs.Correct.{IsCodeOf}
+use Rattle.compiler_relation.specs.Correct.{IsCodeOf}
 use Rattle.verifier.specs.Faults.{shape_fault}
 use Rattle.script_engine.proofs.Compiled.{fails_only, formed_from, is_script, reached_from}
 use Rattle.script_engine.proofs.compiling.compile.Goals as goal

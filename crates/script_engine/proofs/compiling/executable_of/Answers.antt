@@ -3,7 +3,7 @@ use Rattle.std.proofs.Common.{sym, subst}
 use Rattle.std.proofs.lemmas.Result.{IfOk-weaker}
 use Rattle.allowlist.specs.Allow.{AllowList}
 use Rattle.pl_code.specs.declared.code.Code.{Code}
-use Rattle.code_machine.specs.Links.{Executable}
+use Rattle.machine.specs.Links.{Executable}
 use Rattle.verifier.specs.Verified.{FrameWords}
 use Rattle.script_engine.proofs.compiling.executable_of.Goals as goal
 

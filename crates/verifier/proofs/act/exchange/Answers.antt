@@ -1,7 +1,7 @@
 use Rattle.std.proofs.Common.{Some, ap, ◌∙◌}
 use Rattle.std.specs.Prelude.{option_map, ◌++◌}
-use Rattle.shape_table.specs.Shapes.{Table}
-use Rattle.code_shapes.specs.Effects.{left_by, result_kinds}
+use Rattle.verifier_table.specs.Shapes.{Table}
+use Rattle.instruction_types.specs.Effects.{left_by, result_kinds}
 use Rattle.verifier.proofs.act.exchange.Goals as goal
 
 pub returns-then-not-take : goal.returns-then-not-take

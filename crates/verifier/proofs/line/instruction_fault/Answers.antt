@@ -1,6 +1,6 @@
 use Rattle.std.proofs.Common.{◌≡◌, ◌+◌, ◌&&◌, true, false, ltb, length, sym, ◌∙◌, subst}
 use Rattle.std.specs.Prelude.{not}
-use Rattle.code_shapes.specs.Effects.{flow_of}
+use Rattle.instruction_types.specs.Effects.{flow_of}
 use Rattle.verifier.specs.Meets.{goes_to, left_at}
 use Rattle.verifier.specs.Faults.{falls}
 use Rattle.verifier.specs.Acts.{Does, LeadsOn, at_line}

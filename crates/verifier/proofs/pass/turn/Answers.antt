@@ -1,5 +1,5 @@
 use Rattle.std.proofs.Common.{subst}
-use Rattle.code_shapes.specs.declared.flow.Flow.{Flow}
+use Rattle.instruction_types.specs.declared.flow.Flow.{Flow}
 use Rattle.verifier.specs.Meets.{turns_to}
 use Rattle.verifier.specs.Acts.{LeadsOn}
 use Rattle.verifier.proofs.Passing.{next_item, no_item, turns_first, turns_one, turns_all}

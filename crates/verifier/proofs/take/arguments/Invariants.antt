@@ -1,5 +1,5 @@
 use Rattle.std.proofs.Common.{◌-◌, length, take}
-use Rattle.code_shapes.specs.Members.{argument_kinds}
+use Rattle.instruction_types.specs.Members.{argument_kinds}
 use Rattle.verifier.proofs.Takings.{SoFar}
 use Rattle.verifier.proofs.take.arguments.Given as goal
 

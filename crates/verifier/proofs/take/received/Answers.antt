@@ -1,6 +1,6 @@
 use Rattle.std.specs.Prelude.{[], ◌∷◌}
 use Rattle.pl_code.specs.declared.kinds.Slot.TheVariants.{R}
-use Rattle.code_shapes.specs.Members.{argument_kinds}
+use Rattle.instruction_types.specs.Members.{argument_kinds}
 use Rattle.verifier.proofs.Takings.{taken_then, taken_not}
 use Rattle.verifier.proofs.take.received.Goals as goal
 

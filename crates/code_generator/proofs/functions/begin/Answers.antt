@@ -1,5 +1,0 @@
-use Rattle.code_generator.proofs.Whole.{begun}
-use Rattle.code_generator.proofs.functions.begin.Goals as goal
-
-pub returns-clause-begun : goal.returns-clause-begun
-returns-clause-begun c = begun c.args.f.now _ c.new-params.result c.new-params.ensures c.lies_of.ensures c.in_ok-scope.ensures.scope c.new.ensures c.new-2.ensures c.new-3.ensures c.new-4.ensures c.new-5.ensures

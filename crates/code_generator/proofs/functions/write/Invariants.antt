@@ -1,7 +1,0 @@
-use Rattle.std.proofs.Common.{◌∷◌, map, take}
-use Rattle.program_meaning.specs.Programs.{program_of, fun_of}
-use Rattle.code_generator.specs.Functions.{Written}
-use Rattle.code_generator.proofs.functions.write.Given as goal
-
-abbrev pub invariant-loop-at : goal.invariant-loop-at
-invariant-loop-at l = Written (program_of l.program) (map fun_of (l.program.main ∷ take l.at l.program.functions)) l.functions

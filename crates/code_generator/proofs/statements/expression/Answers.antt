@@ -1,6 +1,0 @@
-use Rattle.std.proofs.Common.{refl}
-use Rattle.code_generator.proofs.Steps.{instead}
-use Rattle.code_generator.proofs.statements.expression.Goals as goal
-
-pub returns-clause-sound : goal.returns-clause-sound
-returns-clause-sound c = rw c.in_ok-push_three.ensures (instead _ _ _ _ (λ allow of s. s) refl)

@@ -1,6 +1,0 @@
-use Rattle.std.proofs.Common.{arith}
-use Rattle.code_generator.proofs.Listed.{class_named}
-use Rattle.code_generator.proofs.tries.trap.Goals as goal
-
-pub returns-then-class-ge-CLASS_COUNT-clause-total : goal.returns-then-class-ge-CLASS_COUNT-clause-total
-returns-then-class-ge-CLASS_COUNT-clause-total c = λ h. absurd (omega (arith, class_named c.args.class h, c.if-class-ge-CLASS_COUNT.true))

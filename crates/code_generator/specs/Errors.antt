@@ -1,8 +1,0 @@
--- Which errors are answered.
-use Rattle.std.specs.Prelude.{Result, IsOkUnless}
-use Rattle.code_generator.specs.declared.error.CodeError.{CodeError}
-use Rattle.code_generator.specs.declared.error.CodeError.TheVariants.{NoMemory}
-
--- the one error is that of memory
-abbrev pub OnlyMemory : {T : Type 0} → Result T CodeError → Type 0
-OnlyMemory result = IsOkUnless result NoMemory

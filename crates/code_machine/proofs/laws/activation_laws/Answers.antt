@@ -1,8 +1,0 @@
-use Rattle.code_machine.proofs.Turning.{turns_add, comes_to_its_end}
-use Rattle.code_machine.proofs.laws.activation_laws.Goals as goal
-
-pub returns-clause-turns : goal.returns-clause-turns
-returns-clause-turns c = turns_add
-
-pub returns-clause-ends : goal.returns-clause-ends
-returns-clause-ends c = comes_to_its_end

@@ -1,6 +1,0 @@
-use Rattle.std.proofs.Common.{◌∙◌}
-use Rattle.code_shapes.proofs.Named.{was_read}
-use Rattle.code_shapes.proofs.actions.reads.Goals as goal
-
-pub returns : goal.returns
-returns c = c.puts.ensures ∙ was_read c.args.member c.member_type-read.result.now c.kind_of_type.result c.member_type-read.ensures c.kind_of_type.ensures

@@ -1,9 +1,0 @@
-use Rattle.std.proofs.Common.{length}
-use Rattle.code_shapes.proofs.Dots.{Passed}
-use Rattle.code_shapes.proofs.members.behind_dots.Given as goal
-
-abbrev pub invariant-loop-after : goal.invariant-loop-after
-invariant-loop-after l = Passed l.text l.rest
-
-abbrev pub decreases-loop-after : goal.decreases-loop-after
-decreases-loop-after l = length l.rest

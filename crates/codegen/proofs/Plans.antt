@@ -1,0 +1,208 @@
+-- What is to be written for each kind of expression.
+use Rattle.std.proofs.Common.{◌≡◌, ℕ, suc, List, [], ◌∷◌, sym, ◌∙◌, subst, Some}
+use Rattle.pl_types.specs.declared.ty.Ty.{Ty}
+use Rattle.pl_code.specs.declared.kinds.Numbered.{Numbered}
+use Rattle.pl_code.specs.declared.kinds.Numbered.TheVariants as numbered
+use Rattle.pl_code.specs.declared.code.FunCode.{FunCode}
+use Rattle.pl_code.specs.declared.code.Instruction.TheVariants as i
+use Rattle.pl_code.specs.declared.kinds.Plain.TheVariants as plain
+use Rattle.pl_types.specs.declared.conversion.Cast.{Cast}
+use Rattle.typed_tree.specs.declared.operation.Operation.{Operation}
+use Rattle.typed_tree.specs.declared.operation.Operation.TheVariants as operation
+use Rattle.typed_tree.specs.declared.operation.Logical.{Logical}
+use Rattle.typed_tree.specs.declared.operation.Logical.TheVariants.{And, Or}
+use Rattle.typed_tree.specs.declared.operation.Target.TheVariants as target
+use Rattle.typed_tree.specs.declared.operation.Change.{Change}
+use Rattle.typed_tree.specs.declared.operation.Gives.{Gives}
+use Rattle.source_meaning.specs.Tree.{Name, Expr, Local, Logic, Conditional, Elvis, Assign, Modify, Apply, Guarded, Exprs, None', One, Program, type_of}
+use Rattle.compiler_relation.specs.Lying.{lying_of, Lying, Bare, Whole}
+use Rattle.compiler_relation.specs.Parts.{operation_code, operator_code, kept_before, kept_behind, without_null}
+use Rattle.allowlist.specs.declared.member.MemberKind.{MemberKind}
+use Rattle.allowlist.specs.declared.member.MemberKind.TheVariants as kinds
+use Rattle.typed_tree.specs.declared.operation.Member.{Member}
+use Rattle.codegen.specs.Called.{member_operation}
+use Rattle.codegen.specs.Checks.{jump_of}
+use Rattle.compiler_relation.specs.Stands.{Entry, Scope, IsEntry, At, end_expr, end_exprs, MemberFits, GuardFits, settled, settles, Fitting, ChangeFits, lyings, change_first, change_last, elvis_right}
+use Rattle.compiler_relation.specs.Placed.{untrapped}
+use Rattle.codegen.specs.Labels.{line_of}
+use Rattle.codegen.specs.Jobs.{Job, Value, Values, Put, Convert, Ask, Call, Jump, Bind, Load, Store, Wanted, Wants, Taken, Back}
+use Rattle.codegen.specs.declared.config.Config.{Config}
+use Rattle.codegen.proofs.Back.{planned}
+
+-- a jump to where a label is
+pub goes_to : (f : FunCode) (p : ℕ) (kind : Numbered) (line to : ℕ) → line ≡ to → At f [] p (i.Numbered kind line) → At f [] p (i.Numbered kind to)
+goes_to f p kind line to e a = subst (λ to. At f [] p (i.Numbered kind to)) e a
+
+settles_so : (f : FunCode) (p : ℕ) (o : Logical) (to : ℕ) → At f [] p (i.Numbered (jump_of o) to) → At f [] p (settles o to)
+settles_so f p And to a = a
+settles_so f p Or to a = a
+
+-- a name has one entry
+same_entry : (g : Scope) (x : Name) (y z : Entry) → IsEntry g x y → IsEntry g x z → z ≡ y
+same_entry g x y z a b = let h : Some z ≡ Some y = sym b.is ∙ a.is in cc
+
+module _ (funs : Program) (js : List Job) (c : Config) where
+  pub local_plan : (at : ℕ) (of : Ty) (x : Name) (lies : Lying) → lies ≡ lying_of of → Back funs (Value (Local at of x) ∷ js) c (Load x lies ∷ js) c
+  local_plan at of x lies e = planned funs (Value (Local at of x) ∷ js) c (Load x lies ∷ js) (λ f labels g n p flows whole s. ((s.0.0, s.0.1, sym e ∙ s.0.2, s.0.3), s.1))
+
+  pub conditional_plan : (at : ℕ) (of : Ty) (a b d : Expr) (other end : ℕ) → lying_of (type_of a) ≡ Bare → lying_of (type_of b) ≡ lying_of of → lying_of (type_of d) ≡ lying_of of
+      → Back funs (Value (Conditional at of a b d) ∷ js) c
+      (Value a ∷ Jump numbered.IfZero other ∷ Value b ∷ Jump numbered.Goto end ∷ Bind other ∷ Value d ∷ Bind end ∷ js) c
+  conditional_plan at of a b d other end ea eb ed =
+      planned funs (Value (Conditional at of a b d) ∷ js) c (Value a ∷ Jump numbered.IfZero other ∷ Value b ∷ Jump numbered.Goto end ∷ Bind other ∷ Value d ∷ Bind end ∷ js)
+      (λ f labels g n p flows whole s.
+      let q = suc (end_expr p a) in
+      let r = suc (end_expr q b) in (
+        (
+          s.0,
+          goes_to (untrapped f) (end_expr p a) numbered.IfZero (line_of labels other) r s.1.1.1.1.0 s.1.0,
+          s.1.1.0,
+          goes_to (untrapped f) (end_expr q b) numbered.Goto (line_of labels end) (end_expr r d) s.1.1.1.1.1.1.0 s.1.1.1.0,
+          s.1.1.1.1.1.0,
+          ea,
+          eb,
+          ed,
+        ),
+        s.1.1.1.1.1.1.1,
+      ))
+
+  pub elvis_plan : (at : ℕ) (of : Ty) (a b : Expr) (other end : ℕ) → lying_of (type_of a) ≡ Whole → lying_of (type_of b) ≡ Whole → lying_of of ≡ Whole
+      → Back funs (Value (Elvis at of a b) ∷ js) c
+      (Value a ∷ Put (i.Plain plain.Dup ∷ []) ∷ Jump numbered.IfNull other ∷ Jump numbered.Goto end ∷ Bind other ∷ Put (i.Plain plain.Pop ∷ []) ∷ Value b ∷ Bind end ∷ js) c
+  elvis_plan at of a b other end ea eb e =
+      planned funs (Value (Elvis at of a b) ∷ js) c
+      (Value a ∷ Put (i.Plain plain.Dup ∷ []) ∷ Jump numbered.IfNull other ∷ Jump numbered.Goto end ∷ Bind other ∷ Put (i.Plain plain.Pop ∷ []) ∷ Value b ∷ Bind end ∷ js)
+      (λ f labels g n p flows whole s.
+      let q = end_expr p a in (
+        (
+          s.0,
+          s.1.0.0,
+          goes_to (untrapped f) (suc q) numbered.IfNull (line_of labels other) (suc (suc (suc q))) s.1.1.1.1.0 s.1.1.0,
+          goes_to (untrapped f) (suc (suc q)) numbered.Goto (line_of labels end) (end_expr (elvis_right q) b) s.1.1.1.1.1.1.1.0 s.1.1.1.0,
+          s.1.1.1.1.1.0.0,
+          s.1.1.1.1.1.1.0,
+          ea,
+          eb,
+          e,
+        ),
+        s.1.1.1.1.1.1.1.1,
+      ))
+
+  pub logical_plan : (at : ℕ) (of : Ty) (o : Logical) (a b : Expr) (other end : ℕ) → lying_of (type_of a) ≡ Bare → lying_of (type_of b) ≡ Bare → lying_of of ≡ Bare
+      → Back funs (Value (Logic at of o a b) ∷ js) c
+      (Value a ∷ Jump (jump_of o) other ∷ Value b ∷ Jump numbered.Goto end ∷ Bind other ∷ Put (settled o ∷ []) ∷ Bind end ∷ js) c
+  logical_plan at of o a b other end ea eb e =
+      planned funs (Value (Logic at of o a b) ∷ js) c (Value a ∷ Jump (jump_of o) other ∷ Value b ∷ Jump numbered.Goto end ∷ Bind other ∷ Put (settled o ∷ []) ∷ Bind end ∷ js)
+      (λ f labels g n p flows whole s.
+      let q = suc (end_expr p a) in
+      let r = end_expr q b in (
+        (
+          s.0,
+          settles_so (untrapped f) (end_expr p a) o (suc r) (goes_to (untrapped f) (end_expr p a) (jump_of o) (line_of labels other) (suc r) s.1.1.1.1.0 s.1.0),
+          s.1.1.0,
+          goes_to (untrapped f) r numbered.Goto (line_of labels end) (suc (suc r)) s.1.1.1.1.1.1.0 s.1.1.1.0,
+          s.1.1.1.1.1.0.0,
+          ea,
+          eb,
+          e,
+        ),
+        s.1.1.1.1.1.1.1,
+      ))
+
+  pub assign_plan : (at : ℕ) (of : Ty) (x : Name) (parts : Exprs) (a : Expr) (lies : Lying) → lies ≡ lying_of of → lying_of (type_of a) ≡ lies
+      → Back funs (Value (Assign at of (target.Local x) parts a) ∷ js) c (Value a ∷ Put (i.Plain plain.Dup ∷ []) ∷ Store x lies ∷ js) c
+  assign_plan at of x parts a lies e ea =
+      planned funs (Value (Assign at of (target.Local x) parts a) ∷ js) c (Value a ∷ Put (i.Plain plain.Dup ∷ []) ∷ Store x lies ∷ js)
+      (λ f labels g n p flows whole s. ((s.0, s.1.0.0, (s.1.1.0.0, s.1.1.0.1, ea ∙ s.1.1.0.2, sym e ∙ s.1.1.0.2, s.1.1.0.3)), s.1.1.1))
+
+  pub modify_plan : (at : ℕ) (of : Ty) (x : Name) (parts : Exprs) (change : Change) (a : Expr) (gives : Gives) (lies : Lying) → lies ≡ lying_of of → ChangeFits change of (lying_of (type_of a))
+      → Back funs (Value (Modify at of (target.Local x) parts change a gives) ∷ js) c
+      (Load x lies ∷ Put (kept_before gives) ∷ Convert change.before of ∷ Value a ∷ Put (operator_code change.operator) ∷ Convert change.after of ∷ Put (kept_behind gives) ∷ Store x lies ∷ js) c
+  modify_plan at of x parts change a gives lies e fits =
+      planned funs (Value (Modify at of (target.Local x) parts change a gives) ∷ js) c
+      (Load x lies ∷ Put (kept_before gives) ∷ Convert change.before of ∷ Value a ∷ Put (operator_code change.operator) ∷ Convert change.after of ∷ Put (kept_behind gives) ∷ Store x lies ∷ js)
+      (λ f labels g n p flows whole s.
+      let load = s.0 in
+      let store = s.1.1.1.1.1.1.1.0 in (
+        (
+          load.0,
+          load.1,
+          sym load.2 ∙ e,
+          load.3,
+          s.1.0,
+          s.1.1.0,
+          s.1.1.1.0,
+          s.1.1.1.1.0,
+          s.1.1.1.1.1.0,
+          s.1.1.1.1.1.1.0,
+          subst (λ (y : Entry). At (untrapped f) [] (change_last gives change of (end_expr (change_first gives change of p) a)) (i.Numbered numbered.Store y.local)) (same_entry g x load.0 store.0 load.1 store.1) store.3,
+          fits,
+        ),
+        s.1.1.1.1.1.1.1.1,
+      ))
+
+  pub apply_plan : (at : ℕ) (of : Ty) (o : Operation) (parts : Exprs) (wanted : Wanted) → (Wants wanted (lyings parts) → Fitting funs o (lyings parts) of)
+      → Back funs (Value (Apply at of o parts) ∷ js) c (Values parts wanted ∷ Put (operation_code o of) ∷ js) c
+  apply_plan at of o parts wanted e =
+      planned funs (Value (Apply at of o parts) ∷ js) c (Values parts wanted ∷ Put (operation_code o of) ∷ js) (λ f labels g n p flows whole s. ((s.0.0, s.1.0, e s.0.1), s.1.1))
+
+  pub cast_plan : (at : ℕ) (of : Ty) (by : Cast) (parts : Exprs) (wanted : Wanted) → (Wants wanted (lyings parts) → Fitting funs (operation.Cast by) (lyings parts) of)
+      → Back funs (Value (Apply at of (operation.Cast by) parts) ∷ js) c (Values parts wanted ∷ Convert by of ∷ js) c
+  cast_plan at of by parts wanted e =
+      planned funs (Value (Apply at of (operation.Cast by) parts) ∷ js) c (Values parts wanted ∷ Convert by of ∷ js) (λ f labels g n p flows whole s. ((s.0.0, s.1.0, e s.0.1), s.1.1))
+
+  pub ask_plan : (at : ℕ) (of is : Ty) (parts : Exprs) (wanted : Wanted) → (Wants wanted (lyings parts) → Fitting funs (operation.InstanceOf is) (lyings parts) of)
+      → Back funs (Value (Apply at of (operation.InstanceOf is) parts) ∷ js) c (Values parts wanted ∷ Ask is ∷ js) c
+  ask_plan at of is parts wanted e =
+      planned funs (Value (Apply at of (operation.InstanceOf is) parts) ∷ js) c (Values parts wanted ∷ Ask is ∷ js) (λ f labels g n p flows whole s. ((s.0.0, (s.1.0, tt), e s.0.1), s.1.1))
+
+  pub member_plan : (at : ℕ) (of : Ty) (kind : MemberKind) (m : Member) (parts : Exprs) (wanted : Wanted) (lies : Lying) → lies ≡ lying_of of → (Wants wanted (lyings parts) → MemberFits kind m (lyings parts) of)
+      → Back funs (Value (Apply at of (member_operation kind m) parts) ∷ js) c (Values parts wanted ∷ Call kind m.text ∷ Put (without_null lies) ∷ js) c
+  member_plan at of kind m parts wanted lies e fits =
+      subst (λ (lies : Lying). Back funs (Value (Apply at of (member_operation kind m) parts) ∷ js) c (Values parts wanted ∷ Call kind m.text ∷ Put (without_null lies) ∷ js) c) (sym e) (by_kind kind fits)
+    where
+      by_kind : (kind : MemberKind) → (Wants wanted (lyings parts) → MemberFits kind m (lyings parts) of)
+          → Back funs (Value (Apply at of (member_operation kind m) parts) ∷ js) c (Values parts wanted ∷ Call kind m.text ∷ Put (without_null (lying_of of)) ∷ js) c
+      by_kind kinds.Constructor fits =
+          planned funs (Value (Apply at of (operation.Constructor m) parts) ∷ js) c (Values parts wanted ∷ Call kinds.Constructor m.text ∷ Put (without_null (lying_of of)) ∷ js)
+          (λ f labels g n p flows whole s. ((s.0.0, (s.1.0, s.1.1.0), fits s.0.1), s.1.1.1))
+      by_kind kinds.Static fits =
+          planned funs (Value (Apply at of (operation.Static m) parts) ∷ js) c (Values parts wanted ∷ Call kinds.Static m.text ∷ Put (without_null (lying_of of)) ∷ js)
+          (λ f labels g n p flows whole s. ((s.0.0, (s.1.0, s.1.1.0), fits s.0.1), s.1.1.1))
+      by_kind kinds.Instance fits =
+          planned funs (Value (Apply at of (operation.Instance m) parts) ∷ js) c (Values parts wanted ∷ Call kinds.Instance m.text ∷ Put (without_null (lying_of of)) ∷ js)
+          (λ f labels g n p flows whole s. ((s.0.0, (s.1.0, s.1.1.0), fits s.0.1), s.1.1.1))
+      by_kind kinds.Field fits =
+          planned funs (Value (Apply at of (operation.Field m) parts) ∷ js) c (Values parts wanted ∷ Call kinds.Field m.text ∷ Put (without_null (lying_of of)) ∷ js)
+          (λ f labels g n p flows whole s. ((s.0.0, (s.1.0, s.1.1.0), fits s.0.1), s.1.1.1))
+
+  pub guarded_plan : (at : ℕ) (of : Ty) (m : Member) (a : Expr) (others : Exprs) (wanted : Wanted) (lies : Lying) (end : ℕ) → lies ≡ lying_of of
+      → (Wants wanted (lyings others) → GuardFits (operation.Instance m) (lying_of (type_of a) ∷ lyings others) of)
+      → Back funs (Value (Guarded at of (operation.Instance m) (One a others)) ∷ js) c
+      (Value a ∷ Put (i.Plain plain.Dup ∷ []) ∷ Jump numbered.IfNull end ∷ Values others wanted ∷ Call kinds.Instance m.text ∷ Bind end ∷ Put (without_null lies) ∷ js) c
+  guarded_plan at of m a others wanted lies end e fits =
+      subst (λ (lies : Lying). Back funs (Value (Guarded at of (operation.Instance m) (One a others)) ∷ js) c
+      (Value a ∷ Put (i.Plain plain.Dup ∷ []) ∷ Jump numbered.IfNull end ∷ Values others wanted ∷ Call kinds.Instance m.text ∷ Bind end ∷ Put (without_null lies) ∷ js) c) (sym e)
+      (planned funs (Value (Guarded at of (operation.Instance m) (One a others)) ∷ js) c
+      (Value a ∷ Put (i.Plain plain.Dup ∷ []) ∷ Jump numbered.IfNull end ∷ Values others wanted ∷ Call kinds.Instance m.text ∷ Bind end ∷ Put (without_null (lying_of of)) ∷ js)
+      (λ f labels g n p flows whole s.
+      let q = end_expr p a in
+      let r = end_exprs (suc (suc q)) others in (
+        (
+          s.0,
+          s.1.0.0,
+          goes_to (untrapped f) (suc q) numbered.IfNull (line_of labels end) (suc r) s.1.1.1.1.1.0 s.1.1.0,
+          s.1.1.1.0.0,
+          (s.1.1.1.1.0, tt),
+          s.1.1.1.1.1.1.0,
+          fits s.1.1.1.0.1,
+        ),
+        s.1.1.1.1.1.1.1,
+      )))
+
+  pub values_end : (wanted : Wanted) → Wants wanted [] → Back funs (Values None' wanted ∷ js) c js c
+  values_end wanted e = planned funs (Values None' wanted ∷ js) c js (λ f labels g n p flows whole s. ((tt, e), s))
+
+  pub values_more : (a : Expr) (parts : Exprs) (wanted behind : Wanted) → Taken wanted behind (lying_of (type_of a)) → Back funs (Values (One a parts) wanted ∷ js) c (Value a ∷ Values parts behind ∷ js) c
+  values_more a parts wanted behind e =
+      planned funs (Values (One a parts) wanted ∷ js) c (Value a ∷ Values parts behind ∷ js) (λ f labels g n p flows whole s. (((s.0, s.1.0.0), e.by (lyings parts) s.1.0.1), s.1.1))

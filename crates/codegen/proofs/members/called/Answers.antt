@@ -1,0 +1,17 @@
+use Rattle.std.proofs.Common.{sym, ◌∙◌}
+use Rattle.codegen.proofs.Called.{not_beyond, other_text, named_so}
+use Rattle.codegen.proofs.members.called.Goals as goal
+
+pub returns-then-named-ge-MEMBER_COUNT-clause-total : goal.returns-then-named-ge-MEMBER_COUNT-clause-total
+returns-then-named-ge-MEMBER_COUNT-clause-total c = λ member h. absurd (not_beyond c.args.named.now.number member c.if-named-ge-MEMBER_COUNT.true h.is)
+
+pub returns-in_err-same_text-clause-total : goal.returns-in_err-same_text-clause-total
+returns-in_err-same_text-clause-total c = λ member h. absurd (other_text c.args.kind c.args.named.now c.args.of.now member h _ c.in_ok-text.ensures c.in_err-same_text.ensures)
+
+pub returns-clause-found : goal.returns-clause-found
+returns-clause-found c = record {
+  is = c.member_type-member.ensures;
+  sort = c.in_ok-same_kind.ensures;
+  text = named_so c.args.named.now.number c.member_type-member.result.now _ _ c.member_type-member.ensures c.in_ok-text.ensures c.in_ok-same_text.ensures;
+  gives = sym c.lies_of.ensures ∙ c.in_ok-alike.ensures ∙ c.lies_of-2.ensures;
+}

@@ -1,0 +1,190 @@
+//! Members that are called, made or read.
+
+ghost use Rattle.std.specs.Prelude.{◌≡◌, ◌≢◌, ◌∷◌, map, slice_get, string_bytes, true, false, IfOk, MatchResult, OnOk};
+ghost use Rattle.std.specs.Option.{option_map};
+ghost use Rattle.std.specs.Str.{bytes_eq};
+ghost use Rattle.allowlist.specs.declared.member.MemberType.{MemberType};
+ghost use Rattle.codegen.specs.Called.{IsCalled, member_operation};
+ghost use Rattle.codegen.specs.Checks.{lying};
+ghost use Rattle.codegen.specs.Errors.{OnlyMemory};
+ghost use Rattle.codegen.specs.Jobs as j;
+ghost use Rattle.codegen.specs.Jobs.{Back, jobs, member_takes};
+ghost use Rattle.codegen.specs.Sound.{Keeps};
+ghost use Rattle.compiler_relation.specs.Lying.{Bare, lying_of};
+ghost use Rattle.source_meaning.specs.Programs.{program_of, expr_of, exprs_of};
+ghost use Rattle.source_meaning.specs.Tree as tree;
+ghost use Rattle.typed_tree.specs.declared.operation.Member.{Member};
+ghost use Rattle.typed_tree.specs.declared.operation.Operation.TheVariants as operation;
+
+use crate::config::Config;
+use crate::error::CodeError;
+use crate::expressions::lies_as;
+use crate::lying::{Lies, alike, lies_of};
+use crate::pieces::Piece;
+use crate::pile::Pile;
+use crate::task::{Task, Wanted};
+use allowlist::{Allow, MEMBER_COUNT, MemberKind, MemberType};
+use member_names::{member_text, names_of_members};
+use pl_code::{Numbered, Plain};
+use pl_types::Ty;
+use plain_data::{Items, Subtree, Text};
+use std::alloc::Global;
+use typed_tree::{Member, Operation, Program, Typed};
+
+/// How the part at a place lies of a member with these parameters: before the arguments comes the receiver, where there is one.
+pub fn parameter(kind: MemberKind, params: &Items<Ty>, at: usize) -> Option<Lies>
+    ensures { option_map lying result ≡ slice_get (member_takes kind params.now) at }
+{
+    match kind {
+        MemberKind::Instance => {
+            if at == 0 {
+                Some(Lies::Whole)
+            } else {
+                argument(params, at - 1)
+            }
+        }
+        MemberKind::Constructor => argument(params, at),
+        MemberKind::Static => argument(params, at),
+        MemberKind::Field => argument(params, at),
+    }
+}
+
+fn argument(params: &Items<Ty>, at: usize) -> Option<Lies>
+    ensures { option_map lying result ≡ slice_get (map lying_of params.now) at }
+{
+    match params.get(at) {
+        Some(of) => Some(lies_of(of)),
+        None => None,
+    }
+}
+
+/// Two kinds have to be one.
+fn same_kind(left: MemberKind, right: MemberKind) -> Result<(), CodeError>
+    ensures { MatchResult result (λ _. left ≡ right) (λ _. left ≢ right) }
+{
+    match (left, right) {
+        (MemberKind::Constructor, MemberKind::Constructor) => Ok(()),
+        (MemberKind::Static, MemberKind::Static) => Ok(()),
+        (MemberKind::Instance, MemberKind::Instance) => Ok(()),
+        (MemberKind::Field, MemberKind::Field) => Ok(()),
+        _ => Err(CodeError::Malformed),
+    }
+}
+
+/// Two texts have to be one.
+fn same_text(left: &String, right: &Text) -> Result<(), CodeError>
+    ensures { MatchResult result (λ _. bytes_eq (string_bytes left.now) right.now ≡ true) (λ _. bytes_eq (string_bytes left.now) right.now ≡ false) }
+{
+    if left.as_str() == right.as_str() {
+        Ok(())
+    } else {
+        Err(CodeError::Malformed)
+    }
+}
+
+/// The catalogue's member that a call names, of this kind. `Malformed` where there is none.
+fn called<'a>(
+    alloc: Global,
+    catalogue: &'a Allow,
+    kind: MemberKind,
+    named: &Member,
+    of: &Ty,
+) -> Result<&'a MemberType, CodeError>
+    ensures found { IfOk result (λ member. IsCalled kind named.now of.now member.now) }
+    ensures total { (member : MemberType) → IsCalled kind named.now of.now member → OnlyMemory result }
+{
+    if named.number >= MEMBER_COUNT {
+        return Err(CodeError::Malformed);
+    }
+    let member = catalogue.member_type(named.number);
+    same_kind(member.kind, kind)?;
+    let text = member_text(alloc, catalogue, named.number)?;
+    same_text(&text, &named.text)?;
+    alike(lies_of(of), lies_of(&member.result))?;
+    Ok(member)
+}
+
+/// What is to be written for a call of a member, or for what makes or reads it.
+pub fn apply_member<'a>(
+    alloc: Global,
+    catalogue: &'a Allow,
+    program: &'a Program,
+    config: &Config,
+    tasks: &mut Pile<Task<'a>>,
+    at: u32,
+    of: &Ty,
+    kind: MemberKind,
+    named: &'a Member,
+    parts: &'a Items<Subtree<Typed>>,
+) -> Result<(), CodeError>
+    ensures back { OnOk result (Back (program_of program.now) (j.Value (tree.Apply at of.now (member_operation kind named.now) (exprs_of (map expr_of parts.now))) ∷ jobs tasks.old) config.now (jobs tasks.new) config.now) }
+    ensures sound { Keeps (program_of program.now) (j.Value (tree.Apply at of.now (member_operation kind named.now) (exprs_of (map expr_of parts.now))) ∷ jobs tasks.old) config.now result (jobs tasks.new) config.now }
+{
+    names_of_members();
+    let member = called(alloc, catalogue, kind, named, of)?;
+    tasks.push_three(
+        Task::Values(parts, 0, Wanted::Member(kind, &member.params)),
+        Task::Call(kind, &named.text),
+        Task::Put(Piece::WithoutNull(lies_of(of))),
+    )?;
+    Ok(())
+}
+
+/// A value does not lie as a number.
+fn not_bare(of: &Ty) -> Result<(), CodeError>
+    ensures { MatchResult result (λ _. lying_of of.now ≢ Bare) (λ _. lying_of of.now ≡ Bare) }
+{
+    match of {
+        Ty::Prim(_) => Err(CodeError::Malformed),
+        _ => Ok(()),
+    }
+}
+
+/// The member that is called on a value. `Unbuilt` where something else is done.
+fn instance(does: &Operation) -> Result<&Member, CodeError>
+    ensures { MatchResult result (λ m. does.now ≡ operation.Instance m.now) (λ _. (m : Member) → does.now ≡ operation.Instance m → ⊥) }
+{
+    match does {
+        Operation::Instance(named) => Ok(named),
+        _ => Err(CodeError::Unbuilt),
+    }
+}
+
+/// What is to be written for a call that a null receiver leaves out.
+pub fn guarded<'a>(
+    alloc: Global,
+    catalogue: &'a Allow,
+    program: &'a Program,
+    config: &mut Config,
+    tasks: &mut Pile<Task<'a>>,
+    at: u32,
+    of: &Ty,
+    operation: &'a Operation,
+    parts: &'a Items<Subtree<Typed>>,
+) -> Result<(), CodeError>
+    ensures back { OnOk result (Back (program_of program.now) (j.Value (tree.Guarded at of.now operation.now (exprs_of (map expr_of parts.now))) ∷ jobs tasks.old) config.old (jobs tasks.new) config.new) }
+    ensures sound { Keeps (program_of program.now) (j.Value (tree.Guarded at of.now operation.now (exprs_of (map expr_of parts.now))) ∷ jobs tasks.old) config.old result (jobs tasks.new) config.new }
+{
+    names_of_members();
+    let named = instance(operation)?;
+    let Some(receiver) = parts.get(0) else {
+        return Err(CodeError::Malformed);
+    };
+    let receiver = receiver.get();
+    lies_as(receiver, Lies::Whole)?;
+    not_bare(of)?;
+    let member = called(alloc, catalogue, MemberKind::Instance, named, of)?;
+    let end = config.labels.fresh()?;
+    tasks.push_two(Task::Bind(end), Task::Put(Piece::WithoutNull(lies_of(of))))?;
+    tasks.push_three(
+        Task::Jump(Numbered::IfNull, end),
+        Task::Values(
+            parts,
+            1,
+            Wanted::Member(MemberKind::Instance, &member.params),
+        ),
+        Task::Call(MemberKind::Instance, &named.text),
+    )?;
+    tasks.push_two(Task::Value(receiver), Task::Put(Piece::Plain(Plain::Dup)))?;
+    Ok(())
+}

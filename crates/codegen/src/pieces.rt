@@ -1,0 +1,255 @@
+//! Instructions that depend on nothing but what is done.
+
+ghost use Rattle.std.specs.Prelude.{◌≡◌, [], ◌∷◌, ◌++◌, map, OnOk};
+ghost use Rattle.codegen.specs.Checks.{lying};
+ghost use Rattle.codegen.specs.declared.labels.Line.TheVariants.{Fixed};
+ghost use Rattle.codegen.specs.Pieces.{piece, if_any, in_width};
+ghost use Rattle.pl_code.specs.declared.code.Instruction.TheVariants as i;
+ghost use Rattle.pl_code.specs.declared.kinds.Width.{Width};
+ghost use Rattle.compiler_relation.specs.Parts.{constant_code, text_code, arithmetic_code, boolean_code, turned_round, operator_code, default_code, default_of_primitive, pops, without_null, kept_before, kept_behind};
+ghost use Rattle.compiler_relation.specs.Stands.{settled};
+
+use crate::labels::Line;
+use crate::lying::Lies;
+use arithmetic::Op;
+use pl_code::{ArithmeticOp, Instruction, Numbered, Plain, Quoting, Width};
+use pl_types::{Primitive, Ty};
+use plain_data::{Items, Text};
+use std::alloc::{AllocError, Global};
+use typed_tree::{Constant, Gives, Logical, Operator};
+
+/// Some instructions.
+#[derive(Clone, Copy)]
+pub enum Piece<'a> {
+    Call(u32),
+    Operator(Operator),
+    Plain(Plain),
+    Int(i32),
+    Constant(Constant),
+    Text(&'a Text),
+    /// A value is dropped that lies so.
+    Pop(Lies),
+    /// A null is dropped where what is given lies so.
+    WithoutNull(Lies),
+    /// The value that settles an operator before its right side.
+    Settled(Logical),
+    /// What keeps a value below a change of it.
+    Before(Gives),
+    /// What keeps a value behind a change.
+    Behind(Gives),
+    /// What a variable of a type begins with.
+    Default(&'a Ty),
+}
+
+/// Puts one instruction at the end.
+pub fn one(lines: &mut Items<Line>, instruction: Instruction) -> Result<(), AllocError>
+    ensures { OnOk result (lines.new ≡ lines.old ++ Fixed instruction ∷ []) }
+{
+    lines.push(Line::Fixed(instruction))?;
+    Ok(())
+}
+
+/// Puts some instructions at the end.
+pub fn put<'a>(alloc: Global, lines: &mut Items<Line>, what: Piece<'a>) -> Result<(), AllocError>
+    ensures { OnOk result (lines.new ≡ lines.old ++ map Fixed (piece what.entry)) }
+{
+    match what {
+        Piece::Call(number) => one(lines, Instruction::Numbered(Numbered::Call, number)),
+        Piece::Operator(operator) => put_operator(lines, operator),
+        Piece::Plain(plain) => one(lines, Instruction::Plain(plain)),
+        Piece::Int(number) => one(lines, Instruction::Int(number)),
+        Piece::Constant(constant) => one(lines, constant_of(constant)),
+        Piece::Text(text) => put_text(alloc, lines, text),
+        Piece::Pop(lies) => put_pop(lines, lies),
+        Piece::WithoutNull(lies) => put_without_null(lines, lies),
+        Piece::Settled(operator) => put_settled(lines, operator),
+        Piece::Before(gives) => put_before(lines, gives),
+        Piece::Behind(gives) => put_behind(lines, gives),
+        Piece::Default(of) => put_default(lines, of),
+    }
+}
+
+fn constant_of(constant: Constant) -> Instruction
+    ensures { result ≡ constant_code constant }
+{
+    match constant {
+        Constant::Null => Instruction::Plain(Plain::Null),
+        Constant::Boolean(flag) => Instruction::Int(if flag { 1 } else { 0 }),
+        Constant::Byte(number) => Instruction::Int(number as i32),
+        Constant::Short(number) => Instruction::Int(number as i32),
+        Constant::Char(unit) => Instruction::Int(unit as i32),
+        Constant::Int(number) => Instruction::Int(number),
+        Constant::Long(number) => Instruction::Long(number),
+    }
+}
+
+fn put_text(alloc: Global, lines: &mut Items<Line>, text: &Text) -> Result<(), AllocError>
+    ensures { OnOk result (lines.new ≡ lines.old ++ map Fixed (text_code text.now ∷ [])) }
+{
+    let text = Text::new(alloc, text.as_str())?;
+    one(lines, Instruction::Quoted(Quoting::Constant, text))
+}
+
+fn put_pop(lines: &mut Items<Line>, lies: Lies) -> Result<(), AllocError>
+    ensures { OnOk result (lines.new ≡ lines.old ++ map Fixed (pops (lying lies))) }
+{
+    match lies {
+        Lies::Absent => Ok(()),
+        _ => one(lines, Instruction::Plain(Plain::Pop)),
+    }
+}
+
+fn put_without_null(lines: &mut Items<Line>, lies: Lies) -> Result<(), AllocError>
+    ensures { OnOk result (lines.new ≡ lines.old ++ map Fixed (without_null (lying lies))) }
+{
+    match lies {
+        Lies::Absent => one(lines, Instruction::Plain(Plain::Pop)),
+        _ => Ok(()),
+    }
+}
+
+fn put_settled(lines: &mut Items<Line>, operator: Logical) -> Result<(), AllocError>
+    ensures { OnOk result (lines.new ≡ lines.old ++ map Fixed (settled operator ∷ [])) }
+{
+    match operator {
+        Logical::And => one(lines, Instruction::Int(0)),
+        Logical::Or => one(lines, Instruction::Int(1)),
+    }
+}
+
+fn put_before(lines: &mut Items<Line>, gives: Gives) -> Result<(), AllocError>
+    ensures { OnOk result (lines.new ≡ lines.old ++ map Fixed (kept_before gives)) }
+{
+    match gives {
+        Gives::Old => one(lines, Instruction::Plain(Plain::Dup)),
+        Gives::New => Ok(()),
+    }
+}
+
+fn put_behind(lines: &mut Items<Line>, gives: Gives) -> Result<(), AllocError>
+    ensures { OnOk result (lines.new ≡ lines.old ++ map Fixed (kept_behind gives)) }
+{
+    match gives {
+        Gives::Old => Ok(()),
+        Gives::New => one(lines, Instruction::Plain(Plain::Dup)),
+    }
+}
+
+fn default_of(primitive: Primitive) -> Instruction
+    ensures { result ≡ default_of_primitive primitive }
+{
+    match primitive {
+        Primitive::Long => Instruction::Long(0),
+        _ => Instruction::Int(0),
+    }
+}
+
+fn put_default(lines: &mut Items<Line>, of: &Ty) -> Result<(), AllocError>
+    ensures { OnOk result (lines.new ≡ lines.old ++ map Fixed (default_code of.now)) }
+{
+    match of {
+        Ty::Void => Ok(()),
+        Ty::Prim(primitive) => one(lines, default_of(*primitive)),
+        Ty::Null => one(lines, Instruction::Plain(Plain::Null)),
+        Ty::Def => one(lines, Instruction::Plain(Plain::Null)),
+        Ty::Class(_) => one(lines, Instruction::Plain(Plain::Null)),
+        Ty::Array(_) => one(lines, Instruction::Plain(Plain::Null)),
+    }
+}
+
+fn put_operator(lines: &mut Items<Line>, operator: Operator) -> Result<(), AllocError>
+    ensures { OnOk result (lines.new ≡ lines.old ++ map Fixed (operator_code operator)) }
+{
+    match operator {
+        Operator::Int(op) => put_arithmetic(lines, op, Width::Int),
+        Operator::Long(op) => put_arithmetic(lines, op, Width::Long),
+        Operator::Boolean(op) => put_boolean(lines, op),
+        Operator::Equal => one(lines, Instruction::Plain(Plain::Equal)),
+        Operator::NotEqual => put_turned_round(lines, Plain::Equal),
+        Operator::Same => one(lines, Instruction::Plain(Plain::Same)),
+        Operator::NotSame => put_turned_round(lines, Plain::Same),
+        Operator::Concat => one(lines, Instruction::Plain(Plain::Concat)),
+        _ => Ok(()),
+    }
+}
+
+/// What gives a truth value, and then that the other way round.
+fn put_turned_round(lines: &mut Items<Line>, plain: Plain) -> Result<(), AllocError>
+    ensures { OnOk result (lines.new ≡ lines.old ++ map Fixed (i.Plain plain ∷ turned_round)) }
+{
+    one(lines, Instruction::Plain(plain))?;
+    one(lines, Instruction::Int(0))?;
+    one(lines, Instruction::Arithmetic(ArithmeticOp::Eq, Width::Int))
+}
+
+fn arithmetic_op(op: Op) -> Option<ArithmeticOp>
+    ensures { (width : Width) → arithmetic_code op width ≡ in_width result width }
+{
+    match op {
+        Op::Add => Some(ArithmeticOp::Add),
+        Op::Sub => Some(ArithmeticOp::Sub),
+        Op::Mul => Some(ArithmeticOp::Mul),
+        Op::Div => Some(ArithmeticOp::Div),
+        Op::Rem => Some(ArithmeticOp::Rem),
+        Op::And => Some(ArithmeticOp::And),
+        Op::Or => Some(ArithmeticOp::Or),
+        Op::Xor => Some(ArithmeticOp::Xor),
+        Op::Shl => Some(ArithmeticOp::Shl),
+        Op::Shr => Some(ArithmeticOp::Shr),
+        Op::Ushr => Some(ArithmeticOp::Ushr),
+        Op::Neg => Some(ArithmeticOp::Neg),
+        Op::Not => Some(ArithmeticOp::Not),
+        Op::Pos => None,
+        Op::Lt => Some(ArithmeticOp::Lt),
+        Op::Le => Some(ArithmeticOp::Le),
+        Op::Gt => Some(ArithmeticOp::Gt),
+        Op::Ge => Some(ArithmeticOp::Ge),
+        Op::Eq => Some(ArithmeticOp::Eq),
+        Op::Ne => Some(ArithmeticOp::Ne),
+    }
+}
+
+/// Puts an instruction at the end, where there is one.
+pub fn put_if_any(
+    lines: &mut Items<Line>,
+    instruction: Option<Instruction>,
+) -> Result<(), AllocError>
+    ensures { OnOk result (lines.new ≡ lines.old ++ map Fixed (if_any instruction)) }
+{
+    match instruction {
+        Some(instruction) => one(lines, instruction),
+        None => Ok(()),
+    }
+}
+
+fn put_arithmetic(lines: &mut Items<Line>, op: Op, width: Width) -> Result<(), AllocError>
+    ensures { OnOk result (lines.new ≡ lines.old ++ map Fixed (arithmetic_code op width)) }
+{
+    match arithmetic_op(op) {
+        Some(op) => one(lines, Instruction::Arithmetic(op, width)),
+        None => Ok(()),
+    }
+}
+
+fn put_boolean(lines: &mut Items<Line>, op: Op) -> Result<(), AllocError>
+    ensures { OnOk result (lines.new ≡ lines.old ++ map Fixed (boolean_code op)) }
+{
+    match op {
+        Op::And => one(
+            lines,
+            Instruction::Arithmetic(ArithmeticOp::And, Width::Int),
+        ),
+        Op::Or => one(lines, Instruction::Arithmetic(ArithmeticOp::Or, Width::Int)),
+        Op::Xor => one(
+            lines,
+            Instruction::Arithmetic(ArithmeticOp::Xor, Width::Int),
+        ),
+        Op::Eq => one(lines, Instruction::Arithmetic(ArithmeticOp::Eq, Width::Int)),
+        Op::Ne => one(lines, Instruction::Arithmetic(ArithmeticOp::Ne, Width::Int)),
+        Op::Not => {
+            one(lines, Instruction::Int(0))?;
+            one(lines, Instruction::Arithmetic(ArithmeticOp::Eq, Width::Int))
+        }
+        _ => Ok(()),
+    }
+}

@@ -1,0 +1,102 @@
+//! What is still to be written.
+
+use crate::config::Flow;
+use crate::lying::Lies;
+use crate::pieces::Piece;
+use allowlist::MemberKind;
+use pl_code::Numbered;
+use pl_types::{Cast, Ty};
+use plain_data::{Items, Subtree, Text};
+use typed_tree::{Named, Typed, TypedCatch, TypedStatement, TypedVariable};
+
+/// How parts have to lie.
+#[derive(Clone, Copy)]
+pub enum Wanted<'a> {
+    Any,
+    /// All so.
+    All(Lies),
+    /// As parameters do.
+    As(&'a Items<Named>),
+    /// As the receiver, where there is one, and the arguments of a member with these parameters do.
+    Member(MemberKind, &'a Items<Ty>),
+}
+
+/// Where `break` and `continue` go.
+#[derive(Clone, Copy)]
+pub struct Exits {
+    /// The label of `break`.
+    pub out: u32,
+    /// The label of `continue`.
+    pub on: u32,
+}
+
+/// What stands behind a statement in its scope.
+#[derive(Clone, Copy)]
+pub enum Tail<'a> {
+    Nothing,
+    /// Some statements, from one on.
+    Row(&'a Items<Subtree<TypedStatement>>, usize),
+    /// The loop itself, behind what is done before it.
+    Loop(&'a TypedStatement),
+}
+
+/// A part that is still to be written.
+#[derive(Clone, Copy)]
+pub enum Task<'a> {
+    Value(&'a Typed),
+    /// Some parts, from one on.
+    Values(&'a Items<Subtree<Typed>>, usize, Wanted<'a>),
+    Put(Piece<'a>),
+    /// A cast to a type.
+    Convert(Cast, &'a Ty),
+    /// Whether a value is of a type.
+    Ask(&'a Ty),
+    /// A member of a text is called, made or read.
+    Call(MemberKind, &'a Text),
+    /// A jump to a label.
+    Jump(Numbered, u32),
+    /// A label is here.
+    Bind(u32),
+    /// Loads a name whose values lie so.
+    Load(&'a Text, Lies),
+    /// Stores to a name whose values lie so.
+    Store(&'a Text, Lies),
+    /// A statement that declares nothing, without what is done before a loop.
+    One(&'a TypedStatement, Option<Exits>),
+    /// A statement, and what stands behind it.
+    Statement(&'a TypedStatement, Tail<'a>, Option<Exits>),
+    /// What stands behind a statement.
+    Rest(Tail<'a>, Option<Exits>),
+    /// Variables from one on, and what stands behind them.
+    Variables(&'a Items<TypedVariable>, usize, Tail<'a>, Option<Exits>),
+    /// A variable is in scope from here on.
+    Declared(&'a TypedVariable),
+    /// The names above so many are gone.
+    Close(usize),
+    /// How control goes on behind what is written.
+    Flows(Flow),
+    /// A statement and those behind it go on as one.
+    Both,
+    /// Two ways go on as one.
+    Either,
+    /// A jump over what follows, where it is reached.
+    Skip(u32),
+    /// What is done behind a turn, where that is reached.
+    Update(Option<&'a Typed>),
+    /// The test before a turn.
+    Test(Option<&'a Typed>),
+    /// The test behind a turn, where that is reached, and the jump out of the loop.
+    Last(Option<&'a Typed>, u32),
+    /// A loop is left.
+    Turned,
+    /// The name of a catch is in scope from here on.
+    Named(&'a TypedCatch),
+    /// The catches of a block that begins at a line and ends here, and a label behind them.
+    Tried(&'a Items<TypedCatch>, u32, u32, Option<Exits>),
+    /// The catches, from one on, of the lines from one on and before another, and a label behind them.
+    Caught(&'a Items<TypedCatch>, usize, u32, u32, u32, Option<Exits>),
+    /// A jump over the catches from one on, if there are any, where it is reached.
+    Over(&'a Items<TypedCatch>, usize, u32),
+    /// The end of a function with this result.
+    End(&'a Ty),
+}

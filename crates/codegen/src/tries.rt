@@ -1,0 +1,192 @@
+//! Blocks whose exceptions are caught, and their catches.
+
+ghost use Rattle.std.specs.Prelude.{◌≡◌, ◌<◌, ◌∷◌, length, IfOk, OnOk};
+ghost use Rattle.codegen.specs.Errors.{OnlyMemory};
+ghost use Rattle.codegen.specs.Jobs as j;
+ghost use Rattle.codegen.specs.Jobs.{Back, catches_from, jobs};
+ghost use Rattle.codegen.specs.Opened.{body_of};
+ghost use Rattle.codegen.specs.Sound.{Keeps};
+ghost use Rattle.pl_types.specs.Classes.{full_name};
+ghost use Rattle.pl_types.specs.declared.ty.Ty.TheVariants as t;
+ghost use Rattle.compiler_relation.specs.Stands.{trap_of};
+ghost use Rattle.source_meaning.specs.Programs.{program_of};
+ghost use Rattle.source_meaning.specs.Tree as tree;
+ghost use Rattle.program_typing.specs.Types.{IsNamed};
+ghost use Rattle.typed_tree.specs.declared.statement.TypedCatch.{out-TypedCatch};
+
+use crate::config::{Config, Flow};
+use crate::error::CodeError;
+use crate::pile::Pile;
+use crate::scopes::declare;
+use crate::task::{Exits, Tail, Task};
+use listing_parts::ClassName;
+use pl_code::Trap;
+use pl_types::Ty;
+use pl_types::classes::{CLASS_COUNT, class_full};
+use plain_data::Items;
+use std::alloc::Global;
+use typed_tree::{Program, TypedCatch, TypedStatement};
+
+/// The number of the next line.
+fn next_line(config: &Config) -> Result<u32, CodeError>
+    ensures number { IfOk result (λ line. line ≡ length config.now.lines) }
+    ensures memory { OnlyMemory result }
+{
+    let line = config.lines.len();
+    if line > 4294967295 {
+        return Err(CodeError::NoMemory);
+    }
+    Ok(line as u32)
+}
+
+/// A block and a jump over its catches, and then these.
+pub fn attempt<'a>(
+    program: &'a Program,
+    config: &mut Config,
+    tasks: &mut Pile<Task<'a>>,
+    body: &'a TypedStatement,
+    catches: &'a Items<TypedCatch>,
+    exits: Option<Exits>,
+) -> Result<(), CodeError>
+    ensures back { OnOk result (Back (program_of program.now) (j.One (tree.Try (body_of body.now) (catches_from 0 catches.now)) exits ∷ jobs tasks.old) config.old (jobs tasks.new) config.new) }
+    ensures sound { Keeps (program_of program.now) (j.One (tree.Try (body_of body.now) (catches_from 0 catches.now)) exits ∷ jobs tasks.old) config.old result (jobs tasks.new) config.new }
+{
+    let height = config.scope.len();
+    let from = next_line(config)?;
+    let end = config.labels.fresh()?;
+    tasks.push_three(
+        Task::Tried(catches, from, end, exits),
+        Task::Bind(end),
+        Task::Either,
+    )?;
+    tasks.push_three(
+        Task::Statement(body, Tail::Nothing, exits),
+        Task::Close(height),
+        Task::Skip(end),
+    )?;
+    Ok(())
+}
+
+/// The catches of a block that begins at a line and ends here.
+pub fn tried<'a>(
+    program: &'a Program,
+    config: &Config,
+    tasks: &mut Pile<Task<'a>>,
+    catches: &'a Items<TypedCatch>,
+    from: u32,
+    label: u32,
+    exits: Option<Exits>,
+) -> Result<(), CodeError>
+    ensures back { OnOk result (Back (program_of program.now) (j.Tried (catches_from 0 catches.now) from label exits ∷ jobs tasks.old) config.now (jobs tasks.new) config.now) }
+    ensures sound { Keeps (program_of program.now) (j.Tried (catches_from 0 catches.now) from label exits ∷ jobs tasks.old) config.now result (jobs tasks.new) config.now }
+{
+    let to = next_line(config)?;
+    tasks.push(Task::Caught(catches, 0, from, to, label, exits))?;
+    Ok(())
+}
+
+/// The catches, from one on, of the lines from one on and before another.
+pub fn caught<'a>(
+    alloc: Global,
+    program: &'a Program,
+    config: &mut Config,
+    tasks: &mut Pile<Task<'a>>,
+    catches: &'a Items<TypedCatch>,
+    at: usize,
+    from: u32,
+    to: u32,
+    label: u32,
+    exits: Option<Exits>,
+) -> Result<(), CodeError>
+    ensures back { OnOk result (Back (program_of program.now) (j.Caught (catches_from at catches.now) from to label exits ∷ jobs tasks.old) config.old (jobs tasks.new) config.new) }
+    ensures sound { Keeps (program_of program.now) (j.Caught (catches_from at catches.now) from to label exits ∷ jobs tasks.old) config.old result (jobs tasks.new) config.new }
+{
+    let _count = catches.len();
+    let Some(one) = catches.get(at) else {
+        tasks.push(Task::Flows(Flow {
+            falls: false,
+            continues: false,
+        }))?;
+        return Ok(());
+    };
+    let height = config.scope.len();
+    let line = next_line(config)?;
+    let trap = trap(alloc, one.class, from, to, line)?;
+    config.traps.push(trap)?;
+    tasks.push_three(
+        Task::Over(catches, at + 1, label),
+        Task::Caught(catches, at + 1, from, to, label, exits),
+        Task::Either,
+    )?;
+    tasks.push_three(
+        Task::Named(one),
+        Task::Statement(one.body.get(), Tail::Nothing, exits),
+        Task::Close(height),
+    )?;
+    Ok(())
+}
+
+/// A trap line. `Malformed` where code has no name for the class.
+fn trap(alloc: Global, class: u32, from: u32, to: u32, at: u32) -> Result<Trap, CodeError>
+    ensures known { IfOk result (λ trap. class < 57) }
+    ensures trap { IfOk result (λ trap. trap ≡ trap_of from to at class) }
+    ensures total { IsNamed (t.Class class) → OnlyMemory result }
+{
+    if class >= CLASS_COUNT {
+        return Err(CodeError::Malformed);
+    }
+    let class = class_name(alloc, class)?;
+    Ok(Trap {
+        from,
+        to,
+        at,
+        class,
+    })
+}
+
+/// The full name of a class. `Malformed` where it has not the form of one.
+fn class_name(alloc: Global, class: u32) -> Result<ClassName, CodeError>
+    requires { class < CLASS_COUNT }
+    ensures name { IfOk result (λ name. name ≡ full_name class) }
+    ensures total { IsNamed (t.Class class) → OnlyMemory result }
+{
+    let Some(name) = ClassName::new(alloc, class_full(class))? else {
+        return Err(CodeError::Malformed);
+    };
+    Ok(name)
+}
+
+/// The name of a catch is in scope from here on.
+pub fn named<'a>(
+    alloc: Global,
+    program: &'a Program,
+    config: &mut Config,
+    tasks: &Pile<Task<'a>>,
+    one: &TypedCatch,
+) -> Result<(), CodeError>
+    ensures back { OnOk result (Back (program_of program.now) (j.Declared (out-TypedCatch one.now).name (t.Class (out-TypedCatch one.now).class) ∷ jobs tasks.now) config.old (jobs tasks.now) config.new) }
+    ensures sound { Keeps (program_of program.now) (j.Declared (out-TypedCatch one.now).name (t.Class (out-TypedCatch one.now).class) ∷ jobs tasks.now) config.old result (jobs tasks.now) config.new }
+{
+    let of = Ty::Class(one.class);
+    declare(alloc, program, config, tasks, &one.name, &of)
+}
+
+/// A jump over the catches from one on, if there are any, where it is reached.
+pub fn over<'a>(
+    program: &'a Program,
+    config: &Config,
+    tasks: &mut Pile<Task<'a>>,
+    catches: &'a Items<TypedCatch>,
+    at: usize,
+    label: u32,
+) -> Result<(), CodeError>
+    ensures back { OnOk result (Back (program_of program.now) (j.Over (catches_from at catches.now) label ∷ jobs tasks.old) config.now (jobs tasks.new) config.now) }
+    ensures sound { Keeps (program_of program.now) (j.Over (catches_from at catches.now) label ∷ jobs tasks.old) config.now result (jobs tasks.new) config.now }
+{
+    let _count = catches.len();
+    let Some(_next) = catches.get(at) else {
+        return Ok(());
+    };
+    tasks.push(Task::Skip(label))?;
+    Ok(())
+}

@@ -1,0 +1,38 @@
+//! Goes on until nothing is left to be written.
+
+ghost use Rattle.std.specs.Prelude.{[], OnOk};
+ghost use Rattle.codegen.specs.Jobs.{Back, jobs};
+ghost use Rattle.codegen.specs.Errors.{OnlyMemory};
+ghost use Rattle.codegen.specs.Sound.{Sound};
+ghost use Rattle.allowlist.specs.Allow.{AllowList};
+ghost use Rattle.source_meaning.specs.Programs.{program_of};
+ghost use Rattle.program_typing.specs.Agreeing.{known};
+
+use crate::config::Config;
+use crate::error::CodeError;
+use crate::pile::Pile;
+use crate::step::step;
+use crate::task::Task;
+use allowlist::Allow;
+use std::alloc::Global;
+use typed_tree::Program;
+
+/// Goes on until nothing is left to be written.
+pub fn walk<'a>(
+    alloc: Global,
+    catalogue: &'a Allow,
+    program: &'a Program,
+    config: &mut Config,
+    tasks: &mut Pile<Task<'a>>,
+) -> Result<(), CodeError>
+    ensures back { OnOk result (Back (program_of program.now) (jobs tasks.old) config.old [] config.new) }
+    ensures total { (allow : AllowList) → Sound (known allow (program_of program.now)) (jobs tasks.old) config.old → OnlyMemory result }
+{
+    for _ in 0..u64::MAX {
+        let Some(task) = tasks.pop() else {
+            return Ok(());
+        };
+        step(alloc, catalogue, program, config, tasks, task)?;
+    }
+    Err(CodeError::NoMemory)
+}

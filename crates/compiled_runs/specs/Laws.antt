@@ -1,0 +1,29 @@
+-- What the runs of the code of programs come to.
+use Rattle.std.specs.Prelude.{◌≡◌, List}
+use Rattle.object_values.specs.declared.object.Owner.{Owner}
+use Rattle.pl_code.specs.declared.code.FunCode.{FunCode}
+use Rattle.allowlist.specs.Allow.{AllowList}
+use Rattle.typed_tree.specs.declared.program.Program as typed
+use Rattle.source_meaning.specs.Programs.{program_of}
+use Rattle.program_typing.specs.Agreeing.{Known, known, WellFormed}
+use Rattle.program_typing.specs.Reached.{Reached}
+use Rattle.compiler_relation.specs.Correct.{IsCodeOf}
+use Rattle.compiler_relation.specs.Stands.{Compiled}
+use Rattle.run_state.specs.World.{World, Limits}
+use Rattle.code_meaning.specs.declared.word.Word.{Word}
+use Rattle.code_meaning.specs.Machine.{start}
+use Rattle.verifier_soundness.specs.Rows.{HaveRows}
+use Rattle.verifier_soundness.specs.Fits.{kinds_of, main_params, ReachesAllowed, with_prelude}
+use Rattle.verifier_soundness.specs.Bounds.{most_steps, EndsWithin}
+
+-- Each instruction of the code of a well-formed program of either text has a row.
+abbrev pub CodeHasRows : Type 0
+CodeHasRows = (text : Owner) (funs : Known) (code : List FunCode) → WellFormed funs → Compiled text funs.functions code → HaveRows funs.allowed code
+
+-- So a run of it on words of its parameters' kinds ends within the bound, reaching members of the list alone, whatever the prelude's code
+-- and the host are.
+abbrev pub ProgramsRun : Type 0
+ProgramsRun =
+    (allow : AllowList) (p : typed.Program) (code prelude : List FunCode) → WellFormed (known allow (program_of p)) → Reached (program_of p) → IsCodeOf p code
+    → (limits : Limits) → limits.allowed ≡ allow → (words : List Word) (w : World) → kinds_of words ≡ main_params code → ReachesAllowed allow w
+    → EndsWithin allow code prelude limits (most_steps code limits w.ticks) (start (with_prelude code prelude) words w)

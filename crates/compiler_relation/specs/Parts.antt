@@ -1,0 +1,238 @@
+-- The instructions of what is strict: constants, texts, operators, casts.
+use Rattle.std.specs.Prelude.{ℕ, List, [], ◌∷◌, ◌++◌, pos}
+use Rattle.pl_types.specs.declared.primitive.Primitive.{Primitive}
+use Rattle.pl_types.specs.declared.primitive.Primitive.TheVariants as prim
+use Rattle.pl_types.specs.declared.ty.Ty.{Ty, out-Ty}
+use Rattle.pl_types.specs.declared.ty.Ty.TheOpen.{Ty-F}
+use Rattle.pl_types.specs.declared.conversion.Cast.{Cast}
+use Rattle.pl_types.specs.declared.conversion.Cast.TheVariants as cast
+use Rattle.arithmetic.specs.declared.operator.Op.{Op}
+use Rattle.arithmetic.specs.declared.operator.Op.TheVariants as op
+use Rattle.pl_code.specs.declared.kinds.ArithmeticOp.TheVariants as a
+use Rattle.pl_code.specs.declared.kinds.Width.{Width}
+use Rattle.pl_code.specs.declared.kinds.Width.TheVariants as width
+use Rattle.pl_code.specs.declared.kinds.Plain.TheVariants as plain
+use Rattle.pl_code.specs.declared.kinds.Numbered.TheVariants as numbered
+use Rattle.pl_code.specs.declared.code.Instruction.{Instruction}
+use Rattle.pl_code.specs.declared.code.Instruction.TheVariants as i
+use Rattle.typed_tree.specs.declared.operation.Constant.{Constant}
+use Rattle.typed_tree.specs.declared.operation.Constant.TheVariants as constant
+use Rattle.typed_tree.specs.declared.operation.Operator.{Operator}
+use Rattle.typed_tree.specs.declared.operation.Operator.TheVariants as operator
+use Rattle.typed_tree.specs.declared.operation.Operation.{Operation}
+use Rattle.typed_tree.specs.declared.operation.Operation.TheVariants as operation
+use Rattle.typed_tree.specs.declared.operation.Gives.{Gives}
+use Rattle.typed_tree.specs.declared.operation.Gives.TheVariants as gives
+use Rattle.code_meaning.specs.Words.{bit}
+use Rattle.pl_types.specs.declared.classes.TheConstants.{STRING}
+use Rattle.pl_types.specs.declared.ty.Ty.TheVariants as t
+use Rattle.pl_types.specs.Texts.{full_text}
+use Rattle.pl_code.specs.declared.kinds.Quoting.TheVariants as quoting
+use Rattle.pl_code.specs.declared.kinds.Typed.TheVariants as typed
+use Rattle.pl_code.specs.declared.kinds.Way.{Way}
+use Rattle.pl_code.specs.declared.kinds.Way.TheVariants as way
+use Rattle.compiler_relation.specs.Lying.{Lying, Bare, Whole, Absent, lying_of}
+
+abbrev pub text_code : List ℕ → Instruction
+text_code text = i.Quoted quoting.Constant text
+
+abbrev pub constant_code : Constant → Instruction
+constant_code constant.Null = i.Plain plain.Null
+constant_code (constant.Boolean flag) = i.Int (bit flag)
+constant_code (constant.Byte number) = i.Int number
+constant_code (constant.Short number) = i.Int number
+constant_code (constant.Char unit) = i.Int (pos unit)
+constant_code (constant.Int number) = i.Int number
+constant_code (constant.Long number) = i.Long number
+
+-- what a variable begins with that is declared without a value, and what a function gives that ends without a return
+abbrev pub default_of_primitive : Primitive → Instruction
+default_of_primitive prim.Long = i.Long (pos 0)
+default_of_primitive p = i.Int (pos 0)
+
+abbrev pub default_code_layer : Ty-F Ty → List Instruction
+default_code_layer Ty-F.Void = []
+default_code_layer (Ty-F.Prim p) = default_of_primitive p ∷ []
+default_code_layer layer = i.Plain plain.Null ∷ []
+
+abbrev pub default_code : Ty → List Instruction
+default_code of = default_code_layer (out-Ty of)
+
+-- ---- operators
+
+abbrev pub arithmetic_code : Op → Width → List Instruction
+arithmetic_code op.Add w = i.Arithmetic a.Add w ∷ []
+arithmetic_code op.Sub w = i.Arithmetic a.Sub w ∷ []
+arithmetic_code op.Mul w = i.Arithmetic a.Mul w ∷ []
+arithmetic_code op.Div w = i.Arithmetic a.Div w ∷ []
+arithmetic_code op.Rem w = i.Arithmetic a.Rem w ∷ []
+arithmetic_code op.And w = i.Arithmetic a.And w ∷ []
+arithmetic_code op.Or w = i.Arithmetic a.Or w ∷ []
+arithmetic_code op.Xor w = i.Arithmetic a.Xor w ∷ []
+arithmetic_code op.Shl w = i.Arithmetic a.Shl w ∷ []
+arithmetic_code op.Shr w = i.Arithmetic a.Shr w ∷ []
+arithmetic_code op.Ushr w = i.Arithmetic a.Ushr w ∷ []
+arithmetic_code op.Neg w = i.Arithmetic a.Neg w ∷ []
+arithmetic_code op.Not w = i.Arithmetic a.Not w ∷ []
+arithmetic_code op.Pos w = []
+arithmetic_code op.Lt w = i.Arithmetic a.Lt w ∷ []
+arithmetic_code op.Le w = i.Arithmetic a.Le w ∷ []
+arithmetic_code op.Gt w = i.Arithmetic a.Gt w ∷ []
+arithmetic_code op.Ge w = i.Arithmetic a.Ge w ∷ []
+arithmetic_code op.Eq w = i.Arithmetic a.Eq w ∷ []
+arithmetic_code op.Ne w = i.Arithmetic a.Ne w ∷ []
+
+-- a boolean is negated by a comparison with 0
+abbrev pub boolean_code : Op → List Instruction
+boolean_code op.And = i.Arithmetic a.And width.Int ∷ []
+boolean_code op.Or = i.Arithmetic a.Or width.Int ∷ []
+boolean_code op.Xor = i.Arithmetic a.Xor width.Int ∷ []
+boolean_code op.Eq = i.Arithmetic a.Eq width.Int ∷ []
+boolean_code op.Ne = i.Arithmetic a.Ne width.Int ∷ []
+boolean_code op.Not = i.Int (pos 0) ∷ i.Arithmetic a.Eq width.Int ∷ []
+boolean_code o = []
+
+-- a truth value, the other way round
+abbrev pub turned_round : List Instruction
+turned_round = i.Int (pos 0) ∷ i.Arithmetic a.Eq width.Int ∷ []
+
+abbrev pub operator_code : Operator → List Instruction
+operator_code (operator.Int o) = arithmetic_code o width.Int
+operator_code (operator.Long o) = arithmetic_code o width.Long
+operator_code (operator.Boolean o) = boolean_code o
+operator_code operator.Equal = i.Plain plain.Equal ∷ []
+operator_code operator.NotEqual = i.Plain plain.Equal ∷ turned_round
+operator_code operator.Same = i.Plain plain.Same ∷ []
+operator_code operator.NotSame = i.Plain plain.Same ∷ turned_round
+operator_code operator.Concat = i.Plain plain.Concat ∷ []
+operator_code other = []
+
+-- how the operands of an operator lie, and how what it gives does
+abbrev pub operator_takes : Operator → Lying
+operator_takes operator.Equal = Whole
+operator_takes operator.NotEqual = Whole
+operator_takes operator.Same = Whole
+operator_takes operator.NotSame = Whole
+operator_takes operator.Concat = Whole
+operator_takes other = Bare
+
+abbrev pub operator_gives : Operator → Lying
+operator_gives operator.Concat = Whole
+operator_gives other = Bare
+
+-- ---- casts
+
+abbrev pub from_int_code : Primitive → List Instruction
+from_int_code prim.Byte = i.Plain plain.IntToByte ∷ []
+from_int_code prim.Short = i.Plain plain.IntToShort ∷ []
+from_int_code prim.Char = i.Plain plain.IntToChar ∷ []
+from_int_code prim.Long = i.Plain plain.IntToLong ∷ []
+from_int_code p = []
+
+abbrev pub from_long_code : Primitive → List Instruction
+from_long_code prim.Boolean = []
+from_long_code prim.Long = []
+from_long_code p = i.Plain plain.LongToInt ∷ from_int_code p
+
+abbrev pub from_byte_code : Primitive → List Instruction
+from_byte_code prim.Byte = []
+from_byte_code prim.Short = []
+from_byte_code p = from_int_code p
+
+abbrev pub from_short_code : Primitive → List Instruction
+from_short_code prim.Short = []
+from_short_code p = from_int_code p
+
+abbrev pub from_char_code : Primitive → List Instruction
+from_char_code prim.Char = []
+from_char_code p = from_int_code p
+
+abbrev pub number_code : Primitive → Primitive → List Instruction
+number_code prim.Boolean to = []
+number_code prim.Byte to = from_byte_code to
+number_code prim.Short to = from_short_code to
+number_code prim.Char to = from_char_code to
+number_code prim.Int to = from_int_code to
+number_code prim.Long to = from_long_code to
+
+-- a cast that is done when the script runs: to a primitive type the value is taken out of its box
+abbrev pub run_time_code_layer : Ty-F Ty → Ty → Way → List Instruction
+run_time_code_layer (Ty-F.Prim p) to way = i.Unboxing p way ∷ []
+run_time_code_layer other to way = i.Cast (full_text to) way ∷ []
+
+abbrev pub run_time_code : Ty → Way → List Instruction
+run_time_code to way = run_time_code_layer (out-Ty to) to way
+
+-- a cast to a type
+abbrev pub cast_code : Cast → Ty → List Instruction
+cast_code (cast.Number p q) to = number_code p q
+cast_code (cast.Wrap p q) to = number_code p q ++ i.Boxing q ∷ []
+cast_code cast.Implicit to = run_time_code to way.Implicit
+cast_code cast.Explicit to = run_time_code to way.Explicit
+cast_code cast.CharToText to = i.Boxing prim.Char ∷ i.Cast (full_text (t.Class STRING)) way.Explicit ∷ []
+cast_code cast.TextToChar to = i.Unboxing prim.Char way.Explicit ∷ []
+cast_code other to = []
+
+-- how what a cast takes lies, and how what it gives to a type does; one that keeps the value leaves it as it lies
+abbrev pub cast_takes : Cast → Lying → Lying
+cast_takes (cast.Number _ _) lying = Bare
+cast_takes (cast.Wrap _ _) lying = Bare
+cast_takes cast.CharToText lying = Bare
+cast_takes cast.Implicit lying = Whole
+cast_takes cast.Explicit lying = Whole
+cast_takes cast.TextToChar lying = Whole
+cast_takes other lying = lying
+
+abbrev pub run_time_lies : Ty-F Ty → Lying
+run_time_lies (Ty-F.Prim p) = Bare
+run_time_lies other = Whole
+
+abbrev pub cast_gives : Cast → Ty → Lying → Lying
+cast_gives (cast.Number _ _) to lying = Bare
+cast_gives (cast.Wrap _ _) to lying = Whole
+cast_gives cast.CharToText to lying = Whole
+cast_gives cast.Implicit to lying = run_time_lies (out-Ty to)
+cast_gives cast.Explicit to lying = run_time_lies (out-Ty to)
+cast_gives cast.TextToChar to lying = Bare
+cast_gives other to lying = lying
+
+-- ---- strict operations
+
+-- a call of a member leaves null where the member gives nothing
+abbrev pub member_code : Operation → List Instruction
+member_code (operation.Instance m) = i.Invoke m.text ∷ []
+member_code (operation.Static m) = i.Invoke m.text ∷ []
+member_code (operation.Constructor m) = i.New m.text ∷ []
+member_code (operation.Field m) = i.Field m.text ∷ []
+member_code other = []
+
+-- .. which is dropped
+abbrev pub without_null : Lying → List Instruction
+without_null Absent = i.Plain plain.Pop ∷ []
+without_null lying = []
+
+-- an operation that gives a value of a type
+abbrev pub operation_code : Operation → Ty → List Instruction
+operation_code (operation.Operator o) of = operator_code o
+operation_code (operation.Cast c) of = cast_code c of
+operation_code (operation.InstanceOf is) of = i.Typed typed.IsA (full_text is) ∷ []
+operation_code (operation.Function k) of = i.Numbered numbered.Call k ∷ []
+operation_code (operation.Instance m) of = i.Invoke m.text ∷ without_null (lying_of of)
+operation_code (operation.Static m) of = i.Invoke m.text ∷ without_null (lying_of of)
+operation_code (operation.Constructor m) of = i.New m.text ∷ without_null (lying_of of)
+operation_code (operation.Field m) of = i.Field m.text ∷ without_null (lying_of of)
+operation_code other of = []
+
+-- a value that is dropped
+abbrev pub pops : Lying → List Instruction
+pops Absent = []
+pops lying = i.Plain plain.Pop ∷ []
+
+-- a value that is kept below a change of it, or behind it
+abbrev pub kept_before : Gives → List Instruction
+kept_before gives.Old = i.Plain plain.Dup ∷ []
+kept_before gives.New = []
+
+abbrev pub kept_behind : Gives → List Instruction
+kept_behind gives.Old = []
+kept_behind gives.New = i.Plain plain.Dup ∷ []

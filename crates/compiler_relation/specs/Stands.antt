@@ -1,0 +1,534 @@
+-- How a program becomes code: which instructions stand at which lines of a function, part by part. A scope has the names in sight, the
+-- newest first, each with its type and the number of its local. Lines and numbers of locals are threaded through the parts.
+use Rattle.std.specs.Prelude.{◌≡◌, ◌≢◌, ℕ, suc, ◌++◌, ◌||◌, Bool, true, false, List, [], ◌∷◌, map, length, Option, Some, None, slice_get, pos, if◌then◌else◌}
+use Rattle.std.specs.Str.{bytes_eq}
+use Rattle.pl_types.specs.declared.ty.Ty.{Ty}
+use Rattle.pl_types.specs.declared.ty.Ty.TheVariants as t
+use Rattle.pl_types.specs.Classes.{full_name}
+use Rattle.pl_code.specs.declared.kinds.Plain.TheVariants as plain
+use Rattle.pl_code.specs.declared.kinds.Numbered.TheVariants as numbered
+use Rattle.pl_code.specs.declared.kinds.Slot.{Slot}
+use Rattle.pl_code.specs.declared.code.FunCode.{FunCode}
+use Rattle.pl_code.specs.declared.code.Trap.{Trap}
+use Rattle.pl_code.specs.declared.code.Instruction.{Instruction}
+use Rattle.pl_code.specs.declared.code.Instruction.TheVariants as i
+use Rattle.typed_tree.specs.declared.operation.Constant.{Constant}
+use Rattle.typed_tree.specs.declared.operation.Constant.TheVariants as constant
+use Rattle.allowlist.specs.declared.member.MemberKind.{MemberKind}
+use Rattle.allowlist.specs.declared.member.MemberKind.TheVariants as kind
+use Rattle.allowlist.specs.declared.member.MemberType.{MemberType}
+use Rattle.allowlist.specs.Catalogue.{catalogue}
+use Rattle.member_names.specs.Names.{text_of}
+use Rattle.typed_tree.specs.declared.operation.Member.{Member}
+use Rattle.typed_tree.specs.declared.operation.Operation.{Operation}
+use Rattle.typed_tree.specs.declared.operation.Operation.TheVariants as operation
+use Rattle.typed_tree.specs.declared.operation.Logical.{Logical}
+use Rattle.typed_tree.specs.declared.operation.Logical.TheVariants.{And, Or}
+use Rattle.typed_tree.specs.declared.operation.Target.TheVariants as target
+use Rattle.typed_tree.specs.declared.operation.Change.{Change}
+use Rattle.typed_tree.specs.declared.operation.Gives.{Gives}
+pub use Rattle.source_meaning.specs.Falls.{falls, all_fall, continues, any_continues}
+use Rattle.source_meaning.specs.Tree.{Name, Expr, Literal, Quoted, Local, Apply, Guarded, Logic, Conditional, Elvis, Assign, Modify, Lambda, Reference, NewReference, Exprs, None', One, Maybe, Missing, Given, Stmt, Do, If, While, DoWhile, ForEach, Try, Block, Break, Continue, Return, Throw, Stmts, Finish, Then, Declare, Catches, NoCatch, Catch, Variable, Fun, Program, Programs, type_of}
+use Rattle.object_values.specs.declared.object.Owner.{Owner}
+use Rattle.object_values.specs.declared.object.Owner.TheVariants.{Script, Prelude}
+use Rattle.run_state.specs.World.{has_loop_limit}
+use Rattle.code_meaning.specs.Machine.{Codes, Handlers, traps_at}
+use Rattle.compiler_relation.specs.Lying.{Lying, Bare, Whole, Absent, lying_of, kind_of, result_of}
+use Rattle.pl_types.specs.declared.conversion.Cast.{Cast}
+use Rattle.pl_types.specs.declared.conversion.Cast.TheVariants as cast
+use Rattle.pl_types.specs.Texts.{is_known}
+use Rattle.compiler_relation.specs.Parts.{constant_code, text_code, default_code, operator_code, operator_takes, operator_gives, cast_code, cast_takes, cast_gives, operation_code, member_code, without_null, pops, kept_before, kept_behind}
+
+pub record Entry : Type 0 where
+  pub name : Name
+  pub of : Ty
+  pub local : ℕ
+
+abbrev pub Scope : Type 0
+Scope = List Entry
+
+-- the entry of a name
+abbrev pub entry_of : Scope → Name → Option Entry
+entry_of [] x = None
+entry_of (y ∷ ys) x = if bytes_eq x y.name then Some y else entry_of ys x
+
+pub record IsEntry (g : Scope) (x : Name) (y : Entry) : Type 0 where
+  pub is : entry_of g x ≡ Some y
+
+-- ---- lines
+
+-- The instruction stands at this line, and what is thrown there goes to these handlers.
+pub record At (f : FunCode) (h : Handlers) (line : ℕ) (instruction : Instruction) : Type 0 where
+  pub here : slice_get f.lines line ≡ Some instruction
+  pub traps : traps_at f.traps line ≡ h
+
+abbrev pub AllAt : FunCode → Handlers → ℕ → List Instruction → Type 0
+AllAt f h line [] = Unit {0}
+AllAt f h line (one ∷ more) = At f h line one × AllAt f h (suc line) more
+
+-- the line behind these instructions
+abbrev pub end_all : ℕ → List Instruction → ℕ
+end_all line [] = line
+end_all line (one ∷ more) = end_all (suc line) more
+
+-- ---- where a part's code ends
+
+-- of a change of a variable of a type: where its right side begins, and the line of the write behind it
+abbrev pub change_first : Gives → Change → Ty → ℕ → ℕ
+change_first gives change of p = end_all (end_all (suc p) (kept_before gives)) (cast_code change.before of)
+
+abbrev pub change_last : Gives → Change → Ty → ℕ → ℕ
+change_last gives change of q = end_all (end_all (end_all q (operator_code change.operator)) (cast_code change.after of)) (kept_behind gives)
+
+-- of an elvis: where its right side begins, behind the jumps and the null that is dropped
+abbrev pub elvis_right : ℕ → ℕ
+elvis_right q = suc (suc (suc (suc q)))
+
+abbrev mutual
+  pub end_expr : ℕ → Expr → ℕ
+  end_expr p (Literal at of c) = suc p
+  end_expr p (Quoted at of text) = suc p
+  end_expr p (Local at of x) = suc p
+  end_expr p (Apply at of o parts) = end_all (end_exprs p parts) (operation_code o of)
+  end_expr p (Guarded at of o None') = p
+  end_expr p (Guarded at of o (One a others)) = end_all (end_all (end_exprs (suc (suc (end_expr p a))) others) (member_code o)) (without_null (lying_of of))
+  end_expr p (Logic at of o left right) = suc (suc (end_expr (suc (end_expr p left)) right))
+  end_expr p (Conditional at of c a b) = end_expr (suc (end_expr (suc (end_expr p c)) a)) b
+  end_expr p (Elvis at of left right) = end_expr (elvis_right (end_expr p left)) right
+  end_expr p (Assign at of to parts value) = suc (suc (end_expr p value))
+  end_expr p (Modify at of to parts change right gives) = suc (change_last gives change of (end_expr (change_first gives change of p) right))
+  end_expr p (Lambda at of interface function) = p
+  end_expr p (Reference at of interface class name) = p
+  end_expr p (NewReference at of interface made) = p
+
+  pub end_exprs : ℕ → Exprs → ℕ
+  end_exprs p None' = p
+  end_exprs p (One a others) = end_exprs (end_expr p a) others
+
+-- ---- expressions
+
+abbrev pub lyings : Exprs → List Lying
+lyings None' = []
+lyings (One a others) = lying_of (type_of a) ∷ lyings others
+
+-- all parts lie alike
+abbrev pub AllLie : Lying → List Lying → Type 0
+AllLie k [] = Unit {0}
+AllLie k (each ∷ ks) = (each ≡ k) × AllLie k ks
+
+-- a type that a cast asks for when the script runs is one of the catalogue
+abbrev pub AsksKnown : Cast → Ty → Type 0
+AsksKnown cast.Implicit to = is_known to ≡ true
+AsksKnown cast.Explicit to = is_known to ≡ true
+AsksKnown other to = Unit {0}
+
+-- a cast to a type takes what lies so, and gives what lies so
+pub record CastFits (c : Cast) (to : Ty) (given gives : Lying) : Type 0 where
+  pub takes : given ≡ cast_takes c given
+  pub lies : gives ≡ cast_gives c to given
+  pub asks : AsksKnown c to
+
+-- how the receiver, where there is one, and the arguments of a member lie
+abbrev pub with_receiver : MemberKind → List Lying → List Lying
+with_receiver kind.Instance ks = Whole ∷ ks
+with_receiver other ks = ks
+
+-- A member that a call names: it is the catalogue's of this number and kind, the text is its own, and the parts and what it gives lie as its
+-- types say. (The type of a call is that of the member, or what it was cast to is another node.)
+pub record MemberFits (kind : MemberKind) (m : Member) (ks : List Lying) (of : Ty) : Type 0 where
+  pub member : MemberType
+  pub is : slice_get catalogue m.number ≡ Some member
+  pub sort : member.kind ≡ kind
+  pub text : m.text ≡ text_of member
+  pub parts : ks ≡ with_receiver kind (map lying_of member.params)
+  pub gives : lying_of of ≡ lying_of member.result
+
+-- of a call that a null receiver leaves out: the same, and it gives no number
+pub record GuardFits (o : Operation) (ks : List Lying) (of : Ty) : Type 0 where
+  pub member : Member
+  pub is : o ≡ operation.Instance member
+  pub fits : MemberFits kind.Instance member ks of
+  pub whole : lying_of of ≢ Bare
+
+-- how the parts of an operation lie, and what it gives, which is of a type
+abbrev pub Fitting : Program → Operation → List Lying → Ty → Type 0
+Fitting funs (operation.Operator o) ks of = AllLie (operator_takes o) ks × (lying_of of ≡ operator_gives o)
+Fitting funs (operation.Cast c) (given ∷ []) of = CastFits c of given (lying_of of)
+Fitting funs (operation.Cast c) other of = Unit {0}
+Fitting funs (operation.InstanceOf is) ks of = AllLie Whole ks × (lying_of of ≡ Bare) × (is_known is ≡ true)
+Fitting funs (operation.Function number) ks of =
+    (f : Fun) → slice_get funs number ≡ Some f → (ks ≡ map (λ (x : Variable). lying_of x.of) f.params) × (lying_of of ≡ lying_of f.result)
+Fitting funs (operation.Instance m) ks of = MemberFits kind.Instance m ks of
+Fitting funs (operation.Static m) ks of = MemberFits kind.Static m ks of
+Fitting funs (operation.Constructor m) ks of = MemberFits kind.Constructor m ks of
+Fitting funs (operation.Field m) ks of = MemberFits kind.Field m ks of
+Fitting funs other ks of = Unit {0}
+
+-- A change of a variable of a type: its value is cast to what the operator takes, and what that gives back to what the variable holds.
+pub record ChangeFits (change : Change) (of : Ty) (operand : Lying) : Type 0 where
+  pub present : lying_of of ≢ Absent
+  pub before : CastFits change.before of (lying_of of) (operator_takes change.operator)
+  pub right : operand ≡ operator_takes change.operator
+  pub after : CastFits change.after of (operator_gives change.operator) (lying_of of)
+
+-- the value of the left side that settles the whole, and the jump to it
+abbrev pub settled : Logical → Instruction
+settled And = i.Int (pos 0)
+settled Or = i.Int (pos 1)
+
+abbrev pub settles : Logical → ℕ → Instruction
+settles And to = i.Numbered numbered.IfZero to
+settles Or to = i.Numbered numbered.IfNotZero to
+
+abbrev pub literal_lies : Constant → Lying
+literal_lies constant.Null = Whole
+literal_lies c = Bare
+
+abbrev mutual
+  pub ExprAt : Program → FunCode → Handlers → Scope → ℕ → Expr → Type 0
+  ExprAt funs f h g p (Literal at of c) = At f h p (constant_code c) × (lying_of of ≡ literal_lies c)
+  ExprAt funs f h g p (Quoted at of text) = At f h p (text_code text) × (lying_of of ≡ Whole)
+  ExprAt funs f h g p (Local at of x) = (y : Entry) × IsEntry g x y × (lying_of of ≡ lying_of y.of) × At f h p (i.Numbered numbered.Load y.local)
+  ExprAt funs f h g p (Apply at of o parts) =
+      ExprsAt funs f h g p parts × AllAt f h (end_exprs p parts) (operation_code o of) × Fitting funs o (lyings parts) of
+  ExprAt funs f h g p (Guarded at of o None') = Unit {0}
+  ExprAt funs f h g p (Guarded at of o (One a others)) =
+      ExprAt funs f h g p a
+      × At f h (end_expr p a) (i.Plain plain.Dup)
+      × At f h (suc (end_expr p a)) (i.Numbered numbered.IfNull (end_all (end_exprs (suc (suc (end_expr p a))) others) (member_code o)))
+      × ExprsAt funs f h g (suc (suc (end_expr p a))) others
+      × AllAt f h (end_exprs (suc (suc (end_expr p a))) others) (member_code o)
+      × AllAt f h (end_all (end_exprs (suc (suc (end_expr p a))) others) (member_code o)) (without_null (lying_of of))
+      × GuardFits o (lying_of (type_of a) ∷ lyings others) of
+  ExprAt funs f h g p (Logic at of o left right) =
+      ExprAt funs f h g p left
+      × At f h (end_expr p left) (settles o (suc (end_expr (suc (end_expr p left)) right)))
+      × ExprAt funs f h g (suc (end_expr p left)) right
+      × At f h (end_expr (suc (end_expr p left)) right) (i.Numbered numbered.Goto (suc (suc (end_expr (suc (end_expr p left)) right))))
+      × At f h (suc (end_expr (suc (end_expr p left)) right)) (settled o)
+      × (lying_of (type_of left) ≡ Bare) × (lying_of (type_of right) ≡ Bare) × (lying_of of ≡ Bare)
+  ExprAt funs f h g p (Conditional at of c a b) =
+      ExprAt funs f h g p c
+      × At f h (end_expr p c) (i.Numbered numbered.IfZero (suc (end_expr (suc (end_expr p c)) a)))
+      × ExprAt funs f h g (suc (end_expr p c)) a
+      × At f h (end_expr (suc (end_expr p c)) a) (i.Numbered numbered.Goto (end_expr (suc (end_expr (suc (end_expr p c)) a)) b))
+      × ExprAt funs f h g (suc (end_expr (suc (end_expr p c)) a)) b
+      × (lying_of (type_of c) ≡ Bare) × (lying_of (type_of a) ≡ lying_of of) × (lying_of (type_of b) ≡ lying_of of)
+  ExprAt funs f h g p (Elvis at of left right) =
+      ExprAt funs f h g p left
+      × At f h (end_expr p left) (i.Plain plain.Dup)
+      × At f h (suc (end_expr p left)) (i.Numbered numbered.IfNull (suc (suc (suc (end_expr p left)))))
+      × At f h (suc (suc (end_expr p left))) (i.Numbered numbered.Goto (end_expr (elvis_right (end_expr p left)) right))
+      × At f h (suc (suc (suc (end_expr p left)))) (i.Plain plain.Pop)
+      × ExprAt funs f h g (elvis_right (end_expr p left)) right
+      × (lying_of (type_of left) ≡ Whole) × (lying_of (type_of right) ≡ Whole) × (lying_of of ≡ Whole)
+  ExprAt funs f h g p (Assign at of (target.Local x) parts value) =
+      ExprAt funs f h g p value
+      × At f h (end_expr p value) (i.Plain plain.Dup)
+      × ((y : Entry) × IsEntry g x y × (lying_of (type_of value) ≡ lying_of y.of) × (lying_of of ≡ lying_of y.of) × At f h (suc (end_expr p value)) (i.Numbered numbered.Store y.local))
+  ExprAt funs f h g p (Assign at of other parts value) = Unit {0}
+  ExprAt funs f h g p (Modify at of (target.Local x) parts change right gives) =
+      (y : Entry) × IsEntry g x y × (lying_of y.of ≡ lying_of of)
+      × At f h p (i.Numbered numbered.Load y.local)
+      × AllAt f h (suc p) (kept_before gives)
+      × AllAt f h (end_all (suc p) (kept_before gives)) (cast_code change.before of)
+      × ExprAt funs f h g (change_first gives change of p) right
+      × AllAt f h (end_expr (change_first gives change of p) right) (operator_code change.operator)
+      × AllAt f h (end_all (end_expr (change_first gives change of p) right) (operator_code change.operator)) (cast_code change.after of)
+      × AllAt f h (end_all (end_all (end_expr (change_first gives change of p) right) (operator_code change.operator)) (cast_code change.after of)) (kept_behind gives)
+      × At f h (change_last gives change of (end_expr (change_first gives change of p) right)) (i.Numbered numbered.Store y.local)
+      × ChangeFits change of (lying_of (type_of right))
+  ExprAt funs f h g p (Modify at of other parts change right gives) = Unit {0}
+  ExprAt funs f h g p (Lambda at of interface function) = Unit {0}
+  ExprAt funs f h g p (Reference at of interface class name) = Unit {0}
+  ExprAt funs f h g p (NewReference at of interface made) = Unit {0}
+
+  pub ExprsAt : Program → FunCode → Handlers → Scope → ℕ → Exprs → Type 0
+  ExprsAt funs f h g p None' = Unit {0}
+  ExprsAt funs f h g p (One a others) = ExprAt funs f h g p a × ExprsAt funs f h g (end_expr p a) others
+
+-- ---- statements
+
+-- what stands behind a turn is reached where its body is left at its end or by a `continue`
+abbrev pub goes_on : Stmts → Bool
+goes_on body = all_fall body || any_continues body
+
+-- ---- where a statement's code ends
+
+-- a jump over what follows, where it is reached
+abbrev pub end_skip : Bool → ℕ → ℕ
+end_skip true p = suc p
+end_skip false p = p
+
+-- an expression whose value is dropped
+abbrev pub end_dropped : ℕ → Expr → ℕ
+end_dropped p a = end_all (end_expr p a) (pops (lying_of (type_of a)))
+
+-- behind a catch a jump over those that follow it, if any do, where it is reached
+abbrev pub jumps_over : Stmts → Catches → Bool
+jumps_over body NoCatch = false
+jumps_over body (Catch class x next rest) = all_fall body
+
+abbrev pub end_update : Bool → ℕ → Maybe → ℕ
+end_update false p update = p
+end_update true p Missing = p
+end_update true p (Given a) = end_dropped p a
+
+-- a loop's test, and the line of the jump behind it
+abbrev pub end_test : ℕ → Maybe → ℕ
+end_test p Missing = suc p
+end_test p (Given a) = end_expr p a
+
+-- the test of a `do`, and the jump out of the loop
+abbrev pub end_last : Bool → ℕ → Maybe → ℕ
+end_last false p test = p
+end_last true p Missing = p
+end_last true p (Given a) = suc (end_expr p a)
+
+abbrev pub end_value : ℕ → Maybe → Ty → ℕ
+end_value p Missing of = end_all p (default_code of)
+end_value p (Given a) of = end_expr p a
+
+abbrev pub end_returned : ℕ → Maybe → ℕ
+end_returned p Missing = p
+end_returned p (Given a) = end_expr p a
+
+abbrev mutual
+  pub end_stmt : ℕ → Stmt → ℕ
+  end_stmt p (Do a) = end_dropped p a
+  end_stmt p (If c a b) = end_stmts (end_skip (all_fall a) (end_stmts (suc (end_expr p c)) a)) b
+  end_stmt p (While test update body) = suc (end_test (end_update (goes_on body) (end_stmts (suc p) body) update) test)
+  end_stmt p (DoWhile body test) = suc (suc (end_last (goes_on body) (end_stmts (suc p) body) test))
+  end_stmt p (ForEach x of element over body) = p
+  end_stmt p (Try body catches) = end_catches (end_skip (all_fall body) (end_stmts p body)) catches
+  end_stmt p (Block body) = end_stmts p body
+  end_stmt p Break = suc p
+  end_stmt p Continue = suc p
+  end_stmt p (Return value) = suc (end_returned p value)
+  end_stmt p (Throw value) = suc (end_expr p value)
+
+  pub end_stmts : ℕ → Stmts → ℕ
+  end_stmts p Finish = p
+  end_stmts p (Then t rest) = end_stmts (end_stmt p t) rest
+  end_stmts p (Declare x of value rest) = end_stmts (suc (end_value p value of)) rest
+
+  pub end_catches : ℕ → Catches → ℕ
+  end_catches p NoCatch = p
+  end_catches p (Catch class x body rest) = end_catches (end_skip (jumps_over body rest) (end_stmts (suc p) body)) rest
+
+-- where the code of a `try` ends before its catches
+abbrev pub end_tried : ℕ → Stmts → ℕ
+end_tried p body = end_skip (all_fall body) (end_stmts p body)
+
+-- where that of a catch ends before those that follow it
+abbrev pub end_caught : ℕ → Stmts → Catches → ℕ
+end_caught p body rest = end_skip (jumps_over body rest) (end_stmts (suc p) body)
+
+-- the number of the next local behind a part
+abbrev mutual
+  pub next_stmt : ℕ → Stmt → ℕ
+  next_stmt n (Do a) = n
+  next_stmt n (If c a b) = next_stmts (next_stmts n a) b
+  next_stmt n (While test update body) = next_stmts n body
+  next_stmt n (DoWhile body test) = next_stmts n body
+  next_stmt n (ForEach x of element over body) = n
+  next_stmt n (Try body catches) = next_catches (next_stmts n body) catches
+  next_stmt n (Block body) = next_stmts n body
+  next_stmt n Break = n
+  next_stmt n Continue = n
+  next_stmt n (Return value) = n
+  next_stmt n (Throw value) = n
+
+  pub next_stmts : ℕ → Stmts → ℕ
+  next_stmts n Finish = n
+  next_stmts n (Then t rest) = next_stmts (next_stmt n t) rest
+  next_stmts n (Declare x of value rest) = next_stmts (suc n) rest
+
+  pub next_catches : ℕ → Catches → ℕ
+  next_catches n NoCatch = n
+  next_catches n (Catch class x body rest) = next_catches (next_stmts (suc n) body) rest
+
+-- ---- traps
+
+-- the catches that stand from a line on
+abbrev pub handlers_of : ℕ → Catches → Handlers
+handlers_of p NoCatch = []
+handlers_of p (Catch class x body rest) = record { class = Some class; at = p } ∷ handlers_of (end_caught p body rest) rest
+
+abbrev pub trap_of : ℕ → ℕ → ℕ → ℕ → Trap
+trap_of from to at class = record { from = from; to = to; at = at; class = full_name class }
+
+-- The trap lines of a part in their order. Those of a `try` are over its block and the jump behind it, and come behind those of the
+-- block: what is thrown goes to the innermost first.
+abbrev mutual
+  pub traps_stmt : ℕ → Stmt → List Trap
+  traps_stmt p (Do a) = []
+  traps_stmt p (If c a b) = traps_stmts (suc (end_expr p c)) a ++ traps_stmts (end_skip (all_fall a) (end_stmts (suc (end_expr p c)) a)) b
+  traps_stmt p (While test update body) = traps_stmts (suc p) body
+  traps_stmt p (DoWhile body test) = traps_stmts (suc p) body
+  traps_stmt p (ForEach x of element over body) = []
+  traps_stmt p (Try body catches) = traps_stmts p body ++ traps_catches p (end_tried p body) (end_tried p body) catches
+  traps_stmt p (Block body) = traps_stmts p body
+  traps_stmt p Break = []
+  traps_stmt p Continue = []
+  traps_stmt p (Return value) = []
+  traps_stmt p (Throw value) = []
+
+  pub traps_stmts : ℕ → Stmts → List Trap
+  traps_stmts p Finish = []
+  traps_stmts p (Then t rest) = traps_stmt p t ++ traps_stmts (end_stmt p t) rest
+  traps_stmts p (Declare x of value rest) = traps_stmts (suc (end_value p value of)) rest
+
+  -- over these lines, and the catches stand from another on
+  pub traps_catches : ℕ → ℕ → ℕ → Catches → List Trap
+  traps_catches from to p NoCatch = []
+  traps_catches from to p (Catch class x body rest) = trap_of from to p class ∷ (traps_stmts (suc p) body ++ traps_catches from to (end_caught p body rest) rest)
+
+-- ---- statements
+
+-- where `break` and `continue` go
+pub record Jumps : Type 0 where
+  pub out : ℕ
+  pub on : ℕ
+
+-- a local, of a type's kind
+pub record HasLocal (f : FunCode) (n : ℕ) (of : Ty) : Type 0 where
+  pub is : slice_get (f.params ++ f.locals) n ≡ Some (kind_of of)
+
+abbrev pub SkipAt : FunCode → Handlers → Bool → ℕ → ℕ → Type 0
+SkipAt f h true p to = At f h p (i.Numbered numbered.Goto to)
+SkipAt f h false p to = Unit {0}
+
+abbrev pub DroppedAt : Program → FunCode → Handlers → Scope → ℕ → Expr → Type 0
+DroppedAt funs f h g p a = ExprAt funs f h g p a × AllAt f h (end_expr p a) (pops (lying_of (type_of a)))
+
+abbrev pub UpdateAt : Program → FunCode → Handlers → Scope → Bool → ℕ → Maybe → Type 0
+UpdateAt funs f h g false p update = Unit {0}
+UpdateAt funs f h g true p Missing = Unit {0}
+UpdateAt funs f h g true p (Given a) = DroppedAt funs f h g p a
+
+abbrev pub TestAt : Program → FunCode → Handlers → Scope → ℕ → Maybe → Type 0
+TestAt funs f h g p Missing = At f h p (i.Int (pos 1))
+TestAt funs f h g p (Given a) = ExprAt funs f h g p a × (lying_of (type_of a) ≡ Bare)
+
+abbrev pub LastAt : Program → FunCode → Handlers → Scope → Bool → ℕ → Maybe → ℕ → Type 0
+LastAt funs f h g false p test to = Unit {0}
+LastAt funs f h g true p Missing to = Unit {0}
+LastAt funs f h g true p (Given a) to = ExprAt funs f h g p a × (lying_of (type_of a) ≡ Bare) × At f h (end_expr p a) (i.Numbered numbered.IfZero to)
+
+-- a variable's first value
+abbrev pub ValueAt : Program → FunCode → Handlers → Scope → ℕ → Maybe → Ty → Type 0
+ValueAt funs f h g p Missing of = AllAt f h p (default_code of)
+ValueAt funs f h g p (Given a) of = ExprAt funs f h g p a × (lying_of (type_of a) ≡ lying_of of)
+
+-- what is returned; k is how the function's result lies
+abbrev pub ReturnedAt : Program → FunCode → Handlers → Scope → Lying → ℕ → Maybe → Type 0
+ReturnedAt funs f h g k p Missing = k ≡ Absent
+ReturnedAt funs f h g k p (Given a) = ExprAt funs f h g p a × (lying_of (type_of a) ≡ k)
+
+abbrev mutual
+  pub StmtAt : Program → FunCode → Handlers → Lying → Scope → ℕ → Jumps → ℕ → Stmt → Type 0
+  StmtAt funs f h k g n j p (Do a) = DroppedAt funs f h g p a
+  StmtAt funs f h k g n j p (If c a b) =
+      ExprAt funs f h g p c
+      × (lying_of (type_of c) ≡ Bare)
+      × At f h (end_expr p c) (i.Numbered numbered.IfZero (end_skip (all_fall a) (end_stmts (suc (end_expr p c)) a)))
+      × StmtsAt funs f h k g n j (suc (end_expr p c)) a
+      × SkipAt f h (all_fall a) (end_stmts (suc (end_expr p c)) a) (end_stmt p (If c a b))
+      × StmtsAt funs f h k g (next_stmts n a) j (end_skip (all_fall a) (end_stmts (suc (end_expr p c)) a)) b
+  StmtAt funs f h k g n j p (While test update body) =
+      At f h p (i.Numbered numbered.Goto (end_update (goes_on body) (end_stmts (suc p) body) update))
+      × StmtsAt funs f h k g n (record { out = end_stmt p (While test update body); on = end_stmts (suc p) body }) (suc p) body
+      × UpdateAt funs f h g (goes_on body) (end_stmts (suc p) body) update
+      × TestAt funs f h g (end_update (goes_on body) (end_stmts (suc p) body) update) test
+      × At f h (end_test (end_update (goes_on body) (end_stmts (suc p) body) update) test) (i.Numbered numbered.Loop (suc p))
+  StmtAt funs f h k g n j p (DoWhile body test) =
+      At f h p (i.Numbered numbered.Goto (end_last (goes_on body) (end_stmts (suc p) body) test))
+      × StmtsAt funs f h k g n (record { out = end_stmt p (DoWhile body test); on = end_stmts (suc p) body }) (suc p) body
+      × LastAt funs f h g (goes_on body) (end_stmts (suc p) body) test (end_stmt p (DoWhile body test))
+      × At f h (end_last (goes_on body) (end_stmts (suc p) body) test) (i.Int (pos 1))
+      × At f h (suc (end_last (goes_on body) (end_stmts (suc p) body) test)) (i.Numbered numbered.Loop (suc p))
+  StmtAt funs f h k g n j p (ForEach x of element over body) = Unit {0}
+  StmtAt funs f h k g n j p (Try body catches) =
+      StmtsAt funs f (handlers_of (end_tried p body) catches ++ h) k g n j p body
+      × SkipAt f (handlers_of (end_tried p body) catches ++ h) (all_fall body) (end_stmts p body) (end_stmt p (Try body catches))
+      × CatchesAt funs f h k g (next_stmts n body) j (end_stmt p (Try body catches)) (end_tried p body) catches
+  StmtAt funs f h k g n j p (Block body) = StmtsAt funs f h k g n j p body
+  StmtAt funs f h k g n j p Break = At f h p (i.Numbered numbered.Goto j.out)
+  StmtAt funs f h k g n j p Continue = At f h p (i.Numbered numbered.Goto j.on)
+  StmtAt funs f h k g n j p (Return value) = ReturnedAt funs f h g k p value × At f h (end_returned p value) (i.Plain plain.Ret)
+  StmtAt funs f h k g n j p (Throw value) = ExprAt funs f h g p value × (lying_of (type_of value) ≡ Whole) × At f h (end_expr p value) (i.Plain plain.Throw)
+
+  pub StmtsAt : Program → FunCode → Handlers → Lying → Scope → ℕ → Jumps → ℕ → Stmts → Type 0
+  StmtsAt funs f h k g n j p Finish = Unit {0}
+  StmtsAt funs f h k g n j p (Then t rest) = StmtAt funs f h k g n j p t × StmtsAt funs f h k g (next_stmt n t) j (end_stmt p t) rest
+  StmtsAt funs f h k g n j p (Declare x of value rest) =
+      ValueAt funs f h g p value of
+      × (lying_of of ≢ Absent)
+      × HasLocal f n of
+      × At f h (end_value p value of) (i.Numbered numbered.Store n)
+      × StmtsAt funs f h k (record { name = x; of = of; local = n } ∷ g) (suc n) j (suc (end_value p value of)) rest
+
+  -- each catch stores the exception in its variable; behind it control goes to a line
+  pub CatchesAt : Program → FunCode → Handlers → Lying → Scope → ℕ → Jumps → ℕ → ℕ → Catches → Type 0
+  CatchesAt funs f h k g n j to p NoCatch = Unit {0}
+  CatchesAt funs f h k g n j to p (Catch class x body rest) =
+      HasLocal f n (t.Class class)
+      × At f h p (i.Numbered numbered.Store n)
+      × StmtsAt funs f h k (record { name = x; of = t.Class class; local = n } ∷ g) (suc n) j (suc p) body
+      × SkipAt f h (jumps_over body rest) (end_stmts (suc p) body) to
+      × CatchesAt funs f h k g (next_stmts (suc n) body) j to (end_caught p body rest) rest
+
+-- ---- functions
+
+-- the parameters' scope, the last of them the newest
+abbrev pub scope_of : List Variable → ℕ → Scope → Scope
+scope_of [] n g = g
+scope_of (x ∷ xs) n g = scope_of xs (suc n) (record { name = x.name; of = x.of; local = n } ∷ g)
+
+abbrev pub no_jumps : Jumps
+no_jumps = record { out = 0; on = 0 }
+
+-- each variable has values
+abbrev pub ArePresent : List Lying → Type 0
+ArePresent [] = Unit {0}
+ArePresent (k ∷ ks) = (k ≢ Absent) × ArePresent ks
+
+abbrev pub lyings_of : List Variable → List Lying
+lyings_of xs = map (λ (x : Variable). lying_of x.of) xs
+
+-- the kinds of variables, one after the other
+abbrev pub kinds_of : List Variable → List Slot
+kinds_of xs = map (λ (x : Variable). kind_of x.of) xs
+
+-- what a function gives that ends without a return
+abbrev pub EndAt : FunCode → Bool → ℕ → Ty → Type 0
+EndAt f false p of = Unit {0}
+EndAt f true p of = AllAt f [] p (default_code of) × At f [] (end_all p (default_code of)) (i.Plain plain.Ret)
+
+abbrev pub end_end : Bool → ℕ → Ty → ℕ
+end_end false p of = p
+end_end true p of = suc (end_all p (default_code of))
+
+-- A function's code: its body, and what it gives where that falls, and no further line. Its text tells whether it has a limit of turns.
+pub record FunAt (text : Owner) (funs : Program) (code : List FunCode) (number : ℕ) (fun : Fun) : Type 0 where
+  pub body : FunCode
+  pub is : slice_get code number ≡ Some body
+  pub loops : body.loops ≡ has_loop_limit text
+  pub params : body.params ≡ kinds_of fun.params
+  pub present : ArePresent (lyings_of fun.params)
+  pub result : body.result ≡ result_of fun.result
+  pub stands : StmtsAt funs body [] (lying_of fun.result) (scope_of fun.params 0 []) (length fun.params) no_jumps 0 fun.body
+  pub ends : EndAt body (all_fall fun.body) (end_stmts 0 fun.body) fun.result
+  pub lines : length body.lines ≡ end_end (all_fall fun.body) (end_stmts 0 fun.body) fun.result
+  pub traps : body.traps ≡ traps_stmts 0 fun.body
+
+-- each function of a text's program has its code, and there is no further one
+pub record Compiled (text : Owner) (funs : Program) (code : List FunCode) : Type 0 where
+  pub each : (number : ℕ) (fun : Fun) → slice_get funs number ≡ Some fun → FunAt text funs code number fun
+  pub many : length code ≡ length funs
+
+-- the code of each text is that of its program
+pub record AreCompiled (funs : Programs) (codes : Codes) : Type 0 where
+  pub script : Compiled Script funs.script codes.script
+  pub prelude : Compiled Prelude funs.prelude codes.prelude

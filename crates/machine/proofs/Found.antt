@@ -1,0 +1,46 @@
+-- Turns that find memory.
+use Rattle.std.proofs.Common.{◌≡◌, ℕ, true, false, List, Some, subst}
+use Rattle.allowlist.specs.Allow.{AllowList}
+use Rattle.pl_code.specs.declared.code.FunCode.{FunCode}
+use Rattle.code_meaning.specs.Machine.{Next, Goes, after}
+use Rattle.machine.specs.declared.configuration.Configuration.{Configuration}
+use Rattle.machine.specs.declared.configuration.Limits.{Limits}
+use Rattle.machine.specs.declared.configuration.Step.{Step}
+use Rattle.machine.specs.declared.configuration.Step.TheVariants as said
+use Rattle.machine.specs.Activations.{Activation, now_of, turn_of, HasTurned, SparesFor}
+use Rattle.machine.specs.Memory.{HasMemory, RunSpares}
+use Rattle.machine.specs.Rooms.{IsEnough}
+use Rattle.machine.specs.Seen.{configuration_of, limits_of, room_of, goes, codes_of}
+
+pub has_turned : (last : Step) → HasMemory last → HasTurned (turn_of last)
+has_turned said.Goes h = tt
+has_turned (said.Ends e) h = tt
+has_turned said.NoMemory h = h
+
+module _ (code : List FunCode) (limits : Limits) (allow : AllowList) (frame q : ℕ) (c : Configuration) (last : Step) (steps : ℕ) where
+  abbrev at : Activation
+  at = record { code = code; limits = limits; allow = allow; frame = frame; now = now_of last c; steps = steps }
+
+  -- what an activation spares, its run spares
+  pub run_spares : goes last ≡ true → IsEnough frame limits.depth (room_of c) → (a : Activation) → a ≡ at → SparesFor q a → RunSpares (codes_of code) (limits_of limits allow) frame q c
+  run_spares going enough a is spares =
+      let s : SparesFor q at = subst (SparesFor q) is spares in
+      let same : Goes (configuration_of c) ≡ s.next = begins last going s.next s.stands in
+      record {
+        enough = enough;
+        spares = λ k there less leads. s.spares k there less (subst (λ n. after (codes_of code) (limits_of limits allow) k n ≡ Goes there) same leads);
+      } where
+        begins : (last : Step) → goes last ≡ true → (next : Next) → now_of last c ≡ Some next → Goes (configuration_of c) ≡ next
+        begins said.Goes going next stands = cc
+        begins (said.Ends e) going next stands = absurd (cc)
+        begins said.NoMemory going next stands = absurd (cc)
+
+  -- one that has ended finds what it needs
+  pub ended_turned : goes last ≡ false → (a : Activation) → a ≡ at → SparesFor q a → HasTurned (turn_of last)
+  ended_turned none a is spares =
+      let s : SparesFor q at = subst (SparesFor q) is spares in
+      by_last last none s.next s.stands where
+        by_last : (last : Step) → goes last ≡ false → (next : Next) → now_of last c ≡ Some next → HasTurned (turn_of last)
+        by_last said.Goes none next stands = tt
+        by_last (said.Ends e) none next stands = tt
+        by_last said.NoMemory none next stands = absurd (cc)

@@ -1,0 +1,83 @@
+-- Words of the frames that lie one on the other.
+use Rattle.std.proofs.Common.{◌≡◌, ℕ, zero, suc, ◌+◌, ◌<◌, ◌≤◌, List, [], ◌∷◌, length, slice_set, arith, refl, ap, sym, subst, ◌∙◌}
+use Rattle.std.specs.Prelude.{take, drop, reverse}
+use Rattle.std.proofs.lemmas.List.{drop-take, length-drop, length-reverse, length-take, drop-set-lt, drop-set-add, take-set-le}
+use Rattle.std.proofs.Math.Seq.{take-set-lt, take-length, drop-length}
+use Rattle.code_meaning.specs.declared.word.Word.{Word}
+use Rattle.code_meaning.specs.Machine.{depth_of}
+use Rattle.machine.specs.declared.frames.Held.{Held}
+use Rattle.code_meaning.specs.Sizes.{frame_words, words_in}
+use Rattle.machine.specs.Frames.{Within, own, lie}
+
+pub written : {X : Type 0} (base locals number : ℕ) (xs : List X) (x : X) → number < locals
+    → take locals (drop base (slice_set xs (base + number) x)) ≡ slice_set (take locals (drop base xs)) number x
+written base locals number xs x h = ap (take locals) (drop-set-add base xs number x) ∙ take-set-lt locals (drop base xs) number x h
+
+pub stack_stays : {X : Type 0} (base locals number : ℕ) (xs : List X) (x : X) → number < locals → drop (base + locals) (slice_set xs (base + number) x) ≡ drop (base + locals) xs
+stack_stays base locals number xs x h = drop-set-lt (base + locals) xs (base + number) x (omega arith)
+
+pub rest_stays : {X : Type 0} (base number : ℕ) (xs : List X) (x : X) → take base (slice_set xs (base + number) x) ≡ take base xs
+rest_stays base number xs x = take-set-le base xs (base + number) x (omega arith)
+
+lying : (hs : List Held) (xs : List Word) → depth_of (lie hs xs) ≡ length hs
+lying [] xs = refl
+lying (h ∷ hs) xs = ap suc (lying hs (take h.base xs))
+
+pub frames_below : (hs : List Held) (xs : List Word) → depth_of (lie (reverse hs) xs) ≡ length hs
+frames_below hs xs = lying (reverse hs) xs ∙ length-reverse hs
+
+take_none : {X : Type 0} (n : ℕ) → take {A = X} n [] ≡ []
+take_none zero = refl
+take_none (suc n) = refl
+
+one_more : (n m : ℕ) → suc n + m ≡ suc (n + m)
+one_more n m = omega arith
+
+pub take_twice : {X : Type 0} (n m : ℕ) (xs : List X) → take n (take (n + m) xs) ≡ take n xs
+take_twice zero m xs = refl
+take_twice (suc n) m [] = ap (take (suc n)) (take_none (suc n + m))
+take_twice (suc n) m (x ∷ xs) = ap (λ k. take (suc n) (take k (x ∷ xs))) (one_more n m) ∙ ap (λ ys. x ∷ ys) (take_twice n m xs)
+
+take_again : {X : Type 0} (n : ℕ) (xs : List X) → take n (take n xs) ≡ take n xs
+take_again zero xs = refl
+take_again (suc n) [] = refl
+take_again (suc n) (x ∷ xs) = ap (λ ys. x ∷ ys) (take_again n xs)
+
+pub rest_stay : {X : Type 0} (base locals : ℕ) (xs : List X) → take base (take (base + locals) xs) ≡ take base xs
+rest_stay base locals xs = take_twice base locals xs
+
+pub locals_stay : {X : Type 0} (base locals : ℕ) (xs : List X) → take locals (drop base (take (base + locals) xs)) ≡ take locals (drop base xs)
+locals_stay base locals xs = ap (take locals) (drop-take base locals xs) ∙ take_again locals (drop base xs)
+
+pub no_stack : {X : Type 0} (n : ℕ) (xs : List X) → drop n (take n xs) ≡ []
+no_stack zero xs = refl
+no_stack (suc n) [] = refl
+no_stack (suc n) (x ∷ xs) = no_stack n xs
+
+pub all_locals : {X : Type 0} (xs : List X) → take (length xs) (drop 0 xs) ≡ xs
+all_locals xs = take-length xs
+
+pub no_words : {X : Type 0} (xs : List X) → drop (0 + length xs) xs ≡ []
+no_words xs = ap (λ k. drop k xs) {x = 0 + length xs} {y = length xs} (omega arith) ∙ drop-length xs
+
+pub reversed_length : {X : Type 0} (xs : List X) → length (reverse xs) ≡ length xs
+reversed_length xs = length-reverse xs
+
+module _ (h : Held) (xs : List Word) (fits : h.base + h.locals ≤ length xs) where
+  short : length (take h.base xs) ≡ h.base
+  short = omega (arith, length-take h.base xs)
+
+  own_words : h.base + frame_words (own h xs) ≡ length xs
+  own_words =
+      omega (arith, length-take h.locals (drop h.base xs), length-drop h.base xs, length-reverse (drop (h.base + h.locals) xs), length-drop (h.base + h.locals) xs)
+
+lie_counted : (hs : List Held) (xs : List Word) (n : ℕ) → n ≡ length xs → Within hs n → words_in (lie hs xs) ≡ length xs
+lie_counted [] xs n e none = sym none ∙ e
+lie_counted (h ∷ hs) xs n e within =
+    let fits : h.base + h.locals ≤ length xs = subst (λ k. h.base + h.locals ≤ k) e within.0 in
+    let lower = lie_counted hs (take h.base xs) h.base (sym (short h xs fits)) within.1 in
+    omega (arith, lower, short h xs fits, own_words h xs fits)
+
+-- the words are those of the frames
+pub all_counted : (top : Held) (below : List Held) (xs : List Word) → Within (top ∷ below) (length xs) → length xs ≡ words_in (own top xs ∷ lie below (take top.base xs))
+all_counted top below xs within = sym (lie_counted (top ∷ below) xs (length xs) refl within)

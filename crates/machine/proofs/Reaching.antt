@@ -1,0 +1,80 @@
+-- Instructions one after the other.
+use Rattle.std.proofs.Common.{◌≡◌, ℕ, zero, suc, true, false, ◌+◌, ◌-◌, ◌<◌, List, refl, sym, ap, ◌∙◌, arith}
+use Rattle.pl_code.specs.declared.code.FunCode.{FunCode}
+use Rattle.run_state.specs.World.{World, Limits}
+use Rattle.code_meaning.specs.Machine.{Next, Goes, step, after, Codes}
+use Rattle.machine.specs.declared.configuration.Configuration.{Configuration}
+use Rattle.machine.specs.declared.configuration.End.{End}
+use Rattle.machine.specs.declared.configuration.End.TheVariants as end
+use Rattle.machine.specs.declared.configuration.Step.{Step}
+use Rattle.machine.specs.declared.configuration.Step.TheVariants as said
+use Rattle.machine.specs.Seen.{configuration_of, world_of, ended, goes, Comes}
+use Rattle.machine.specs.Runs.{steps_taken, RanTo}
+
+zero_add : (n : ℕ) → 0 + n ≡ n
+zero_add n = omega arith
+
+add_zero : (n : ℕ) → n + 0 ≡ n
+add_zero n = omega arith
+
+one_more : (k m : ℕ) → (k + 1) + m ≡ k + suc m
+one_more k m = omega arith
+
+the_rest : (k count : ℕ) → k < count → k + suc (count - k - 1) ≡ count
+the_rest k count h = omega arith
+
+module _ (codes : Codes) (limits : Limits) where
+  -- From the one configuration so many steps lead to the other.
+  pub record Reached (k : ℕ) (from c : Configuration) : Type 0 where
+    pub leads : (m : ℕ) → after codes limits (k + m) (Goes (configuration_of from)) ≡ after codes limits m (Goes (configuration_of c))
+    pub taken : (m : ℕ) → steps_taken codes limits (k + m) (Goes (configuration_of from)) ≡ k + steps_taken codes limits m (Goes (configuration_of c))
+
+  pub begins : (c : Configuration) → Reached 0 c c
+  begins c = record {
+    leads = λ m. ap (λ n. after codes limits n (Goes (configuration_of c))) (zero_add m);
+    taken = λ m. ap (λ n. steps_taken codes limits n (Goes (configuration_of c))) (zero_add m) ∙ sym (zero_add (steps_taken codes limits m (Goes (configuration_of c))));
+  }
+
+  pub goes_on : (k : ℕ) (from c d : Configuration) → Reached k from c → step codes limits (configuration_of c) ≡ Goes (configuration_of d) → Reached (k + 1) from d
+  goes_on k from c d r e = record {
+    leads = λ m. ap (λ n. after codes limits n (Goes (configuration_of from))) (one_more k m) ∙ r.leads (suc m) ∙ ap (after codes limits m) e;
+    taken = λ m.
+        ap (λ n. steps_taken codes limits n (Goes (configuration_of from))) (one_more k m) ∙ r.taken (suc m)
+        ∙ ap (λ n. k + suc (steps_taken codes limits m n)) e
+        ∙ sym (one_more k (steps_taken codes limits m (Goes (configuration_of d))));
+  }
+
+  pub stays : (m : ℕ) (e : End) (w : World) → after codes limits m (ended e w) ≡ ended e w
+  stays zero e w = refl
+  stays (suc m) (end.Result word) w = refl
+  stays (suc m) (end.Thrown id) w = refl
+  stays (suc m) (end.Limit which) w = refl
+  stays (suc m) end.Stuck w = refl
+
+  pub none_taken : (m : ℕ) (e : End) (w : World) → steps_taken codes limits m (ended e w) ≡ 0
+  none_taken zero e w = refl
+  none_taken (suc m) (end.Result word) w = refl
+  none_taken (suc m) (end.Thrown id) w = refl
+  none_taken (suc m) (end.Limit which) w = refl
+  none_taken (suc m) end.Stuck w = refl
+
+  pub finishes : (k count : ℕ) (from c d : Configuration) (last : Step) → k < count → Reached k from c → Comes (step codes limits (configuration_of c)) last d → goes last ≡ false → RanTo codes limits count from last (k + 1) d
+  finishes k count from c d said.Goes h r comes other = absurd (cc)
+  finishes k count from c d said.NoMemory h r comes other = tt
+  finishes k count from c d (said.Ends e) h r comes other =
+      let m = count - k - 1 in
+      let here : k + suc m ≡ count = the_rest k count h in (
+        ap (λ n. after codes limits n (Goes (configuration_of from))) (sym here) ∙ r.leads (suc m) ∙ ap (after codes limits m) comes ∙ stays m e (world_of d.world),
+        sym (ap (λ n. steps_taken codes limits n (Goes (configuration_of from))) (sym here) ∙ r.taken (suc m) ∙ ap (λ n. k + suc (steps_taken codes limits m n)) comes ∙ ap (λ n. k + suc n) (none_taken m e (world_of d.world))),
+      )
+
+  pub all_taken : (count : ℕ) (from c : Configuration) → Reached count from c → RanTo codes limits count from said.Goes count c
+  all_taken count from c r = (
+    ap (λ n. after codes limits n (Goes (configuration_of from))) (sym (add_zero count)) ∙ r.leads 0,
+    sym (ap (λ n. steps_taken codes limits n (Goes (configuration_of from))) (sym (add_zero count)) ∙ r.taken 0 ∙ add_zero count),
+  )
+
+pub went : (next : Next) (last : Step) (c : Configuration) → goes last ≡ true → Comes next last c → next ≡ Goes (configuration_of c)
+went next said.Goes c e h = h
+went next (said.Ends r) c e h = absurd (cc)
+went next said.NoMemory c e h = absurd (cc)

@@ -1,0 +1,48 @@
+-- What memory is taken at the start of a run. It is neither more nor less later on.
+use Rattle.std.specs.Prelude.{◌≡◌, ◌≤◌, ◌<◌, ◌+◌, ◌*◌, ◌==◌, ℕ, suc, Bool, true, List, nat_lt}
+use Rattle.std.specs.List.{IsDistinct, list_all, list_any}
+use Rattle.allowlist.specs.Index.{member_at}
+use Rattle.object_values.specs.declared.value.Value.{Value}
+use Rattle.code_meaning.specs.declared.word.Word.{Word}
+use Rattle.code_meaning.specs.Members.{count_of}
+use Rattle.allowlist.specs.declared.table.TheConstants.{MEMBER_COUNT}
+
+-- the words that a call takes, the top first, and how many there is memory for
+pub record Pile : Type 0 where
+  pub items : List Word
+  pub room : ℕ
+
+-- what a member is called with, and for how many values there is memory
+pub record Arguments : Type 0 where
+  pub items : List Value
+  pub room : ℕ
+
+-- the members that were called, in the order of their first calls, and for how many there is memory
+pub record Called : Type 0 where
+  pub numbers : List ℕ
+  pub room : ℕ
+
+abbrev pub is_among : ℕ → List ℕ → Bool
+is_among number numbers = list_any (λ n. n == number) numbers
+
+-- members of the catalogue, each once
+pub record AreMembers (numbers : List ℕ) : Type 0 where
+  pub members : list_all (λ n. nat_lt n MEMBER_COUNT) numbers ≡ true
+  pub once : IsDistinct (λ a b. a == b) numbers
+
+-- what there is memory for: words of all frames, frames below the newest one, words and values of a call, and members that are called
+pub record Room : Type 0 where
+  pub words : ℕ
+  pub frames : ℕ
+  pub taken : ℕ
+  pub values : ℕ
+  pub reached : ℕ
+
+-- It is enough for frames of so many words each and calls so deep: two words more serve an instruction until it takes others off. And it
+-- is enough for a call of each member.
+pub record IsEnough (frame depth : ℕ) (room : Room) : Type 0 where
+  pub words : suc depth * frame + 2 ≤ room.words
+  pub frames : depth ≤ room.frames
+  pub taken : (number : ℕ) → number < MEMBER_COUNT → count_of (member_at number) ≤ room.taken
+  pub values : (number : ℕ) → number < MEMBER_COUNT → count_of (member_at number) ≤ room.values
+  pub reached : MEMBER_COUNT ≤ room.reached

@@ -1,0 +1,117 @@
+-- What parts of an instruction come to.
+use Rattle.std.specs.Prelude.{◌≡◌, ℕ, suc, ◌&&◌, Bool, true, false, List, [], ◌∷◌, ◌++◌, map, Option, Some, None, find, nat_le, nat_lt, pos}
+use Rattle.arithmetic.specs.declared.operator.Num.{Num}
+use Rattle.pl_types.specs.Names.{class_of_full}
+use Rattle.object_values.specs.declared.value.Value.{Value}
+use Rattle.object_values.specs.declared.value.Value.TheVariants as v
+use Rattle.object_heap.specs.declared.outcome.Which.{Which}
+use Rattle.pl_code.specs.declared.code.Trap.{Trap}
+use Rattle.pl_code.specs.declared.kinds.Slot.{Slot}
+use Rattle.pl_code.specs.declared.code.FunCode.{FunCode}
+use Rattle.number_ops.specs.Operators.{concatenated}
+use Rattle.number_ops.specs.Outcomes.{effect}
+use Rattle.number_ops.specs.Relations.{equal, is_same}
+use Rattle.pl_units.specs.Utf16.{units}
+use Rattle.run_state.specs.World.{World, Limits, Counted, Counts, Passes, acts_in}
+use Rattle.code_meaning.specs.declared.word.Word.{Word}
+use Rattle.code_meaning.specs.declared.word.Word.TheVariants.{I, J, R}
+use Rattle.code_meaning.specs.Words.{bit, start_of, unboxed, Calculation, NoRow, Calculates}
+use Rattle.code_meaning.specs.Machine.{Frame, Next, Goes, on_outcome, on_reference, on_top, to_line, is_instance, Codes}
+use Rattle.machine.specs.declared.references.Pairing.{Pairing}
+use Rattle.machine.specs.declared.references.Pairing.TheVariants as pairing
+use Rattle.machine.specs.declared.operators.Operated.{Operated}
+use Rattle.machine.specs.declared.operators.Operated.TheVariants as c
+use Rattle.machine.specs.declared.stacks.Copying.{Copying}
+use Rattle.machine.specs.declared.stacks.Copying.TheVariants as copying
+use Rattle.machine.specs.Seen.{limit_of}
+
+-- a copy leaves this stack, unless there was no memory
+abbrev pub Copies : Option (List Word) → List Word → Copying → Type 0
+Copies given stack copying.Done = given ≡ Some stack
+Copies given stack copying.Stuck = given ≡ None
+Copies given stack copying.NoMemory = Unit {0}
+
+-- what an operator comes to, and the stack that it leaves
+abbrev pub CalculatesTo : Calculation → List Word → Operated → Type 0
+CalculatesTo given stack c.NoRow = given ≡ NoRow
+CalculatesTo given stack (c.Number number) = given ≡ Calculates (Some number) stack
+CalculatesTo given stack c.ZeroDivisor = given ≡ Calculates None stack
+
+abbrev pub calculated_of : Option Num → Operated
+calculated_of None = c.ZeroDivisor
+calculated_of (Some number) = c.Number number
+
+-- a count that is paid, or the limit that it would pass, and the world behind it
+abbrev pub CountsTo : Counted → World → Option Which → Type 0
+CountsTo counted new None = counted ≡ Counts new
+CountsTo counted new (Some which) = counted ≡ Passes (limit_of which) new
+
+-- the word of a primitive
+abbrev pub bare : Value → Option Word
+bare (v.Bool flag) = Some (I (bit flag))
+bare (v.Byte a) = Some (I a)
+bare (v.Short a) = Some (I a)
+bare (v.Char unit) = Some (I (pos unit))
+bare (v.Int a) = Some (I a)
+bare (v.Long a) = Some (J a)
+bare value = None
+
+-- what was taken off a stack, and the stack that is left
+abbrev pub beside : List Word → Option (List Word) → Option (List Word × List Word)
+beside stack None = None
+beside stack (Some words) = Some (words, stack)
+
+-- arguments with the other locals behind them
+abbrev pub with_locals : List Slot → Option (List Word × List Word) → Option (List Word × List Word)
+with_locals slots None = None
+with_locals slots (Some p) = Some (p.0 ++ map start_of slots, p.1)
+
+-- ---- references
+
+-- a text goes on the stack
+abbrev pub text_act : List ℕ → Frame → List Frame → World → Next
+text_act text f below w = to_line f below w (suc f.line) (R (v.Str (units text)) ∷ f.stack)
+
+-- whether a word is null; none of a number
+abbrev pub null_in : Word → Option Bool
+null_in (R v.Null) = Some true
+null_in (R value) = Some false
+null_in word = None
+
+-- two words that are references
+abbrev pub on_references : Word → Word → (Value → Value → Next) → Next
+on_references lower upper next = on_reference upper (λ b. on_reference lower (λ a. next a b))
+
+-- two references off a stack, the upper one last
+abbrev pub on_pair : List Word → (Value → Value → List Word → Next) → Next
+on_pair stack next = on_top stack (λ upper rest. on_reference upper (λ b. on_top rest (λ lower stack. on_reference lower (λ a. next a b stack))))
+
+-- what is asked of two references
+abbrev pub paired : Codes → Limits → Pairing → Value → Value → Frame → List Frame → World → List Word → Next
+paired codes limits pairing.Concat a b f below w stack = on_outcome codes limits (acts_in w (effect w.store (concatenated w.store.objects a b))) R f below w stack
+paired codes limits pairing.Equal a b f below w stack = on_outcome codes limits (acts_in w (effect w.store (equal w.store.objects a b))) unboxed f below w stack
+paired codes limits pairing.Same a b f below w stack = to_line f below w (suc f.line) (I (bit (is_same a b)) ∷ stack)
+
+-- ---- where an exception goes on
+
+-- a trap catches an exception at a line
+abbrev pub catches : ℕ → ℕ → World → Trap → Bool
+catches line id w t = (nat_le t.from line && nat_lt line t.to) && is_instance (class_of_full t.class) id w
+
+abbrev pub line_of : Option Trap → Option ℕ
+line_of None = None
+line_of (Some t) = Some t.at
+
+abbrev pub traps_in : Option FunCode → List Trap
+traps_in None = []
+traps_in (Some f) = f.traps
+
+-- where an exception goes on in a function, if it is caught at this line
+abbrev pub landing : Option FunCode → ℕ → ℕ → World → Option ℕ
+landing f line id w = line_of (find (catches line id w) (traps_in f))
+
+-- it goes on in the frame, or beyond it
+abbrev pub landed : Option ℕ → Frame → List Frame → ℕ → World → Next → Next
+landed None f below id w further = further
+landed (Some at) f below id w further =
+    Goes (record { top = record { text = f.text; fun = f.fun; line = at; locals = f.locals; stack = R (v.Ref id) ∷ []; turns = f.turns; due = f.due }; below = below; world = w })

@@ -1,0 +1,89 @@
+-- The machine's parts as the configurations of which the meaning of code speaks.
+use Rattle.std.specs.Prelude.{◌≡◌, ℕ, ℤ, Bool, true, false, List, [], ◌∷◌, Option, Some, None}
+use Rattle.pl_types.specs.Host.{no_host}
+use Rattle.allowlist.specs.Allow.{AllowList}
+use Rattle.object_heap.specs.declared.outcome.Which.{Which}
+use Rattle.object_heap.specs.declared.outcome.Which.TheVariants as which
+use Rattle.pl_code.specs.declared.code.FunCode.{FunCode}
+use Rattle.run_state.specs.World.{World, Limit, Loop, Depth, Ticks, Room, Limits, Result, Uncaught, Limited}
+use Rattle.code_meaning.specs.declared.word.Word.{Word}
+use Rattle.code_meaning.specs.declared.word.Word.TheVariants.{I, J}
+use Rattle.code_meaning.specs.Machine.{Config, Next, Goes, Ends, Stuck, Codes}
+pub use Rattle.machine.specs.Frames.{with_stack}
+use Rattle.machine.specs.Rooms as rooms
+use Rattle.machine.specs.declared.configuration.World as held_world
+use Rattle.machine.specs.declared.configuration.Limits as held_limits
+use Rattle.machine.specs.declared.configuration.Configuration.{Configuration}
+use Rattle.machine.specs.declared.configuration.End as held_end
+use Rattle.machine.specs.declared.configuration.End.TheVariants as end
+use Rattle.machine.specs.declared.configuration.Step.{Step}
+use Rattle.machine.specs.declared.configuration.Step.TheVariants as step
+
+abbrev pub world_of : held_world.World → World
+world_of w = record { store = w.heap; ticks = w.ticks; reached = w.reached.numbers }
+
+abbrev pub configuration_of : Configuration → Config
+configuration_of c = record { top = c.frames.top; below = c.frames.below; world = world_of c.world }
+
+-- what memory there is for it
+abbrev pub room_of : Configuration → rooms.Room
+room_of c = record { words = c.frames.words; frames = c.frames.depth; taken = c.words.room; values = c.values.room; reached = c.world.reached.room }
+
+-- the code of a run: the prelude has none yet, so that all frames stand in the script's text
+abbrev pub codes_of : List FunCode → Codes
+codes_of functions = record { script = functions; prelude = [] }
+
+-- what a run may take, and the members that it may call
+pub record Rules : Type 0 where
+  pub loop : ℕ
+  pub depth : ℕ
+  pub allowed : AllowList
+
+abbrev pub rules_of : held_limits.Limits → AllowList → Rules
+rules_of l allow = record { loop = l.loops; depth = l.depth; allowed = allow }
+
+-- the prelude may call nothing, and the host gives nothing
+abbrev pub limits_in : Rules → Limits
+limits_in r = record { loop = r.loop; depth = r.depth; allowed = r.allowed; prelude_allowed = record { classes = []; members = [] }; host = no_host }
+
+abbrev pub limits_of : held_limits.Limits → AllowList → Limits
+limits_of l allow = limits_in (rules_of l allow)
+
+abbrev pub limit_of : Which → Limit
+limit_of which.Loop = Loop
+limit_of which.Depth = Depth
+limit_of which.Ticks = Ticks
+limit_of which.Room = Room
+
+-- a run that has ended in a world
+abbrev pub ended : held_end.End → World → Next
+ended (end.Result word) w = Ends (Result word w)
+ended (end.Thrown id) w = Ends (Uncaught id w)
+ended (end.Limit limit) w = Ends (Limited (limit_of limit) w)
+ended end.Stuck w = Stuck
+
+abbrev pub goes : Step → Bool
+goes step.Goes = true
+goes (step.Ends end) = false
+goes step.NoMemory = false
+
+abbrev pub end_in : Step → Option held_end.End
+end_in step.Goes = None
+end_in (step.Ends end) = Some end
+end_in step.NoMemory = None
+
+-- what comes of a step is what the machine says, unless there was no memory
+abbrev pub Comes : Next → Step → Configuration → Type 0
+Comes next step.Goes c = next ≡ Goes (configuration_of c)
+Comes next (step.Ends end) c = next ≡ ended end (world_of c.world)
+Comes next step.NoMemory c = Unit {0}
+
+-- ---- what lies on the top of a stack
+
+abbrev pub int_of : List Word → Option ℤ
+int_of (I a ∷ stack) = Some a
+int_of stack = None
+
+abbrev pub long_of : List Word → Option ℤ
+long_of (J a ∷ stack) = Some a
+long_of stack = None

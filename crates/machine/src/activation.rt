@@ -1,0 +1,196 @@
+//! A run of code that stops between any two instructions and goes on.
+ghost use Rattle.std.specs.Prelude.{◌≡◌, ◌≤◌, ◌++◌, [], map, Some, IfOk};
+ghost use Rattle.object_values.specs.declared.object.Owner.TheVariants.{Script};
+ghost use Rattle.code_meaning.specs.Machine.{start};
+ghost use Rattle.code_meaning.specs.Words.{start_of};
+ghost use Rattle.machine.specs.Activations.{HasTurned, Leaves, SparesFor, Turned, turn_of};
+ghost use Rattle.machine.specs.Seen.{codes_of, configuration_of};
+
+use crate::configuration::{Configuration, End, Limits, Step, World};
+use crate::executable::Executable;
+use crate::frames::Frames;
+use crate::reached::Reached;
+use crate::reserve::words_for;
+use crate::rules::Rules;
+use crate::running::{Ran, run_on};
+use crate::stack::Stack;
+use crate::values::Values;
+use allowlist::MEMBER_COUNT;
+use code_meaning::Word;
+use object_heap::Heap;
+use object_values::Elements;
+use pl_code::Slot;
+use std::alloc::AllocError;
+use std::marker::Model;
+use task_core::Turn;
+
+/// A run of code.
+#[derive(Drop)]
+pub struct Activation<'c> {
+    executable: &'c Executable,
+    limits: Limits,
+    run: Configuration,
+    last: Step,
+    steps: u64,
+}
+
+/// What a run leaves.
+#[derive(Drop)]
+pub struct Outcome {
+    pub end: End,
+    pub heap: Heap,
+    /// How many ticks were paid.
+    pub ticks: u64,
+    /// How many instructions were run.
+    pub steps: u64,
+    /// The members that were called, by their numbers, in the order of their first calls.
+    pub reached: Elements<u32>,
+}
+
+impl<'c> Model for Activation<'c> {
+    ghost use Rattle.machine.specs.Activations.{Activation, now_of};
+    ghost use Rattle.machine.specs.Rooms.{IsEnough};
+    ghost use Rattle.machine.specs.Runs.{CountsFit};
+    ghost use Rattle.machine.specs.Seen.{configuration_of, goes, room_of};
+    ghost use Rattle.pl_types.specs.contracts.ty.Ty as ty;
+    ghost use Rattle.std.specs.Coded.{codes};
+    ghost use Rattle.std.specs.Prelude.{◌≡◌, ◌<◌, ◌^◌, true};
+
+    ghost Value = { Activation };
+
+    ghost coded = { Prim.hlevel (codes, ty.the_row.coded) };
+
+    ghost view = { λ a. record { code = a.executable.now.code.functions; limits = a.limits; allow = a.executable.now.allow; frame = a.executable.now.frame; now = now_of a.last a.run; steps = a.steps } };
+
+    ghost invariant = { λ a. (a.steps < 2 ^ 64) × IsEnough a.executable.now.frame a.limits.depth (room_of a.run) × (goes a.last ≡ true → CountsFit (configuration_of a.run)) };
+}
+
+impl<'c> Activation<'c> {
+    /// A run of function 0 on these arguments. Where there is no such function the run is stuck.
+    ///
+    /// Memory is taken here for frames of calls as deep as the limit, each of as many words as the executable tells, for a call of a
+    /// member, and for the list of members that were called. What goes past it finds no memory.
+    ///
+    /// # Errors
+    ///
+    /// Want of memory.
+    pub fn start(
+        executable: &'c Executable,
+        heap: Heap,
+        args: Elements<Word>,
+        limits: Limits,
+    ) -> Result<Activation<'c>, AllocError>
+        ensures { IfOk result (λ a. a ≡ record { code = executable.now.code.functions; limits = limits; allow = executable.now.allow; frame = executable.now.frame; now = Some (start (codes_of executable.now.code.functions) args (record { store = heap; ticks = limits.ticks; reached = [] })); steps = 0 }) }
+    {
+        let (slots, last) = match executable.code().functions.get(0) {
+            Some(main) => (main.locals.as_slice(), Step::Goes),
+            None => (&[] as &[Slot], Step::Ends(End::Stuck)),
+        };
+        let Some(words) = words_for(executable.frame(), limits.depth) else {
+            return Err(AllocError);
+        };
+        let run = configuration(executable.arguments(), heap, args, slots, limits, words)?;
+        Ok(Activation {
+            executable,
+            limits,
+            run,
+            last,
+            steps: 0,
+        })
+    }
+
+    /// Takes `q` instructions, or fewer where the run ends.
+    ///
+    /// More: they were taken, and the run goes on. Done: it has ended. NoMemory: there was none, and there is none at every later
+    /// turn.
+    pub fn turn(&mut self, q: u64) -> Turn
+        ensures exact { Turned q self.old self.new result }
+        // No memory is taken where each instruction makes no object and lets none grow, and neither makes nor copies a text.
+        ensures memory { SparesFor q self.old → HasTurned result }
+    {
+        if self.last.goes() {
+            let rules = Rules::new(self.limits, self.executable.allow());
+            let Ran { last, steps } = run_on(&mut self.run, self.executable, &rules, q);
+            self.last = last;
+            self.steps = self.steps.saturating_add(steps);
+            turn_of(&self.last)
+        } else {
+            turn_of(&self.last)
+        }
+    }
+
+    /// What the run leaves, once it has ended.
+    pub fn outcome(self) -> Option<Outcome>
+        ensures { Leaves self.entry result }
+    {
+        let Activation {
+            executable: _,
+            limits,
+            run,
+            last,
+            steps,
+        } = self;
+        let Configuration {
+            frames: _frames,
+            world,
+            words: _words,
+            values: _values,
+        } = run;
+        let World {
+            heap,
+            ticks,
+            reached,
+        } = world;
+        match last.into_end() {
+            Some(end) => Some(Outcome {
+                end,
+                heap,
+                ticks: limits.ticks.saturating_sub(ticks),
+                steps,
+                reached: reached.into_elements(),
+            }),
+            None => None,
+        }
+    }
+}
+
+// Where a run begins, with memory for so many words of its frames, and of calls of members.
+fn configuration(
+    arguments: usize,
+    heap: Heap,
+    args: Elements<Word>,
+    slots: &[Slot],
+    limits: Limits,
+    words: usize,
+) -> Result<Configuration, AllocError>
+    ensures stands { IfOk result (λ c. configuration_of c ≡ record { top = record { text = Script; fun = 0; line = 0; locals = args ++ map start_of slots.now; stack = []; turns = 0; due = [] }; below = []; world = record { store = heap; ticks = limits.ticks; reached = [] } }) }
+    ensures frames { IfOk result (λ c. (words ≤ c.frames.words) × (limits.depth ≤ c.frames.depth)) }
+    ensures calls { IfOk result (λ c. (c.words.room ≡ arguments) × (c.values.room ≡ arguments) × (c.world.reached.room ≡ MEMBER_COUNT)) }
+{
+    let alloc = heap.alloc();
+    let frames = Frames::start(alloc, args, slots, limits.depth as usize, words)?;
+    let words = Stack::with_room(alloc, arguments)?;
+    let values = Values::with_room(alloc, arguments)?;
+    let reached = Reached::with_room(alloc, MEMBER_COUNT as usize)?;
+    Ok(Configuration {
+        frames,
+        world: World {
+            heap,
+            ticks: limits.ticks,
+            reached,
+        },
+        words,
+        values,
+    })
+}
+
+// What comes of a turn whose last instruction came to this.
+fn turn_of(last: &Step) -> Turn
+    ensures { result ≡ turn_of last.now }
+{
+    match last {
+        Step::Goes => Turn::More,
+        Step::Ends(_) => Turn::Done,
+        Step::NoMemory => Turn::NoMemory,
+    }
+}

@@ -1,0 +1,127 @@
+//! Calls and returns.
+ghost use Rattle.std.specs.Prelude.{◌≤◌, ◌<◌, ◌+◌, ◌^◌, ◌≡◌, ◌∷◌, ◌++◌, [], suc, Some, None, List, map, length, slice_get, IsNone};
+ghost use Rattle.pl_code.specs.declared.code.FunCode.{FunCode};
+ghost use Rattle.run_state.specs.World.{enter};
+ghost use Rattle.code_meaning.specs.Words as words;
+ghost use Rattle.code_meaning.specs.declared.word.Word.{Word};
+ghost use Rattle.code_meaning.specs.Machine as spec;
+ghost use Rattle.code_meaning.specs.Machine.{Goes, depth_of, code_in, function_of};
+ghost use Rattle.machine.specs.Seen.{Comes, room_of, with_stack, world_of, codes_of, limits_in};
+ghost use Rattle.machine.specs.Rows.{CountsTo};
+ghost use Rattle.machine.specs.Memory.{CallFinds, HasMemory, RoomFor};
+
+use crate::configuration::{Configuration, End, Step, World};
+use crate::rules::Rules;
+use code_meaning::Word;
+use object_heap::Which;
+use object_values::Value;
+use pl_code::{Code, FunCode, Slot};
+
+/// Calls the function of this number.
+pub fn call(run: &mut Configuration, code: &Code, limits: &Rules<'_>, number: u32) -> Step
+    ensures exact { Comes (spec.on_call (codes_of code.now.functions) (limits_in limits.now) (slice_get (code_in (codes_of code.now.functions) run.old.frames.top.text) number) number run.old.frames.top run.old.frames.below (world_of run.old.world)) result run.new }
+    ensures memory { CallFinds limits.now.depth (slice_get (code_in (codes_of code.now.functions) run.old.frames.top.text) number) run.old.frames → suc run.old.frames.top.line < 2 ^ 64 → HasMemory result }
+    ensures room { room_of run.new ≡ room_of run.old }
+{
+    match run.frames.function_at(code, number) {
+        Some(function) => call_function(run, code, limits, function, number),
+        None => Step::Ends(End::Stuck),
+    }
+}
+
+#[tactic(auto, using(crate::proofs::Entering::too_few))]
+fn call_function(
+    run: &mut Configuration,
+    code: &Code,
+    limits: &Rules<'_>,
+    function: &FunCode,
+    number: u32,
+) -> Step
+    ensures exact { Comes (spec.on_call (codes_of code.now.functions) (limits_in limits.now) (Some function.now) number run.old.frames.top run.old.frames.below (world_of run.old.world)) result run.new }
+    ensures memory { CallFinds limits.now.depth (Some function.now) run.old.frames → suc run.old.frames.top.line < 2 ^ 64 → HasMemory result }
+    ensures room { room_of run.new ≡ room_of run.old }
+{
+    if !run.frames.has(function.params.len()) {
+        return Step::Ends(End::Stuck);
+    }
+    match count_call(&mut run.world, limits, run.frames.depth()) {
+        Some(which) => Step::Ends(End::Limit(which)),
+        None => push_frame(run, number, function),
+    }
+}
+
+/// What a local of a kind begins with.
+pub fn start_of(slot: Slot) -> Word
+    ensures { result ≡ words.start_of slot }
+{
+    match slot {
+        Slot::I => Word::I(0),
+        Slot::J => Word::J(0),
+        Slot::R => Word::R(Value::Null),
+    }
+}
+
+// Pays a call from a frame with so many below it: the tick is paid before the depth is tried.
+#[tactic(auto, unfolding(run_state::specs::World::enter, run_state::specs::World::pay_tick, run_state::specs::World::goes_deeper))]
+fn count_call(world: &mut World, limits: &Rules<'_>, depth: usize) -> Option<Which>
+    ensures exact { CountsTo (enter (limits_in limits.now) depth (world_of world.old)) (world_of world.new) result }
+    ensures deeper { IsNone result → depth < limits.now.depth }
+    ensures room { world.new.reached.room ≡ world.old.reached.room }
+{
+    if world.ticks == 0 {
+        return Some(Which::Ticks);
+    }
+    world.ticks -= 1;
+    if depth >= limits.depth() as usize {
+        return Some(Which::Depth);
+    }
+    None
+}
+
+fn push_frame(run: &mut Configuration, number: u32, function: &FunCode) -> Step
+    requires { length function.now.params ≤ length run.old.frames.top.stack }
+    ensures exact { Comes (spec.on_words (spec.take_words (length function.now.params) run.old.frames.top.stack []) (λ args stack. Goes (record { top = record { text = run.old.frames.top.text; fun = number; line = 0; locals = args ++ map words.start_of function.now.locals; stack = []; turns = 0; due = [] }; below = with_stack run.old.frames.top stack ∷ run.old.frames.below; world = world_of run.old.world }))) result run.new }
+    ensures memory { run.old.frames.count + length function.now.locals ≤ run.old.frames.words → depth_of run.old.frames.below < run.old.frames.depth → suc run.old.frames.top.line < 2 ^ 64 → HasMemory result }
+    ensures room { room_of run.new ≡ room_of run.old }
+{
+    match run
+        .frames
+        .enter(number, function.params.len(), function.locals.as_slice())
+    {
+        Ok(()) => Step::Goes,
+        Err(_) => Step::NoMemory,
+    }
+}
+
+/// Returns.
+pub fn ret(run: &mut Configuration, code: &Code, limits: &Rules<'_>) -> Step
+    ensures exact { Comes (spec.returns (codes_of code.now.functions) (limits_in limits.now) (function_of (codes_of code.now.functions) run.old.frames.top) run.old.frames.top.stack (λ result. spec.gives_back (codes_of code.now.functions) (limits_in limits.now) run.old.frames.below run.old.frames.top.due result (world_of run.old.world))) result run.new }
+    ensures memory { HasMemory result }
+    ensures room { room_of run.new ≡ room_of run.old }
+{
+    match run.frames.function_at(code, run.frames.fun()) {
+        Some(function) => match function.result {
+            None => give_back(run, code, limits, None),
+            Some(_) => match run.frames.pop() {
+                Some(word) => give_back(run, code, limits, Some(word)),
+                None => Step::Ends(End::Stuck),
+            },
+        },
+        None => Step::Ends(End::Stuck),
+    }
+}
+
+fn give_back(run: &mut Configuration, code: &Code, limits: &Rules<'_>, word: Option<Word>) -> Step
+    ensures exact { Comes (spec.gives_back (codes_of code.now.functions) (limits_in limits.now) run.old.frames.below run.old.frames.top.due word (world_of run.old.world)) result run.new }
+    ensures memory { RoomFor word run.old.frames → HasMemory result }
+    ensures room { room_of run.new ≡ room_of run.old }
+{
+    if run.frames.leave() {
+        match word {
+            Some(word) => run.push(word),
+            None => run.goes_on(),
+        }
+    } else {
+        Step::Ends(End::Result(word))
+    }
+}

@@ -1,0 +1,149 @@
+//! Where a run stands.
+ghost use Rattle.std.specs.Prelude.{◌≡◌, ◌<◌, ◌^◌, suc, ◌∷◌};
+ghost use Rattle.code_meaning.specs.Machine.{to_line};
+ghost use Rattle.machine.specs.Seen.{Comes, end_in, goes, room_of, world_of};
+ghost use Rattle.machine.specs.Memory.{HasMemory};
+
+use crate::frames::Frames;
+use crate::reached::Reached;
+use crate::stack::Stack;
+use crate::values::Values;
+use code_meaning::Word;
+use object_heap::{Heap, Which};
+
+/// What a run may take.
+#[derive(Clone, Copy, Debug, PartialEq, Eq)]
+pub struct Limits {
+    /// Turns of one frame.
+    pub loops: u64,
+    /// Frames on top of one another, the first left out. Memory for so many is taken at the start of a run.
+    pub depth: u32,
+    /// Calls and turns that are paid.
+    pub ticks: u64,
+}
+
+/// What a run changes.
+#[derive(Drop)]
+pub struct World {
+    pub heap: Heap,
+    /// Calls and turns that may still be paid.
+    pub ticks: u64,
+    /// The members that were called.
+    pub reached: Reached,
+}
+
+/// A run between two instructions.
+#[derive(Drop)]
+pub struct Configuration {
+    /// The newest frame, and those below it, which wait for what it gives.
+    pub frames: Frames,
+    pub world: World,
+    /// The words that a call of a member takes off the operands, the deepest on the top. Each call fills it anew.
+    pub words: Stack,
+    /// What a call of a member is called with. Each call fills it anew.
+    pub values: Values,
+}
+
+/// How a run ends.
+pub enum End {
+    /// It gives this, or nothing.
+    Result(Option<Word>),
+    /// The number of the exception that was thrown.
+    Thrown(u32),
+    /// A limit that it would pass.
+    Limit(Which),
+    /// No instruction fits where it stands. Code that was verified never comes here.
+    Stuck,
+}
+
+impl Drop for End {
+    fn drop(self) {
+        match self {
+            End::Result(_word) => {}
+            End::Thrown(_id) => {}
+            End::Limit(_which) => {}
+            End::Stuck => {}
+        }
+    }
+}
+
+/// What comes of an instruction.
+pub enum Step {
+    /// The run goes on.
+    Goes,
+    Ends(End),
+    /// There was no memory. Nothing is said of the run.
+    NoMemory,
+}
+
+impl Drop for Step {
+    fn drop(self) {
+        match self {
+            Step::Goes => {}
+            Step::Ends(_end) => {}
+            Step::NoMemory => {}
+        }
+    }
+}
+
+impl Step {
+    /// Whether the run goes on.
+    pub(crate) fn goes(&self) -> bool
+        ensures { result ≡ goes self.now }
+    {
+        match self {
+            Step::Goes => true,
+            _ => false,
+        }
+    }
+
+    /// The end, where the run has ended.
+    pub(crate) fn into_end(self) -> Option<End>
+        ensures { result ≡ end_in self }
+    {
+        match self {
+            Step::Goes => None,
+            Step::Ends(end) => Some(end),
+            Step::NoMemory => None,
+        }
+    }
+}
+
+impl Configuration {
+    // On to the next line. No code has so many lines that there is no number for it.
+    pub(crate) fn goes_on(&mut self) -> Step
+        ensures exact { Comes (to_line self.old.frames.top self.old.frames.below (world_of self.old.world) (suc self.old.frames.top.line) self.old.frames.top.stack) result self.new }
+        ensures memory { suc self.old.frames.top.line < 2 ^ 64 → HasMemory result }
+        ensures room { room_of self.new ≡ room_of self.old }
+    {
+        match self.frames.line().checked_add(1) {
+            Some(line) => {
+                self.frames.set_line(line);
+                Step::Goes
+            }
+            None => Step::NoMemory,
+        }
+    }
+
+    // Puts a word on the stack, and on to the next line.
+    pub(crate) fn push(&mut self, word: Word) -> Step
+        ensures exact { Comes (to_line self.old.frames.top self.old.frames.below (world_of self.old.world) (suc self.old.frames.top.line) (word ∷ self.old.frames.top.stack)) result self.new }
+        ensures memory { self.old.frames.count < self.old.frames.words → suc self.old.frames.top.line < 2 ^ 64 → HasMemory result }
+        ensures room { room_of self.new ≡ room_of self.old }
+    {
+        match self.frames.push(word) {
+            Ok(()) => self.goes_on(),
+            Err(_) => Step::NoMemory,
+        }
+    }
+
+    // To a line.
+    pub(crate) fn goes_to(&mut self, line: u32) -> Step
+        ensures exact { Comes (to_line self.old.frames.top self.old.frames.below (world_of self.old.world) line self.old.frames.top.stack) result self.new }
+        ensures memory { HasMemory result }
+        ensures room { room_of self.new ≡ room_of self.old }
+    {
+        self.frames.set_line(line as usize);
+        Step::Goes
+    }
+}

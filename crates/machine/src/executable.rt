@@ -1,0 +1,248 @@
+//! Code that is ready to run.
+ghost use Rattle.std.specs.Prelude.{◌≡◌, ◌≤◌, ◌<◌, ◌^◌, ℕ, suc, IfOk, IfSome, OnSome};
+ghost use Rattle.std.specs.Option.{option_copied};
+ghost use Rattle.allowlist.specs.Index.{member_at};
+ghost use Rattle.code_meaning.specs.Members.{count_of};
+ghost use Rattle.machine.specs.Links.{instruction_at, link_at, link_of, links_of, links_in, member_link, type_link};
+ghost use Rattle.pl_types.specs.Texts.{type_of_full};
+
+use crate::frames::Frames;
+use crate::members::count_of;
+use allowlist::{Allow, MEMBER_COUNT};
+use instruction_types::{constructor_of, field_of, method_of};
+use listing_parts::TypeName;
+use object_values::Owner;
+use pl_code::{Code, FunCode, Instruction};
+use pl_types::Ty;
+use plain_data::Items;
+use std::alloc::{AllocError, Global};
+use std::marker::Model;
+
+/// The number of a member of the catalogue.
+#[derive(Drop)]
+pub struct MemberNumber {
+    number: u32,
+}
+
+impl Model for MemberNumber {
+    ghost use Rattle.allowlist.specs.declared.table.TheConstants.{MEMBER_COUNT};
+    ghost use Rattle.std.specs.Prelude.{ℕ, ◌<◌};
+
+    ghost Value = { ℕ };
+
+    ghost view = { λ m. m.number };
+
+    ghost invariant = { λ m. m.number < MEMBER_COUNT };
+}
+
+impl MemberNumber {
+    pub fn new(number: u32) -> MemberNumber
+        requires { number < MEMBER_COUNT }
+        ensures { result ≡ number }
+    {
+        MemberNumber { number }
+    }
+
+    pub fn number(&self) -> u32
+        ensures is { result ≡ self.now }
+        ensures within { result < MEMBER_COUNT }
+    {
+        self.number
+    }
+}
+
+/// What an instruction names.
+pub enum Link {
+    /// Nothing, or nothing that is there.
+    Nothing,
+    Member(MemberNumber),
+    Type(Ty),
+}
+
+impl Drop for Link {
+    fn drop(self) {
+        match self {
+            Link::Nothing => {}
+            Link::Member(_number) => {}
+            Link::Type(_of) => {}
+        }
+    }
+}
+
+/// Code with the list of the members that it may call. What its instructions name is found once, when it is made.
+#[derive(Drop)]
+pub struct Executable {
+    code: Code,
+    allow: Allow,
+    /// For how many words there is memory in each frame of a run.
+    frame: usize,
+    /// What each line of each function names.
+    links: Items<Items<Link>>,
+    /// What the member that takes most is called with.
+    arguments: usize,
+}
+
+impl Model for Executable {
+    ghost use Rattle.std.specs.Prelude.{ℕ, ◌≡◌, ◌≤◌, ◌<◌};
+    ghost use Rattle.allowlist.specs.Index.{member_at};
+    ghost use Rattle.allowlist.specs.declared.table.TheConstants.{MEMBER_COUNT};
+    ghost use Rattle.code_meaning.specs.Members.{count_of};
+    ghost use Rattle.machine.specs.Links.{Executable, links_in};
+    ghost use Rattle.std.specs.Coded.{codes};
+    ghost use Rattle.pl_types.specs.contracts.ty.Ty as ty;
+
+    ghost Value = { Executable };
+
+    ghost coded = { Prim.hlevel (codes, ty.the_row.coded) };
+
+    ghost view = { λ e. record { code = e.code; allow = e.allow; frame = e.frame } };
+
+    ghost invariant = { λ e. (e.links ≡ links_in e.allow e.code.functions) × ((number : ℕ) → number < MEMBER_COUNT → count_of (member_at number) ≤ e.arguments) };
+}
+
+impl Executable {
+    /// Code that may call the members of this list. A run takes memory at its start for so many words in each frame, locals and
+    /// operands. Of verified code the verifier tells this number; a run that needs more finds no memory.
+    ///
+    /// # Errors
+    ///
+    /// Want of memory.
+    pub fn new(
+        alloc: Global,
+        code: Code,
+        allow: Allow,
+        frame: usize,
+    ) -> Result<Executable, AllocError>
+        ensures { IfOk result (λ e. e ≡ record { code = code; allow = allow; frame = frame }) }
+    {
+        let links = links_in(alloc, &allow, code.functions.as_slice())?;
+        let arguments = most_arguments(&allow);
+        Ok(Executable {
+            code,
+            allow,
+            frame,
+            links,
+            arguments,
+        })
+    }
+
+    /// The code.
+    pub fn code(&self) -> &Code
+        ensures { result.now ≡ self.now.code }
+    {
+        &self.code
+    }
+
+    /// The members that it may call.
+    pub fn allow(&self) -> &Allow
+        ensures { result.now ≡ self.now.allow }
+    {
+        &self.allow
+    }
+
+    /// For how many words there is memory in each frame.
+    pub fn frame(&self) -> usize
+        ensures { result ≡ self.now.frame }
+    {
+        self.frame
+    }
+
+    /// What the member that takes most is called with.
+    pub fn arguments(&self) -> usize
+        ensures { (number : ℕ) → number < MEMBER_COUNT → count_of (member_at number) ≤ result }
+    {
+        self.arguments
+    }
+
+    /// The instruction at which the newest frame stands. Where there is one, there is a number for the next line.
+    pub(crate) fn instruction(&self, frames: &Frames) -> Option<&Instruction>
+        ensures instruction { option_copied result ≡ instruction_at self.now frames.now.top }
+        ensures next { OnSome result (suc frames.now.top.line < 2 ^ 64) }
+    {
+        let found = frames.function_at(&self.code, frames.fun())?;
+        let line = frames.line();
+        if line >= found.lines.len() {
+            return None;
+        }
+        found.lines.get(line)
+    }
+
+    /// What the instruction at which the newest frame stands names.
+    pub(crate) fn link(&self, frames: &Frames) -> Option<&Link>
+        ensures { option_copied result ≡ link_at self.now frames.now.top }
+    {
+        match frames.text() {
+            Owner::Script => self.links.get(frames.fun() as usize)?.get(frames.line()),
+            Owner::Prelude => None,
+        }
+    }
+}
+
+// What the member that takes most is called with.
+#[tactic(auto, using(crate::proofs::Most::one_more))]
+fn most_arguments(allow: &Allow) -> usize
+    ensures { (number : ℕ) → number < MEMBER_COUNT → count_of (member_at number) ≤ result }
+{
+    let mut most = 0;
+    for number in 0..MEMBER_COUNT {
+        most = count_of(allow.member_type(number)).max(most);
+    }
+    most
+}
+
+fn links_in(
+    alloc: Global,
+    allow: &Allow,
+    functions: &[FunCode],
+) -> Result<Items<Items<Link>>, AllocError>
+    ensures { IfOk result (λ links. links ≡ links_in allow.now functions.now) }
+{
+    let mut links = Items::new(alloc);
+    for function in functions {
+        links.push(links_of(alloc, allow, function)?)?;
+    }
+    Ok(links)
+}
+
+fn links_of(alloc: Global, allow: &Allow, function: &FunCode) -> Result<Items<Link>, AllocError>
+    ensures { IfOk result (λ links. links ≡ links_of allow.now function.now) }
+{
+    let mut links = Items::new(alloc);
+    for line in function.lines.as_slice() {
+        links.push(link_of(alloc, allow, line)?)?;
+    }
+    Ok(links)
+}
+
+#[tactic(auto, unfolding(crate::specs::Links::link_of))]
+fn link_of(alloc: Global, allow: &Allow, line: &Instruction) -> Result<Link, AllocError>
+    ensures { IfOk result (λ link. link ≡ link_of allow.now line.now) }
+{
+    match line {
+        Instruction::Typed(_, of) => type_link(alloc, of),
+        Instruction::Cast(to, _) => type_link(alloc, to),
+        Instruction::Invoke(method) => Ok(member_link(method_of(allow, method))),
+        Instruction::New(constructor) => Ok(member_link(constructor_of(allow, constructor))),
+        Instruction::Field(field) => Ok(member_link(field_of(allow, field))),
+        _ => Ok(Link::Nothing),
+    }
+}
+
+fn type_link(alloc: Global, of: &TypeName) -> Result<Link, AllocError>
+    ensures { IfOk result (λ link. link ≡ type_link (type_of_full of.now)) }
+{
+    match Ty::of_full_text(alloc, of.as_str().as_bytes())? {
+        Some(of) => Ok(Link::Type(of)),
+        None => Ok(Link::Nothing),
+    }
+}
+
+fn member_link(number: Option<u32>) -> Link
+    requires { IfSome number (λ n. n < MEMBER_COUNT) }
+    ensures { result ≡ member_link number }
+{
+    match number {
+        Some(number) => Link::Member(MemberNumber::new(number)),
+        None => Link::Nothing,
+    }
+}

@@ -1,0 +1,326 @@
+//! Frames that lie one on the other in one vector of words, for which memory is taken once.
+ghost use Rattle.std.specs.Prelude.{◌+◌, ◌^◌, ◌++◌, map, nat_le, ◌≡◌, ◌≤◌, ◌<◌, ◌↔◌, true, suc, [], ◌∷◌, length, slice_get, slice_set, IsTrue, MatchOption, OnOk, OnErr, IsOk, IfOk};
+ghost use Rattle.std.specs.Option.{option_copied};
+ghost use Rattle.std.specs.Vec.{vec_capacity};
+ghost use Rattle.code_meaning.specs.Machine.{depth_of, take_words, code_in};
+ghost use Rattle.code_meaning.specs.Words.{start_of};
+ghost use Rattle.code_meaning.specs.Sizes.{words_in};
+ghost use Rattle.machine.specs.Frames.{Enters, Leaves, at_line, with_turns};
+ghost use Rattle.machine.specs.Frames.{with_stack, with_words};
+ghost use Rattle.object_values.specs.declared.object.Owner.TheVariants.{Script};
+ghost use Rattle.machine.specs.Seen.{codes_of};
+
+use crate::calls::start_of;
+use code_meaning::Word;
+use object_values::{Elements, Owner};
+use pl_code::{Code, FunCode, Slot};
+use std::alloc::{AllocError, Global};
+use std::marker::Model;
+
+/// A function that is being run.
+#[derive(Clone, Copy)]
+pub struct Held {
+    pub text: Owner,
+    pub fun: u32,
+    pub line: usize,
+    pub turns: u64,
+    /// The place of its first local.
+    pub base: usize,
+    /// How many locals it has. Its operands lie behind them.
+    pub locals: usize,
+}
+
+/// The frames of a run. What they may take is fixed where they begin: memory for so many words and so many frames.
+#[derive(Drop)]
+pub struct Frames {
+    top: Held,
+    below: Vec<Held>,
+    words: Vec<Word>,
+    /// How many frames there may be below the newest one.
+    most_frames: usize,
+    /// How many words there may be.
+    most_words: usize,
+}
+
+impl Model for Frames {
+    ghost use Rattle.std.specs.Prelude.{◌∷◌, ◌≤◌, length, reverse, take};
+    ghost use Rattle.std.specs.Vec.{vec_capacity};
+    ghost use Rattle.machine.specs.Frames.{Laid, Wait, Within, own, lie};
+    ghost use Rattle.std.specs.Coded.{codes};
+    ghost use Rattle.pl_types.specs.contracts.ty.Ty as ty;
+
+    ghost Value = { Laid };
+
+    ghost coded = { Prim.hlevel (codes, ty.the_row.coded) };
+
+    ghost view = { λ s. record { top = own s.top s.words.items; below = lie (reverse s.below.items) (take s.top.base s.words.items); count = length s.words.items; words = s.most_words; depth = s.most_frames } };
+
+    ghost invariant = { λ s. Within (s.top ∷ reverse s.below.items) (length s.words.items) × Wait (reverse s.below.items) × (length s.words.items ≤ s.most_words) × (s.most_words ≤ vec_capacity s.words) × (s.most_frames ≤ vec_capacity s.below) };
+}
+
+impl Frames {
+    /// A first frame, of the script's function 0, with these locals, and behind them the others. There is memory for so many frames
+    /// below another, and for so many words.
+    #[tactic(auto, using(crate::proofs::Places::all_locals, crate::proofs::Places::no_words))]
+    pub fn start(
+        alloc: Global,
+        args: Elements<Word>,
+        slots: &[Slot],
+        depth: usize,
+        words: usize,
+    ) -> Result<Frames, AllocError>
+        ensures top { IfOk result (λ frames. frames.top ≡ record { text = Script; fun = 0; line = 0; locals = args ++ map start_of slots.now; stack = []; turns = 0; due = [] }) }
+        ensures below { IfOk result (λ frames. frames.below ≡ []) }
+        ensures words { IfOk result (λ frames. words ≤ frames.words) }
+        ensures depth { IfOk result (λ frames. depth ≤ frames.depth) }
+    {
+        let most_words = words;
+        let mut words = args.into_vec();
+        words.reserve(most_words)?;
+        push_starts(&mut words, slots)?;
+        let locals = words.len();
+        let top = Held {
+            text: Owner::Script,
+            fun: 0,
+            line: 0,
+            turns: 0,
+            base: 0,
+            locals,
+        };
+        Ok(Frames {
+            top,
+            below: Vec::with_capacity(alloc, depth)?,
+            words,
+            most_frames: depth,
+            most_words: most_words.max(locals),
+        })
+    }
+
+    /// Puts an operand on the newest frame's, if there is room for it.
+    #[tactic(auto)]
+    pub fn push(&mut self, word: Word) -> Result<(), AllocError>
+        ensures stack { OnOk result (self.new.top.stack ≡ word ∷ self.old.top.stack) }
+        ensures top { self.new.top ≡ with_stack self.old.top self.new.top.stack }
+        ensures below { self.new.below ≡ self.old.below }
+        ensures count { OnOk result (self.new.count ≡ suc self.old.count) }
+        ensures words { self.new.words ≡ self.old.words }
+        ensures depth { self.new.depth ≡ self.old.depth }
+        ensures full { OnErr result (self.old.words ≤ self.old.count) }
+    {
+        if self.words.len() >= self.most_words {
+            return Err(AllocError);
+        }
+        match self.words.push(word) {
+            Ok(()) => Ok(()),
+            Err(_) => Err(AllocError),
+        }
+    }
+
+    /// Takes the newest frame's upper operand.
+    pub fn pop(&mut self) -> Option<Word>
+        ensures stack { MatchOption result ((self.old.top.stack ≡ []) × (self.new.top.stack ≡ [])) (λ word. self.old.top.stack ≡ word ∷ self.new.top.stack) }
+        ensures top { self.new.top ≡ with_stack self.old.top self.new.top.stack }
+        ensures below { self.new.below ≡ self.old.below }
+        ensures count { MatchOption result (self.new.count ≡ self.old.count) (λ word. self.old.count ≡ suc self.new.count) }
+        ensures room { MatchOption result (Unit {0}) (λ word. self.new.count < self.new.words) }
+        ensures words { self.new.words ≡ self.old.words }
+        ensures depth { self.new.depth ≡ self.old.depth }
+    {
+        if self.words.len() <= self.top.base + self.top.locals {
+            return None;
+        }
+        self.words.pop()
+    }
+
+    /// The local of this number in the newest frame.
+    pub fn local(&self, number: usize) -> Option<&Word>
+        ensures { option_copied result ≡ slice_get self.now.top.locals number }
+    {
+        if number >= self.top.locals {
+            return None;
+        }
+        self.words.get(self.top.base + number)
+    }
+
+    /// Writes a local of the newest frame. Where there is none of this number nothing changes.
+    #[tactic(auto, using(crate::proofs::Places::written, crate::proofs::Places::stack_stays, crate::proofs::Places::rest_stays))]
+    pub fn store(&mut self, number: usize, word: Word)
+        ensures top { self.new.top ≡ with_words self.old.top self.new.top.locals self.new.top.stack }
+        ensures locals { self.new.top.locals ≡ slice_set self.old.top.locals number word }
+        ensures stack { self.new.top.stack ≡ self.old.top.stack }
+        ensures below { self.new.below ≡ self.old.below }
+        ensures words { self.new.words ≡ self.old.words }
+        ensures depth { self.new.depth ≡ self.old.depth }
+    {
+        if number >= self.top.locals {
+            return;
+        }
+        let place = self.top.base + number;
+        self.words[place] = word;
+    }
+
+    /// Takes all operands of the newest frame off.
+    #[tactic(auto, using(crate::proofs::Places::locals_stay, crate::proofs::Places::no_stack, crate::proofs::Places::rest_stay))]
+    pub fn clear(&mut self)
+        ensures top { self.new.top ≡ with_stack self.old.top [] }
+        ensures count { self.new.count ≤ self.old.count }
+        ensures below { self.new.below ≡ self.old.below }
+        ensures words { self.new.words ≡ self.old.words }
+        ensures depth { self.new.depth ≡ self.old.depth }
+    {
+        self.words.truncate(self.top.base + self.top.locals);
+    }
+
+    /// Sets the line of the newest frame.
+    pub fn set_line(&mut self, line: usize)
+        ensures top { self.new.top ≡ at_line self.old.top line }
+        ensures below { self.new.below ≡ self.old.below }
+        ensures words { self.new.words ≡ self.old.words }
+        ensures depth { self.new.depth ≡ self.old.depth }
+    {
+        self.top.line = line;
+    }
+
+    /// Sets how many turns the newest frame has had.
+    pub fn set_turns(&mut self, turns: u64)
+        ensures top { self.new.top ≡ with_turns self.old.top turns }
+        ensures below { self.new.below ≡ self.old.below }
+        ensures words { self.new.words ≡ self.old.words }
+        ensures depth { self.new.depth ≡ self.old.depth }
+    {
+        self.top.turns = turns;
+    }
+
+    /// The function of the newest frame.
+    pub fn fun(&self) -> u32
+        ensures { result ≡ self.now.top.fun }
+    {
+        self.top.fun
+    }
+
+    /// In which text the function of the newest frame stands.
+    pub fn text(&self) -> Owner
+        ensures { result ≡ self.now.top.text }
+    {
+        self.top.text
+    }
+
+    /// The function of this number, in the code of the newest frame's text. The prelude has no code yet.
+    pub fn function_at<'c>(&self, code: &'c Code, number: u32) -> Option<&'c FunCode>
+        ensures { option_copied result ≡ slice_get (code_in (codes_of code.now.functions) self.now.top.text) number }
+    {
+        match self.top.text {
+            Owner::Script => code.functions.get(number as usize),
+            Owner::Prelude => None,
+        }
+    }
+
+    /// The line of the newest frame.
+    pub fn line(&self) -> usize
+        ensures { result ≡ self.now.top.line }
+    {
+        self.top.line
+    }
+
+    /// How many turns the newest frame has had.
+    pub fn turns(&self) -> u64
+        ensures { result ≡ self.now.top.turns }
+    {
+        self.top.turns
+    }
+
+    /// How many frames there are below the newest one.
+    #[tactic(auto, using(crate::proofs::Places::frames_below))]
+    pub fn depth(&self) -> usize
+        ensures { result ≡ depth_of self.now.below }
+    {
+        self.below.len()
+    }
+
+    /// Drops the newest frame with its words, if there is one below it. That one waits at a line behind which there is a number for
+    /// the next one.
+    pub fn leave(&mut self) -> bool
+        ensures due { self.old.top.due ≡ [] }
+        ensures frames { Leaves self.old.top self.old.below self.new.top self.new.below result }
+        ensures waits { result ≡ true → suc self.new.top.line < 2 ^ 64 }
+        ensures count { self.new.count ≤ self.old.count }
+        ensures words { self.new.words ≡ self.old.words }
+        ensures depth { self.new.depth ≡ self.old.depth }
+    {
+        match self.below.pop() {
+            Some(held) => {
+                self.words.truncate(self.top.base);
+                self.top = held;
+                true
+            }
+            None => false,
+        }
+    }
+
+    /// Whether the newest frame has so many operands.
+    #[tactic(auto, using(crate::proofs::Entering::height_is))]
+    pub fn has(&self, count: usize) -> bool
+        ensures { result ≡ nat_le count (length self.now.top.stack) }
+    {
+        count <= self.words.len() - self.top.base - self.top.locals
+    }
+
+    /// The words are those of the frames: nothing else lies among them. (This does nothing. Its contract is a law.)
+    #[tactic(auto, using(crate::proofs::Places::all_counted))]
+    pub fn are_counted(&self)
+        ensures { self.now.count ≡ words_in (self.now.top ∷ self.now.below) }
+    {
+        let _count = self.words.len();
+    }
+
+    /// A new frame of a function, whose first locals are so many operands of the newest frame. The others begin with these.
+    #[tactic(auto, using(crate::proofs::Places::frames_below))]
+    pub fn enter(&mut self, fun: u32, params: usize, slots: &[Slot]) -> Result<(), AllocError>
+        requires { params ≤ length self.old.top.stack }
+        ensures frame { OnOk result (Enters (take_words params self.old.top.stack []) fun slots.now self.old.top self.old.below self.new.top self.new.below) }
+        ensures words { self.new.words ≡ self.old.words }
+        ensures depth { self.new.depth ≡ self.old.depth }
+        ensures memory { self.old.count + length slots.now ≤ self.old.words → depth_of self.old.below < self.old.depth → suc self.old.top.line < 2 ^ 64 → IsOk result }
+    {
+        if !self.has_room(slots.len()) {
+            return Err(AllocError);
+        }
+        let base = self.words.len() - params;
+        push_starts(&mut self.words, slots)?;
+        self.below.push(self.top)?;
+        self.top = Held {
+            text: self.top.text,
+            fun,
+            line: 0,
+            turns: 0,
+            base,
+            locals: params + slots.len(),
+        };
+        Ok(())
+    }
+}
+
+impl Frames {
+    // Whether there is room for one more frame and so many words, and a number for the line behind the newest frame's.
+    #[tactic(auto, using(crate::proofs::Places::frames_below))]
+    fn has_room(&self, words: usize) -> bool
+        ensures { IsTrue result ↔ ((self.now.count + words ≤ self.now.words) × (depth_of self.now.below < self.now.depth) × (suc self.now.top.line < 2 ^ 64)) }
+    {
+        self.most_words - self.words.len() >= words
+            && self.below.len() < self.most_frames
+            && self.top.line < usize::MAX
+    }
+}
+
+// What locals begin with, behind words that are there.
+fn push_starts(words: &mut Vec<Word>, slots: &[Slot]) -> Result<(), AllocError>
+    ensures ok { OnOk result (words.new.items ≡ words.old.items ++ map start_of slots.now) }
+    ensures grows { length words.old.items ≤ length words.new.items }
+    ensures room { vec_capacity words.old ≤ vec_capacity words.new }
+    ensures memory { length words.old.items + length slots.now ≤ vec_capacity words.old → IsOk result }
+{
+    for slot in slots {
+        words.push(start_of(*slot))?;
+    }
+    Ok(())
+}

@@ -1,0 +1,124 @@
+//! Locals, jumps and loops.
+ghost use Rattle.std.specs.Prelude.{◌≡◌, ◌<◌, ◌+◌, ◌^◌, [], ◌∷◌, suc, slice_get, slice_set};
+ghost use Rattle.code_meaning.specs.Machine.{numbered_act, on_local, on_top, on_turn, to_line, Goes, code_in, on_int, unless_zero};
+ghost use Rattle.run_state.specs.World.{take_turn};
+ghost use Rattle.machine.specs.Seen.{Comes, room_of, world_of, codes_of, limits_in};
+ghost use Rattle.machine.specs.Sparing.{LocalBare, NumberedSpares};
+ghost use Rattle.machine.specs.Memory.{CallFinds, HasMemory};
+
+use crate::calls::call;
+use crate::configuration::{Configuration, End, Step};
+use crate::copies::copy_of;
+use crate::references::jump_if_null;
+use crate::rules::Rules;
+use crate::stacks::pop_int;
+use object_heap::Which;
+use pl_code::{Code, Numbered};
+
+/// An instruction with a number.
+#[tactic(auto, using(crate::proofs::Rows::no_int))]
+pub fn numbered(
+    run: &mut Configuration,
+    code: &Code,
+    limits: &Rules<'_>,
+    kind: Numbered,
+    number: u32,
+) -> Step
+    requires { run.old.frames.top.turns + run.old.world.ticks < 2 ^ 64 }
+    ensures exact { Comes (numbered_act (codes_of code.now.functions) (limits_in limits.now) kind number run.old.frames.top run.old.frames.below (world_of run.old.world)) result run.new }
+    ensures memory { NumberedSpares kind number run.old.frames.top.locals → CallFinds limits.now.depth (slice_get (code_in (codes_of code.now.functions) run.old.frames.top.text) number) run.old.frames → run.old.frames.count < run.old.frames.words → suc run.old.frames.top.line < 2 ^ 64 → HasMemory result }
+    ensures room { room_of run.new ≡ room_of run.old }
+{
+    match kind {
+        Numbered::Load => load(run, number),
+        Numbered::Store => store(run, number),
+        Numbered::Goto => run.goes_to(number),
+        Numbered::IfZero => match pop_int(&mut run.frames) {
+            Some(0) => run.goes_to(number),
+            Some(_) => run.goes_on(),
+            None => Step::Ends(End::Stuck),
+        },
+        Numbered::IfNotZero => match pop_int(&mut run.frames) {
+            Some(0) => run.goes_on(),
+            Some(_) => run.goes_to(number),
+            None => Step::Ends(End::Stuck),
+        },
+        Numbered::IfNull => jump_if_null(run, number),
+        Numbered::Loop => match run.frames.function_at(code, run.frames.fun()) {
+            Some(function) => repeat(run, code, limits, function.loops, number),
+            None => Step::Ends(End::Stuck),
+        },
+        Numbered::Call => call(run, code, limits, number),
+        _ => Step::Ends(End::Stuck),
+    }
+}
+
+// The local of this number goes on the stack. A copy of a text takes memory.
+fn load(run: &mut Configuration, number: u32) -> Step
+    ensures exact { Comes (on_local (slice_get run.old.frames.top.locals number) (λ word. to_line run.old.frames.top run.old.frames.below (world_of run.old.world) (suc run.old.frames.top.line) (word ∷ run.old.frames.top.stack))) result run.new }
+    ensures memory { run.old.frames.count < run.old.frames.words → LocalBare (slice_get run.old.frames.top.locals number) → suc run.old.frames.top.line < 2 ^ 64 → HasMemory result }
+    ensures room { room_of run.new ≡ room_of run.old }
+{
+    match run.frames.local(number as usize) {
+        Some(word) => match copy_of(word) {
+            Ok(word) => run.push(word),
+            Err(_) => Step::NoMemory,
+        },
+        None => Step::Ends(End::Stuck),
+    }
+}
+
+fn store(run: &mut Configuration, number: u32) -> Step
+    ensures exact { Comes (on_top run.old.frames.top.stack (λ word stack. Goes (record { top = record { text = run.old.frames.top.text; fun = run.old.frames.top.fun; line = suc run.old.frames.top.line; locals = slice_set run.old.frames.top.locals number word; stack = stack; turns = run.old.frames.top.turns; due = run.old.frames.top.due }; below = run.old.frames.below; world = world_of run.old.world }))) result run.new }
+    ensures memory { suc run.old.frames.top.line < 2 ^ 64 → HasMemory result }
+    ensures room { room_of run.new ≡ room_of run.old }
+{
+    match run.frames.pop() {
+        Some(word) => {
+            run.frames.store(number as usize, word);
+            run.goes_on()
+        }
+        None => Step::Ends(End::Stuck),
+    }
+}
+
+// A turn of a loop where the number on the stack is not 0.
+fn repeat(
+    run: &mut Configuration,
+    code: &Code,
+    limits: &Rules<'_>,
+    limited: bool,
+    line: u32,
+) -> Step
+    requires { run.old.frames.top.turns + run.old.world.ticks < 2 ^ 64 }
+    ensures exact { Comes (on_top run.old.frames.top.stack (λ word stack. on_int word (λ a. unless_zero a (on_turn (codes_of code.now.functions) (limits_in limits.now) (take_turn (limits_in limits.now) limited run.old.frames.top.turns (world_of run.old.world)) line run.old.frames.top run.old.frames.below (world_of run.old.world) stack) (to_line run.old.frames.top run.old.frames.below (world_of run.old.world) (suc run.old.frames.top.line) stack)))) result run.new }
+    ensures memory { suc run.old.frames.top.line < 2 ^ 64 → HasMemory result }
+    ensures room { room_of run.new ≡ room_of run.old }
+{
+    match pop_int(&mut run.frames) {
+        Some(0) => run.goes_on(),
+        Some(_) => turn(run, code, limits, limited, line),
+        None => Step::Ends(End::Stuck),
+    }
+}
+
+// A turn of a loop, which goes back to a line. Where the function has a limit of turns, it is tried before the ticks.
+#[tactic(auto, unfolding(run_state::specs::World::take_turn, run_state::specs::World::pay_tick))]
+fn turn(run: &mut Configuration, code: &Code, limits: &Rules<'_>, limited: bool, line: u32) -> Step
+    requires { run.old.frames.top.turns + run.old.world.ticks < 2 ^ 64 }
+    ensures exact { Comes (on_turn (codes_of code.now.functions) (limits_in limits.now) (take_turn (limits_in limits.now) limited run.old.frames.top.turns (world_of run.old.world)) line run.old.frames.top run.old.frames.below (world_of run.old.world) run.old.frames.top.stack) result run.new }
+    ensures memory { HasMemory result }
+    ensures room { room_of run.new ≡ room_of run.old }
+{
+    let turns = run.frames.turns();
+    if limited && turns >= limits.loops() {
+        return Step::Ends(End::Limit(Which::Loop));
+    }
+    if run.world.ticks == 0 {
+        return Step::Ends(End::Limit(Which::Ticks));
+    }
+    run.world.ticks -= 1;
+    run.frames.set_turns(turns + 1);
+    run.frames.set_line(line as usize);
+    Step::Goes
+}

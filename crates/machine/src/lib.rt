@@ -1,0 +1,34 @@
+//! The machine that runs code: activations, which run for some instructions at a time.
+#![tactic(auto)]
+
+mod activation;
+mod boxes;
+mod calls;
+mod configuration;
+mod copies;
+mod executable;
+mod frames;
+mod jumps;
+mod laws;
+mod members;
+mod operators;
+mod paying;
+mod reached;
+mod receiving;
+mod references;
+mod reserve;
+mod rules;
+mod running;
+mod stack;
+mod stacks;
+mod step;
+mod throwing;
+mod typed;
+mod values;
+
+pub use activation::{Activation, Outcome};
+pub use boxes::boxed;
+pub use configuration::{End, Limits};
+pub use executable::Executable;
+pub use laws::activation_laws;
+pub use throwing::unboxed;

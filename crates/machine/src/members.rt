@@ -1,0 +1,213 @@
+//! Members: calls, what is made by constructors, and fields.
+ghost use Rattle.std.specs.Prelude.{◌≡◌, ◌≤◌, ◌<◌, ◌+◌, ◌^◌, suc, length, true, List, [], Some, IfOk, IsOk};
+ghost use Rattle.member_calls.specs.Members.{does};
+ghost use Rattle.member_calls.specs.Answers.{NeedsMemory};
+ghost use Rattle.machine.specs.Sparing.{CallSpares, MemberSpares, ReceivingSpares};
+ghost use Rattle.machine.specs.Links.{link_at, member_in};
+ghost use Rattle.code_meaning.specs.declared.word.Word.{Word};
+ghost use Rattle.number_ops.specs.Outcomes.{effect, null_error};
+ghost use Rattle.run_state.specs.World.{acts_in, pay_member};
+ghost use Rattle.code_meaning.specs.Members.{Receives, count_of, given_as, received};
+ghost use Rattle.allowlist.specs.Index.{member_at};
+ghost use Rattle.machine.specs.Memory.{HasMemory, HasSpace};
+ghost use Rattle.code_meaning.specs.Machine as spec;
+ghost use Rattle.machine.specs.Seen.{Comes, room_of, with_stack, world_of, codes_of, limits_in};
+ghost use Rattle.machine.specs.Rows.{beside};
+ghost use Rattle.machine.specs.Members.{filled, receiving_of};
+ghost use Rattle.pl_types.specs.Host.{no_host};
+
+use crate::configuration::{Configuration, End, Step};
+use crate::executable::{Executable, Link};
+use crate::frames::Frames;
+use crate::paying::pay_member;
+use crate::receiving::{Receiving, received};
+use crate::rules::Rules;
+use crate::stack::Stack;
+use crate::throwing::answered_as;
+use allowlist::{MEMBER_COUNT, MemberKind, MemberType};
+use code_meaning::Word;
+use object_heap::throw;
+use pl_code::Code;
+use pl_types::classes::NULL_POINTER_EXCEPTION;
+use std::alloc::AllocError;
+
+/// What the member does that the instruction names: a method is called, a value made by a constructor, or a field read.
+pub fn named(run: &mut Configuration, executable: &Executable, limits: &Rules<'_>) -> Step
+    ensures exact { Comes (spec.member_act (codes_of executable.now.code.functions) (limits_in limits.now) (member_in (link_at executable.now run.old.frames.top)) run.old.frames.top run.old.frames.below (world_of run.old.world)) result run.new }
+    ensures memory { MemberSpares (member_in (link_at executable.now run.old.frames.top)) run.old.frames.top.stack run.old.world.heap.objects → HasSpace (codes_of executable.now.code.functions) limits.now.depth run.old → suc run.old.frames.top.line < 2 ^ 64 → HasMemory result }
+    ensures room { room_of run.new ≡ room_of run.old }
+{
+    match executable.link(&run.frames) {
+        Some(Link::Member(member)) => call_numbered(
+            run,
+            executable.code(),
+            limits,
+            member.number(),
+        ),
+        _ => Step::Ends(End::Stuck),
+    }
+}
+
+// The member of this number.
+fn call_numbered(run: &mut Configuration, code: &Code, limits: &Rules<'_>, number: u32) -> Step
+    requires { number < MEMBER_COUNT }
+    ensures exact { Comes (spec.member_act (codes_of code.now.functions) (limits_in limits.now) (Some number) run.old.frames.top run.old.frames.below (world_of run.old.world)) result run.new }
+    ensures memory { CallSpares (spec.take_words (count_of (member_at number)) run.old.frames.top.stack []) (member_at number) number run.old.world.heap.objects → HasSpace (codes_of code.now.functions) limits.now.depth run.old → suc run.old.frames.top.line < 2 ^ 64 → HasMemory result }
+    ensures room { room_of run.new ≡ room_of run.old }
+{
+    let called = limits.allow().member_type(number);
+    call_member(run, code, limits, number, called)
+}
+
+fn call_member(
+    run: &mut Configuration,
+    code: &Code,
+    limits: &Rules<'_>,
+    number: u32,
+    called: &MemberType,
+) -> Step
+    requires { number < MEMBER_COUNT }
+    ensures exact { Comes (spec.on_words (spec.take_words (count_of called.now) run.old.frames.top.stack []) (λ words stack. spec.on_received (codes_of code.now.functions) (limits_in limits.now) (received called.now words) number called.now run.old.frames.top run.old.frames.below (world_of run.old.world) stack)) result run.new }
+    ensures memory { CallSpares (spec.take_words (count_of called.now) run.old.frames.top.stack []) called.now number run.old.world.heap.objects → count_of called.now ≤ run.old.words.room → count_of called.now ≤ run.old.values.room → MEMBER_COUNT ≤ run.old.world.reached.room → run.old.frames.count < run.old.frames.words → suc run.old.frames.top.line < 2 ^ 64 → HasMemory result }
+    ensures room { room_of run.new ≡ room_of run.old }
+{
+    match words_of(&mut run.frames, &mut run.words, called) {
+        Ok(true) => call_with(run, code, limits, number, called),
+        Ok(false) => Step::Ends(End::Stuck),
+        Err(_) => Step::NoMemory,
+    }
+}
+
+// The words that a call takes off the stack, the deepest on the top. It is false where there are too few.
+fn words_of(frames: &mut Frames, taken: &mut Stack, called: &MemberType) -> Result<bool, AllocError>
+    ensures words { IfOk result (λ enough. beside frames.new.top.stack (filled enough taken.new.items) ≡ spec.take_words (count_of called.now) frames.old.top.stack []) }
+    ensures memory { count_of called.now ≤ taken.old.room → IsOk result }
+    ensures room { (frames.new.count ≤ frames.old.count) × (frames.new.words ≡ frames.old.words) × (frames.new.depth ≡ frames.old.depth) × (taken.new.room ≡ taken.old.room) }
+    ensures taken { IfOk result (λ enough. enough ≡ true → length taken.new.items ≡ count_of called.now) }
+    ensures top { IfOk result (λ enough. frames.new.top ≡ with_stack frames.old.top frames.new.top.stack) }
+    ensures below { IfOk result (λ enough. frames.new.below ≡ frames.old.below) }
+{
+    taken.clear();
+    take_words(frames, count_of(called), taken)
+}
+
+// So many words off the stack, the deepest on the top.
+fn take_words(frames: &mut Frames, count: usize, taken: &mut Stack) -> Result<bool, AllocError>
+    ensures words { IfOk result (λ enough. beside frames.new.top.stack (filled enough taken.new.items) ≡ spec.take_words count frames.old.top.stack taken.old.items) }
+    ensures memory { length taken.old.items + count ≤ taken.old.room → IsOk result }
+    ensures room { (frames.new.count ≤ frames.old.count) × (frames.new.words ≡ frames.old.words) × (frames.new.depth ≡ frames.old.depth) × (taken.new.room ≡ taken.old.room) }
+    ensures taken { IfOk result (λ enough. enough ≡ true → length taken.new.items ≡ length taken.old.items + count) }
+    ensures top { IfOk result (λ enough. frames.new.top ≡ with_stack frames.old.top frames.new.top.stack) }
+    ensures below { IfOk result (λ enough. frames.new.below ≡ frames.old.below) }
+{
+    'words: for place in 0..count {
+        match frames.pop() {
+            Some(word) => taken.push(word)?,
+            None => return Ok(false),
+        }
+    }
+    Ok(true)
+}
+
+/// How many words a call takes.
+pub fn count_of(called: &MemberType) -> usize
+    ensures { result ≡ count_of called.now }
+{
+    let params = called.params.as_slice().len();
+    match called.kind {
+        MemberKind::Instance => params + 1,
+        MemberKind::Static => params,
+        MemberKind::Constructor => params,
+        MemberKind::Field => 0,
+    }
+}
+
+// A call with words that were taken off the stack.
+fn call_with(
+    run: &mut Configuration,
+    code: &Code,
+    limits: &Rules<'_>,
+    number: u32,
+    called: &MemberType,
+) -> Step
+    requires { number < MEMBER_COUNT }
+    ensures exact { (stack : List Word) → Comes (spec.on_received (codes_of code.now.functions) (limits_in limits.now) (received called.now run.old.words.items) number called.now (with_stack run.old.frames.top stack) run.old.frames.below (world_of run.old.world) run.old.frames.top.stack) result run.new }
+    ensures memory { ReceivingSpares (received called.now run.old.words.items) number run.old.world.heap.objects → length run.old.words.items ≤ run.old.values.room → MEMBER_COUNT ≤ run.old.world.reached.room → run.old.frames.count < run.old.frames.words → suc run.old.frames.top.line < 2 ^ 64 → HasMemory result }
+    ensures room { room_of run.new ≡ room_of run.old }
+{
+    match received(called, &mut run.words, &mut run.values) {
+        Ok(receiving) => call_on(run, code, limits, number, called, receiving),
+        Err(_) => Step::NoMemory,
+    }
+}
+
+// A receiver that is null throws before the call is paid; a field is read without a tick.
+fn call_on(
+    run: &mut Configuration,
+    code: &Code,
+    limits: &Rules<'_>,
+    number: u32,
+    called: &MemberType,
+    receiving: Receiving,
+) -> Step
+    requires { number < MEMBER_COUNT }
+    ensures exact { (stack : List Word) → Comes (spec.on_received (codes_of code.now.functions) (limits_in limits.now) (receiving_of receiving run.old.values.items) number called.now (with_stack run.old.frames.top stack) run.old.frames.below (world_of run.old.world) run.old.frames.top.stack) result run.new }
+    ensures memory { ReceivingSpares (receiving_of receiving run.old.values.items) number run.old.world.heap.objects → MEMBER_COUNT ≤ run.old.world.reached.room → run.old.frames.count < run.old.frames.words → suc run.old.frames.top.line < 2 ^ 64 → HasMemory result }
+    ensures room { room_of run.new ≡ room_of run.old }
+{
+    match receiving {
+        Receiving::Unfit => Step::Ends(End::Stuck),
+        Receiving::OnNull => on_null(run, code, limits, called),
+        Receiving::Receives => pay_and_act(run, code, limits, number, called),
+        Receiving::Reads => {
+            run.values.clear();
+            act(run, code, limits, number, called)
+        }
+    }
+}
+
+fn on_null(run: &mut Configuration, code: &Code, limits: &Rules<'_>, called: &MemberType) -> Step
+    ensures exact { (stack : List Word) → Comes (spec.on_outcome (codes_of code.now.functions) (limits_in limits.now) (acts_in (world_of run.old.world) (effect run.old.world.heap null_error)) (given_as called.now.result) (with_stack run.old.frames.top stack) run.old.frames.below (world_of run.old.world) run.old.frames.top.stack) result run.new }
+    ensures room { room_of run.new ≡ room_of run.old }
+{
+    let answer = throw(&mut run.world.heap, NULL_POINTER_EXCEPTION, None);
+    answered_as(run, code, limits, &called.result, answer)
+}
+
+fn pay_and_act(
+    run: &mut Configuration,
+    code: &Code,
+    limits: &Rules<'_>,
+    number: u32,
+    called: &MemberType,
+) -> Step
+    requires { number < MEMBER_COUNT }
+    ensures exact { (stack : List Word) → Comes (spec.on_paid (codes_of code.now.functions) (limits_in limits.now) (pay_member run.old.frames.top.text number (world_of run.old.world)) number run.old.values.items called.now (with_stack run.old.frames.top stack) run.old.frames.below run.old.frames.top.stack) result run.new }
+    ensures memory { (NeedsMemory run.old.world.heap.objects number run.old.values.items → ⊥) → MEMBER_COUNT ≤ run.old.world.reached.room → run.old.frames.count < run.old.frames.words → suc run.old.frames.top.line < 2 ^ 64 → HasMemory result }
+    ensures room { room_of run.new ≡ room_of run.old }
+{
+    match pay_member(&mut run.world, run.frames.text(), number) {
+        Ok(None) => act(run, code, limits, number, called),
+        Ok(Some(which)) => Step::Ends(End::Limit(which)),
+        Err(_) => Step::NoMemory,
+    }
+}
+
+// What the member does.
+#[tactic(auto, using(crate::proofs::Spared::is_answered))]
+fn act(
+    run: &mut Configuration,
+    code: &Code,
+    limits: &Rules<'_>,
+    number: u32,
+    called: &MemberType,
+) -> Step
+    ensures exact { (stack : List Word) → Comes (spec.on_act (codes_of code.now.functions) (limits_in limits.now) (does no_host number run.old.values.items run.old.world.heap) called.now (with_stack run.old.frames.top stack) run.old.frames.below (world_of run.old.world) run.old.frames.top.stack) result run.new }
+    ensures memory { (NeedsMemory run.old.world.heap.objects number run.old.values.items → ⊥) → run.old.frames.count < run.old.frames.words → suc run.old.frames.top.line < 2 ^ 64 → HasMemory result }
+    ensures room { room_of run.new ≡ room_of run.old }
+{
+    match member_calls::call(number, &mut run.world.heap, run.values.as_slice()) {
+        Some(answer) => answered_as(run, code, limits, &called.result, answer),
+        None => Step::Ends(End::Stuck),
+    }
+}

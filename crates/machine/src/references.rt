@@ -1,0 +1,145 @@
+//! Texts, and what is asked of references: whether two are equal or one, their texts joined, and whether one is null.
+ghost use Rattle.std.specs.Prelude.{◌≡◌, ◌<◌, ◌^◌, List, ◌∷◌, suc};
+ghost use Rattle.code_meaning.specs.declared.word.Word.{Word};
+ghost use Rattle.code_meaning.specs.Machine.{quoted_act, on_reference, on_top, if_null, to_line};
+ghost use Rattle.machine.specs.Seen.{Comes, room_of, with_stack, world_of, codes_of, limits_in};
+ghost use Rattle.machine.specs.Sparing.{OnReference, OnValues};
+ghost use Rattle.machine.specs.Memory.{HasMemory, PairSpares};
+ghost use Rattle.machine.specs.Rows.{null_in, on_pair, on_references, paired, text_act};
+
+use crate::configuration::{Configuration, End, Step};
+use crate::rules::Rules;
+use crate::throwing::{answered, answered_whole};
+use code_meaning::Word;
+use number_ops::{concatenate, equal, is_same};
+use object_values::Value;
+use pl_code::{Code, Quoting};
+use pl_units::UText;
+use plain_data::Text;
+
+/// An instruction with a text.
+pub fn quoted(
+    run: &mut Configuration,
+    code: &Code,
+    limits: &Rules<'_>,
+    kind: Quoting,
+    text: &Text,
+) -> Step
+    ensures exact { Comes (quoted_act (codes_of code.now.functions) (limits_in limits.now) kind text.now run.old.frames.top run.old.frames.below (world_of run.old.world)) result run.new }
+    ensures room { room_of run.new ≡ room_of run.old }
+{
+    match kind {
+        Quoting::Constant => constant(run, text),
+        _ => Step::Ends(End::Stuck),
+    }
+}
+
+fn constant(run: &mut Configuration, text: &Text) -> Step
+    ensures exact { Comes (text_act text.now run.old.frames.top run.old.frames.below (world_of run.old.world)) result run.new }
+    ensures room { room_of run.new ≡ room_of run.old }
+{
+    match UText::from_utf8(run.world.heap.alloc(), text.as_str()) {
+        Ok(text) => run.push(Word::R(Value::Str(text))),
+        Err(_) => Step::NoMemory,
+    }
+}
+
+/// What is asked of two references.
+#[derive(Clone, Copy)]
+pub enum Pairing {
+    /// Their texts, joined.
+    Concat,
+    /// Whether they are equal.
+    Equal,
+    /// Whether they are one.
+    Same,
+}
+
+/// An instruction on two references, which are taken off the stack.
+pub fn pair(run: &mut Configuration, code: &Code, limits: &Rules<'_>, kind: Pairing) -> Step
+    ensures exact { Comes (on_pair run.old.frames.top.stack (λ a b stack. paired (codes_of code.now.functions) (limits_in limits.now) kind a b run.old.frames.top run.old.frames.below (world_of run.old.world) stack)) result run.new }
+    ensures memory { OnValues run.old.frames.top.stack (PairSpares kind run.old.world.heap.objects) → suc run.old.frames.top.line < 2 ^ 64 → HasMemory result }
+    ensures room { room_of run.new ≡ room_of run.old }
+{
+    match run.frames.pop() {
+        Some(upper) => match run.frames.pop() {
+            Some(lower) => pair_words(run, code, limits, kind, &lower, &upper),
+            None => Step::Ends(End::Stuck),
+        },
+        None => Step::Ends(End::Stuck),
+    }
+}
+
+// The same of words that were taken off the stack.
+fn pair_words(
+    run: &mut Configuration,
+    code: &Code,
+    limits: &Rules<'_>,
+    kind: Pairing,
+    lower: &Word,
+    upper: &Word,
+) -> Step
+    ensures exact { (stack : List Word) → Comes (on_references lower.now upper.now (λ a b. paired (codes_of code.now.functions) (limits_in limits.now) kind a b (with_stack run.old.frames.top stack) run.old.frames.below (world_of run.old.world) run.old.frames.top.stack)) result run.new }
+    ensures memory { OnReference upper.now (λ b. OnReference lower.now (λ a. PairSpares kind run.old.world.heap.objects a b)) → run.old.frames.count < run.old.frames.words → suc run.old.frames.top.line < 2 ^ 64 → HasMemory result }
+    ensures room { room_of run.new ≡ room_of run.old }
+{
+    match upper {
+        Word::R(b) => match lower {
+            Word::R(a) => pair_values(run, code, limits, kind, a, b),
+            _ => Step::Ends(End::Stuck),
+        },
+        _ => Step::Ends(End::Stuck),
+    }
+}
+
+fn pair_values(
+    run: &mut Configuration,
+    code: &Code,
+    limits: &Rules<'_>,
+    kind: Pairing,
+    a: &Value,
+    b: &Value,
+) -> Step
+    ensures exact { (stack : List Word) → Comes (paired (codes_of code.now.functions) (limits_in limits.now) kind a.now b.now (with_stack run.old.frames.top stack) run.old.frames.below (world_of run.old.world) run.old.frames.top.stack) result run.new }
+    ensures memory { PairSpares kind run.old.world.heap.objects a.now b.now → run.old.frames.count < run.old.frames.words → suc run.old.frames.top.line < 2 ^ 64 → HasMemory result }
+    ensures room { room_of run.new ≡ room_of run.old }
+{
+    match kind {
+        Pairing::Concat => {
+            let answer = concatenate(&mut run.world.heap, a, b);
+            answered_whole(run, code, limits, answer)
+        }
+        Pairing::Equal => {
+            let answer = equal(&mut run.world.heap, a, b);
+            answered(run, code, limits, answer)
+        }
+        Pairing::Same => run.push(Word::I(i32::from(is_same(a, b)))),
+    }
+}
+
+/// To a line where the reference on the stack is null, and else on to the next one.
+pub fn jump_if_null(run: &mut Configuration, line: u32) -> Step
+    ensures exact { Comes (on_top run.old.frames.top.stack (λ word stack. on_reference word (λ value. if_null value (to_line run.old.frames.top run.old.frames.below (world_of run.old.world) line stack) (to_line run.old.frames.top run.old.frames.below (world_of run.old.world) (suc run.old.frames.top.line) stack)))) result run.new }
+    ensures memory { suc run.old.frames.top.line < 2 ^ 64 → HasMemory result }
+    ensures room { room_of run.new ≡ room_of run.old }
+{
+    match run.frames.pop() {
+        Some(word) => match null_in(&word) {
+            Some(true) => run.goes_to(line),
+            Some(false) => run.goes_on(),
+            None => Step::Ends(End::Stuck),
+        },
+        None => Step::Ends(End::Stuck),
+    }
+}
+
+// Whether a word is null; none of a number.
+fn null_in(word: &Word) -> Option<bool>
+    ensures { result ≡ null_in word.now }
+{
+    match word {
+        Word::R(Value::Null) => Some(true),
+        Word::R(_) => Some(false),
+        _ => None,
+    }
+}

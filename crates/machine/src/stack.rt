@@ -1,0 +1,76 @@
+//! Words that were taken off the operands.
+ghost use Rattle.std.specs.Prelude.{◌≡◌, ◌≤◌, ◌<◌, [], ◌∷◌, length, MatchOption, OnOk, IsOk, IfOk};
+
+use code_meaning::Word;
+use std::alloc::{AllocError, Global};
+use std::marker::Model;
+
+/// A stack of words, which contracts see as the list of its words from the top down, with how many there is memory for.
+#[derive(Drop)]
+pub struct Stack {
+    items: Vec<Word>,
+    room: usize,
+}
+
+impl Model for Stack {
+    ghost use Rattle.std.specs.Prelude.{◌≤◌, reverse};
+    ghost use Rattle.std.specs.Vec.{vec_capacity};
+    ghost use Rattle.machine.specs.Rooms.{Pile};
+    ghost use Rattle.std.specs.Coded.{codes};
+    ghost use Rattle.pl_types.specs.contracts.ty.Ty as ty;
+
+    ghost Value = { Pile };
+
+    ghost coded = { Prim.hlevel (codes, ty.the_row.coded) };
+
+    ghost view = { λ s. record { items = reverse s.items.items; room = s.room } };
+
+    ghost invariant = { λ s. s.room ≤ vec_capacity s.items };
+}
+
+impl Stack {
+    /// An empty stack with memory for so many words.
+    pub fn with_room(alloc: Global, room: usize) -> Result<Stack, AllocError>
+        ensures empty { IfOk result (λ stack. stack.items ≡ []) }
+        ensures room { IfOk result (λ stack. stack.room ≡ room) }
+    {
+        Ok(Stack {
+            items: Vec::with_capacity(alloc, room)?,
+            room,
+        })
+    }
+
+    /// How many words there are.
+    pub fn len(&self) -> usize
+        ensures { result ≡ length self.now.items }
+    {
+        self.items.len()
+    }
+
+    /// Takes the top off, or gives `None` where the stack is empty.
+    pub fn pop(&mut self) -> Option<Word>
+        ensures top { MatchOption result ((self.old.items ≡ []) × (self.new.items ≡ [])) (λ top. self.old.items ≡ top ∷ self.new.items) }
+        ensures room { self.new.room ≡ self.old.room }
+    {
+        self.items.pop()
+    }
+
+    /// Drops all words. The memory stays.
+    pub fn clear(&mut self)
+        ensures items { self.new.items ≡ [] }
+        ensures room { self.new.room ≡ self.old.room }
+    {
+        self.items.clear();
+    }
+
+    /// Puts a word on the top.
+    #[tactic(auto, using(crate::proofs::Places::reversed_length))]
+    pub fn push(&mut self, word: Word) -> Result<(), AllocError>
+        ensures ok { OnOk result (self.new.items ≡ word ∷ self.old.items) }
+        ensures room { self.new.room ≡ self.old.room }
+        ensures memory { length self.old.items < self.old.room → IsOk result }
+    {
+        self.items.push(word)?;
+        Ok(())
+    }
+}

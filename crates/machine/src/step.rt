@@ -1,0 +1,67 @@
+//! One instruction.
+ghost use Rattle.code_meaning.specs.Machine.{act, step};
+ghost use Rattle.std.specs.Prelude.{◌≡◌, ◌<◌, ◌+◌, ◌^◌, suc, Some};
+ghost use Rattle.machine.specs.Links.{instruction_at};
+ghost use Rattle.machine.specs.Memory.{HasMemory, HasSpace};
+ghost use Rattle.machine.specs.Seen.{Comes, configuration_of, room_of, world_of, codes_of, limits_in};
+ghost use Rattle.machine.specs.Sparing.{InstructionSpares, Spares};
+ghost use Rattle.machine.specs.Runs.{CountsFit};
+
+use crate::boxes::{box_number, unbox};
+use crate::configuration::{Configuration, End, Step};
+use crate::executable::Executable;
+use crate::jumps::numbered;
+use crate::members::named;
+use crate::operators::arithmetic;
+use crate::references::quoted;
+use crate::rules::Rules;
+use crate::stacks::plain;
+use crate::typed::{cast, typed};
+use code_meaning::Word;
+use pl_code::Instruction;
+
+/// Does the instruction at the line of the newest frame.
+pub fn step(run: &mut Configuration, executable: &Executable, limits: &Rules<'_>) -> Step
+    requires allowed { limits.now.allowed ≡ executable.now.allow }
+    requires counts { CountsFit (configuration_of run.old) }
+    ensures exact { Comes (step (codes_of executable.now.code.functions) (limits_in limits.now) (configuration_of run.old)) result run.new }
+    ensures memory { Spares (codes_of executable.now.code.functions) limits.now.allowed (configuration_of run.old) → HasSpace (codes_of executable.now.code.functions) limits.now.depth run.old → HasMemory result }
+    ensures room { room_of run.new ≡ room_of run.old }
+{
+    match executable.instruction(&run.frames) {
+        Some(instruction) => execute(run, executable, limits, instruction),
+        None => Step::Ends(End::Stuck),
+    }
+}
+
+fn execute(
+    run: &mut Configuration,
+    executable: &Executable,
+    limits: &Rules<'_>,
+    instruction: &Instruction,
+) -> Step
+    requires allowed { limits.now.allowed ≡ executable.now.allow }
+    requires counts { run.old.frames.top.turns + run.old.world.ticks < 2 ^ 64 }
+    requires instruction { instruction_at executable.now run.old.frames.top ≡ Some instruction.now }
+    ensures exact { Comes (act (codes_of executable.now.code.functions) (limits_in limits.now) instruction.now run.old.frames.top run.old.frames.below (world_of run.old.world)) result run.new }
+    ensures memory { InstructionSpares limits.now.allowed instruction.now run.old.frames.top run.old.world.heap.objects → HasSpace (codes_of executable.now.code.functions) limits.now.depth run.old → suc run.old.frames.top.line < 2 ^ 64 → HasMemory result }
+    ensures room { room_of run.new ≡ room_of run.old }
+{
+    let code = executable.code();
+    match instruction {
+        Instruction::Plain(kind) => plain(run, code, limits, *kind),
+        Instruction::Arithmetic(op, width) => arithmetic(run, code, limits, *op, *width),
+        Instruction::Int(number) => run.push(Word::I(*number)),
+        Instruction::Long(number) => run.push(Word::J(*number)),
+        Instruction::Numbered(kind, number) => numbered(run, code, limits, *kind, *number),
+        Instruction::Boxing(primitive) => box_number(run, *primitive),
+        Instruction::Unboxing(primitive, way) => unbox(run, code, limits, *primitive, *way),
+        Instruction::Quoted(kind, text) => quoted(run, code, limits, *kind, text),
+        Instruction::Typed(kind, _) => typed(run, executable, limits, *kind),
+        Instruction::Cast(_, way) => cast(run, executable, limits, *way),
+        Instruction::Invoke(_) => named(run, executable, limits),
+        Instruction::New(_) => named(run, executable, limits),
+        Instruction::Field(_) => named(run, executable, limits),
+        _ => Step::Ends(End::Stuck),
+    }
+}

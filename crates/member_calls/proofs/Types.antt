@@ -1,0 +1,237 @@
+-- What members give is of their types: by their rows in the catalogue.
+use Rattle.std.proofs.Common.{arith, inl, inr, ◌≡◌, ◌+◌, ◌-◌, ℕ, nat_le, true, false, ℤ, Option, Some, None, List, [], ◌∷◌, ◌++◌, length, get_or, map, refl, sym, ap, subst, ◌∙◌, slice_get, if◌then◌else◌}
+use Rattle.std.specs.Prelude.{option_map}
+use Rattle.std.specs.List.{range_with_len}
+use Rattle.std.proofs.lemmas.Bool.{cond_both, cond-true, cases_lt, both_ways, lt-leb}
+use Rattle.std.proofs.lemmas.Option.{slice_get_within}
+use Rattle.pl_types.specs.Host.{HostMeaning}
+use Rattle.std.proofs.lemmas.List.FromFn.{get_or-map-range_with_len}
+use Rattle.pl_types.specs.declared.primitive.Primitive.TheVariants as prim
+use Rattle.pl_types.specs.declared.ty.Ty.{out-Ty}
+use Rattle.allowlist.specs.declared.member.MemberType.{MemberType}
+use Rattle.allowlist.specs.Catalogue.{catalogue}
+use Rattle.allowlist.proofs.Tables.{length-catalogue}
+use Rattle.object_values.specs.declared.object.Object.{Object}
+use Rattle.object_values.specs.declared.object.Object.TheVariants as o
+use Rattle.object_values.specs.declared.value.Value.{Value}
+use Rattle.object_values.specs.declared.value.Value.TheVariants as v
+use Rattle.object_heap.specs.Effects.{Effect, after_paying}
+use Rattle.object_heap.specs.Effects as e
+use Rattle.object_heap.specs.Store.{Store, charge, paid}
+use Rattle.number_ops.specs.declared.member.Member.{Member as NumberMember}
+use Rattle.number_ops.specs.declared.outcome.Outcome.{Outcome as NumberOutcome}
+use Rattle.number_ops.specs.declared.outcome.Outcome.TheVariants as outcome
+use Rattle.number_ops.specs.Members as numbers
+use Rattle.number_ops.specs.Outcomes as number_outcomes
+use Rattle.api_text.specs.declared.member.Member.{Member as TextMember}
+use Rattle.api_text.specs.declared.member.Member.TheVariants as m
+use Rattle.api_text.specs.declared.outcome.Outcome.{Outcome as TextOutcome}
+use Rattle.api_text.specs.declared.outcome.Outcome.TheVariants as text
+use Rattle.member_arguments.specs.Arguments.{int_at, text_at, sequence_at}
+use Rattle.api_text.specs.Arguments.{with_one, with_two, with_three}
+use Rattle.api_text.specs.Members as texts
+use Rattle.api_text.specs.Outcomes as text_outcomes
+use Rattle.api_text.specs.Sequences as sequences
+use Rattle.api_text.specs.Texts as parts
+use Rattle.member_calls.specs.Members.{is_of_numbers, is_of_texts, first_of_host, is_of_host, does}
+use Rattle.member_calls.specs.Types.{Asked, Anything, Of, suits, suit_all, given_by, asked_by_member, EffectGives, ActGives}
+use Rattle.member_calls.proofs.Built.{number_range, text_range, of_numbers, of_texts, no_number, no_text}
+use Rattle.member_calls.proofs.NumberTypes.{NumberGives, signature_of, does_gives}
+
+paid_gives : (asked : Asked) (store : Store) (objects : List Object) (made : ℕ) (next : Store → Effect)
+    → ((room : ℕ) → EffectGives asked (next (record { objects = objects; room = room }))) → EffectGives asked (after_paying (paid store objects made) next)
+unfolding paid
+paid_gives asked store objects made next h =
+    elim (nat_le (charge store objects made) store.room) as (λ b. EffectGives asked (after_paying (if b then Some (record { objects = objects; room = store.room - charge store objects made }) else None) next))
+    [ true ↦ h (store.room - charge store objects made) | false ↦ tt ]
+
+throw_gives : (asked : Asked) (store : Store) (class : ℕ) (message : Option (List ℕ)) → EffectGives asked (e.throws store class message)
+throw_gives asked store class message = paid_gives asked store (store.objects ++ o.Exc class message ∷ []) 0 (λ paid. e.Throws (length store.objects) paid) (λ room. tt)
+
+number_settled : (asked : Asked) (store : Store) (told : NumberOutcome) → NumberGives asked told → EffectGives asked (number_outcomes.effect store told)
+number_settled asked store (outcome.Gives value) h = h
+number_settled asked store (outcome.Makes units) h = paid_gives asked store store.objects (length units + 1) (λ paid. e.Gives (v.Str units) paid) (λ room. h)
+number_settled asked store (outcome.Throws raised message) h = throw_gives asked store (number_outcomes.class_raised raised) message
+number_settled asked store outcome.NoMemory h = h
+
+-- ---- texts
+
+anything : (effect : Effect) → EffectGives Anything effect
+anything (e.Gives value store) = refl
+anything (e.Throws id store) = tt
+anything e.NoRoom = tt
+
+-- of members that give a primitive: a value, or an exception
+abbrev pub TextGives : Asked → TextOutcome → Type 0
+TextGives asked (text.Gives value) = suits asked value ≡ true
+TextGives asked (text.Throws class message) = Unit {0}
+TextGives asked told = ⊥
+
+text_settled : (asked : Asked) (store : Store) (told : TextOutcome) → TextGives asked told → EffectGives asked (text_outcomes.effect store told)
+text_settled asked store (text.Gives value) h = h
+text_settled asked store (text.Throws class message) h = throw_gives asked store (text_outcomes.number_of class) message
+text_settled asked store told h = absurd h
+
+one_gives : {A : Type 0} → (asked : Asked) (f : A → TextOutcome) (a : Option A) → ((a : A) → TextGives asked (f a)) → TextGives asked (with_one f a)
+one_gives asked f None h = tt
+one_gives asked f (Some a) h = h a
+
+two_give : {A B : Type 0} → (asked : Asked) (f : A → B → TextOutcome) (a : Option A) (b : Option B) → ((a : A) (b : B) → TextGives asked (f a b)) → TextGives asked (with_two f a b)
+two_give asked f None b h = tt
+two_give asked f (Some a) None h = tt
+two_give asked f (Some a) (Some b) h = h a b
+
+three_give : {A B C : Type 0} → (asked : Asked) (f : A → B → C → TextOutcome) (a : Option A) (b : Option B) (c : Option C)
+    → ((a : A) (b : B) (c : C) → TextGives asked (f a b c)) → TextGives asked (with_three f a b c)
+three_give asked f None b c h = tt
+three_give asked f (Some a) None c h = tt
+three_give asked f (Some a) (Some b) None h = tt
+three_give asked f (Some a) (Some b) (Some c) h = h a b c
+
+unit_gives : (units : List ℕ) (at : ℤ) (found : Option ℕ) → TextGives (Of prim.Char) (sequences.unit_given units at found)
+unfolding text_outcomes.says
+unit_gives units at None = tt
+unit_gives units at (Some unit) = refl
+
+same_gives : (units : List ℕ) (other : Option (List ℕ)) → TextGives (Of prim.Boolean) (parts.same_text units other)
+same_gives units None = refl
+same_gives units (Some other) = refl
+
+abbrev pub text_given : TextMember → Asked
+text_given m.CharAt = Of prim.Char
+text_given m.Length = Of prim.Int
+text_given m.Contains = Of prim.Boolean
+text_given m.EndsWith = Of prim.Boolean
+text_given m.EqualsIgnoreCase = Of prim.Boolean
+text_given m.IndexOf = Of prim.Int
+text_given m.IndexOfFrom = Of prim.Int
+text_given m.IsEmpty = Of prim.Boolean
+text_given m.LastIndexOf = Of prim.Int
+text_given m.StartsWith = Of prim.Boolean
+text_given m.StartsWithAt = Of prim.Boolean
+text_given m.BuilderIndexOf = Of prim.Int
+text_given other = Anything
+
+text_does_gives : (store : Store) (member : TextMember) (arguments : List Value) → EffectGives (text_given member) (text_outcomes.effect store (texts.does store.objects member arguments))
+text_does_gives store m.CharAt arguments =
+    text_settled (Of prim.Char) store (texts.does store.objects m.CharAt arguments)
+    (two_give {A = List ℕ} {B = ℤ} (Of prim.Char) sequences.char_of (sequence_at store.objects arguments 0) (int_at arguments 1) (λ units at. unit_gives units at (sequences.unit_in units at)))
+text_does_gives store m.Length arguments =
+    text_settled (Of prim.Int) store (texts.does store.objects m.Length arguments)
+    (one_gives {A = List ℕ} (Of prim.Int) sequences.length_of (sequence_at store.objects arguments 0) (λ units. refl))
+text_does_gives store m.Contains arguments =
+    text_settled (Of prim.Boolean) store (texts.does store.objects m.Contains arguments)
+    (two_give {A = List ℕ} {B = List ℕ} (Of prim.Boolean) parts.contains_of (text_at arguments 0) (sequence_at store.objects arguments 1) (λ units part. refl))
+text_does_gives store m.EndsWith arguments =
+    text_settled (Of prim.Boolean) store (texts.does store.objects m.EndsWith arguments)
+    (two_give {A = List ℕ} {B = List ℕ} (Of prim.Boolean) parts.ends_of (text_at arguments 0) (text_at arguments 1) (λ units part. refl))
+text_does_gives store m.EqualsIgnoreCase arguments =
+    text_settled (Of prim.Boolean) store (texts.does store.objects m.EqualsIgnoreCase arguments)
+    (one_gives {A = List ℕ} (Of prim.Boolean) (λ units. parts.same_text units (text_at arguments 1)) (text_at arguments 0) (λ units. same_gives units (text_at arguments 1)))
+text_does_gives store m.IndexOf arguments =
+    text_settled (Of prim.Int) store (texts.does store.objects m.IndexOf arguments)
+    (two_give {A = List ℕ} {B = List ℕ} (Of prim.Int) parts.place_of (text_at arguments 0) (text_at arguments 1) (λ units part. refl))
+text_does_gives store m.IndexOfFrom arguments =
+    text_settled (Of prim.Int) store (texts.does store.objects m.IndexOfFrom arguments)
+    (three_give {A = List ℕ} {B = List ℕ} {C = ℤ} (Of prim.Int) parts.place_from (text_at arguments 0) (text_at arguments 1) (int_at arguments 2) (λ units part at. refl))
+text_does_gives store m.IsEmpty arguments =
+    text_settled (Of prim.Boolean) store (texts.does store.objects m.IsEmpty arguments)
+    (one_gives {A = List ℕ} (Of prim.Boolean) parts.empty_of (text_at arguments 0) (λ units. refl))
+text_does_gives store m.LastIndexOf arguments =
+    text_settled (Of prim.Int) store (texts.does store.objects m.LastIndexOf arguments)
+    (two_give {A = List ℕ} {B = List ℕ} (Of prim.Int) parts.last_place_of (text_at arguments 0) (text_at arguments 1) (λ units part. refl))
+text_does_gives store m.StartsWith arguments =
+    text_settled (Of prim.Boolean) store (texts.does store.objects m.StartsWith arguments)
+    (two_give {A = List ℕ} {B = List ℕ} (Of prim.Boolean) parts.starts_of (text_at arguments 0) (text_at arguments 1) (λ units part. refl))
+text_does_gives store m.StartsWithAt arguments =
+    text_settled (Of prim.Boolean) store (texts.does store.objects m.StartsWithAt arguments)
+    (three_give {A = List ℕ} {B = List ℕ} {C = ℤ} (Of prim.Boolean) parts.starts_at_of (text_at arguments 0) (text_at arguments 1) (int_at arguments 2) (λ units part at. refl))
+text_does_gives store m.BuilderIndexOf arguments =
+    text_settled (Of prim.Int) store (texts.does store.objects m.BuilderIndexOf arguments)
+    (two_give {A = List ℕ} {B = List ℕ} (Of prim.Int) parts.place_of (sequence_at store.objects arguments 0) (text_at arguments 1) (λ units part. refl))
+text_does_gives store other arguments = anything (text_outcomes.effect store (texts.does store.objects other arguments))
+
+-- ---- rows of the catalogue
+
+abbrev pub Signature : Type 0
+Signature = List Asked × Asked
+
+abbrev pub signature_in : MemberType → Signature
+signature_in member = (asked_by_member member, given_by member.result)
+
+abbrev pub number_row : Option NumberMember → Option Signature
+number_row None = None
+number_row (Some member) = Some (signature_of member)
+
+abbrev pub catalogue_number_row : ℕ → Option Signature
+catalogue_number_row n = if number_range n then option_map signature_in (slice_get catalogue n) else None
+
+number_rows : map (λ n. number_row (numbers.numbered n)) (range_with_len 0 58) ≡ map catalogue_number_row (range_with_len 0 58)
+unfolding numbers.numbered numbers.members catalogue out-Ty denote.Hole.Carrier.out
+number_rows = refl
+
+abbrev pub text_row : Option TextMember → Option Asked
+text_row None = None
+text_row (Some member) = Some (text_given member)
+
+abbrev pub given_in : MemberType → Asked
+given_in member = given_by member.result
+
+abbrev pub catalogue_text_row : ℕ → Option Asked
+catalogue_text_row n = if text_range n then option_map given_in (slice_get catalogue n) else None
+
+text_rows : map (λ n. text_row (texts.numbered n)) (range_with_len 0 225) ≡ map catalogue_text_row (range_with_len 0 225)
+unfolding texts.numbered texts.of_sequences texts.of_texts texts.of_exceptions catalogue out-Ty denote.Hole.Carrier.out
+text_rows = refl
+
+number_row_at : (n : ℕ) (member : MemberType) → is_of_numbers n ≡ true → slice_get catalogue n ≡ Some member → number_row (numbers.numbered n) ≡ Some (signature_in member)
+number_row_at n member is h = elim (cases_lt n 58) [
+  | inl below ↦
+      sym (get_or-map-range_with_len (λ k. number_row (numbers.numbered k)) 0 58 n n None below (omega arith))
+      ∙ ap (λ rows. get_or rows n None) number_rows
+      ∙ get_or-map-range_with_len catalogue_number_row 0 58 n n None below (omega arith)
+      ∙ cond-true (number_range n) (option_map signature_in (slice_get catalogue n)) None (sym (of_numbers n) ∙ is)
+      ∙ ap (option_map signature_in) h
+  | inr past ↦ absurd (both_ways (is_of_numbers n) (no_number n past) is)
+]
+
+text_row_at : (n : ℕ) (member : MemberType) → is_of_texts n ≡ true → slice_get catalogue n ≡ Some member → text_row (texts.numbered n) ≡ Some (given_in member)
+text_row_at n member is h = elim (cases_lt n 225) [
+  | inl below ↦
+      sym (get_or-map-range_with_len (λ k. text_row (texts.numbered k)) 0 225 n n None below (omega arith))
+      ∙ ap (λ rows. get_or rows n None) text_rows
+      ∙ get_or-map-range_with_len catalogue_text_row 0 225 n n None below (omega arith)
+      ∙ cond-true (text_range n) (option_map given_in (slice_get catalogue n)) None (sym (of_texts n) ∙ is)
+      ∙ ap (option_map given_in) h
+  | inr past ↦ absurd (both_ways (is_of_texts n) (no_text n past) is)
+]
+
+number_found_gives : (store : Store) (found : Option NumberMember) (arguments : List Value) (row : Signature) → number_row found ≡ Some row → suit_all row.0 arguments ≡ true
+    → EffectGives row.1 (number_outcomes.effect store (numbers.does_found store.objects found arguments))
+number_found_gives store None arguments row is h = cc
+number_found_gives store (Some member) arguments row is h =
+    let same : signature_of member ≡ row = cc in
+    subst (λ (r : Signature). suit_all r.0 arguments ≡ true → EffectGives r.1 (number_outcomes.effect store (numbers.does store.objects member arguments))) same
+    (λ g. number_settled (signature_of member).1 store (numbers.does store.objects member arguments) (does_gives store.objects member arguments g)) h
+
+text_found_gives : (store : Store) (found : Option TextMember) (arguments : List Value) (given : Asked) → text_row found ≡ Some given
+    → EffectGives given (text_outcomes.effect store (texts.does_found store.objects found arguments))
+text_found_gives store None arguments given is = cc
+text_found_gives store (Some member) arguments given is =
+    let same : text_given member ≡ given = cc in
+    subst (λ (a : Asked). EffectGives a (text_outcomes.effect store (texts.does store.objects member arguments))) same (text_does_gives store member arguments)
+
+-- a member of the catalogue is no function of the host
+not_of_host : (number : ℕ) (member : MemberType) → slice_get catalogue number ≡ Some member → is_of_host number ≡ false
+unfolding is_of_host
+not_of_host number member h = lt-leb first_of_host number (omega (arith, length-catalogue, slice_get_within catalogue number member h))
+
+pub act_gives : (host : HostMeaning) (number : ℕ) (member : MemberType) (arguments : List Value) (store : Store) → slice_get catalogue number ≡ Some member
+    → suit_all (asked_by_member member) arguments ≡ true → ActGives (given_by member.result) (does host number arguments store)
+unfolding does
+act_gives host number member arguments store h suit =
+    cond_both (is_of_numbers number) _ _ (ActGives (given_by member.result))
+    (λ is. number_found_gives store (numbers.numbered number) arguments (signature_in member) (number_row_at number member is h) suit)
+    (λ _. cond_both (is_of_texts number) _ _ (ActGives (given_by member.result))
+    (λ is. text_found_gives store (texts.numbered number) arguments (given_in member) (text_row_at number member is h))
+    (λ _. cond_both (is_of_host number) _ _ (ActGives (given_by member.result)) (λ is. absurd (both_ways (is_of_host number) (not_of_host number member h) is)) (λ _. tt)))

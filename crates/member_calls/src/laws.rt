@@ -1,0 +1,26 @@
+//! What holds of all members.
+ghost use Rattle.member_calls.specs.Laws.{BuiltAct, BuiltOwners, BuiltStand, HostStands, MembersKeepFit, MembersLeaveObjects};
+ghost use Rattle.member_calls.specs.Types.{MembersGiveTypes, ReceiversSuit};
+
+/// Laws that callers may cite: where the heap and the arguments fit a program or a code, what comes of a member fits it too; and
+/// each object is there afterwards, of the same kind.
+pub fn members_keep_fit()
+    ensures fit { MembersKeepFit }
+    ensures objects { MembersLeaveObjects }
+{}
+
+/// Laws of the members that are built: what they do is said of them and of the functions of the host alone, they are the members of
+/// the catalogue's classes up to StringBuilder and of its exceptions, and behind the catalogue's members stand the host's functions.
+pub fn built_laws()
+    ensures act { BuiltAct }
+    ensures owners { BuiltOwners }
+    ensures stand { BuiltStand }
+    ensures host { HostStands }
+{}
+
+/// Laws that callers may cite: where the arguments suit a member, the receiver first, a result of a primitive type is of it; and a
+/// receiver that is of its class, and not null, suits.
+pub fn members_give_types()
+    ensures results { MembersGiveTypes }
+    ensures receivers { ReceiversSuit }
+{}

@@ -1,6 +1,0 @@
-use Rattle.std.proofs.Common.{◌∙◌}
-use Rattle.object_values.proofs.Finding.{finds}
-use Rattle.object_values.proofs.pairs.Pairs.get.Goals as goal
-
-pub returns : goal.returns
-returns c = rw (← c.self.view_is) (c.get.ensures.value ∙ finds c.self.inside.map.entries c.args.key.now)

@@ -1,5 +1,0 @@
-use Rattle.program_meaning.proofs.Greater.{stays_above}
-use Rattle.program_meaning.proofs.laws.meaning_laws.Goals as goal
-
-pub returns : goal.returns
-returns c = stays_above

@@ -1,0 +1,21 @@
+-- A script beside a prelude that has no function.
+use Rattle.std.specs.Prelude.{slice_get}
+use Rattle.std.proofs.Common.{◌≡◌, ℕ, [], Some, refl}
+use Rattle.object_values.specs.declared.object.Owner.TheVariants.{Prelude}
+use Rattle.run_state.specs.World.{Limits}
+use Rattle.typed_tree.specs.declared.program.Program.{Program}
+use Rattle.source_meaning.specs.Programs.{program_of}
+use Rattle.source_meaning.specs.Tree as tree
+use Rattle.program_typing.specs.Agreeing.{Known, FunAgrees, known, known_in, AreWellFormed, WellFormed}
+use Rattle.compiler_relation.specs.Stands.{Compiled, FunAt}
+use Rattle.script_engine.specs.Ends.{alone}
+
+no_fun : (number : ℕ) (fun : tree.Fun) → slice_get [] number ≡ Some fun → ⊥
+no_fun number fun is = cc
+
+-- the program without a function is well formed, and has code
+pub no_prelude_code : Compiled Prelude [] []
+no_prelude_code = record { each = λ number fun is. absurd (no_fun number fun is); many = refl }
+
+pub with_no_prelude : (p : Program) (limits : Limits) → WellFormed (known limits.allowed (program_of p)) → AreWellFormed (alone p) limits
+with_no_prelude p limits formed = record { script = formed; prelude = record { each = λ number fun is. absurd (no_fun number fun is) } }

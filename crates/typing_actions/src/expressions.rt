@@ -1,0 +1,155 @@
+//! Acts on expressions.
+
+ghost use Rattle.std.specs.Prelude.{◌≡◌};
+ghost use Rattle.typing_rules.specs.Outcomes.{KeepsIn};
+ghost use Rattle.typing_actions.specs.Expressions as spec;
+
+use crate::config::Config;
+use pl_tree::{BinaryOperator, Constant, TypeName, UnaryOperator};
+use pl_types::Fail;
+use plain_data::Text;
+use std::alloc::Global;
+use typing_rules::Header;
+use typing_rules::rules::{calls, casts, literals, operators, places, types};
+
+/// An integer literal.
+pub fn integer(alloc: Global, config: &mut Config, at: u32, spelling: &Text) -> Result<(), Fail>
+    ensures { KeepsIn (spec.integer at spelling.now config.old) result config.new }
+{
+    config.put_part(literals::integer(alloc, at, spelling.as_str()))
+}
+
+/// One directly behind a minus.
+pub fn negated_integer(
+    alloc: Global,
+    config: &mut Config,
+    minus: u32,
+    at: u32,
+    spelling: &Text,
+) -> Result<(), Fail>
+    ensures { KeepsIn (spec.negated_integer minus at spelling.now config.old) result config.new }
+{
+    config.put_part(literals::negated_integer(alloc, minus, at, spelling.as_str()))
+}
+
+/// A text.
+pub fn text(alloc: Global, config: &mut Config, at: u32, spelling: &Text) -> Result<(), Fail>
+    ensures { KeepsIn (spec.text at spelling.now config.old) result config.new }
+{
+    config.put_part(literals::text(alloc, at, spelling.as_str()))
+}
+
+/// A literal that is a keyword.
+pub fn constant(alloc: Global, config: &mut Config, at: u32, constant: Constant) -> Result<(), Fail>
+    ensures { KeepsIn (spec.constant at constant config.old) result config.new }
+{
+    config.put_part(literals::constant(alloc, at, constant))
+}
+
+/// A name's value.
+pub fn local(alloc: Global, config: &mut Config, at: u32, name: &Text) -> Result<(), Fail>
+    ensures { KeepsIn (spec.local at name.now config.old) result config.new }
+{
+    let x = places::local(alloc, at, name, &config.state);
+    config.put_part(x)
+}
+
+/// An operator between two operands.
+pub fn binary(
+    alloc: Global,
+    config: &mut Config,
+    operator: BinaryOperator,
+    at: u32,
+) -> Result<(), Fail>
+    ensures { KeepsIn (spec.binary operator at config.old) result config.new }
+{
+    let Some((x, y)) = config.parts.pop_two() else {
+        return Err(Fail::NoMemory);
+    };
+    config.put_part(operators::binary_of(alloc, operator, at, x, y))
+}
+
+/// An operator before its operand.
+pub fn unary(
+    alloc: Global,
+    config: &mut Config,
+    operator: UnaryOperator,
+    at: u32,
+) -> Result<(), Fail>
+    ensures { KeepsIn (spec.unary operator at config.old) result config.new }
+{
+    let Some(x) = config.pop_part() else {
+        return Err(Fail::NoMemory);
+    };
+    config.put_part(operators::unary_of(alloc, operator, at, x))
+}
+
+/// A conditional.
+pub fn choice(alloc: Global, config: &mut Config, at: u32) -> Result<(), Fail>
+    ensures { KeepsIn (spec.choice at config.old) result config.new }
+{
+    let Some(no) = config.pop_part() else {
+        return Err(Fail::NoMemory);
+    };
+    let Some((condition, yes)) = config.parts.pop_two() else {
+        return Err(Fail::NoMemory);
+    };
+    config.put_part(operators::choice_of(alloc, at, condition, yes, no))
+}
+
+/// `?:`.
+pub fn elvis(alloc: Global, config: &mut Config, at: u32) -> Result<(), Fail>
+    ensures { KeepsIn (spec.elvis at config.old) result config.new }
+{
+    let Some((x, y)) = config.parts.pop_two() else {
+        return Err(Fail::NoMemory);
+    };
+    config.put_part(operators::elvis_of(alloc, at, x, y))
+}
+
+/// `instanceof`.
+pub fn instance_of(alloc: Global, config: &mut Config, at: u32, of: &TypeName) -> Result<(), Fail>
+    ensures { KeepsIn (spec.instance_of at of.now config.old) result config.new }
+{
+    let Some(x) = config.pop_part() else {
+        return Err(Fail::NoMemory);
+    };
+    let of = types::type_of(of)?;
+    config.put_part(operators::instance_of(alloc, at, x, &of))
+}
+
+/// Brackets.
+pub fn bracketed(config: &mut Config, at: u32) -> Result<(), Fail>
+    ensures { KeepsIn (spec.bracketed at config.old) result config.new }
+{
+    let Some(x) = config.pop_part() else {
+        return Err(Fail::NoMemory);
+    };
+    config.parts.put(x.bracketed(at))
+}
+
+/// A cast that is written.
+pub fn asked(alloc: Global, config: &mut Config, at: u32, of: &TypeName) -> Result<(), Fail>
+    ensures { KeepsIn (spec.asked at of.now config.old) result config.new }
+{
+    let Some(x) = config.pop_part() else {
+        return Err(Fail::NoMemory);
+    };
+    let to = types::type_of(of)?;
+    config.put_part(casts::asked(alloc, at, &to, x))
+}
+
+/// A call of a function of the script with the arguments above a height.
+pub fn call(
+    alloc: Global,
+    headers: &[Header],
+    config: &mut Config,
+    at: u32,
+    name: &Text,
+    height: usize,
+) -> Result<(), Fail>
+    ensures { KeepsIn (spec.call headers.now at name.now height config.old) result config.new }
+{
+    let given = config.parts.take_up(alloc, height)?;
+    config.put_part(calls::call_of(alloc, headers, at, name, given))
+}

@@ -1,0 +1,99 @@
+//! Acts on members.
+
+ghost use Rattle.std.specs.Prelude.{◌≡◌};
+ghost use Rattle.typing_rules.specs.Outcomes.{KeepsIn};
+ghost use Rattle.typing_actions.specs.Members as spec;
+
+use crate::config::Config;
+use allowlist::Allow;
+use pl_tree::{Access, TypeName};
+use pl_types::Fail;
+use plain_data::Text;
+use std::alloc::Global;
+use typing_rules::rules::{members, types};
+
+/// A call on a value, which stands below the arguments above a height.
+pub fn method(
+    alloc: Global,
+    allow: &Allow,
+    config: &mut Config,
+    at: u32,
+    access: Access,
+    name: &Text,
+    height: usize,
+) -> Result<(), Fail>
+    ensures { KeepsIn (spec.method allow.now at access name.now height config.old) result config.new }
+{
+    let given = config.parts.take_up(alloc, height)?;
+    let Some(x) = config.pop_part() else {
+        return Err(Fail::NoMemory);
+    };
+    config.put_part(members::method_of(alloc, allow, access, at, name, x, given))
+}
+
+/// A call on a type with the arguments above a height.
+pub fn static_call(
+    alloc: Global,
+    allow: &Allow,
+    config: &mut Config,
+    at: u32,
+    access: Access,
+    of: &TypeName,
+    name: &Text,
+    height: usize,
+) -> Result<(), Fail>
+    ensures { KeepsIn (spec.static allow.now at access of.now name.now height config.old) result config.new }
+{
+    let given = config.parts.take_up(alloc, height)?;
+    let of = types::type_of(of)?;
+    config.put_part(members::static_of(alloc, allow, access, at, name, &of, given))
+}
+
+/// `new` with the arguments above a height.
+pub fn made(
+    alloc: Global,
+    allow: &Allow,
+    config: &mut Config,
+    at: u32,
+    of: &TypeName,
+    height: usize,
+) -> Result<(), Fail>
+    ensures { KeepsIn (spec.made allow.now at of.now height config.old) result config.new }
+{
+    let given = config.parts.take_up(alloc, height)?;
+    let of = types::type_of(of)?;
+    config.put_part(members::new_of(alloc, allow, at, &of, given))
+}
+
+/// A name of a value.
+pub fn read(
+    alloc: Global,
+    allow: &Allow,
+    config: &mut Config,
+    at: u32,
+    access: Access,
+    name: &Text,
+) -> Result<(), Fail>
+    ensures { KeepsIn (spec.read allow.now at access name.now config.old) result config.new }
+{
+    let Some(x) = config.pop_part() else {
+        return Err(Fail::NoMemory);
+    };
+    config.put_part(members::read_of(alloc, allow, access, at, name, x))
+}
+
+/// A name of a type.
+pub fn field(
+    alloc: Global,
+    allow: &Allow,
+    config: &mut Config,
+    at: u32,
+    access: Access,
+    of: &TypeName,
+    name: &Text,
+) -> Result<(), Fail>
+    ensures { KeepsIn (spec.field allow.now at access of.now name.now config.old) result config.new }
+{
+    let of = types::type_of(of)?;
+    config.put_part(members::field_of(alloc, allow, access, at, name, &of))
+}

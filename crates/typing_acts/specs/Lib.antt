@@ -1,6 +1,0 @@
-pub mod Piles
-pub mod Expressions
-pub mod Places
-pub mod Statements
-pub mod Bodies
-pub mod Members

@@ -1,0 +1,2 @@
+pub use Rattle.typing_worklist.specs.Item
+pub use Rattle.typing_worklist.specs.Machine

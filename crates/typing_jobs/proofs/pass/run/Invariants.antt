@@ -1,7 +1,0 @@
-use Rattle.std.proofs.Common.{◌≡◌}
-use Rattle.typing_tasks.specs.Machine.{run}
-use Rattle.typing_jobs.proofs.pass.run.Given as goal
-
--- what is left comes to what the whole comes to
-abbrev pub invariant-loop : goal.invariant-loop
-invariant-loop l = run l.fn.allow l.fn.headers l.fn.tasks l.fn.config ≡ run l.fn.allow l.fn.headers l.tasks l.config

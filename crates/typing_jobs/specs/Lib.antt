@@ -1,2 +1,0 @@
-pub use Rattle.typing_tasks.specs.Job
-pub use Rattle.typing_tasks.specs.Machine

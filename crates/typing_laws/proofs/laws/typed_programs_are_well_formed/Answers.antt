@@ -1,5 +1,0 @@
-use Rattle.typing_laws.proofs.Functions.{typing_is_sound, typing_reaches}
-use Rattle.typing_laws.proofs.laws.typed_programs_are_well_formed.Goals as goal
-
-pub returns : goal.returns
-returns c = record { formed = typing_is_sound; reached = typing_reaches }

@@ -1,0 +1,400 @@
+-- Calls of members that rules give agree, where their parts do.
+use Rattle.std.proofs.Common.{◌≡◌, ℕ, suc, ◌+◌, Bool, true, false, ◌&&◌, List, [], ◌∷◌, ◌++◌, map, length, Option, Some, None, Ok, refl, sym, ap, ◌∙◌, subst, arith, eqb-true, ◌⊎◌, inl, inr, codes}
+use Rattle.std.specs.Prelude.{slice_get, ◌==◌, if◌then◌else◌}
+use Rattle.std.specs.List.{list_all}
+use Rattle.std.specs.Str.{bytes_eq}
+use Rattle.std.proofs.lemmas.Bool.{and_parts}
+use Rattle.std.proofs.lemmas.Option.{get_or_from_slice_get}
+use Rattle.pl_types.specs.declared.ty.Ty.{Ty, out-Ty}
+use Rattle.pl_types.specs.declared.ty.Ty.TheOpen.{Ty-F}
+use Rattle.pl_tree.specs.declared.operator.Access.{Access}
+use Rattle.pl_tree.specs.declared.operator.Access.TheVariants as through
+use Rattle.allowlist.specs.declared.member.MemberKind.{MemberKind}
+use Rattle.allowlist.specs.declared.member.MemberKind.TheVariants as kind
+use Rattle.allowlist.specs.declared.member.MemberType.{MemberType}
+use Rattle.allowlist.specs.Allow.{AllowList, flag, is_called, has_name, first_member, own_member, member_of}
+use Rattle.allowlist.specs.Catalogue.{catalogue, constructor}
+use Rattle.allowlist.specs.Index.{member_at}
+use Rattle.allowlist.proofs.Unique.{found_is_allowed}
+use Rattle.member_calls.specs.Members.{is_built}
+use Rattle.member_calls.proofs.Owners.{built_owners}
+use Rattle.member_calls.specs.Types.{is_plain_class, is_plain_layer, is_plain, is_plain_member}
+use Rattle.typed_tree.specs.declared.operation.Operation.{Operation}
+use Rattle.typed_tree.specs.declared.operation.Operation.TheVariants as o
+use Rattle.typed_tree.specs.declared.typed.Typed.{Typed}
+use Rattle.typing_rules.specs.declared.part.Form.{Form}
+use Rattle.typing_rules.specs.declared.part.Form.TheVariants as f
+use Rattle.typing_rules.specs.declared.part.Part.{Part}
+use Rattle.typing_rules.specs.Outcomes.{refuse, bind}
+use Rattle.typing_rules.specs.Rules.Nodes.{applied, part, type_of_part}
+use Rattle.typing_rules.specs.Rules.Types.{is_built_class}
+use Rattle.typing_rules.specs.Rules.Casts.{cast_to}
+use Rattle.typing_rules.specs.Rules.Operators.{primitive_layer, primitive_of, is_primitive}
+use Rattle.typing_rules.specs.Rules.Members.{is_open_layer, is_open, is_open_member, is_kind, wanted, member, cast_all, member_arguments, guards, gives_primitive, nullable, result, instance_node, instance_call, called_layer, method_of, static_node, static_call, static_layer, static_of, constructed, new_layer, new_of, or_else, capital, getter, plainly, read_layer, read_of, field_node, field_layer, field_of}
+use Rattle.source_meaning.specs.Tree.{type_of}
+use Rattle.source_meaning.specs.Programs.{exprs_of, expr_of}
+use Rattle.program_typing.specs.Types.{IsReference}
+use Rattle.program_typing.specs.Agreeing.{Known as Script, Scope, types_of, TakesTypes, Applies, is_primitive_layer, is_primitive as gives_number, MemberAgrees, ExprsAgree}
+use Rattle.typing_soundness.proofs.Nodes.{applied_is, guarded_is}
+use Rattle.typing_soundness.proofs.Types.{part_layer, IsOfPart, part_aim, reference_by, plain_class, members_built}
+use Rattle.typing_soundness.proofs.Parts.{passed, accepted, settled, PartIs, node_is, part_of, cast_is}
+use Rattle.typing_soundness.proofs.Names.{AllParts}
+
+-- ---- types that members name
+
+open_part : (of : Ty) → is_open of ≡ true → IsOfPart of
+open_part of e = record { layer = by_layer (out-Ty of) e }
+  where
+    by_layer : (l : Ty-F Ty) → is_open_layer l ≡ true → part_layer l
+    by_layer Ty-F.Void e = tt
+    by_layer Ty-F.Null e = cc
+    by_layer Ty-F.Def e = tt
+    by_layer (Ty-F.Prim p) e = tt
+    by_layer (Ty-F.Class c) e = e
+    by_layer (Ty-F.Array u) e = cc
+
+open_plain : (l : Ty-F Ty) → is_open_layer l ≡ true → is_plain_layer l ≡ true
+open_plain Ty-F.Void e = refl
+open_plain Ty-F.Null e = cc
+open_plain Ty-F.Def e = refl
+open_plain (Ty-F.Prim p) e = refl
+open_plain (Ty-F.Class c) e = plain_class c e
+open_plain (Ty-F.Array u) e = cc
+
+both_true : (a b : Bool) → a ≡ true → b ≡ true → (a && b) ≡ true
+both_true true true x y = refl
+both_true true false x y = cc
+both_true false b x y = cc
+
+all_plain : (ts : List Ty) → list_all is_open ts ≡ true → list_all is_plain ts ≡ true
+all_plain [] e = refl
+all_plain (t ∷ ts) e =
+    let both = and_parts (is_open t) (list_all is_open ts) e in
+    both_true (is_plain t) (list_all is_plain ts) (open_plain (out-Ty t) both.0) (all_plain ts both.1)
+
+-- what is open in a member
+record Opens (m : MemberType) : Type 0 where
+  owner : is_built_class m.owner ≡ true
+  plain : is_plain_member m ≡ true
+  params : list_all is_open m.params ≡ true
+  result : IsOfPart m.result
+
+opens : (m : MemberType) → is_open_member m ≡ true → Opens m
+unfolding is_plain_member
+opens m e =
+    let first = and_parts (is_built_class m.owner) (list_all is_open m.params && is_open m.result) e in
+    let second = and_parts (list_all is_open m.params) (is_open m.result) first.1 in
+    record {
+      owner = first.0;
+      plain = both_true (is_plain_class m.owner) (list_all is_plain m.params) (plain_class m.owner first.0) (all_plain m.params second.0);
+      params = second.0;
+      result = open_part m.result second.1;
+    }
+
+-- ---- the member that is wanted
+
+kind_is : (a b : MemberKind) → is_kind a b ≡ true → b ≡ a
+kind_is kind.Constructor kind.Constructor e = refl
+kind_is kind.Static kind.Static e = refl
+kind_is kind.Instance kind.Instance e = refl
+kind_is kind.Field kind.Field e = refl
+kind_is a b e = cc
+
+-- what is wanted was found, and is open
+record Wants (sort : MemberKind) (found : Option ℕ) (number : ℕ) : Type 0 where
+  is : found ≡ Some number
+  kind : (member_at number).kind ≡ sort
+  opens : Opens (member_at number)
+
+record BothHold (c d : Bool) (m n : ℕ) : Type 0 where
+  first : c ≡ true
+  second : d ≡ true
+  same : m ≡ n
+
+both_hold : (c d : Bool) (a b at m n : ℕ) → (if c then (if d then accepted m else refuse a at) else refuse b at) ≡ accepted n → BothHold c d m n
+both_hold true true a b at m n e = record { first = refl; second = refl; same = cc }
+both_hold true false a b at m n e = cc
+both_hold false d a b at m n e = cc
+
+wants : (sort : MemberKind) (at : ℕ) (found : Option ℕ) (number : ℕ) → wanted sort at found ≡ Ok number → Wants sort found number
+wants sort at None number e = cc
+wants sort at (Some m) number e =
+    let h = both_hold (is_kind sort (member_at m).kind) (is_open_member (member_at m)) _ _ at m number e in
+    subst (Wants sort (Some m)) h.same (record { is = refl; kind = kind_is sort (member_at m).kind h.first; opens = opens (member_at m) h.second })
+
+-- ---- the member that is found
+
+record Allowed (allow : AllowList) (arity number : ℕ) : Type 0 where
+  allowed : flag allow.members number ≡ true
+  is : slice_get catalogue number ≡ Some (member_at number)
+  takes : length (member_at number).params ≡ arity
+
+-- a member that is open is built
+open_built : (number : ℕ) → slice_get catalogue number ≡ Some (member_at number) → Opens (member_at number) → is_built number ≡ true
+open_built number is x = built_owners number (member_at number) is ∙ members_built (member_at number).owner x.owner
+
+allowed_by : (allow : AllowList) (arity number : ℕ) (m : MemberType) → flag allow.members number ≡ true → slice_get catalogue number ≡ Some m
+    → length m.params ≡ arity
+    → Allowed allow arity number
+allowed_by allow arity number m a is l =
+    let same : member_at number ≡ m = get_or_from_slice_get catalogue number m (constructor 0 []) is in
+    record { allowed = a; is = is ∙ ap Some (sym same); takes = ap (λ (m : MemberType). length m.params) same ∙ l }
+
+found_allowed : (allow : AllowList) (class : ℕ) (name : List ℕ) (arity number : ℕ) → member_of allow class name arity ≡ Some number
+    → Allowed allow arity number
+found_allowed allow class name arity number e =
+    let found = found_is_allowed allow class name arity number e in
+    allowed_by allow arity number found.1.0 found.0 found.1.1 found.1.3
+
+record First (test : ℕ → MemberType → Bool) (start : ℕ) (ms : List MemberType) (number : ℕ) : Type 0 where
+  place : ℕ
+  member : MemberType
+  number_is : number ≡ start + place
+  is : slice_get ms place ≡ Some member
+  passes : test number member ≡ true
+
+first_is : (test : ℕ → MemberType → Bool) (start : ℕ) (ms : List MemberType) (number : ℕ) → first_member test start ms ≡ Some number
+    → First test start ms number
+first_is test start [] number e = cc
+first_is test start (m ∷ ms) number e = pick (test start m) refl e (first_is test (start + 1) ms number)
+  where
+    pick : (c : Bool) → test start m ≡ c → (if c then Some start else first_member test (start + 1) ms) ≡ Some number
+        → (first_member test (start + 1) ms ≡ Some number → First test (start + 1) ms number)
+        → First test start (m ∷ ms) number
+    pick true is e further =
+        let same : start ≡ number = cc in
+        subst (First test start (m ∷ ms)) same (record { place = 0; member = m; number_is = omega arith; is = refl; passes = is })
+    pick false is e further =
+        let rest = further e in
+        record { place = suc rest.place; member = rest.member; number_is = omega (arith, rest.number_is); is = rest.is; passes = rest.passes }
+
+own_allowed : (allow : AllowList) (class : ℕ) (name : List ℕ) (arity number : ℕ) → own_member allow class name arity ≡ Some number
+    → Allowed allow arity number
+unfolding own_member
+own_allowed allow class name arity number e =
+    let found = first_is (λ n m. flag allow.members n && is_called class name arity m) 0 catalogue number e in
+    let same : found.place ≡ number = omega (arith, found.number_is) in
+    let all = and_parts (flag allow.members number) (is_called class name arity found.member) found.passes in
+    let called = and_parts (found.member.owner == class) (has_name name arity found.member) all.1 in
+    let named = and_parts (bytes_eq found.member.name name) (length found.member.params == arity) called.1 in
+    allowed_by allow arity number found.member all.0 (subst (λ n. slice_get catalogue n ≡ Some found.member) same found.is)
+    (eqb-true (length found.member.params) arity named.1)
+
+either_found : (a b : Option ℕ) (number : ℕ) → or_else a b ≡ Some number → (a ≡ Some number) ⊎ (b ≡ Some number)
+either_found None b number e = inr e
+either_found (Some m) b number e = inl e
+
+-- a getter takes nothing
+getter_allowed : (allow : AllowList) (class : ℕ) (name : List ℕ) (number : ℕ) → getter allow class name ≡ Some number → Allowed allow 0 number
+getter_allowed allow class name number e = pick (either_found _ _ number e)
+  where
+    pick : (member_of allow class (codes "get" ++ capital name) 0 ≡ Some number) ⊎ (member_of allow class (codes "is" ++ capital name) 0 ≡ Some number) → Allowed allow 0 number
+    pick (inl e) = found_allowed allow class (codes "get" ++ capital name) 0 number e
+    pick (inr e) = found_allowed allow class (codes "is" ++ capital name) 0 number e
+
+-- ---- what is asked of what a guarded call gives
+
+number_layer : (l : Ty-F Ty) → is_primitive (primitive_layer l) ≡ is_primitive_layer l
+number_layer Ty-F.Void = refl
+number_layer Ty-F.Null = refl
+number_layer Ty-F.Def = refl
+number_layer (Ty-F.Prim p) = refl
+number_layer (Ty-F.Class c) = refl
+number_layer (Ty-F.Array u) = refl
+
+no_number : (of : Ty) → is_primitive (primitive_of of) ≡ false → gives_number of ≡ false
+no_number of e = sym (number_layer (out-Ty of)) ∙ e
+
+-- what was not refused
+record NotNullable (c : Bool) (x y : Part) : Type 0 where
+  holds : c ≡ false
+  same : x ≡ y
+
+not_nullable : (c : Bool) (number at : ℕ) (x y : Part) → (if c then refuse number at else accepted x) ≡ accepted y → NotNullable c x y
+not_nullable true number at x y e = cc
+not_nullable false number at x y e = record { holds = refl; same = cc }
+
+module _ (funs : Script) (g : Scope) where
+  -- ---- arguments
+
+  record Given (ts : List Ty) (ys : List Typed) : Type 0 where
+    agree : ExprsAgree funs g (exprs_of (map expr_of ys))
+    types : types_of (exprs_of (map expr_of ys)) ≡ ts
+
+  cast_all_are : (ts : List Ty) (xs : List Part) (ys : List Typed) → list_all is_open ts ≡ true → length ts ≡ length xs → cast_all ts xs ≡ Ok ys
+      → AllParts funs g xs
+      → Given ts ys
+  cast_all_are [] [] ys b l e h = settled (Given []) [] ys e (record { agree = tt; types = refl })
+  cast_all_are [] (x ∷ xs) ys b l e h = absurd (omega (arith, l))
+  cast_all_are (t ∷ ts) [] ys b l e h = absurd (omega (arith, l))
+  cast_all_are (t ∷ ts) (x ∷ xs) ys b l e h =
+      let a = passed (cast_to t x) _ ys e in
+      let others = passed (cast_all ts xs) _ ys a.then' in
+      let open' = and_parts (is_open t) (list_all is_open ts) b in
+      let first = cast_is funs g t x a.given (part_aim t (open_part t open'.0)) a.first h.0 in
+      let rest = cast_all_are ts xs others.given open'.1 (omega (arith, l)) others.first h.1 in
+      settled (Given (t ∷ ts)) (a.given ∷ others.given) ys others.then' (record {
+        agree = (first.agrees, rest.agree);
+        types = ap (λ of. of ∷ types_of (exprs_of (map expr_of others.given))) first.is ∙ ap (λ ofs. t ∷ ofs) rest.types;
+      })
+
+  -- ---- calls of a member
+
+  -- a member that may be called
+  record Callable (sort : MemberKind) (arity number : ℕ) : Type 0 where
+    kind : (member_at number).kind ≡ sort
+    built : is_built number ≡ true
+    opens : Opens (member_at number)
+    found : Allowed funs.allowed arity number
+
+  callable : (sort : MemberKind) (at arity : ℕ) (found : Option ℕ) (number : ℕ) → wanted sort at found ≡ Ok number
+      → (found ≡ Some number → Allowed funs.allowed arity number)
+      → Callable sort arity number
+  callable sort at arity found number e there =
+      let w = wants sort at found number e in
+      let a = there w.is in
+      record { kind = w.kind; built = open_built number a.is w.opens; opens = w.opens; found = a }
+
+  given_to : (sort : MemberKind) (number : ℕ) (xs : List Part) (ys : List Typed) → Callable sort (length xs) number → member_arguments number xs ≡ Ok ys
+      → AllParts funs g xs
+      → Given (member_at number).params ys
+  given_to sort number xs ys c e h = cast_all_are (member_at number).params xs ys c.opens.params c.found.takes e h
+
+  agrees_by : (sort : MemberKind) (arity number : ℕ) (ofs : List Ty) → Callable sort arity number → TakesTypes sort (member_at number).params ofs
+      → MemberAgrees funs sort (member number) ofs (result number)
+  agrees_by sort arity number ofs c takes = record {
+    member = member_at number;
+    is = c.found.is;
+    sort = c.kind;
+    text = refl;
+    built = c.built;
+    allowed = c.found.allowed;
+    plain = c.opens.plain;
+    takes = takes;
+    gives = refl;
+  }
+
+  -- a call on a value
+  instance_is : (access : Access) (at number : ℕ) (x y : Part) (xs : List Part) → Callable kind.Instance (length xs) number → IsReference (type_of_part x)
+      → instance_call access at number x xs ≡ Ok y
+      → PartIs funs g x → AllParts funs g xs → PartIs funs g y
+  instance_is access at number x y xs c r e hx h =
+      let a = passed (member_arguments number xs) (λ ys. nullable access at number (instance_node access at number (x.typed ∷ ys))) y e in
+      let given = given_to kind.Instance number xs a.given c a.first h in
+      let whole = not_nullable (guards access && gives_primitive number) _ at (instance_node access at number (x.typed ∷ a.given)) y a.then' in
+      let agrees = agrees_by kind.Instance (length xs) number (type_of (expr_of x.typed) ∷ types_of (exprs_of (map expr_of a.given))) c (subst IsReference (sym hx.typed.is) r, given.types) in
+      subst (PartIs funs g) whole.same (pick access a.given whole.holds given agrees)
+    where
+      pick : (access : Access) (ys : List Typed) → (guards access && gives_primitive number) ≡ false → Given (member_at number).params ys
+          → MemberAgrees funs kind.Instance (member number) (type_of (expr_of x.typed) ∷ types_of (exprs_of (map expr_of ys))) (result number)
+          → PartIs funs g (instance_node access at number (x.typed ∷ ys))
+      pick through.Plain ys whole given agrees =
+          part_of funs g at f.Deed _ (result number) c.opens.result
+          (node_is funs g at (result number) _ _ (applied_is at (result number) (o.Instance (member number)) (x.typed ∷ ys)) refl ((hx.typed.agrees, given.agree), agrees))
+      pick through.Guarded ys whole given agrees =
+          part_of funs g at f.Deed _ (result number) c.opens.result
+          (node_is funs g at (result number) _ _ (guarded_is at (result number) (o.Instance (member number)) (x.typed ∷ ys)) refl
+          (hx.typed.agrees, given.agree, record { member = member number; is = refl; agrees = agrees; whole = no_number (result number) whole }))
+
+  class_is_reference : (x : Part) (c : ℕ) → out-Ty (type_of_part x) ≡ Ty-F.Class c → IsReference (type_of_part x)
+  class_is_reference x c is = reference_by (type_of_part x) (Ty-F.Class c) is tt
+
+  method_by : (l : Ty-F Ty) (access : Access) (at : ℕ) (name : List ℕ) (x y : Part) (xs : List Part) → out-Ty (type_of_part x) ≡ l
+      → called_layer funs.allowed l access at name x xs ≡ Ok y
+      → PartIs funs g x → AllParts funs g xs → PartIs funs g y
+  method_by (Ty-F.Class c) access at name x y xs is e hx h =
+      let a = passed (wanted kind.Instance at (member_of funs.allowed c name (length xs))) (λ number. instance_call access at number x xs) y e in
+      instance_is access at a.given x y xs (callable kind.Instance at (length xs) _ a.given a.first (found_allowed funs.allowed c name (length xs) a.given))
+      (class_is_reference x c is) a.then' hx h
+  method_by Ty-F.Def access at name x y xs is e hx h = cc
+  method_by Ty-F.Void access at name x y xs is e hx h = cc
+  method_by Ty-F.Null access at name x y xs is e hx h = cc
+  method_by (Ty-F.Prim p) access at name x y xs is e hx h = cc
+  method_by (Ty-F.Array u) access at name x y xs is e hx h = cc
+
+  pub method_part : (access : Access) (at : ℕ) (name : List ℕ) (x y : Part) (xs : List Part) → method_of funs.allowed access at name x xs ≡ Ok y → PartIs funs g x
+      → AllParts funs g xs → PartIs funs g y
+  method_part access at name x y xs e hx h = method_by (out-Ty (type_of_part x)) access at name x y xs refl e hx h
+
+  -- a name of a value
+  read_by : (l : Ty-F Ty) (access : Access) (at : ℕ) (name : List ℕ) (x y : Part) → out-Ty (type_of_part x) ≡ l
+      → read_layer funs.allowed l access at name x ≡ Ok y
+      → PartIs funs g x → PartIs funs g y
+  read_by (Ty-F.Class c) access at name x y is e hx =
+      let a = passed (wanted kind.Instance at (getter funs.allowed c name)) (λ number. bind (instance_call access at number x []) (λ y. accepted (plainly y))) y e in
+      let b = passed (instance_call access at a.given x []) (λ y. accepted (plainly y)) y a.then' in
+      let called = instance_is access at a.given x b.given [] (callable kind.Instance at 0 _ a.given a.first (getter_allowed funs.allowed c name a.given))
+      (class_is_reference x c is) b.first hx tt in
+      settled (PartIs funs g) (plainly b.given) y b.then' (record { typed = called.typed; built = called.built })
+  read_by Ty-F.Def access at name x y is e hx = cc
+  read_by Ty-F.Void access at name x y is e hx = cc
+  read_by Ty-F.Null access at name x y is e hx = cc
+  read_by (Ty-F.Prim p) access at name x y is e hx = cc
+  read_by (Ty-F.Array u) access at name x y is e hx = cc
+
+  pub read_part : (access : Access) (at : ℕ) (name : List ℕ) (x y : Part) → read_of funs.allowed access at name x ≡ Ok y → PartIs funs g x → PartIs funs g y
+  read_part access at name x y e hx = read_by (out-Ty (type_of_part x)) access at name x y refl e hx
+
+  -- a call on a class, `new` and a field
+  applied_part : (form : Form) (operation : Operation) (at number : ℕ) (ys : List Typed) → Opens (member_at number)
+      → Given (member_at number).params ys
+      → Applies funs operation (types_of (exprs_of (map expr_of ys))) (result number)
+      → PartIs funs g (part at form (applied at (result number) operation ys))
+  applied_part form operation at number ys opens given applies =
+      part_of funs g at form _ (result number) opens.result
+      (node_is funs g at (result number) _ _ (applied_is at (result number) operation ys) refl (given.agree, applies))
+
+  static_by : (l : Ty-F Ty) (access : Access) (at : ℕ) (name : List ℕ) (y : Part) (xs : List Part) → static_layer funs.allowed l access at name xs ≡ Ok y
+      → AllParts funs g xs → PartIs funs g y
+  static_by (Ty-F.Class class) access at name y xs e h =
+      let a = passed (wanted kind.Static at (member_of funs.allowed class name (length xs))) (λ number. static_call access at number xs) y e in
+      let c = callable kind.Static at (length xs) _ a.given a.first (found_allowed funs.allowed class name (length xs) a.given) in
+      let b = passed (member_arguments a.given xs) (λ ys. nullable access at a.given (static_node at a.given ys)) y a.then' in
+      let given = given_to kind.Static a.given xs b.given c b.first h in
+      let whole = not_nullable (guards access && gives_primitive a.given) _ at (static_node at a.given b.given) y b.then' in
+      subst (PartIs funs g) whole.same (applied_part f.Deed (o.Static (member a.given)) at a.given b.given c.opens given (agrees_by kind.Static (length xs) a.given _ c given.types))
+  static_by Ty-F.Def access at name y xs e h = cc
+  static_by Ty-F.Void access at name y xs e h = cc
+  static_by Ty-F.Null access at name y xs e h = cc
+  static_by (Ty-F.Prim p) access at name y xs e h = cc
+  static_by (Ty-F.Array u) access at name y xs e h = cc
+
+  pub static_part : (access : Access) (at : ℕ) (name : List ℕ) (of : Ty) (y : Part) (xs : List Part) → static_of funs.allowed access at name of xs ≡ Ok y
+      → AllParts funs g xs → PartIs funs g y
+  static_part access at name of y xs e h = static_by (out-Ty of) access at name y xs e h
+
+  new_by : (l : Ty-F Ty) (at : ℕ) (y : Part) (xs : List Part) → new_layer funs.allowed l at xs ≡ Ok y → AllParts funs g xs → PartIs funs g y
+  new_by (Ty-F.Class class) at y xs e h =
+      let a = passed (wanted kind.Constructor at (own_member funs.allowed class [] (length xs))) (λ number. constructed at number xs) y e in
+      let c = callable kind.Constructor at (length xs) _ a.given a.first (own_allowed funs.allowed class [] (length xs) a.given) in
+      let b = passed (member_arguments a.given xs) _ y a.then' in
+      let given = given_to kind.Constructor a.given xs b.given c b.first h in
+      settled (PartIs funs g) _ y b.then' (applied_part f.Deed (o.Constructor (member a.given)) at a.given b.given c.opens given (agrees_by kind.Constructor (length xs) a.given _ c given.types))
+  new_by Ty-F.Def at y xs e h = cc
+  new_by Ty-F.Void at y xs e h = cc
+  new_by Ty-F.Null at y xs e h = cc
+  new_by (Ty-F.Prim p) at y xs e h = cc
+  new_by (Ty-F.Array u) at y xs e h = cc
+
+  pub new_part : (at : ℕ) (of : Ty) (y : Part) (xs : List Part) → new_of funs.allowed at of xs ≡ Ok y → AllParts funs g xs → PartIs funs g y
+  new_part at of y xs e h = new_by (out-Ty of) at y xs e h
+
+  field_by : (l : Ty-F Ty) (access : Access) (at : ℕ) (name : List ℕ) (y : Part) → field_layer funs.allowed l access at name ≡ Ok y → PartIs funs g y
+  field_by (Ty-F.Class class) access at name y e =
+      let a = passed (wanted kind.Field at (member_of funs.allowed class name 0)) (λ number. nullable access at number (field_node at number)) y e in
+      let c = callable kind.Field at 0 _ a.given a.first (found_allowed funs.allowed class name 0 a.given) in
+      let given = given_to kind.Field a.given [] [] c (no_arguments (member_at a.given).params) tt in
+      let whole = not_nullable (guards access && gives_primitive a.given) _ at (field_node at a.given) y a.then' in
+      subst (PartIs funs g) whole.same (applied_part f.Other (o.Field (member a.given)) at a.given [] c.opens given (agrees_by kind.Field 0 a.given _ c given.types))
+    where
+      no_arguments : (ts : List Ty) → cast_all ts [] ≡ Ok []
+      no_arguments [] = refl
+      no_arguments (t ∷ ts) = refl
+  field_by Ty-F.Def access at name y e = cc
+  field_by Ty-F.Void access at name y e = cc
+  field_by Ty-F.Null access at name y e = cc
+  field_by (Ty-F.Prim p) access at name y e = cc
+  field_by (Ty-F.Array u) access at name y e = cc
+
+  pub field_part : (access : Access) (at : ℕ) (name : List ℕ) (of : Ty) (y : Part) → field_of funs.allowed access at name of ≡ Ok y → PartIs funs g y
+  field_part access at name of y e = field_by (out-Ty of) access at name y e

@@ -1,0 +1,277 @@
+-- Types that parts of expressions have, and types to which they are cast.
+use Rattle.std.proofs.Common.{◌≡◌, ℕ, Bool, true, false, ◌||◌, ◌&&◌, Some, None, refl, sym, ap, ◌∙◌, subst, arith, ◌≤◌, ◌<◌, nat_lt, ◌⊎◌, inl, inr}
+use Rattle.std.specs.Prelude.{nat_le, not, ◌==◌, if◌then◌else◌}
+use Rattle.std.proofs.lemmas.Bool.{and_parts, or_cases, or_left, or_right, eqb-true, leb-true, le-leb, lt-ltb, ne_eqb}
+use Rattle.pl_types.specs.declared.classes.TheConstants.{CHAR_SEQUENCE, STRING, STRING_BUILDER, EXCEPTION, STRING_INDEX_OUT_OF_BOUNDS_EXCEPTION, PRELUDE, NUMBER, BYTE, SHORT, INTEGER, LONG, CHARACTER, BOOLEAN}
+use Rattle.pl_types.specs.declared.primitive.Primitive.{Primitive}
+use Rattle.pl_types.specs.declared.primitive.Primitive.TheVariants as prim
+use Rattle.pl_types.specs.declared.ty.Ty.{Ty, out-Ty, roll-Ty, roll-out-Ty}
+use Rattle.pl_types.specs.declared.ty.Ty.TheVariants as t
+use Rattle.pl_types.specs.declared.ty.Ty.TheOpen.{Ty-F}
+use Rattle.pl_types.specs.declared.ty.Ty.TheFolds.{fold-roll-Ty, map-Ty}
+use Rattle.pl_types.specs.Casts.{unboxed}
+use Rattle.member_calls.specs.Laws.{is_built_class as has_members}
+use Rattle.member_calls.specs.Types.{is_plain_class}
+use Rattle.typing_rules.specs.Rules.Types.{is_built_class, is_built_layer, is_built}
+use Rattle.program_typing.specs.Types.{is_reference_layer, IsReference, has_values_layer, HasValues, listed_layer, is_listed, IsNamed}
+use Rattle.typing_soundness.specs.Laws.{may_be_result, MayBeResult}
+
+-- ---- the classes that are built
+
+data Lies (c : ℕ) : Type 0 where
+  Low : c ≤ 2 → Lies c
+  High : 11 ≤ c → c < 55 → Lies c
+
+lies : (c : ℕ) → is_built_class c ≡ true → Lies c
+lies c e = first (or_cases (nat_le c CHAR_SEQUENCE) _ e)
+  where
+    fourth : ((nat_le EXCEPTION c && nat_le c STRING_INDEX_OUT_OF_BOUNDS_EXCEPTION) ≡ true) → Lies c
+    fourth e =
+        let both = and_parts (nat_le EXCEPTION c) (nat_le c STRING_INDEX_OUT_OF_BOUNDS_EXCEPTION) e in
+        let least = leb-true EXCEPTION c both.0 in
+        let most = leb-true c STRING_INDEX_OUT_OF_BOUNDS_EXCEPTION both.1 in
+        High (omega (arith, least)) (omega (arith, most))
+
+    third : ((c == STRING_BUILDER) ≡ true) ⊎ ((nat_le EXCEPTION c && nat_le c STRING_INDEX_OUT_OF_BOUNDS_EXCEPTION) ≡ true) → Lies c
+    third (inl e) = let is = eqb-true c STRING_BUILDER e in High (omega (arith, is)) (omega (arith, is))
+    third (inr e) = fourth e
+
+    second : ((c == STRING) ≡ true) ⊎ ((c == STRING_BUILDER || (nat_le EXCEPTION c && nat_le c STRING_INDEX_OUT_OF_BOUNDS_EXCEPTION)) ≡ true) → Lies c
+    second (inl e) = let is = eqb-true c STRING e in High (omega (arith, is)) (omega (arith, is))
+    second (inr e) = third (or_cases (c == STRING_BUILDER) _ e)
+
+    first : (nat_le c CHAR_SEQUENCE ≡ true) ⊎ ((c == STRING || (c == STRING_BUILDER || (nat_le EXCEPTION c && nat_le c STRING_INDEX_OUT_OF_BOUNDS_EXCEPTION))) ≡ true) → Lies c
+    first (inl e) = let most = leb-true c CHAR_SEQUENCE e in Low most
+    first (inr e) = second (or_cases (c == STRING) _ e)
+
+lies_listed : (c : ℕ) → Lies c → nat_lt c PRELUDE ≡ true
+lies_listed c (Low most) = lt-ltb c 55 (omega (arith, most))
+lies_listed c (High least most) = lt-ltb c 55 most
+
+-- neither Number nor a box is built
+no_box : (c k : ℕ) → 3 ≤ k → k ≤ 9 → Lies c → (c == k) ≡ false
+no_box c k a b (Low most) = ne_eqb c k (λ same. absurd (omega (arith, a, most, same)))
+no_box c k a b (High least most) = ne_eqb c k (λ same. absurd (omega (arith, b, least, same)))
+
+unboxed_by : (a b c d e f : Bool) → a ≡ false → b ≡ false → c ≡ false → d ≡ false → e ≡ false → f ≡ false
+    → (if a then Some prim.Boolean else (if b then Some prim.Byte else (if c then Some prim.Short else (if d then Some prim.Char else (if e then Some prim.Int else (if f then Some prim.Long else None)))))) ≡ None
+unboxed_by a b c d e f u v w x y z = cc
+
+pub no_unboxed : (c : ℕ) → is_built_class c ≡ true → unboxed c ≡ None
+no_unboxed c e =
+    let x = lies c e in
+    unboxed_by (c == BOOLEAN) (c == BYTE) (c == SHORT) (c == CHARACTER) (c == INTEGER) (c == LONG)
+    (no_box c 9 (omega arith) (omega arith) x) (no_box c 4 (omega arith) (omega arith) x) (no_box c 5 (omega arith) (omega arith) x)
+    (no_box c 8 (omega arith) (omega arith) x) (no_box c 6 (omega arith) (omega arith) x) (no_box c 7 (omega arith) (omega arith) x)
+
+pub plain_class : (c : ℕ) → is_built_class c ≡ true → is_plain_class c ≡ true
+plain_class c e =
+    let x = lies c e in
+    plain_by (c == NUMBER) (c == CHARACTER) (c == BOOLEAN) (no_box c 3 (omega arith) (omega arith) x) (no_box c 8 (omega arith) (omega arith) x) (no_box c 9 (omega arith) (omega arith) x)
+  where
+    plain_by : (a b c : Bool) → a ≡ false → b ≡ false → c ≡ false → (not a && (not b && not c)) ≡ true
+    plain_by a b c x y z = cc
+
+-- the members of a class that is built are built
+pub members_built : (c : ℕ) → is_built_class c ≡ true → has_members c ≡ true
+members_built c e = first (or_cases (nat_le c CHAR_SEQUENCE) _ e)
+  where
+    low : c ≤ STRING_BUILDER → has_members c ≡ true
+    low most = or_left (nat_le c STRING_BUILDER) _ (le-leb c STRING_BUILDER most)
+
+    third : ((c == STRING_BUILDER) ≡ true) ⊎ ((nat_le EXCEPTION c && nat_le c STRING_INDEX_OUT_OF_BOUNDS_EXCEPTION) ≡ true) → has_members c ≡ true
+    third (inl e) = let is = eqb-true c STRING_BUILDER e in low (omega (arith, is))
+    third (inr e) = or_right (nat_le c STRING_BUILDER) _ e
+
+    second : ((c == STRING) ≡ true) ⊎ ((c == STRING_BUILDER || (nat_le EXCEPTION c && nat_le c STRING_INDEX_OUT_OF_BOUNDS_EXCEPTION)) ≡ true) → has_members c ≡ true
+    second (inl e) = let is = eqb-true c STRING e in low (omega (arith, is))
+    second (inr e) = third (or_cases (c == STRING_BUILDER) _ e)
+
+    first : (nat_le c CHAR_SEQUENCE ≡ true) ⊎ ((c == STRING || (c == STRING_BUILDER || (nat_le EXCEPTION c && nat_le c STRING_INDEX_OUT_OF_BOUNDS_EXCEPTION))) ≡ true) → has_members c ≡ true
+    first (inl e) = let most = leb-true c CHAR_SEQUENCE e in low (omega (arith, most))
+    first (inr e) = second (or_cases (c == STRING) _ e)
+
+-- ---- types by their layers
+
+pub void_layer : out-Ty t.Void ≡ Ty-F.Void
+unfolding out-Ty denote.Hole.Carrier.out
+void_layer = refl
+
+pub null_layer : out-Ty t.Null ≡ Ty-F.Null
+unfolding out-Ty denote.Hole.Carrier.out
+null_layer = refl
+
+pub def_layer : out-Ty t.Def ≡ Ty-F.Def
+unfolding out-Ty denote.Hole.Carrier.out
+def_layer = refl
+
+pub prim_layer : (p : Primitive) → out-Ty (t.Prim p) ≡ Ty-F.Prim p
+unfolding out-Ty denote.Hole.Carrier.out
+prim_layer p = refl
+
+pub class_layer : (c : ℕ) → out-Ty (t.Class c) ≡ Ty-F.Class c
+unfolding out-Ty denote.Hole.Carrier.out
+class_layer c = refl
+
+pub void_by : (of : Ty) → out-Ty of ≡ Ty-F.Void → of ≡ t.Void
+void_by of e = sym (roll-out-Ty of) ∙ (ap roll-Ty e ∙ t.rolls-Void)
+
+pub prim_by : (of : Ty) (p : Primitive) → out-Ty of ≡ Ty-F.Prim p → of ≡ t.Prim p
+prim_by of p e = sym (roll-out-Ty of) ∙ (ap roll-Ty e ∙ t.rolls-Prim p)
+
+pub class_by : (of : Ty) (c : ℕ) → out-Ty of ≡ Ty-F.Class c → of ≡ t.Class c
+class_by of c e = sym (roll-out-Ty of) ∙ (ap roll-Ty e ∙ t.rolls-Class c)
+
+-- ---- what variables may have
+
+-- a type of variables that is built
+pub record IsBuilt (of : Ty) : Type 0 where
+  pub is : is_built of ≡ true
+
+built_by : (of : Ty) (l : Ty-F Ty) → out-Ty of ≡ l → is_built_layer l ≡ true → IsBuilt of
+built_by of l e is = record { is = ap is_built_layer e ∙ is }
+
+pub prim_built : (p : Primitive) → IsBuilt (t.Prim p)
+prim_built p = built_by (t.Prim p) (Ty-F.Prim p) (prim_layer p) refl
+
+pub def_built : IsBuilt t.Def
+def_built = built_by t.Def Ty-F.Def def_layer refl
+
+pub class_built : (c : ℕ) → is_built_class c ≡ true → IsBuilt (t.Class c)
+class_built c is = built_by (t.Class c) (Ty-F.Class c) (class_layer c) is
+
+pub built_values : (of : Ty) → IsBuilt of → HasValues of
+built_values of b = by_layer (out-Ty of) b.is
+  where
+    by_layer : (l : Ty-F Ty) → is_built_layer l ≡ true → has_values_layer l
+    by_layer (Ty-F.Prim p) is = tt
+    by_layer Ty-F.Def is = tt
+    by_layer (Ty-F.Class c) is = tt
+    by_layer Ty-F.Void is = cc
+    by_layer Ty-F.Null is = cc
+    by_layer (Ty-F.Array u) is = cc
+
+listed_by : (of : Ty) (l : Ty-F Ty) → out-Ty of ≡ l → is_listed of ≡ listed_layer (map-Ty Ty Bool is_listed l)
+listed_by of l e =
+    ap is_listed (sym (roll-out-Ty of)) ∙ (fold-roll-Ty Bool listed_layer (out-Ty of) ∙ ap (λ l. listed_layer (map-Ty Ty Bool is_listed l)) e)
+
+-- code may name each type that is built
+pub built_named : (of : Ty) → IsBuilt of → IsNamed of
+built_named of b = record { listed = listed_by of (out-Ty of) refl ∙ by_layer (out-Ty of) b.is }
+  where
+    by_layer : (l : Ty-F Ty) → is_built_layer l ≡ true → listed_layer (map-Ty Ty Bool is_listed l) ≡ true
+    by_layer (Ty-F.Prim p) is = refl
+    by_layer Ty-F.Def is = refl
+    by_layer (Ty-F.Class c) is = lies_listed c (lies c is)
+    by_layer Ty-F.Void is = cc
+    by_layer Ty-F.Null is = cc
+    by_layer (Ty-F.Array u) is = cc
+
+-- code may name each class that scripts may name
+pub class_named : (c : ℕ) → nat_lt c PRELUDE ≡ true → IsNamed (t.Class c)
+class_named c is = record { listed = listed_by (t.Class c) (Ty-F.Class c) (class_layer c) ∙ is }
+
+-- ---- what parts have: void, the type of null, or a type of variables that is built
+
+abbrev pub part_layer : Ty-F Ty → Type 0
+part_layer Ty-F.Void = Unit {0}
+part_layer Ty-F.Null = Unit {0}
+part_layer Ty-F.Def = Unit {0}
+part_layer (Ty-F.Prim p) = Unit {0}
+part_layer (Ty-F.Class c) = is_built_class c ≡ true
+part_layer (Ty-F.Array u) = ⊥
+
+pub record IsOfPart (of : Ty) : Type 0 where
+  pub layer : part_layer (out-Ty of)
+
+part_by : (of : Ty) (l : Ty-F Ty) → out-Ty of ≡ l → part_layer l → IsOfPart of
+part_by of l e h = record { layer = subst part_layer (sym e) h }
+
+pub void_part : IsOfPart t.Void
+void_part = part_by t.Void Ty-F.Void void_layer tt
+
+pub null_part : IsOfPart t.Null
+null_part = part_by t.Null Ty-F.Null null_layer tt
+
+pub built_part : (of : Ty) → IsBuilt of → IsOfPart of
+built_part of b = record { layer = by_layer (out-Ty of) b.is }
+  where
+    by_layer : (l : Ty-F Ty) → is_built_layer l ≡ true → part_layer l
+    by_layer (Ty-F.Prim p) is = tt
+    by_layer Ty-F.Def is = tt
+    by_layer (Ty-F.Class c) is = is
+    by_layer Ty-F.Void is = cc
+    by_layer Ty-F.Null is = cc
+    by_layer (Ty-F.Array u) is = cc
+
+pub prim_part : (p : Primitive) → IsOfPart (t.Prim p)
+prim_part p = built_part (t.Prim p) (prim_built p)
+
+-- ---- what parts are cast to: void, the type of null, or a type that code may name
+
+abbrev pub aim_layer : Ty-F Ty → Ty → Type 0
+aim_layer Ty-F.Void of = Unit {0}
+aim_layer Ty-F.Null of = Unit {0}
+aim_layer Ty-F.Def of = IsNamed of
+aim_layer (Ty-F.Prim p) of = IsNamed of
+aim_layer (Ty-F.Class c) of = IsNamed of
+aim_layer (Ty-F.Array u) of = IsNamed of
+
+pub record IsAim (of : Ty) : Type 0 where
+  pub layer : aim_layer (out-Ty of) of
+
+pub named_aim : (of : Ty) → IsNamed of → IsAim of
+named_aim of h = record { layer = by_layer (out-Ty of) }
+  where
+    by_layer : (l : Ty-F Ty) → aim_layer l of
+    by_layer Ty-F.Void = tt
+    by_layer Ty-F.Null = tt
+    by_layer Ty-F.Def = h
+    by_layer (Ty-F.Prim p) = h
+    by_layer (Ty-F.Class c) = h
+    by_layer (Ty-F.Array u) = h
+
+pub result_aim : (of : Ty) → MayBeResult of → IsAim of
+result_aim of h = record { layer = by_layer (out-Ty of) h }
+  where
+    by_layer : (l : Ty-F Ty) → may_be_result l of → aim_layer l of
+    by_layer Ty-F.Void h = tt
+    by_layer Ty-F.Null h = tt
+    by_layer Ty-F.Def h = h
+    by_layer (Ty-F.Prim p) h = h
+    by_layer (Ty-F.Class c) h = h
+    by_layer (Ty-F.Array u) h = h
+
+pub built_aim : (of : Ty) → IsBuilt of → IsAim of
+built_aim of b = named_aim of (built_named of b)
+
+pub part_aim : (of : Ty) → IsOfPart of → IsAim of
+part_aim of b = record { layer = by_layer (out-Ty of) refl b.layer }
+  where
+    by_layer : (l : Ty-F Ty) → out-Ty of ≡ l → part_layer l → aim_layer l of
+    by_layer Ty-F.Void e h = tt
+    by_layer Ty-F.Null e h = tt
+    by_layer Ty-F.Def e h = built_named of (built_by of Ty-F.Def e refl)
+    by_layer (Ty-F.Prim p) e h = built_named of (built_by of (Ty-F.Prim p) e refl)
+    by_layer (Ty-F.Class c) e h = built_named of (built_by of (Ty-F.Class c) e h)
+    by_layer (Ty-F.Array u) e h = absurd h
+
+pub prim_aim : (p : Primitive) → IsAim (t.Prim p)
+prim_aim p = built_aim (t.Prim p) (prim_built p)
+
+pub def_aim : IsAim t.Def
+def_aim = built_aim t.Def def_built
+
+-- ---- references
+
+pub reference_by : (of : Ty) (l : Ty-F Ty) → out-Ty of ≡ l → is_reference_layer l → IsReference of
+reference_by of l e h = subst is_reference_layer (sym e) h
+
+pub def_reference : IsReference t.Def
+def_reference = reference_by t.Def Ty-F.Def def_layer tt
+
+pub null_reference : IsReference t.Null
+null_reference = reference_by t.Null Ty-F.Null null_layer tt
+
+pub class_reference : (c : ℕ) → IsReference (t.Class c)
+class_reference c = reference_by (t.Class c) (Ty-F.Class c) (class_layer c) tt

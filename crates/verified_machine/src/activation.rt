@@ -1,0 +1,178 @@
+//! A run of verified code, which takes turns and ends.
+ghost use Rattle.std.specs.Prelude.{◌≡◌, ◌≤◌, [], Some, IfOk, IfSome};
+ghost use Rattle.code_meaning.specs.Machine.{start};
+ghost use Rattle.machine.specs.Seen.{limits_of, codes_of};
+ghost use Rattle.machine.specs.Activations.{HasTurned, Leaves, Turned};
+ghost use Rattle.verifier_soundness.specs.Rows.{HaveRows};
+ghost use Rattle.verifier_soundness.specs.Fits.{kinds_of, main_params};
+ghost use Rattle.verifier_soundness.specs.Bounds.{most_steps};
+ghost use Rattle.task_core.specs.Turns.{Turns};
+ghost use Rattle.verified_machine.specs.Tasks.{LeavesFitting, OnlySpares, code_under, rest, ending, is_end};
+
+use allowlist::Allow;
+use code_meaning::Word;
+use machine::{Activation, Executable, Limits, Outcome};
+use object_heap::Heap;
+use object_values::Elements;
+use pl_code::Code;
+use std::alloc::{AllocError, Global};
+use std::marker::Model;
+use task_core::{Task, Turn};
+use verifier::Verified;
+
+/// Verified code that is ready to run. There is memory in each frame of a run for as many words as the verifier has found.
+#[derive(Drop)]
+pub struct VerifiedExecutable {
+    executable: Executable,
+}
+
+impl Model for VerifiedExecutable {
+    ghost use Rattle.machine.specs.Links.{Executable};
+    ghost use Rattle.pl_types.specs.contracts.ty.Ty as ty;
+    ghost use Rattle.std.specs.Coded.{codes};
+    ghost use Rattle.verifier.specs.Verified.{FrameWords, IsSound};
+    ghost use Rattle.verified_machine.specs.Tasks.{code_under};
+
+    ghost Value = { Executable };
+
+    ghost coded = { Prim.hlevel (codes, ty.the_row.coded) };
+
+    ghost view = { λ v. v.executable };
+
+    ghost invariant = { λ v. IsSound (code_under v.executable) × FrameWords v.executable.frame (code_under v.executable) };
+}
+
+impl VerifiedExecutable {
+    /// # Errors
+    ///
+    /// Want of memory.
+    pub fn new(alloc: Global, verified: Verified) -> Result<VerifiedExecutable, AllocError>
+        ensures { IfOk result (λ e. code_under e ≡ verified) }
+    {
+        let frame = verified.frame_words();
+        let (code, allow) = verified.into_parts();
+        Ok(VerifiedExecutable {
+            executable: Executable::new(alloc, code, allow, frame)?,
+        })
+    }
+
+    /// The code.
+    pub fn code(&self) -> &Code
+        ensures { result.now ≡ self.now.code }
+    {
+        self.executable.code()
+    }
+
+    /// The members that it may call.
+    pub fn allow(&self) -> &Allow
+        ensures { result.now ≡ self.now.allow }
+    {
+        self.executable.allow()
+    }
+}
+
+/// A run of verified code. It is never stuck, and ends however its instructions are cut into turns.
+#[derive(Drop)]
+pub struct VerifiedActivation<'c> {
+    code: &'c VerifiedExecutable,
+    run: Activation<'c>,
+    done: bool,
+}
+
+impl<'c> Model for VerifiedActivation<'c> {
+    ghost use Rattle.machine.specs.Activations.{is_over};
+    ghost use Rattle.pl_types.specs.contracts.ty.Ty as ty;
+    ghost use Rattle.std.specs.Coded.{codes};
+    ghost use Rattle.std.specs.Prelude.{◌≡◌};
+    ghost use Rattle.verified_machine.specs.Tasks.{IsHeld, IsVerified, RunUnder};
+
+    ghost Value = { RunUnder };
+
+    ghost coded = { Prim.hlevel (codes, ty.the_row.coded) };
+
+    ghost view = { λ a. record { run = a.run; allow = a.code.now.allow } };
+
+    ghost invariant = { λ a. IsVerified a.code.now.allow a.run × IsHeld a.code.now.allow a.run × (a.done ≡ is_over a.run.now) };
+}
+
+impl<'c> VerifiedActivation<'c> {
+    /// A run of function 0 of this code on these arguments, which are of the kinds of its parameters (`fit_main` tests it). Each
+    /// instruction of the code has a row (`have_rows` tests it). It calls the members of the list under which the code was verified,
+    /// and no others.
+    ///
+    /// # Errors
+    ///
+    /// Want of memory.
+    pub fn start(
+        code: &'c VerifiedExecutable,
+        heap: Heap,
+        args: Elements<Word>,
+        limits: Limits,
+    ) -> Result<VerifiedActivation<'c>, AllocError>
+        requires rows { HaveRows code.now.allow code.now.code.functions }
+        requires args { kinds_of args ≡ main_params code.now.code.functions }
+        ensures started { IfOk result (λ a. a ≡ record { run = record { code = code.now.code.functions; limits = limits; allow = code.now.allow; frame = code.now.frame; now = Some (start (codes_of code.now.code.functions) args (record { store = heap; ticks = limits.ticks; reached = [] })); steps = 0 }; allow = code.now.allow }) }
+        ensures bound { IfOk result (λ a. rest a.run ≤ most_steps code.now.code.functions (limits_of limits code.now.allow) limits.ticks) }
+    {
+        let run = Activation::start(&code.executable, heap, args, limits)?;
+        Ok(VerifiedActivation {
+            code,
+            run,
+            done: false,
+        })
+    }
+
+    /// Takes `q` instructions, or fewer where the run ends, as [`Task::turn`] does.
+    ///
+    /// It takes no memory where each of them makes no object and lets none grow, throws no new exception, and neither makes nor copies
+    /// a text.
+    pub fn advance(&mut self, q: u64) -> Turn
+        ensures exact { Turned q self.old.run self.new.run result }
+        ensures allow { self.new.allow ≡ self.old.allow }
+        ensures turns { Turns (λ r. rest r.run) (λ r. ending r.run) q self.old self.new result }
+        ensures memory { OnlySpares q self.old.run → HasTurned result }
+    {
+        if self.done {
+            Turn::Done
+        } else {
+            let turn = self.run.turn(q);
+            self.done = is_end(turn);
+            turn
+        }
+    }
+
+    /// What the run leaves, once it has ended: what it would have come to alone.
+    pub fn outcome(self) -> Option<Outcome>
+        ensures leaves { Leaves self.entry.run result }
+        ensures fitting { IfSome result (LeavesFitting self.entry) }
+        ensures alone { rest self.entry.run ≡ 0 → result ≡ ending self.entry.run }
+    {
+        self.run.outcome()
+    }
+}
+
+impl<'c> Task for VerifiedActivation<'c> {
+    type Ending = Option<Outcome>;
+
+    ghost rest = { λ a. rest a.run };
+
+    ghost ending = { λ a. ending a.run };
+
+    fn is_done(&self) -> bool {
+        self.done
+    }
+
+    fn turn(&mut self, q: u64) -> Turn {
+        self.advance(q)
+    }
+}
+
+// Whether a turn was the last.
+fn is_end(turn: Turn) -> bool
+    ensures { result ≡ is_end turn }
+{
+    match turn {
+        Turn::Done => true,
+        Turn::More | Turn::NoMemory => false,
+    }
+}

@@ -1,0 +1,206 @@
+ghost use Rattle.std.specs.Prelude.{◌<◌};
+
+use allowlist::{Allow, Catalogue};
+use code_meaning::Word;
+use machine::{End, Limits, Outcome};
+use object_heap::{Heap, Which};
+use object_values::{Elements, Value};
+use pl_code::read_listing;
+use std::alloc::{AllocError, Global};
+use std::test::Fail;
+use task_core::run_order;
+use verified_machine::{VerifiedActivation, VerifiedExecutable};
+use verifier::verify;
+use verifier_soundness::{fit_main, have_rows};
+
+/// `int s = 0; for (int i = 0; i < 5; i++) { s += i } s`
+const SUM: &str =
+    "painless 1\nfun 0 loop R - II\ni 0\nstore 0\ni 0\nstore 1\ngoto 13\nload 0\nload 1\nadd.i\nstore 0\nload 1\ni 1\nadd.i\nstore 1\nload 1\ni 5\nlt.i\nloop 5\nload 0\nbox int\nret\nend\n";
+
+/// `int f(int n) { return n == 0 ? 0 : f(n-1) + 1 } f(9)`
+const CALLS: &str =
+    "painless 1\nfun 0 loop R - -\ni 9\ncall 1\nbox int\nret\nend\nfun 1 loop I I -\nload 0\ni 0\neq.i\nifz 6\ni 0\nret\nload 0\ni 1\nsub.i\ncall 1\ni 1\nadd.i\nret\nend\n";
+
+/// A list, for which no row is built yet.
+const LIST: &str = "painless 1\nfun 0 loop R - -\nlist 0\nret\nend\n";
+
+/// A loop of a function without a limit of turns, and of one with it.
+const HEADERS: [(&str, Which); 2] = [
+    (
+        "painless 1\nfun 0 free R - -\ni 1\nloop 0\nnull\nret\nend\n",
+        Which::Ticks,
+    ),
+    (
+        "painless 1\nfun 0 loop R - -\ni 1\nloop 0\nnull\nret\nend\n",
+        Which::Loop,
+    ),
+];
+
+const LIMITS: Limits = Limits {
+    loops: 5,
+    depth: 100,
+    ticks: 100,
+};
+
+fn verified(
+    alloc: Global,
+    allow: &Allow,
+    text: &str,
+) -> Result<Option<VerifiedExecutable>, AllocError> {
+    match read_listing(alloc, text.as_bytes()) {
+        Ok(code) => match verify(alloc, allow, code) {
+            Ok(verified) => Ok(Some(VerifiedExecutable::new(alloc, verified)?)),
+            Err(_) => Ok(None),
+        },
+        Err(_) => Ok(None),
+    }
+}
+
+/// A run without arguments, where the code takes none and has rows.
+fn started<'c>(
+    alloc: Global,
+    code: &'c VerifiedExecutable,
+) -> Result<Option<VerifiedActivation<'c>>, AllocError> {
+    let arguments = Elements::new(alloc);
+    if !have_rows(code.allow(), code.code()) {
+        return Ok(None);
+    }
+    if !fit_main(code.code(), arguments.as_slice()) {
+        return Ok(None);
+    }
+    let heap = Heap::new(alloc, 1000);
+    match VerifiedActivation::start(code, heap, arguments, LIMITS) {
+        Ok(activation) => Ok(Some(activation)),
+        Err(error) => Err(error),
+    }
+}
+
+fn is_int(end: &End, wanted: i32) -> bool {
+    match end {
+        End::Result(Some(Word::R(Value::Int(number)))) => *number == wanted,
+        _ => false,
+    }
+}
+
+fn leaves(activation: VerifiedActivation<'_>, number: i32, steps: u64, ticks: u64) -> bool {
+    match activation.outcome() {
+        Some(outcome) => leaves_so(&outcome, number, steps, ticks),
+        None => false,
+    }
+}
+
+fn left(activation: Option<VerifiedActivation<'_>>, number: i32, steps: u64, ticks: u64) -> bool {
+    match activation {
+        Some(activation) => leaves(activation, number, steps, ticks),
+        None => false,
+    }
+}
+
+fn leaves_so(outcome: &Outcome, number: i32, steps: u64, ticks: u64) -> bool {
+    is_int(&outcome.end, number) && outcome.steps == steps && outcome.ticks == ticks
+}
+
+/// Two runs take turns of `q` instructions: first the second, then twice the first, and then both until they end.
+fn take_turns(
+    first: &VerifiedExecutable,
+    second: &VerifiedExecutable,
+    alloc: Global,
+    q: u64,
+) -> Result<bool, AllocError>
+    requires { 0 < q }
+{
+    match (started(alloc, first)?, started(alloc, second)?) {
+        (Some(sum), Some(calls)) => {
+            let mut tasks = Vec::new(alloc);
+            tasks.push(sum)?;
+            tasks.push(calls)?;
+            run_order(&mut tasks, &[1, 0, 0], q)?;
+            Ok(left(tasks.pop(), 9, 109, 10) && left(tasks.pop(), 10, 72, 5))
+        }
+        _ => Ok(false),
+    }
+}
+
+fn both_end(alloc: Global, q: u64) -> Result<bool, AllocError>
+    requires { 0 < q }
+{
+    let allow = Catalogue::full(alloc)?;
+    match (
+        verified(alloc, &allow, SUM)?,
+        verified(alloc, &allow, CALLS)?,
+    ) {
+        (Some(sum), Some(calls)) => take_turns(&sum, &calls, alloc, q),
+        _ => Ok(false),
+    }
+}
+
+#[test]
+fn turns_of_one_instruction(rt: HostRuntime) -> Result<(), Fail> {
+    let end = both_end(rt.alloc(), 1)?;
+    assert!(rt; end);
+    Ok(())
+}
+
+#[test]
+fn turns_of_seven_instructions(rt: HostRuntime) -> Result<(), Fail> {
+    let end = both_end(rt.alloc(), 7)?;
+    assert!(rt; end);
+    Ok(())
+}
+
+#[test]
+fn one_turn(rt: HostRuntime) -> Result<(), Fail> {
+    let end = both_end(rt.alloc(), 1_000)?;
+    assert!(rt; end);
+    Ok(())
+}
+
+/// Code without rows does not start.
+#[test]
+fn a_row_is_wanting(rt: HostRuntime) -> Result<(), Fail> {
+    let allow = Catalogue::full(rt.alloc())?;
+    let refused = match verified(rt.alloc(), &allow, LIST)? {
+        Some(code) => !have_rows(code.allow(), code.code()),
+        None => false,
+    };
+    assert!(rt; refused);
+    Ok(())
+}
+
+fn is_limit(end: &End, wanted: Which) -> bool {
+    match end {
+        End::Limit(which) => *which == wanted,
+        _ => false,
+    }
+}
+
+fn ends_at(activation: VerifiedActivation<'_>, wanted: Which) -> bool {
+    match activation.outcome() {
+        Some(outcome) => is_limit(&outcome.end, wanted),
+        None => false,
+    }
+}
+
+fn passes(alloc: Global, listing: &str, wanted: Which) -> Result<bool, AllocError> {
+    let allow = Catalogue::full(alloc)?;
+    match verified(alloc, &allow, listing)? {
+        Some(code) => match started(alloc, &code)? {
+            Some(mut activation) => {
+                activation.advance(1_000);
+                Ok(ends_at(activation, wanted))
+            }
+            None => Ok(false),
+        },
+        None => Ok(false),
+    }
+}
+
+/// Where the header says so there is no limit of turns, and a loop ends for want of ticks.
+#[test]
+fn limits_of_turns(rt: HostRuntime) -> Result<(), Fail> {
+    for (listing, wanted) in HEADERS.iter() {
+        let ends = passes(rt.alloc(), listing, *wanted)?;
+        assert!(rt; ends);
+    }
+    Ok(())
+}

@@ -1,0 +1,23 @@
+-- How many instructions a run of verified code takes at most.
+use Rattle.std.specs.Prelude.{◌≡◌, ℕ, ◌+◌, ◌*◌, max, List, [], ◌∷◌, Option, length}
+use Rattle.pl_code.specs.declared.code.FunCode.{FunCode}
+use Rattle.allowlist.specs.Allow.{AllowList}
+use Rattle.run_state.specs.World.{Limits, End}
+use Rattle.code_meaning.specs.declared.word.Word.{Word}
+use Rattle.code_meaning.specs.Machine.{Next, Ends, after}
+use Rattle.verifier_soundness.specs.Fits.{FitsEnd, with_prelude}
+
+-- the lines of the longest function
+abbrev pub longest : List FunCode → ℕ
+longest [] = 0
+longest (f ∷ fs) = max (length f.lines) (longest fs)
+
+-- Between two ticks no frame goes back, so that each of the frames that the limit of depth allows takes each of its lines at most once.
+abbrev pub most_steps : List FunCode → Limits → ℕ → ℕ
+most_steps code limits ticks = (ticks + 1) * (limits.depth + 1) * longest code
+
+-- It has ended after so many steps, in an end that fits.
+pub record EndsWithin (allow : AllowList) (code prelude : List FunCode) (limits : Limits) (steps : ℕ) (from : Next) : Type 0 where
+  pub end : End (Option Word)
+  pub ends : after (with_prelude code prelude) limits steps from ≡ Ends end
+  pub fits : FitsEnd allow code end
