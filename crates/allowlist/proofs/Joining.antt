@@ -1,5 +1,5 @@
 -- Names that are joined, byte by byte.
-use Rattle.std.proofs.Common.{◌≡◌, ℕ, ◌+◌, ◌<◌, ◌≤◌, Bool, true, false, not, List, [], ◌∷◌, Option, Some, None, get_or, length, drop, refl, ap, ◌∙◌, add-one, drop-cons, arith}
+use Rattle.std.proofs.Common.{◌≡◌, ℕ, ◌+◌, ◌<◌, ◌≤◌, Bool, false, not, List, ◌∷◌, Option, Some, None, get_or, length, drop, ap, ◌∙◌, add-one, drop-cons}
 use Rattle.std.proofs.lemmas.List.{at_drop_all}
 use Rattle.allowlist.specs.Lines.{joined_after, joined_or, names_joined}
 

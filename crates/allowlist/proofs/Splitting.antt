@@ -2,7 +2,7 @@
 use Rattle.std.proofs.Common.{◌≡◌, ℕ, suc, ◌+◌, Bool, true, false, cond, not, eqb, List, [], ◌∷◌, length, take, drop, Result, Ok, Err, Option, refl, sym, ap, ◌∙◌, ◌<◌, arith}
 use Rattle.std.proofs.lemmas.Bool.{ne_eqb, false≢true}
 use Rattle.allowlist.specs.Allow.{AllowList}
-use Rattle.allowlist.specs.Files.{lines_of, begins_line, line_len, is_last, read_lines, after_line, line_result, Reading, Fault, Syntax, Unknown}
+use Rattle.allowlist.specs.Files.{lines_of, begins_line, line_len, is_last, read_lines, next_line, after_line, line_result, Reading, Fault, Syntax, Unknown}
 use Rattle.allowlist.specs.declared.error.AllowErr.{AllowErr}
 use Rattle.allowlist.specs.declared.error.AllowErr.TheVariants as error
 use Rattle.allowlist.specs.Answers.{ReadAnswers}
@@ -31,14 +31,14 @@ last_line (b ∷ bs) = ap is_last (one_line b bs) ∙ sym (ne_eqb (length (b ∷
 
 -- One line, and what it makes of what was read before.
 
-pub reads_on : (n : ℕ) (r s : Reading) (text : List ℕ) → 0 < length text → line_result n r (eqb (length (drop (line_len text + 1) text)) 0) (take (line_len text) text) ≡ Ok s → read_lines n r (lines_of text) ≡ read_lines (n + 1) s (lines_of (drop (line_len text + 1) text))
+pub reads_on : (n : ℕ) (r s : Reading) (text : List ℕ) → 0 < length text → line_result n r (eqb (length (drop (line_len text + 1) text)) 0) (take (line_len text) text) ≡ Ok s → read_lines n r (lines_of text) ≡ read_lines (next_line n) s (lines_of (drop (line_len text + 1) text))
 unfolding read_lines
 reads_on n r s [] h e = absurd (omega arith)
 reads_on n r s (b ∷ bs) h e =
     let rest = drop (line_len (b ∷ bs) + 1) (b ∷ bs) in
     ap (read_lines n r) (one_line b bs)
-    ∙ ap (λ t. after_line (line_result n r t (take (line_len (b ∷ bs)) (b ∷ bs))) (λ s. read_lines (n + 1) s (lines_of rest))) (last_line rest)
-    ∙ ap (λ o. after_line o (λ s. read_lines (n + 1) s (lines_of rest))) e
+    ∙ ap (λ t. after_line (line_result n r t (take (line_len (b ∷ bs)) (b ∷ bs))) (λ s. read_lines (next_line n) s (lines_of rest))) (last_line rest)
+    ∙ ap (λ o. after_line o (λ s. read_lines (next_line n) s (lines_of rest))) e
 
 pub reads_fault : (n : ℕ) (r : Reading) (fault : Fault) (text : List ℕ) → 0 < length text → line_result n r (eqb (length (drop (line_len text + 1) text)) 0) (take (line_len text) text) ≡ Err fault → read_lines n r (lines_of text) ≡ Err fault
 unfolding read_lines
@@ -46,8 +46,8 @@ reads_fault n r fault [] h e = absurd (omega arith)
 reads_fault n r fault (b ∷ bs) h e =
     let rest = drop (line_len (b ∷ bs) + 1) (b ∷ bs) in
     ap (read_lines n r) (one_line b bs)
-    ∙ ap (λ t. after_line (line_result n r t (take (line_len (b ∷ bs)) (b ∷ bs))) (λ s. read_lines (n + 1) s (lines_of rest))) (last_line rest)
-    ∙ ap (λ o. after_line o (λ s. read_lines (n + 1) s (lines_of rest))) e
+    ∙ ap (λ t. after_line (line_result n r t (take (line_len (b ∷ bs)) (b ∷ bs))) (λ s. read_lines (next_line n) s (lines_of rest))) (last_line rest)
+    ∙ ap (λ o. after_line o (λ s. read_lines (next_line n) s (lines_of rest))) e
 
 pub reads_end : (n : ℕ) (r : Reading) (text : List ℕ) → length text ≡ 0 → read_lines n r (lines_of text) ≡ Ok r.allow
 unfolding read_lines
@@ -62,7 +62,7 @@ some_byte (b ∷ bs) h = omega arith
 rewritten : (n : ℕ) (r : Reading) (text line after : List ℕ) (last : Bool) → last ≡ eqb (length after) 0 → line ≡ take (line_len text) text → after ≡ drop (line_len text + 1) text → line_result n r last line ≡ line_result n r (eqb (length (drop (line_len text + 1) text)) 0) (take (line_len text) text)
 rewritten n r text line after last a b c = ap (λ x. line_result n r x line) a ∙ ap (line_result n r (eqb (length after) 0)) b ∙ ap (λ x. line_result n r (eqb (length x) 0) (take (line_len text) text)) c
 
-pub reads_step : (n next : ℕ) (r s : Reading) (text line after : List ℕ) (last : Bool) → last ≡ eqb (length after) 0 → line ≡ take (line_len text) text → after ≡ drop (line_len text + 1) text → eqb (length text) 0 ≡ false → next ≡ n + 1 → line_result n r last line ≡ Ok s → read_lines n r (lines_of text) ≡ read_lines next s (lines_of after)
+pub reads_step : (n next : ℕ) (r s : Reading) (text line after : List ℕ) (last : Bool) → last ≡ eqb (length after) 0 → line ≡ take (line_len text) text → after ≡ drop (line_len text + 1) text → eqb (length text) 0 ≡ false → next ≡ next_line n → line_result n r last line ≡ Ok s → read_lines n r (lines_of text) ≡ read_lines next s (lines_of after)
 reads_step n next r s text line after last a b c some e h =
     reads_on n r s text (some_byte text some) (sym (rewritten n r text line after last a b c) ∙ h)
     ∙ ap (λ m. read_lines m s (lines_of (drop (line_len text + 1) text))) (sym e)

@@ -1,5 +1,5 @@
 -- Allowlist files.
-use Rattle.std.specs.Prelude.{◌==◌, ◌+◌, ◌-◌, ◌&&◌, ◌||◌, not, ℕ, Bool, true, false, List, [], ◌∷◌, Option, Some, None, Result, Ok, Err, if◌then◌else◌, is_some, nat_lt, codes}
+use Rattle.std.specs.Prelude.{◌==◌, ◌+◌, ◌-◌, ◌&&◌, ◌||◌, not, ℕ, Bool, true, false, List, [], ◌∷◌, Option, Some, None, Result, Ok, Err, if◌then◌else◌, is_some, nat_lt, codes, min, ◌^◌}
 use Rattle.std.specs.Str.{bytes_eq}
 use Rattle.std.specs.List.{position_or_len}
 use Rattle.pl_types.specs.declared.ty.Ty.{Ty}
@@ -162,10 +162,14 @@ abbrev pub after_line : Result Reading Fault → (Reading → Result AllowList F
 after_line (Ok r) next = next r
 after_line (Err fault) next = Err fault
 
+-- the number of the line behind one: it stands still at the most that 32 bits hold
+abbrev pub next_line : ℕ → ℕ
+next_line n = min (n + 1) (2 ^ 32 - 1)
+
 -- the lines from one on, which has the number n
 unfoldable pub read_lines : ℕ → Reading → List (List ℕ) → Result AllowList Fault
 read_lines n r [] = Ok r.allow
-read_lines n r (line ∷ lines) = after_line (line_result n r (is_last lines) line) (λ s. read_lines (n + 1) s lines)
+read_lines n r (line ∷ lines) = after_line (line_result n r (is_last lines) line) (λ s. read_lines (next_line n) s lines)
 
 -- The list that a file denotes, or the first fault.
 unfoldable pub allowlist_of : List ℕ → Result AllowList Fault

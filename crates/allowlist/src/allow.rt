@@ -1,6 +1,6 @@
 //! Lists of what scripts may use, and what is found in them.
 
-ghost use Rattle.std.specs.Prelude.{◌≡◌, ◌<◌, ◌&&◌, Some, slice_get, IfOk, length};
+ghost use Rattle.std.specs.Prelude.{◌≡◌, ◌<◌, Some, slice_get, IfOk, length};
 ghost use Rattle.pl_types.specs.Classes.{full_name};
 ghost use Rattle.allowlist.specs.Accessors.{accessor_name, arity_of, seen_name};
 ghost use Rattle.allowlist.specs.Catalogue.{catalogue};

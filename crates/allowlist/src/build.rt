@@ -1,6 +1,6 @@
 //! The parts of a list, made anew.
 
-ghost use Rattle.std.specs.Prelude.{◌≡◌, ◌++◌, [], map, replicate, true, false, IfOk};
+ghost use Rattle.std.specs.Prelude.{◌≡◌, map, true, false, IfOk};
 ghost use Rattle.allowlist.specs.Catalogue.{catalogue};
 ghost use Rattle.allowlist.specs.Allow.{flags};
 ghost use Rattle.allowlist.specs.Rows.{seen_row, seen_type, seen_element, seen_kind, seen_origin};

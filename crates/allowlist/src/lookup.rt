@@ -1,9 +1,8 @@
 //! A list as the lineage of classes and as the names of classes.
 
 ghost use Rattle.std.specs.Prelude.{◌≡◌, ◌&&◌, ◌||◌, ◌<◌};
-ghost use Rattle.std.specs.Str.{bytes_eq};
-ghost use Rattle.pl_types.specs.Classes.{class_is_below, full_name, short_name};
-ghost use Rattle.allowlist.specs.Allow.{class_named_of, dotted, is_named};
+ghost use Rattle.pl_types.specs.Classes.{class_is_below};
+ghost use Rattle.allowlist.specs.Allow.{class_named_of, is_named};
 
 use crate::allow::Allow;
 use crate::names::is_dotted;

@@ -196,10 +196,7 @@ impl Allow {
                 Ok(class) => inside = class,
                 Err(fault) => return Err(fault),
             }
-            let Some(next) = number.checked_add(1) else {
-                return Err(AllowErr::NoMemory);
-            };
-            number = next;
+            number = number.saturating_add(1);
             rest = after;
         }
         Ok(allow)

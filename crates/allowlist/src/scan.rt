@@ -3,7 +3,7 @@
 ghost use Rattle.std.specs.Prelude.{◌≡◌, ◌≤◌, length, option_map};
 ghost use Rattle.std.specs.Option.{option_copied};
 ghost use Rattle.std.specs.List.{list_any, prefix_len};
-ghost use Rattle.allowlist.specs.Lines.{is_blank, is_word_byte, past_blanks, word_at, is_letter, is_digit, is_joint, joined_after, names_joined, is_class_name, is_name, class_name_at, name_at, mark_at, brackets_at, type_at};
+ghost use Rattle.allowlist.specs.Lines.{is_blank, is_word_byte, past_blanks, word_at, is_letter, is_digit, is_joint, joined_after, is_class_name, is_name, class_name_at, name_at, mark_at, brackets_at, type_at};
 ghost use Rattle.allowlist.specs.Seen.{seen_pair, seen_counted, seen_typed};
 
 /// A type as a line has it: a word and the number of its `[]`.

@@ -2,9 +2,9 @@
 
 ghost use Rattle.std.specs.Prelude.{◌≡◌, ◌≤◌, ◌==◌, ◌||◌, ◌&&◌, true, List, ℕ, IfOk, length};
 ghost use Rattle.std.specs.Option.{option_copied};
-ghost use Rattle.std.specs.List.{list_all, list_any, slice_split, position_or_len};
+ghost use Rattle.std.specs.List.{list_all, list_any, position_or_len};
 ghost use Rattle.std.specs.Str.{bytes_eq};
-ghost use Rattle.listing_parts.specs.Names.{is_letter, is_word_byte, is_word, type_words, other_words, is_one_of, is_name, is_joint, is_class, is_pairs, is_type, last_joint, is_field, is_slash, before_arity, is_method, is_constructor, formed};
+ghost use Rattle.listing_parts.specs.Names.{is_letter, is_word_byte, is_word, type_words, other_words, is_one_of, is_name, is_joint, is_class, is_pairs, is_type, last_joint, is_field, before_arity, is_method, is_constructor, formed};
 
 use crate::numbers::natural;
 use plain_data::Text;
@@ -216,6 +216,7 @@ impl Word {
         Ok(Some(Word { text }))
     }
 
+    /// The word.
     pub fn as_str(&self) -> &str
         ensures text { result.now ≡ self.now }
         ensures form { is_word self.now ≡ true }
@@ -253,6 +254,7 @@ impl ClassName {
         Ok(Some(ClassName { text }))
     }
 
+    /// The name of the class in full.
     pub fn as_str(&self) -> &str
         ensures text { result.now ≡ self.now }
         ensures form { is_class self.now ≡ true }
@@ -290,6 +292,7 @@ impl TypeName {
         Ok(Some(TypeName { text }))
     }
 
+    /// The type as a listing writes it.
     pub fn as_str(&self) -> &str
         ensures text { result.now ≡ self.now }
         ensures form { is_type self.now ≡ true }
@@ -327,6 +330,7 @@ impl FieldName {
         Ok(Some(FieldName { text }))
     }
 
+    /// The field's name, its class first.
     pub fn as_str(&self) -> &str
         ensures text { result.now ≡ self.now }
         ensures form { is_field self.now ≡ true }
@@ -364,6 +368,7 @@ impl MethodName {
         Ok(Some(MethodName { text }))
     }
 
+    /// The method's name, its class first and its arity last.
     pub fn as_str(&self) -> &str
         ensures text { result.now ≡ self.now }
         ensures form { is_method self.now ≡ true }
@@ -401,6 +406,7 @@ impl ConstructorName {
         Ok(Some(ConstructorName { text }))
     }
 
+    /// The constructor's name, its class first and its arity last.
     pub fn as_str(&self) -> &str
         ensures text { result.now ≡ self.now }
         ensures form { is_constructor self.now ≡ true }

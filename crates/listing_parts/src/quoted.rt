@@ -1,10 +1,10 @@
 //! Texts in double quotes.
 
-ghost use Rattle.std.specs.Prelude.{◌≡◌, ◌++◌, ◌∷◌, ◌<◌, ◌/◌, ◌%◌, ℕ, List, [], IfOk, OnOk, length, option_map, ◌==◌, ◌&&◌};
+ghost use Rattle.std.specs.Prelude.{◌≡◌, ◌++◌, ◌∷◌, ◌<◌, ◌/◌, ◌%◌, [], IfOk, OnOk, length, option_map, ◌==◌, ◌&&◌};
 ghost use Rattle.std.specs.String.{string_bytes};
 ghost use Rattle.std.specs.Str.{bytes_eq, is_utf8};
 ghost use Rattle.listing_parts.specs.Names.{formed};
-ghost use Rattle.listing_parts.specs.Quoted.{hex_digit, escaped_letter, quoted, control_of, control_at, escape_at, byte_at, unquoted, behind_quote, text_of};
+ghost use Rattle.listing_parts.specs.Quoted.{hex_digit, escaped_letter, quoted, control_of, control_at, escape_at, byte_at, unquoted, text_of};
 ghost use Rattle.listing_parts.specs.Seen.{seen_byte};
 
 use plain_data::Text;

@@ -1,6 +1,6 @@
 //! Parts of a line.
 
-ghost use Rattle.std.specs.Prelude.{◌≡◌, option_map, List, ℕ};
+ghost use Rattle.std.specs.Prelude.{◌≡◌, option_map};
 ghost use Rattle.listing_parts.specs.Split.{split_at_blank};
 ghost use Rattle.listing_parts.specs.Seen.{seen_pair};
 

@@ -1,5 +1,5 @@
 //! Which members are built, and the call of one.
-ghost use Rattle.std.specs.Prelude.{◌≡◌, ◌&&◌, codes, length, nat_le, nat_lt};
+ghost use Rattle.std.specs.Prelude.{◌≡◌, ◌&&◌, length, nat_le, nat_lt};
 ghost use Rattle.pl_types.specs.Host.{no_host};
 ghost use Rattle.object_heap.specs.Effects.{Answers};
 ghost use Rattle.object_heap.specs.Fits.{Rules, Fits, AllFit};

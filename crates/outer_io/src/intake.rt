@@ -1,6 +1,6 @@
 //! What is taken from a source, piece by piece, and not given out yet.
 
-ghost use Rattle.std.specs.Prelude.{◌≡◌, ℕ, ◌+◌, ◌≤◌, List, [], ◌++◌, length, true, false, IfOk, IfSome, IfNone};
+ghost use Rattle.std.specs.Prelude.{◌≡◌, ℕ, ◌+◌, ◌≤◌, List, [], ◌++◌, true, false, IfOk, IfSome, IfNone};
 ghost use Rattle.outer_io.specs.Faults.{HasCause};
 ghost use Rattle.outer_io.specs.Lines.{IsUnbroken};
 ghost use Rattle.outer_io.specs.Gathering.{BreaksAt, Holds, Gathers, Refills};

@@ -19,7 +19,7 @@ pub struct SureFiles {
 }
 
 impl Model for SureFiles {
-    ghost use Rattle.std.specs.Prelude.{List, map, string_bytes};
+    ghost use Rattle.std.specs.Prelude.{List};
     ghost use Rattle.outer_io.specs.Memory.{Document};
 
     ghost Value = { List Document };

@@ -1,5 +1,5 @@
 -- What a run leaves in its sink.
-use Rattle.std.proofs.Common.{◌≡◌, ℕ, ◌<◌, ◌≤◌, inl, inr, List, [], length, replicate, Option, None, Some, IfSome, Bool, true, false, Result, Ok, Err, refl, sym, ap, subst, ◌∙◌, append-nil, suc, arith}
+use Rattle.std.proofs.Common.{◌≡◌, ℕ, ◌<◌, ◌≤◌, inl, inr, List, [], length, replicate, Option, None, Some, IfSome, Bool, true, false, Result, Ok, Err, refl, sym, ap, subst, append-nil, suc, arith}
 use Rattle.std.proofs.lemmas.List.{length-replicate}
 use Rattle.std.specs.Io.KnownBytes.{Appends}
 use Rattle.outer_io.specs.Front.{AppendsFront}

@@ -1,6 +1,5 @@
 -- Each stage has one answer, and so one thing is told.
-use Rattle.std.proofs.Common.{◌≡◌, ℕ, List, [], ◌∷◌, codes, Option, None, Some, Result, Ok, Err, inl, inr, sym, subst, ◌∙◌, ap, arith}
-use Rattle.pl_types.specs.declared.refusal.Refusal.{Refusal}
+use Rattle.std.proofs.Common.{◌≡◌, ℕ, List, [], ◌∷◌, codes, Option, None, Some, Ok, Err, inl, inr, sym, subst, ◌∙◌, ap, arith}
 use Rattle.object_values.specs.declared.value.Value.{Value}
 use Rattle.allowlist.specs.Allow.{full_list}
 use Rattle.run_state.specs.World.{End}

@@ -1,11 +1,10 @@
 -- What a text comes to, from its script and the script's run.
-use Rattle.std.proofs.Common.{◌≡◌, ℕ, List, [], Option, Result, Ok, Err, IfOk, refl, sym, ap, ◌∙◌, subst}
+use Rattle.std.proofs.Common.{◌≡◌, ℕ, List, [], Result, Ok, Err, IfOk, refl, sym, ap, ◌∙◌, subst}
 use Rattle.std.specs.declared.alloc.AllocError.{AllocError}
 use Rattle.pl_types.specs.Answers.{Answers}
 use Rattle.pl_types.specs.declared.refusal.Refusal.{Refusal}
 use Rattle.pl_types.specs.declared.refusal.Fail.{Fail}
 use Rattle.pl_types.specs.declared.refusal.Fail.TheVariants.{Refused, NoMemory}
-use Rattle.pl_types.specs.declared.ty.Ty.{out-Ty}
 use Rattle.allowlist.specs.Allow.{full_list}
 use Rattle.object_values.specs.declared.value.Value.{Value}
 use Rattle.object_heap.specs.declared.outcome.Which.{Which}
@@ -18,11 +17,10 @@ use Rattle.typed_tree.specs.declared.program.Program.{Program}
 use Rattle.machine.specs.Seen.{limit_of}
 use Rattle.json_replies.specs.Replies.{reply_of}
 use Rattle.script_engine.specs.declared.compiling.Script.{Script}
-use Rattle.script_engine.specs.Stages.{GoesOn, Then}
+use Rattle.script_engine.specs.Stages.{GoesOn}
 use Rattle.script_engine.specs.Programs.{IsProgramOf}
 use Rattle.script_engine.specs.Compiling.{IsScriptOf, Compiles}
-use Rattle.script_engine.specs.Ends.{RunsTo}
-use Rattle.script_engine.specs.Running.{end_seen, world_left, IsOutcome, RunsAsItsProgram}
+use Rattle.script_engine.specs.Running.{end_seen, world_left, RunsAsItsProgram}
 use Rattle.script_engine.proofs.Ends.{ends_once}
 use Rattle.painless_cli.specs.declared.reply.Answer.{Answer}
 use Rattle.painless_cli.specs.Script.{Decodes, eval_types, eval_limits, eval_world, RunsProgram, MeansText, Means}

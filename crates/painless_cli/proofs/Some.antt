@@ -1,5 +1,5 @@
 -- Each stage has an answer, and so something is told.
-use Rattle.std.proofs.Common.{◌≡◌, ℕ, zero, suc, ◌<◌, ◌≤◌, Bool, true, false, nat_le, List, [], ◌∷◌, length, take, codes, Option, None, Some, Result, Ok, Err, inl, inr, ◌⊎◌, refl, sym, subst, ◌∙◌, ap, arith, rules}
+use Rattle.std.proofs.Common.{◌≡◌, ℕ, zero, suc, ◌<◌, ◌≤◌, Bool, true, false, List, [], ◌∷◌, length, take, codes, Option, None, Some, Result, Ok, Err, inl, inr, ◌⊎◌, refl, subst, ap, arith, rules}
 use Rattle.std.proofs.lemmas.Bool.{cases_order}
 use Rattle.std.proofs.lemmas.List.{take_all}
 use Rattle.std.proofs.lemmas.Str.{IsUtf8-nil, IsUtf8-from_is_utf8, is_utf8-from_IsUtf8}
@@ -17,7 +17,7 @@ use Rattle.script_engine.specs.Laws.{TextsAreAnswered, ProgramsEnd}
 use Rattle.script_engine.proofs.Texts.{Answered, then_some}
 use Rattle.painless_cli.specs.declared.status.Status.TheVariants as s
 use Rattle.painless_cli.specs.Script.{Decodes, eval_types, eval_limits, eval_world, MeansText, Means}
-use Rattle.painless_cli.specs.Whole.{Told, told_of, silent, file_limit, TellsScript, TellsFile, IsEval, Tells}
+use Rattle.painless_cli.specs.Whole.{told_of, silent, file_limit, TellsScript, TellsFile, IsEval, Tells}
 
 contradicts : {b : Bool} → b ≡ true → b ≡ false → ⊥
 contradicts holds fails = cc

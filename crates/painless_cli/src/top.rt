@@ -1,6 +1,6 @@
 //! The top call: from the words to the report.
 
-ghost use Rattle.std.specs.Prelude.{◌≡◌, ◌≢◌, ◌↔◌, ℕ, List, [], Option, IfSome, IfOk, map, string_bytes, length, ◌≤◌, MatchOption, Result};
+ghost use Rattle.std.specs.Prelude.{◌≡◌, ◌≢◌, ◌↔◌, ℕ, List, [], Option, IfSome, map, string_bytes, length, ◌≤◌, MatchOption};
 ghost use Rattle.outer_io.specs.Faults.{next_count};
 ghost use Rattle.painless_cli.specs.Whole.{IsEval, Tells, TellsFile, TellsScript, file_limit};
 ghost use Rattle.painless_cli.specs.Delivers.{Delivers};

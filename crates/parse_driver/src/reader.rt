@@ -2,12 +2,12 @@
 //! symbol goes on the stack, and a rule's symbols give way there to what the rule makes of them. Phrases inside phrases are read
 //! by frames and not by functions that call themselves, so that no script is too deep for the machine's own stack.
 
-ghost use Rattle.std.specs.Prelude.{◌≡◌, ℕ, ◌+◌, ◌<◌, ◌≤◌, List, ◌∷◌, length, Result, Ok, OnOk};
+ghost use Rattle.std.specs.Prelude.{ℕ, ◌+◌, ◌<◌, ◌≤◌, List, ◌∷◌, length, Result, Ok, OnOk};
 ghost use Rattle.pl_grammar.specs.Lexeme.{Lexeme};
 ghost use Rattle.pl_grammar.specs.Grammar as grammar;
 ghost use Rattle.pl_grammar.specs.Grammar.{TreeOf, SymbolTree};
 ghost use Rattle.pl_grammar.specs.Reading as reading;
-ghost use Rattle.pl_grammar.specs.Reading.{Outcome, and_then};
+ghost use Rattle.pl_grammar.specs.Reading.{and_then};
 ghost use Rattle.parse_tables.specs.Names.{form_of, series_form, symbol_of};
 ghost use Rattle.parse_values.specs.declared.value.Value as declared;
 ghost use Rattle.parse_values.specs.Values.{value_of, list_value};

@@ -1,6 +1,6 @@
 //! The parts of lines that are words of a few.
 
-ghost use Rattle.std.specs.Prelude.{◌≡◌, ◌==◌, ◌∷◌, [], IfOk, codes, List, ℕ};
+ghost use Rattle.std.specs.Prelude.{◌≡◌, ◌==◌, [], IfOk, codes};
 ghost use Rattle.std.specs.Str.{bytes_eq};
 ghost use Rattle.pl_code.specs.Words.{way_word, primitive_word, slot_letter, loop_word};
 ghost use Rattle.pl_code.specs.Lines.{way_of, primitive_of, loops_of, letter_of, result_of, letters_of, slots_of, interface_of};

@@ -1,10 +1,9 @@
 //! One line of a listing.
 
-ghost use Rattle.std.specs.Prelude.{◌≡◌, IfOk, Some, None, if◌then◌else◌, List, ℕ};
+ghost use Rattle.std.specs.Prelude.{◌≡◌, IfOk, Some, None, if◌then◌else◌};
 ghost use Rattle.pl_code.specs.Reading.{next};
 ghost use Rattle.listing_parts.specs.Split.{both};
 ghost use Rattle.listing_parts.specs.Names.{formed, is_class, is_type, is_word};
-ghost use Rattle.listing_parts.specs.Numbers.{natural_of};
 ghost use Rattle.pl_code.specs.Lines.{number_of, loops_of, result_of, slots_of, interface_of, numbered_of, int_of, long_of, quoted_of, boxing_of, unboxing_of, cast_of, typed_of, sized_of, defcall_of, invoke_of, new_of, field_of, lambda_of, ref_of, newref_of, header_of, trap_of, operand_line, bare_line, line_of};
 
 use crate::code::{Instruction, Trap};

@@ -1,12 +1,11 @@
 //! Reading a listing.
 
-ghost use Rattle.std.specs.Prelude.{◌≡◌, ◌+◌, ◌<◌, ◌==◌, true, false, IfOk, OnOk, Option, Some, None, if◌then◌else◌, List, ℕ, [], length, option_map};
+ghost use Rattle.std.specs.Prelude.{◌≡◌, ◌+◌, ◌<◌, ◌==◌, true, false, IfOk, Option, Some, None, if◌then◌else◌, ℕ, [], option_map};
 ghost use Rattle.std.specs.Str.{bytes_eq};
 ghost use Rattle.std.specs.Char.{is_ascii_digit};
 ghost use Rattle.std.specs.List.{list_all};
-ghost use Rattle.pl_code.specs.Listing.{first_line};
 ghost use Rattle.pl_code.specs.Reading.{next, next_line, told, finished, is_natural, is_negative, is_integer, is_other_version};
-ghost use Rattle.pl_code.specs.Reading.{first_ended, is_newline, reading_in, read_bytes, first_fault, listing_of, Gives};
+ghost use Rattle.pl_code.specs.Reading.{first_ended, reading_in, read_bytes, first_fault, listing_of, Gives};
 ghost use Rattle.pl_code.specs.Seen.{seen_pair};
 ghost use Rattle.pl_code.specs.Listing.{is_code, written};
 ghost use Rattle.pl_code.specs.Faults.{FaultsAt, first_of, IsReading};

@@ -1,13 +1,13 @@
 //! Writing a listing.
 
-ghost use Rattle.std.specs.Prelude.{◌≡◌, ◌++◌, ◌∷◌, [], OnOk, IfOk, decimal, map, ℕ, List};
+ghost use Rattle.std.specs.Prelude.{◌≡◌, ◌++◌, ◌∷◌, [], OnOk, IfOk, decimal, map};
 ghost use Rattle.std.specs.Fmt.{signed_decimal};
 ghost use Rattle.std.specs.String.{string_bytes};
 ghost use Rattle.listing_parts.specs.Split.{spaced};
 ghost use Rattle.listing_parts.specs.Quoted.{quoted};
 ghost use Rattle.pl_code.specs.Words.{head_word, way_word, primitive_word, loop_word, slot_letter};
 ghost use Rattle.pl_code.specs.Instructions.{interface_text, with_operand, instruction_text};
-ghost use Rattle.pl_code.specs.Listing.{result_text, slots_text, header_text, trap_text, ended, text_of, function_lines, written};
+ghost use Rattle.pl_code.specs.Listing.{result_text, slots_text, header_text, trap_text, text_of, function_lines, written};
 ghost use Rattle.pl_code.specs.declared.head.Head.TheVariants as head;
 
 use crate::code::{Code, FunCode, Instruction, Trap};

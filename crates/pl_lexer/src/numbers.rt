@@ -2,9 +2,9 @@
 
 ghost use Rattle.std.specs.Prelude.{◌≡◌, ◌+◌, ◌≤◌, true, length, drop};
 ghost use Rattle.std.specs.Char.{is_ascii_digit, is_ascii_hexdigit};
-ghost use Rattle.pl_lexer.specs.Bytes.{begins, is_octal_digit};
+ghost use Rattle.pl_lexer.specs.Bytes.{begins};
 ghost use Rattle.pl_lexer.specs.Numbers.{number_of, dot_number_of};
-ghost use Rattle.pl_lexer.specs.Lengths.{whole_length, mark_length, digits_length, begins_hexadecimal, hexadecimal_length, integer_length, goes_decimal};
+ghost use Rattle.pl_lexer.specs.Lengths.{whole_length, mark_length, begins_hexadecimal, integer_length, goes_decimal};
 ghost use Rattle.pl_lexer.specs.Longest.{Finds};
 
 use crate::Kind;

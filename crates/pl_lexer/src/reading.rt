@@ -1,6 +1,6 @@
 //! What leads a text, by its first byte.
 
-ghost use Rattle.std.specs.Prelude.{◌≡◌, ◌<◌, length, drop};
+ghost use Rattle.std.specs.Prelude.{◌<◌, length, drop};
 ghost use Rattle.pl_lexer.specs.Longest.{Finds};
 ghost use Rattle.pl_lexer.specs.Spelling.{spelling};
 

@@ -1,7 +1,7 @@
 //! The numbers and names of refusals: of the rules that a script may break, and of what a job, an allowlist or a listing
 //! is refused for.
 
-ghost use Rattle.std.specs.Prelude.{◌≡◌, ◌<◌, ◌≤◌, ℕ, List, map};
+ghost use Rattle.std.specs.Prelude.{◌≡◌, ◌≤◌, ℕ, List, map};
 ghost use Rattle.std.specs.List.{range_with_len};
 ghost use Rattle.pl_types.specs.Refusals.{refusal_rows, rule_name};
 

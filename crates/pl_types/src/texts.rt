@@ -1,8 +1,7 @@
 //! The texts of types.
 
-ghost use Rattle.std.specs.Prelude.{◌≡◌, ◌≢◌, ◌++◌, codes, ℕ, List, IfOk, OnOk, IfSome, IfNone, MatchOption, Some, IsTrue};
+ghost use Rattle.std.specs.Prelude.{◌≡◌, ◌≢◌, ◌++◌, codes, ℕ, List, IfOk, OnOk, MatchOption, Some, IsTrue};
 ghost use Rattle.std.specs.String.{string_bytes};
-ghost use Rattle.std.specs.Str.{bytes_eq};
 ghost use Rattle.pl_types.specs.declared.ty.Ty.{Ty};
 ghost use Rattle.pl_types.specs.declared.ty.Ty.TheVariants.{Array};
 ghost use Rattle.pl_types.specs.Texts.{primitive_word, primitive_of, type_text, short_text, full_text, names_of, plain_type, type_of_full, is_known};

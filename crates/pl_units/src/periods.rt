@@ -1,7 +1,7 @@
 //! The periods of a text's beginnings, and how far a search may skip by them: string searching in linear time, with a
 //! table of a fixed size, by the highly repeating prefixes of the part (Crochemore and Rytter).
 ghost use Rattle.std.specs.Prelude.{◌≡◌, ℕ, ◌+◌, ◌*◌, ◌<◌, ◌≤◌, length, IfNone, IfSome, IsTrue, slice_index};
-ghost use Rattle.pl_units.specs.Periods.{unit_of, Agree, IsPeriod, IsLeastPeriod, IsTable, AreRowsBelow, ArePeriods, Covers, CoversUpTo, CoversAll, IsExtended, IsSkip, IsTableOf};
+ghost use Rattle.pl_units.specs.Periods.{unit_of, IsPeriod, IsLeastPeriod, IsTable, AreRowsBelow, ArePeriods, CoversUpTo, IsExtended, IsSkip, IsTableOf};
 
 use crate::direction::{Direction, matched};
 

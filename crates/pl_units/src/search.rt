@@ -1,7 +1,7 @@
 //! Where one text stands in another: the first place and the last.
 ghost use Rattle.std.specs.Prelude.{◌≡◌, ◌+◌, ◌<◌, ◌≤◌, ◌↔◌, ℕ, IsTrue, IfNone, IfSome, length};
 ghost use Rattle.pl_units.specs.Periods.{unit_of, IsTableOf, Matches, IsFirstMatch};
-ghost use Rattle.pl_units.specs.Places.{StandsAt, IsFirstPlace, IsLastPlace, first_place, last_place};
+ghost use Rattle.pl_units.specs.Places.{StandsAt, IsFirstPlace, IsLastPlace, first_place};
 
 use crate::direction::{Direction, matched};
 use crate::periods::{PeriodTable, table_of};

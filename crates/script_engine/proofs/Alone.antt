@@ -6,8 +6,8 @@ use Rattle.run_state.specs.World.{Limits}
 use Rattle.typed_tree.specs.declared.program.Program.{Program}
 use Rattle.source_meaning.specs.Programs.{program_of}
 use Rattle.source_meaning.specs.Tree as tree
-use Rattle.program_typing.specs.Agreeing.{Known, FunAgrees, known, known_in, AreWellFormed, WellFormed}
-use Rattle.compiler_relation.specs.Stands.{Compiled, FunAt}
+use Rattle.program_typing.specs.Agreeing.{known, AreWellFormed, WellFormed}
+use Rattle.compiler_relation.specs.Stands.{Compiled}
 use Rattle.script_engine.specs.Ends.{alone}
 
 no_fun : (number : ℕ) (fun : tree.Fun) → slice_get [] number ≡ Some fun → ⊥

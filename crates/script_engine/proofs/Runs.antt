@@ -27,7 +27,7 @@ use Rattle.program_typing.proofs.Enough.{comes_to_an_end}
 use Rattle.compiler_relation.specs.Lying.{lying_of, lying_of_layer, low, kind_of, kind_of_layer, kind_of_primitive}
 use Rattle.compiler_relation.specs.Stands.{kinds_of}
 use Rattle.compiler_relation.specs.Correct as code
-use Rattle.compiler_relation.specs.Correct.{EndsAs, Words}
+use Rattle.compiler_relation.specs.Correct.{EndsAs}
 use Rattle.compiled_outcome.specs.Outcome.{CodeEndsAsPrograms}
 use Rattle.code_meaning.specs.declared.word.Word.{Word}
 use Rattle.code_meaning.specs.Words.{bit, unboxed}

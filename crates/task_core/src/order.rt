@@ -1,6 +1,6 @@
 //! In which order tasks run.
 
-ghost use Rattle.std.specs.Prelude.{ℕ, ◌<◌, ◌≡◌, List, [], ◌∷◌, length, map, OnOk};
+ghost use Rattle.std.specs.Prelude.{◌<◌, ◌≡◌, [], ◌∷◌, length, map, OnOk};
 ghost use Rattle.task_core.specs.Order.{IsOrder, Ran, AllEnd, all_done, ordered, Went, tasks_from};
 
 use crate::task::{Task, Turn};

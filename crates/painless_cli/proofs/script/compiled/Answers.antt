@@ -1,5 +1,4 @@
 -- The catalogue and the context are those of the definition.
-use Rattle.std.proofs.Common.{subst, sym}
 use Rattle.painless_cli.proofs.script.compiled.Goals as goal
 
 pub returns-clause-exact : goal.returns-clause-exact

@@ -1,6 +1,5 @@
-use Rattle.std.proofs.Common.{◌≡◌, ◌+◌, ◌-◌, ◌≤◌, false, cond, take, drop, length, sum, slice_index_or, sym, ap, ◌∙◌, arith, rules}
+use Rattle.std.proofs.Common.{◌≡◌, ◌+◌, ◌-◌, false, sym, ◌∙◌}
 use Rattle.std.proofs.lemmas.List.{take_rest}
-use Rattle.std.proofs.lemmas.Grind.{common_steps}
 use Rattle.pl_nesting.specs.Nesting as spec
 use Rattle.pl_nesting.proofs.Deep.{step, counted_small, left_small, not_deep}
 use Rattle.pl_nesting.proofs.nesting.nesting_fault.Goals as goal

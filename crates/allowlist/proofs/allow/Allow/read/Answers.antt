@@ -13,7 +13,7 @@ pub returns-in-Err : goal.returns-in-Err
 returns-in-Err c = reads_error (λ (i : Option ℕ). record { inside = i; allow = c.read_line.new.allow }) c.in-Err.fault c.loop-rest.number (record { inside = c.loop-rest.inside; allow = c.loop-rest.allow }) c.loop-rest.rest.now c.first_line-line.result.now c.past_line-after.result.now c.is_empty-in-loop-rest.result _ c.is_empty-in-loop-rest.ensures c.first_line-line.ensures c.past_line-after.ensures (sym c.is_empty.ensures ∙ c.loop-rest-test.true) c.loop-rest.invariant c.in-Err.ensures
 
 pub loop-rest-preserved : goal.loop-rest-preserved
-loop-rest-preserved c = c.loop-rest.invariant ∙ reads_step c.loop-rest.number c.in-Some.next (record { inside = c.loop-rest.inside; allow = c.loop-rest.allow }) (record { inside = c.in-Ok.class; allow = c.read_line.new.allow }) c.loop-rest.rest.now c.first_line-line.result.now c.past_line-after.result.now c.is_empty-in-loop-rest.result c.is_empty-in-loop-rest.ensures c.first_line-line.ensures c.past_line-after.ensures (sym c.is_empty.ensures ∙ c.loop-rest-test.true) c.in-Some.ensures.1 c.in-Ok.ensures
+loop-rest-preserved c = c.loop-rest.invariant ∙ reads_step c.loop-rest.number c.saturating_add-number.result (record { inside = c.loop-rest.inside; allow = c.loop-rest.allow }) (record { inside = c.in-Ok.class; allow = c.read_line.new.allow }) c.loop-rest.rest.now c.first_line-line.result.now c.past_line-after.result.now c.is_empty-in-loop-rest.result c.is_empty-in-loop-rest.ensures c.first_line-line.ensures c.past_line-after.ensures (sym c.is_empty.ensures ∙ c.loop-rest-test.true) c.saturating_add-number.ensures c.in-Ok.ensures
 
 pub returns : goal.returns
 returns c = c.loop-rest.invariant ∙ reads_end c.loop-rest.number (record { inside = c.loop-rest.inside; allow = c.loop-rest.allow }) c.loop-rest.rest.now (eqb-true (length c.loop-rest.rest.now) 0 (sym c.is_empty.ensures ∙ c.loop-rest-test.false))
