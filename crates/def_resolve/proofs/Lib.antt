@@ -1,0 +1,4 @@
+pub mod Confined
+pub mod Members
+pub mod Places
+pub mod Tables
