@@ -8,7 +8,7 @@ use Rattle.allowlist.specs.declared.member.MemberType.{MemberType}
 use Rattle.allowlist.specs.declared.member.MemberKind.{MemberKind}
 use Rattle.allowlist.specs.declared.member.MemberKind.TheVariants.{Constructor, Static, Instance, Field}
 use Rattle.allowlist.specs.Catalogue.{catalogue, constructor}
-use Rattle.allowlist.specs.Allow.{AllowList, flag, has_name, member_of, iface_method_of, or_else}
+use Rattle.allowlist.specs.Allow.{AllowList, has_name, member_of, iface_method_of}
 use Rattle.allowlist.specs.Index.{member_at}
 use Rattle.allowlist.proofs.Tables.{length-catalogue}
 use Rattle.allowlist.proofs.Unique.{found_is_allowed, found_above, method_above}

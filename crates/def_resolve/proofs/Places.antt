@@ -1,6 +1,6 @@
 -- Names that are places of lists.
-use Rattle.std.proofs.Common.{◌≡◌, ℕ, ◌<◌, ◌≤◌, ◌^◌, Bool, true, false, cond, eqb, List, [], ◌∷◌, Some, Err, None, length, sym, refl, ap, ◌∙◌, inl, inr, arith, rules, w32}
-use Rattle.std.specs.Prelude.{pos, ℤ}
+use Rattle.std.proofs.Common.{◌≡◌, ℕ, ◌<◌, ◌≤◌, Bool, true, false, cond, eqb, List, [], ◌∷◌, Some, Err, None, length, refl, ap, ◌∙◌, inl, inr, arith, rules, w32}
+use Rattle.std.specs.Prelude.{pos}
 use Rattle.std.specs.Char.{is_ascii_digit}
 use Rattle.std.specs.List.{list_all}
 use Rattle.std.specs.Str.Parse.{digits_value, ParsesSigned}

@@ -10,7 +10,6 @@ use Rattle.object_values.specs.declared.object.Object.{Object}
 use Rattle.object_values.specs.declared.object.Object.TheVariants as o
 use Rattle.object_values.specs.declared.object.Target.{Target}
 use Rattle.object_values.specs.declared.object.Target.TheVariants as t
-use Rattle.object_values.specs.declared.value.Value.{Value}
 use Rattle.def_resolve.specs.declared.function.Reference.{Reference}
 use Rattle.def_resolve.specs.declared.function.Reference.TheVariants.{Static, Instance}
 use Rattle.def_resolve.specs.Resolution.{IsListed, instance_member}

@@ -1,12 +1,17 @@
 -- What holds of calls whose receiver's class is found when they run.
-use Rattle.std.specs.Prelude.{◌≡◌, ℕ, ◌++◌, ◌==◌, ◌&&◌, Bool, true, false, Option, Some, None, List, [], ◌∷◌, codes, length}
+use Rattle.std.specs.Prelude.{◌≡◌, ℕ, ◌+◌, ◌++◌, ◌==◌, ◌&&◌, Bool, true, false, Some, None, List, ◌∷◌, codes, length, option_map}
 use Rattle.std.specs.Str.{bytes_eq}
 use Rattle.pl_types.specs.Classes.{class_is_below, parents_of}
 use Rattle.allowlist.specs.Allow.{AllowList, own_member, member_of, first_along, iface_method_of}
 use Rattle.allowlist.specs.Index.{member_at}
 use Rattle.object_values.specs.declared.object.Object.{Object}
 use Rattle.object_values.specs.declared.value.Value.{Value}
-use Rattle.object_heap.specs.Fits.{arity_of, kinds, value_is_of}
+use Rattle.object_values.specs.declared.object.Object.TheVariants as o
+use Rattle.object_values.specs.declared.object.Target.{Target}
+use Rattle.object_values.specs.declared.object.Target.TheVariants as t
+use Rattle.object_heap.specs.Fits.{Captures, Lambda, ObjectFits, Rules, Takes, arity_of, kinds, value_is_of}
+use Rattle.object_heap.specs.Objects.{Kind}
+use Rattle.def_resolve.specs.Functions.{fits}
 use Rattle.def_resolve.specs.Resolution.{class_of, instance_member}
 
 -- A class has through its parents what another one above it has: no class that is asked before that one gives such a member.
@@ -39,3 +44,19 @@ IsOfItsClass = (objects : List Object) (value : Value) (class above : ℕ) → c
 -- The method of an interface has as many parameters as a store that fits asks of what takes it.
 abbrev pub MethodArity : Type 0
 MethodArity = (iface number : ℕ) → iface_method_of iface ≡ Some number → arity_of iface ≡ Some (length (member_at number).params)
+
+-- how many parameters a lambda has, with those that it captured
+abbrev pub parameters_of : Lambda → ℕ
+parameters_of (Captures captured further) = length captured + further
+parameters_of (Takes parameters) = parameters
+
+-- the number that is told of a lambda is that of its parameters
+abbrev pub AreParameters : Rules → Target → ℕ → Type 0
+AreParameters rules (t.Lambda owner number) params = option_map parameters_of (rules.lambda owner number) ≡ Some params
+AreParameters rules target params = Unit {0}
+
+-- A function value that fits its store and an interface fits the store once it has taken the interface.
+abbrev pub TakesInterface : Type 0
+TakesInterface = (allow : AllowList) (rules : Rules) (ks : List Kind) (target : Target) (captures : List Value) (params iface : ℕ)
+    → AreParameters rules target params → fits allow (o.Fun None target captures) params iface ≡ true
+    → ObjectFits rules ks (o.Fun None target captures) → ObjectFits rules ks (o.Fun (Some iface) target captures)

@@ -1,5 +1,5 @@
 -- Which member a call means whose receiver's class is found when it runs.
-use Rattle.std.specs.Prelude.{◌≡◌, ℕ, ◌&&◌, Bool, true, false, Option, Some, None, List, length, slice_get, option_map, if◌then◌else◌}
+use Rattle.std.specs.Prelude.{◌≡◌, ℕ, Bool, true, false, Option, Some, None, List, length, slice_get, option_map, if◌then◌else◌}
 use Rattle.pl_types.specs.declared.classes.TheConstants.{BYTE, SHORT, INTEGER, LONG, CHARACTER, BOOLEAN, STRING}
 use Rattle.pl_types.specs.Classes.{class_is_below}
 use Rattle.allowlist.specs.declared.member.MemberKind.{MemberKind}
