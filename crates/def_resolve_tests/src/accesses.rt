@@ -3,6 +3,7 @@ use crate::members::owner;
 use crate::sample::{Listed, Row, allow, heap, value};
 use allowlist::Allow;
 use def_resolve::{IndexAccess, NameAccess, Place, Purpose, index_access, name_access, place_of};
+use object_heap::Heap;
 use pl_types::classes::{
     CHAR_SEQUENCE, COLLECTION, ENTRY, EXCEPTION, LIST, MAP, SCRIPT_DOC_VALUES, STRING,
     STRING_BUILDER,
@@ -195,22 +196,23 @@ fn is_named(allow: &Allow, found: Option<NameAccess>, wanted: Named) -> bool {
 
 fn name_means(
     alloc: Global,
+    heap: &Heap,
     row: (Listed, Row, &str, Named),
     purpose: Purpose,
 ) -> Result<bool, AllocError> {
     let (listed, receiver, name, wanted) = row;
-    let allow = allow(alloc, listed)?;
-    let heap = heap(alloc, 100)?;
     let receiver = value(alloc, receiver)?;
-    let found = name_access(&allow, &heap, &receiver, name, purpose);
+    let allow = allow(alloc, listed)?;
+    let found = name_access(&allow, heap, &receiver, name, purpose);
     Ok(is_named(&allow, found, wanted))
 }
 
 #[test]
 fn names_are_read(rt: HostRuntime) -> Result<(), Fail> {
+    let heap = heap(rt.alloc(), 100)?;
     let mut at = 0u32;
     for row in READS {
-        let holds = name_means(rt.alloc(), row, Purpose::Read)?;
+        let holds = name_means(rt.alloc(), &heap, row, Purpose::Read)?;
         assert!(rt; holds, "{at}");
         at = at.wrapping_add(1);
     }
@@ -219,9 +221,10 @@ fn names_are_read(rt: HostRuntime) -> Result<(), Fail> {
 
 #[test]
 fn names_are_written(rt: HostRuntime) -> Result<(), Fail> {
+    let heap = heap(rt.alloc(), 100)?;
     let mut at = 0u32;
     for row in WRITES {
-        let holds = name_means(rt.alloc(), row, Purpose::Write)?;
+        let holds = name_means(rt.alloc(), &heap, row, Purpose::Write)?;
         assert!(rt; holds, "{at}");
         at = at.wrapping_add(1);
     }
@@ -345,21 +348,25 @@ fn is_indexed(allow: &Allow, found: Option<IndexAccess>, wanted: Indexed) -> boo
     }
 }
 
-fn index_means(alloc: Global, row: (Listed, Row, Indexed, Indexed)) -> Result<bool, AllocError> {
+fn index_means(
+    alloc: Global,
+    heap: &Heap,
+    row: (Listed, Row, Indexed, Indexed),
+) -> Result<bool, AllocError> {
     let (listed, receiver, read, written) = row;
-    let allow = allow(alloc, listed)?;
-    let heap = heap(alloc, 100)?;
     let receiver = value(alloc, receiver)?;
-    let reads = index_access(&allow, &heap, &receiver, Purpose::Read);
-    let writes = index_access(&allow, &heap, &receiver, Purpose::Write);
+    let allow = allow(alloc, listed)?;
+    let reads = index_access(&allow, heap, &receiver, Purpose::Read);
+    let writes = index_access(&allow, heap, &receiver, Purpose::Write);
     Ok(is_indexed(&allow, reads, read) && is_indexed(&allow, writes, written))
 }
 
 #[test]
 fn indices_mean_items_keys_and_elements(rt: HostRuntime) -> Result<(), Fail> {
+    let heap = heap(rt.alloc(), 100)?;
     let mut at = 0u32;
     for row in INDICES {
-        let holds = index_means(rt.alloc(), row)?;
+        let holds = index_means(rt.alloc(), &heap, row)?;
         assert!(rt; holds, "{at}");
         at = at.wrapping_add(1);
     }

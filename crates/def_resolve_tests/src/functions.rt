@@ -196,10 +196,10 @@ fn counts(calls: Calls) -> (u32, u32) {
 
 fn takes(alloc: Global, row: (Calls, u32, bool)) -> Result<bool, AllocError> {
     let (calls, iface, wanted) = row;
-    let allow = allow(alloc, Listed::All)?;
     let (captured, params) = counts(calls);
     let target = target(alloc, calls)?;
     let function = function(alloc, None, target, captured)?;
+    let allow = allow(alloc, Listed::All)?;
     Ok(fits(&allow, &function, params, iface) == wanted)
 }
 
@@ -215,8 +215,8 @@ fn function_values_take_interfaces(rt: HostRuntime) -> Result<(), Fail> {
 }
 
 fn takes_of(alloc: Global, id: u32) -> Result<bool, AllocError> {
-    let allow = allow(alloc, Listed::All)?;
     let heap = heap(alloc, 100)?;
+    let allow = allow(alloc, Listed::All)?;
     match heap.get(id) {
         Some(object) => Ok(fits(&allow, object, 2, FUNCTION)),
         None => Ok(false),
