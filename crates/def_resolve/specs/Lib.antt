@@ -1,0 +1,5 @@
+pub mod Accesses
+pub mod Failures
+pub mod Functions
+pub mod Laws
+pub mod Resolution

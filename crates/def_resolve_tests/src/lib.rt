@@ -1,0 +1,14 @@
+//! What the clauses of `def_resolve` do not say: which members calls, names, indices and references mean, by rows of values, and
+//! what is thrown where there is none.
+#![tactic(auto)]
+
+#[cfg(test)]
+mod accesses;
+#[cfg(test)]
+mod failures;
+#[cfg(test)]
+mod functions;
+#[cfg(test)]
+mod members;
+#[cfg(test)]
+mod sample;
