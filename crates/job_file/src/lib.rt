@@ -1,0 +1,17 @@
+//! Job files: a job, or the first thing that is wrong with it.
+#![tactic(auto)]
+
+mod context;
+mod error;
+mod job;
+mod keys;
+mod limits;
+mod mapping;
+mod values;
+
+pub use context::{JobCommand, JobContext};
+pub use error::JobErr;
+pub use job::Job;
+pub use keys::{Key, ValueType};
+pub use limits::{JobLimits, Limit};
+pub use mapping::{FieldKind, MapErr, Mapping};

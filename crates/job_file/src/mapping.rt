@@ -1,0 +1,84 @@
+//! Mappings: which fields of a document a script sees, and of which kind each is.
+
+ghost use Rattle.std.specs.Prelude.{◌≡◌, [], IfOk, IfErr, is_some};
+ghost use Rattle.serde_json.specs.Find.{as_object};
+ghost use Rattle.serde_json.specs.View.{view, members_view};
+ghost use Rattle.job_file.specs.Contexts.{named};
+ghost use Rattle.job_file.specs.Mappings.{bad_field, fields_of, is_bad, kind_names, kind_of};
+ghost use Rattle.job_file.specs.Jobs.{members_of};
+
+use serde_json::{Map, Value};
+use std::alloc::{AllocError, Global};
+
+/// The most fields that a mapping has.
+pub const FIELD_COUNT: usize = 1_000;
+
+/// The kind of a field.
+#[derive(Clone, Copy, Debug, PartialEq, Eq)]
+pub enum FieldKind {
+    /// Whole numbers of 64 bits with a sign.
+    Long,
+    /// Texts.
+    Keyword,
+    /// Truth values.
+    Boolean,
+}
+
+/// The fields that a script sees of a document, in the order of their names by bytes.
+#[derive(Debug, Drop)]
+pub struct Mapping {
+    pub fields: Vec<(String, FieldKind)>,
+}
+
+/// Why a value gives no mapping.
+#[derive(Debug, Drop, thiserror::Error)]
+pub enum MapErr {
+    /// The least field by bytes whose name is empty or whose kind is none of the three; the empty name also where
+    /// there are more than 1,000 fields.
+    #[error("the field {0} of the mapping is bad")]
+    Bad(String),
+    /// Memory ran out.
+    #[error("out of memory")]
+    NoMemory,
+}
+
+impl From<AllocError> for MapErr {
+    ghost use Rattle.job_file.specs.declared.mapping.MapErr.TheVariants.{NoMemory};
+
+    ghost from_gives = { λ _ e. e ≡ NoMemory };
+
+    fn from(_error: AllocError) -> MapErr {
+        MapErr::NoMemory
+    }
+}
+
+impl FieldKind {
+    /// The kind of a name.
+    pub fn named(name: &str) -> Option<FieldKind>
+        ensures { result ≡ named name.now kind_names }
+    {
+        match name {
+            "long" => Some(FieldKind::Long),
+            "keyword" => Some(FieldKind::Keyword),
+            "boolean" => Some(FieldKind::Boolean),
+            _ => None,
+        }
+    }
+}
+
+/// The kind that a value names.
+fn kind_of(value: &Value) -> Option<FieldKind>
+    ensures { result ≡ kind_of (view value.now) }
+{
+    match value.as_str() {
+        Some(name) => FieldKind::named(name),
+        None => None,
+    }
+}
+
+/// Whether a field is bad.
+fn is_bad(name: &str, value: &Value) -> bool
+    ensures { result ≡ is_bad name.now (view value.now) }
+{
+    name.is_empty() || kind_of(value).is_none()
+}
