@@ -15,9 +15,9 @@ use Rattle.job_file.specs.declared.limits.JobLimits.{JobLimits}
 use Rattle.job_file.specs.declared.mapping.FieldKind.{FieldKind}
 use Rattle.job_file.specs.Contexts.{context_of}
 use Rattle.job_file.specs.Keys.{Default, required, given, Row, keys, row_of, belongs, value_at}
-use Rattle.job_file.specs.Limits.{number_of, is_in_range, natural, entries_of, all_name_shards, numbers, row_of_limit}
+use Rattle.job_file.specs.Limits.{number_of, is_in_range, natural, entries_of, is_order, numbers, row_of_limit}
 use Rattle.job_file.specs.Values.{is_of_type}
-use Rattle.job_file.specs.Mappings.{names_where, least, bad_field, fields_of}
+use Rattle.job_file.specs.Mappings.{members_of, names_where, least, bad_field, fields_of}
 
 -- ---- what is wrong with a job file
 
@@ -40,9 +40,6 @@ first (Some fault ∷ more) = Some fault
 -- whether a name is a key of a context
 abbrev pub is_key : JobContext → List ℕ → Bool
 is_key context name = list_any (λ key. bytes_eq name (row_of key).name && belongs key context) keys
-
-abbrev pub members_of : Data → Members
-members_of d = unwrap_or (as_object d) no_members
 
 -- the least unknown key; a key of another context is unknown
 abbrev pub unknown_key : JobContext → Data → Option (List ℕ)
@@ -70,17 +67,15 @@ limit_fault file limit = if is_in_range limit (number_of limit file) then None e
 abbrev pub shards_of : Data → ℕ
 shards_of file = natural (number_of l.Shards file)
 
--- `order` has at most so many entries, each below the number of shards
-abbrev pub is_order : Data → Bool
-is_order file = nat_le (length (entries_of (value_at k.Order file))) (row_of_limit l.Order).most && all_name_shards (shards_of file) (entries_of (value_at k.Order file))
-
 abbrev pub order_fault : Data → Option Fault
-order_fault file = if is_order file then None else Some (range (codes "order"))
+order_fault file = if is_order (shards_of file) (entries_of (value_at k.Order file)) then None else Some (range (row_of_limit l.Order).name)
+
+-- the numbers of the turns of shards
+abbrev pub turn_faults : Data → List (Option Fault)
+turn_faults file = limit_fault file l.Shards ∷ order_fault file ∷ limit_fault file l.Slice ∷ []
 
 abbrev pub range_faults : Data → List (Option Fault)
-range_faults file =
-    limit_fault file l.Loop ∷ limit_fault file l.Depth ∷ limit_fault file l.Ticks ∷ limit_fault file l.Room ∷ limit_fault file l.Input
-    ∷ limit_fault file l.Shards ∷ order_fault file ∷ limit_fault file l.Slice ∷ []
+range_faults file = limit_fault file l.Loop ∷ limit_fault file l.Depth ∷ limit_fault file l.Ticks ∷ limit_fault file l.Room ∷ limit_fault file l.Input ∷ turn_faults file
 
 -- the first thing that is wrong with an object as a job of a context
 abbrev pub fault_of : JobContext → Data → Option Fault

@@ -1,5 +1,5 @@
 -- The numbers of a job: one row a limit.
-use Rattle.std.specs.Prelude.{ℕ, ◌^◌, ℤ, pos, negsuc, Bool, true, false, ◌&&◌, List, [], ◌∷◌, Option, Some, None, codes, option_and_then, unwrap_or, nat_le, nat_lt}
+use Rattle.std.specs.Prelude.{ℕ, ◌^◌, ℤ, pos, negsuc, Bool, true, false, ◌&&◌, List, [], ◌∷◌, Option, Some, None, codes, option_and_then, unwrap_or, nat_le, nat_lt, length}
 use Rattle.serde_json.specs.Data.{Data, Items, no_items, item}
 use Rattle.serde_json.specs.Find.{get, as_number, as_i64, as_array}
 use Rattle.job_file.specs.declared.keys.Key.TheVariants as k
@@ -77,6 +77,10 @@ names_shard shards None = false
 abbrev pub all_name_shards : ℕ → List (Option ℤ) → Bool
 all_name_shards shards [] = true
 all_name_shards shards (n ∷ ns) = names_shard shards n && all_name_shards shards ns
+
+-- `order` has at most so many entries, each below the number of shards
+abbrev pub is_order : ℕ → List (Option ℤ) → Bool
+is_order shards ns = nat_le (length ns) (row_of_limit l.Order).most && all_name_shards shards ns
 
 abbrev pub numbers : List (Option ℤ) → List ℕ
 numbers [] = []

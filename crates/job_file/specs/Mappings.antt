@@ -1,5 +1,5 @@
 -- A mapping: which fields of a document a script sees, and of which kind each is.
-use Rattle.std.specs.Prelude.{ℕ, ◌+◌, Bool, true, false, ◌||◌, List, [], ◌∷◌, Option, Some, None, codes, is_some, not, nat_lt, option_and_then, if◌then◌else◌, length}
+use Rattle.std.specs.Prelude.{ℕ, ◌+◌, Bool, true, false, ◌||◌, List, [], ◌∷◌, Option, Some, None, codes, is_some, not, unwrap_or, nat_lt, option_and_then, if◌then◌else◌, length}
 use Rattle.std.specs.Ordering.{nat_cmp, match_ordering}
 use Rattle.std.specs.Cmp.Lexicographic.{slice_cmp}
 use Rattle.std.specs.Str.{bytes_eq}
@@ -10,6 +10,10 @@ use Rattle.job_file.specs.declared.mapping.FieldKind.TheVariants as f
 use Rattle.job_file.specs.Contexts.{named}
 
 -- ---- names in an object
+
+-- the members of an object
+abbrev pub members_of : Data → Members
+members_of d = unwrap_or (as_object d) no_members
 
 -- the names of the members that pass a test of name and value
 abbrev pub names_where : (List ℕ → Data → Bool) → Members → List (List ℕ)

@@ -6,7 +6,10 @@ mod error;
 mod job;
 mod keys;
 mod limits;
+mod lookup;
 mod mapping;
+mod numbers;
+mod reading;
 mod values;
 
 pub use context::{JobCommand, JobContext};

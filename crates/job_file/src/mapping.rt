@@ -1,11 +1,10 @@
 //! Mappings: which fields of a document a script sees, and of which kind each is.
 
-ghost use Rattle.std.specs.Prelude.{◌≡◌, [], IfOk, IfErr, is_some};
-ghost use Rattle.serde_json.specs.Find.{as_object};
+ghost use Rattle.std.specs.Prelude.{◌≡◌, [], None, option_map, IfOk, IfErr};
 ghost use Rattle.serde_json.specs.View.{view, members_view};
+ghost use Rattle.job_file.specs.Answers.{IsBadField, fields_view};
 ghost use Rattle.job_file.specs.Contexts.{named};
-ghost use Rattle.job_file.specs.Mappings.{bad_field, fields_of, is_bad, kind_names, kind_of};
-ghost use Rattle.job_file.specs.Jobs.{members_of};
+ghost use Rattle.job_file.specs.Mappings.{bad_field, fields_of, is_bad, kind_names, kind_of, least, members_of, names_where};
 
 use serde_json::{Map, Value};
 use std::alloc::{AllocError, Global};
@@ -81,4 +80,59 @@ fn is_bad(name: &str, value: &Value) -> bool
     ensures { result ≡ is_bad name.now (view value.now) }
 {
     name.is_empty() || kind_of(value).is_none()
+}
+
+/// The least bad field.
+fn least_bad<'a>(members: &'a Map<String, Value>) -> Option<&'a str>
+    ensures { option_map (λ name. name.now) result ≡ least (names_where is_bad (members_view members.now.entries)) }
+{
+    for (name, value) in members.iter() {
+        if is_bad(name.as_str(), value) {
+            return Some(name.as_str());
+        }
+    }
+    None
+}
+
+/// The fields of an object.
+fn fields_of(alloc: Global, members: &Map<String, Value>) -> Result<Vec<(String, FieldKind)>, AllocError>
+    ensures { IfOk result (λ fields. fields_view fields.items ≡ fields_of (members_view members.now.entries)) }
+{
+    let mut fields = Vec::new(alloc);
+    for (name, value) in members.iter() {
+        if let Some(kind) = kind_of(value) {
+            fields.push((name.clone()?, kind))?;
+        }
+    }
+    Ok(fields)
+}
+
+/// The mapping of an object.
+fn read_members(alloc: Global, members: &Map<String, Value>) -> Result<Mapping, MapErr>
+    ensures good { IfOk result (λ _. bad_field (members_view members.now.entries) ≡ None) }
+    ensures fields { IfOk result (λ mapping. fields_view mapping.fields.items ≡ fields_of (members_view members.now.entries)) }
+    ensures bad { IfErr result (λ e. IsBadField e (bad_field (members_view members.now.entries))) }
+{
+    if members.len() > FIELD_COUNT {
+        return Err(MapErr::Bad(String::new(alloc)));
+    }
+    match least_bad(members) {
+        Some(name) => Err(MapErr::Bad(String::from_str(alloc, name)?)),
+        None => Ok(Mapping { fields: fields_of(alloc, members)? }),
+    }
+}
+
+impl Mapping {
+    /// The mapping that a value denotes: a member for each field, its name and the name of its kind. What is no object
+    /// has no members.
+    pub fn read(alloc: Global, value: &Value) -> Result<Mapping, MapErr>
+        ensures good { IfOk result (λ _. bad_field (members_of (view value.now)) ≡ None) }
+        ensures fields { IfOk result (λ mapping. fields_view mapping.fields.items ≡ fields_of (members_of (view value.now))) }
+        ensures bad { IfErr result (λ e. IsBadField e (bad_field (members_of (view value.now)))) }
+    {
+        match value.as_object() {
+            Some(members) => read_members(alloc, members),
+            None => Ok(Mapping { fields: Vec::new(alloc) }),
+        }
+    }
 }
