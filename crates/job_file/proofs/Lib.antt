@@ -1,3 +1,4 @@
 mod Least
 mod Mappings
 mod Orders
+mod Parts

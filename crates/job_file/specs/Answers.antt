@@ -44,11 +44,11 @@ job_view job = record {
 
 -- the job that an object's texts and flags make up with numbers and a mapping
 abbrev pub parts_of : JobContext → Data → Numbers → Mapping → JobData
-parts_of context file numbers mapping = record {
+parts_of context file numbers fields = record {
   context = context;
   scripts = map (λ key. ((row_of key).name, text_at key file)) (script_keys context);
   params = value_at k.Params file;
-  mapping = fields_view mapping.fields.items;
+  mapping = fields_view fields.fields.items;
   allow = as_str (value_at k.Allow file);
   limits = numbers.limits;
   shards = numbers.shards;
@@ -58,11 +58,6 @@ parts_of context file numbers mapping = record {
   steps = truth_at k.Steps file;
   members = truth_at k.Members file;
   prelude = truth_at k.Prelude file }
-
--- an object, or none
-abbrev pub or_syntax : Option Data → Result Data Fault
-or_syntax None = Err syntax
-or_syntax (Some file) = Ok file
 
 -- ---- answers
 

@@ -78,7 +78,7 @@ abbrev pub range_faults : Data → List (Option Fault)
 range_faults file = limit_fault file l.Loop ∷ limit_fault file l.Depth ∷ limit_fault file l.Ticks ∷ limit_fault file l.Room ∷ limit_fault file l.Input ∷ turn_faults file
 
 -- the first thing that is wrong with an object as a job of a context
-abbrev pub fault_of : JobContext → Data → Option Fault
+unfoldable pub fault_of : JobContext → Data → Option Fault
 fault_of context file =
     first (option_map field (unknown_key context file)
     ∷ first (map (key_fault context file) keys)
@@ -124,7 +124,7 @@ limits_of file = record {
   input = natural (number_of l.Input file) }
 
 -- the job that an object denotes in a context, where nothing is wrong with it
-abbrev pub job_of : JobContext → Data → JobData
+unfoldable pub job_of : JobContext → Data → JobData
 job_of context file = record {
   context = context;
   scripts = map (λ key. ((row_of key).name, text_at key file)) (script_keys context);
@@ -147,18 +147,19 @@ or_fault job None = Ok job
 or_fault job (Some fault) = Err fault
 
 -- an object as a job of a context
-abbrev pub job_in : JobContext → Data → Result JobData Fault
+unfoldable pub job_in : JobContext → Data → Result JobData Fault
 job_in context file = or_fault (job_of context file) (fault_of context file)
 
 abbrev pub job_in_context : Option JobContext → Data → Result JobData Fault
 job_in_context None file = Err (field (codes "context"))
 job_in_context (Some context) file = job_in context file
 
--- The object that a job file is read as, if it is: what JSON it is, and no array, text, number or other value.
-abbrev pub object_of : Option Data → Option Data
-object_of None = None
-object_of (Some d) = if is_some (as_object d) then Some d else None
+-- The object that a file is read as, if it is: what is no JSON, and JSON that is no object, is refused.
+abbrev pub object_of : Option Data → Result Data Fault
+object_of None = Err syntax
+object_of (Some d) = if is_some (as_object d) then Ok d else Err syntax
 
-abbrev pub job_of_object : JobCommand → Option Data → Result JobData Fault
-job_of_object with None = Err syntax
-job_of_object with (Some file) = job_in_context (context_of with file) file
+-- the job of what a file is read as
+abbrev pub job_of_read : JobCommand → Result Data Fault → Result JobData Fault
+job_of_read with (Err fault) = Err fault
+job_of_read with (Ok file) = job_in_context (context_of with file) file

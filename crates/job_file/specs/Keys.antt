@@ -62,7 +62,7 @@ row_of k.Members = row (codes "members") t.Truth with_replies (given (boolean fa
 row_of k.Prelude = row (codes "prelude") t.Truth every (given (boolean false))
 
 -- the keys in the order of the table
-abbrev pub keys : List Key
+unfoldable pub keys : List Key
 keys = k.Context ∷ k.Script ∷ k.Init ∷ k.Map ∷ k.Combine ∷ k.Reduce ∷ k.Params ∷ k.Mapping ∷ k.Allow ∷ k.Limits ∷ k.Shards ∷ k.Order ∷ k.Slice ∷ k.Listing ∷ k.Steps ∷ k.Members ∷ k.Prelude ∷ []
 
 -- ---- what the table says

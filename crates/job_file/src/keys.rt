@@ -182,9 +182,16 @@ impl Key {
     }
 }
 
+/// Whether a name is that of one of some keys that belongs to a context.
+fn is_among(keys: &[Key], context: JobContext, name: &str) -> bool
+    ensures { result ≡ list_any (λ key. bytes_eq name.now (row_of key).name && belongs key context) keys.now }
+{
+    keys.iter().any(|key| name == key.name() && key.belongs(context))
+}
+
 /// Whether a name is a key of a context.
 pub fn is_key(context: JobContext, name: &str) -> bool
     ensures { result ≡ is_key context name.now }
 {
-    KEYS.iter().any(|key| name == key.name() && key.belongs(context))
+    is_among(&KEYS, context, name)
 }

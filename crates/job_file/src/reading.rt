@@ -1,13 +1,13 @@
 //! A job read from the bytes of a job file.
 
-ghost use Rattle.std.specs.Prelude.{◌≡◌, [], ◌∷◌, None, Some, map, option_map, option_and_then, IfOk, IfErr, Ok, Err, string_bytes};
+ghost use Rattle.std.specs.Prelude.{◌≡◌, None, Some, map, option_map, option_and_then, IfOk, IfErr, Ok, Err, string_bytes};
 ghost use Rattle.std.specs.Str.{IsUtf8};
 ghost use Rattle.serde_json.specs.Find.{as_str};
 ghost use Rattle.serde_json.specs.Read.{read};
 ghost use Rattle.serde_json.specs.View.{view};
-ghost use Rattle.job_file.specs.Answers.{Answered, IsFault, fields_view, job_view, or_syntax, parts_of, scripts_view};
+ghost use Rattle.job_file.specs.Answers.{Answered, IsFault, fields_view, job_view, parts_of, scripts_view};
 ghost use Rattle.job_file.specs.Contexts.{context_of};
-ghost use Rattle.job_file.specs.Jobs.{field, first, key_fault, mapping, job_in, job_of_object, object_of, script_keys, syntax, text_at, truth_at, unknown_key};
+ghost use Rattle.job_file.specs.Jobs.{field, first, key_fault, mapping, job_in, job_in_context, job_of_read, object_of, script_keys, syntax, text_at, truth_at, unknown_key};
 ghost use Rattle.job_file.specs.Keys.{keys, row_of, value_at};
 ghost use Rattle.job_file.specs.Mappings.{bad_field, fields_of, members_of};
 ghost use Rattle.job_file.specs.declared.keys.Key.TheVariants as k;
@@ -45,15 +45,22 @@ fn context_of(command: JobCommand, file: &Value) -> Option<JobContext>
     }
 }
 
-/// The keys of a job file tried against the table.
-fn try_keys(alloc: Global, context: JobContext, file: &Value) -> Result<(), JobErr>
+/// Whether each key of a job file is known in its context.
+fn try_known(alloc: Global, context: JobContext, file: &Value) -> Result<(), JobErr>
     ensures known { IfOk result (λ _. unknown_key context (view file.now) ≡ None) }
-    ensures right { IfOk result (λ _. first (map (key_fault context (view file.now)) keys) ≡ None) }
-    ensures fault { IfErr result (λ e. IsFault e (first (option_map field (unknown_key context (view file.now)) ∷ first (map (key_fault context (view file.now)) keys) ∷ []))) }
+    ensures fault { IfErr result (λ e. IsFault e (option_map field (unknown_key context (view file.now)))) }
 {
-    if let Some(name) = unknown_key(context, file) {
-        return Err(wrong_field(alloc, name));
+    match unknown_key(context, file) {
+        Some(name) => Err(wrong_field(alloc, name)),
+        None => Ok(()),
     }
+}
+
+/// Whether each key of the table is there, where it is required, and has a value of its type.
+fn try_types(alloc: Global, context: JobContext, file: &Value) -> Result<(), JobErr>
+    ensures right { IfOk result (λ _. first (map (key_fault context (view file.now)) keys) ≡ None) }
+    ensures fault { IfErr result (λ e. IsFault e (first (map (key_fault context (view file.now)) keys))) }
+{
     match wrong_key(context, file) {
         Some(key) => Err(wrong_field(alloc, key.name())),
         None => Ok(()),
@@ -145,12 +152,22 @@ fn made(alloc: Global, context: JobContext, file: &Value, numbers: Numbers, mapp
 
 /// The object that the bytes of a file are read as.
 fn object_from(alloc: Global, bytes: &[u8]) -> Result<Value, JobErr>
-    ensures text { IsUtf8 bytes.now → Answered view result (or_syntax (object_of (read bytes.now))) }
+    ensures text { IsUtf8 bytes.now → Answered view result (object_of (read bytes.now)) }
     ensures bytes { ¬ IsUtf8 bytes.now → Answered view result (Err syntax) }
 {
     match Value::from_slice(alloc, bytes) {
         Ok(value) => if value.is_object() { Ok(value) } else { Err(JobErr::Syntax) },
         Err(error) => if error.is_memory() { Err(JobErr::NoMemory) } else { Err(JobErr::Syntax) },
+    }
+}
+
+/// The job of an object for a command.
+fn job_of(alloc: Global, command: JobCommand, file: &Value) -> Result<Job, JobErr>
+    ensures { Answered job_view result (job_in_context (context_of command (view file.now)) (view file.now)) }
+{
+    match context_of(command, file) {
+        Some(context) => Job::of_object(alloc, context, file),
+        None => Err(wrong_field(alloc, Key::Context.name())),
     }
 }
 
@@ -160,7 +177,8 @@ impl Job {
     pub fn of_object(alloc: Global, context: JobContext, file: &Value) -> Result<Job, JobErr>
         ensures { Answered job_view result (job_in context (view file.now)) }
     {
-        try_keys(alloc, context, file)?;
+        try_known(alloc, context, file)?;
+        try_types(alloc, context, file)?;
         let numbers = numbers_of(alloc, file)?;
         let mapping = mapping_of(alloc, file)?;
         Ok(made(alloc, context, file, numbers, mapping)?)
@@ -169,13 +187,12 @@ impl Job {
     /// The job that the bytes of a job file denote, or the first thing that is wrong with them, for a command that
     /// reads the file.
     pub fn read(alloc: Global, bytes: &[u8], command: JobCommand) -> Result<Job, JobErr>
-        ensures text { IsUtf8 bytes.now → Answered job_view result (job_of_object command (object_of (read bytes.now))) }
+        ensures text { IsUtf8 bytes.now → Answered job_view result (job_of_read command (object_of (read bytes.now))) }
         ensures bytes { ¬ IsUtf8 bytes.now → Answered job_view result (Err syntax) }
     {
-        let file = object_from(alloc, bytes)?;
-        match context_of(command, &file) {
-            Some(context) => Job::of_object(alloc, context, &file),
-            None => Err(wrong_field(alloc, Key::Context.name())),
+        match object_from(alloc, bytes) {
+            Ok(file) => job_of(alloc, command, &file),
+            Err(error) => Err(error),
         }
     }
 }
