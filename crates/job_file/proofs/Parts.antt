@@ -1,9 +1,7 @@
 -- The steps of reading a job put together.
 use Rattle.std.specs.Result.{IsErrAnd}
-use Rattle.std.proofs.Common.{◌≡◌, ℕ, List, [], ◌∷◌, Option, Some, None, Result, Ok, Err, map, option_map, refl, sym, ap, ◌∙◌, subst}
+use Rattle.std.proofs.Common.{◌≡◌, ℕ, List, [], ◌∷◌, Option, Some, None, Result, Ok, Err, map, option_map, refl, sym, subst}
 use Rattle.serde_json.specs.Data.{Data}
-use Rattle.serde_json.specs.View.{view}
-use Rattle.serde_json.specs.declared.value.Value.{Value}
 use Rattle.job_file.specs.declared.context.JobCommand.{JobCommand}
 use Rattle.job_file.specs.declared.context.JobContext.{JobContext}
 use Rattle.job_file.specs.declared.error.JobErr.{JobErr}
@@ -15,7 +13,7 @@ use Rattle.job_file.specs.declared.mapping.Mapping.{Mapping}
 use Rattle.job_file.specs.declared.numbers.Numbers.{Numbers}
 use Rattle.job_file.specs.Answers.{Answered, IsFault, fields_view, job_view, parts_of}
 use Rattle.job_file.specs.Contexts.{context_of}
-use Rattle.job_file.specs.Jobs.{Fault, JobData, fault_of, field, first, job_in, job_in_context, job_of, job_of_read, key_fault, limits_of, mapping, or_fault, range_faults, shards_of, unknown_key}
+use Rattle.job_file.specs.Jobs.{Fault, JobData, fault_of, field, first, job_in, job_in_context, job_of, job_of_read, key_fault, limits_of, mapping, range_faults, shards_of, unknown_key}
 use Rattle.job_file.specs.Keys.{keys, value_at}
 use Rattle.job_file.specs.Limits.{entries_of, natural, number_of, numbers}
 use Rattle.job_file.specs.Mappings.{bad_field, fields_of, members_of}
@@ -105,11 +103,3 @@ exit_answers (Err x) error meaning h a = subst (λ y. Answered job_view (Err y) 
 pub object_answers : (result : Result Job JobErr) (with : JobCommand) (found : Result Data Fault) (file : Data) → found ≡ Ok file → Answered job_view result (job_in_context (context_of with file) file)
     → Answered job_view result (job_of_read with found)
 object_answers result with found file h a = subst (λ x. Answered job_view result (job_of_read with x)) (sym h) a
-
--- a file that is read as no object gives no job
-pub no_object_answers : (error : JobErr) (with : JobCommand) (found : Result Data Fault) → Answered {X = Value} view (Err error) found → Answered job_view (Err error) (job_of_read with found)
-no_object_answers e.Syntax with found h = rw h refl
-no_object_answers (e.Field key) with found h = rw h refl
-no_object_answers (e.Range key) with found h = rw h refl
-no_object_answers (e.Mapping name) with found h = rw h refl
-no_object_answers e.NoMemory with found h = tt

@@ -1,5 +1,5 @@
 -- What reading a job file has answered.
-use Rattle.std.specs.Prelude.{◌≡◌, ℕ, List, Option, Some, None, option_map, Result, Ok, Err, map, string_bytes, String}
+use Rattle.std.specs.Prelude.{◌≡◌, ℕ, List, Option, Some, option_map, Result, Ok, Err, map, string_bytes, String}
 use Rattle.std.specs.declared.alloc.Global.{Global}
 use Rattle.serde_json.specs.Data.{Data}
 use Rattle.serde_json.specs.Find.{as_str}
@@ -40,7 +40,8 @@ job_view job = record {
   listing = job.listing;
   steps = job.steps;
   members = job.members;
-  prelude = job.prelude }
+  prelude = job.prelude;
+}
 
 -- the job that an object's texts and flags make up with numbers and a mapping
 abbrev pub parts_of : JobContext → Data → Numbers → Mapping → JobData
@@ -57,7 +58,8 @@ parts_of context file numbers fields = record {
   listing = truth_at k.Listing file;
   steps = truth_at k.Steps file;
   members = truth_at k.Members file;
-  prelude = truth_at k.Prelude file }
+  prelude = truth_at k.Prelude file;
+}
 
 -- ---- answers
 

@@ -1,8 +1,8 @@
 -- A job: what a job file denotes, or the first thing that is wrong with it.
-use Rattle.std.specs.Prelude.{◌≡◌, ℕ, ◌+◌, Bool, true, false, ◌&&◌, ◌||◌, List, [], ◌∷◌, ◌++◌, Option, Some, None, Result, Ok, Err, codes, is_some, is_none, not, option_map, option_and_then, unwrap_or, map, nat_le, if◌then◌else◌, length}
+use Rattle.std.specs.Prelude.{ℕ, Bool, true, false, ◌&&◌, ◌||◌, List, [], ◌∷◌, Option, Some, None, Result, Ok, Err, codes, is_some, not, option_map, unwrap_or, map, if◌then◌else◌}
 use Rattle.std.specs.Str.{bytes_eq}
 use Rattle.std.specs.List.{list_any}
-use Rattle.serde_json.specs.Data.{Data, null, boolean, number, string, array, object, Members, no_members}
+use Rattle.serde_json.specs.Data.{Data}
 use Rattle.serde_json.specs.Find.{get, as_bool, as_str, as_object}
 use Rattle.job_file.specs.declared.context.JobContext.{JobContext}
 use Rattle.job_file.specs.declared.context.JobContext.TheVariants as c
@@ -121,7 +121,8 @@ limits_of file = record {
   depth = natural (number_of l.Depth file);
   ticks = natural (number_of l.Ticks file);
   room = natural (number_of l.Room file);
-  input = natural (number_of l.Input file) }
+  input = natural (number_of l.Input file);
+}
 
 -- the job that an object denotes in a context, where nothing is wrong with it
 unfoldable pub job_of : JobContext → Data → JobData
@@ -138,7 +139,8 @@ job_of context file = record {
   listing = truth_at k.Listing file;
   steps = truth_at k.Steps file;
   members = truth_at k.Members file;
-  prelude = truth_at k.Prelude file }
+  prelude = truth_at k.Prelude file;
+}
 
 -- ---- reading
 

@@ -1,5 +1,5 @@
 -- The keys of a job file: one row a key.
-use Rattle.std.specs.Prelude.{ℕ, ◌^◌, Bool, true, false, ◌||◌, List, [], ◌∷◌, Option, Some, None, codes, unwrap_or}
+use Rattle.std.specs.Prelude.{ℕ, Bool, true, false, ◌||◌, List, [], ◌∷◌, codes, unwrap_or}
 use Rattle.serde_json.specs.Data.{Data, null, boolean, number, string, array, object, unsigned, no_items, no_members}
 use Rattle.serde_json.specs.Find.{get}
 use Rattle.job_file.specs.declared.context.JobContext.{JobContext}

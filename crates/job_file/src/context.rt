@@ -4,7 +4,7 @@ ghost use Rattle.std.specs.Prelude.{◌≡◌};
 ghost use Rattle.job_file.specs.Contexts.{context_names, is_built, named, takes};
 
 /// What a job's scripts are run for.
-#[derive(Clone, Copy, Debug, PartialEq, Eq)]
+#[derive(Clone, Copy, PartialEq, Eq)]
 pub enum JobContext {
     /// A script on its own, without documents.
     Eval,
@@ -23,7 +23,7 @@ pub enum JobContext {
 }
 
 /// A command that reads a job file.
-#[derive(Clone, Copy, Debug, PartialEq, Eq)]
+#[derive(Clone, Copy, PartialEq, Eq)]
 pub enum JobCommand {
     /// The job's scripts are compiled.
     Check,

@@ -6,7 +6,6 @@ use crate::mapping::Mapping;
 use serde_json::Value;
 
 /// What a job file asks for, with its defaults.
-#[derive(Drop)]
 pub struct Job {
     pub context: JobContext,
     /// The scripts in their order, each after its key.
@@ -30,4 +29,24 @@ pub struct Job {
     pub members: bool,
     /// Whether `list` writes the prelude's listing.
     pub prelude: bool,
+}
+
+impl Drop for Job {
+    fn drop(self) {
+        let Job {
+            context: _,
+            scripts: _scripts,
+            params: _params,
+            mapping: _mapping,
+            allow: _allow,
+            limits: _,
+            shards: _,
+            order: _order,
+            slice: _,
+            listing: _,
+            steps: _,
+            members: _,
+            prelude: _,
+        } = self;
+    }
 }

@@ -10,7 +10,7 @@ ghost use Rattle.job_file.specs.Rows.{contexts_of, presence_of};
 use crate::context::JobContext;
 
 /// A key of a job file.
-#[derive(Clone, Copy, Debug, PartialEq, Eq)]
+#[derive(Clone, Copy)]
 pub enum Key {
     Context,
     Script,
@@ -32,7 +32,7 @@ pub enum Key {
 }
 
 /// What the value of a key has to be.
-#[derive(Clone, Copy, Debug, PartialEq, Eq)]
+#[derive(Clone, Copy)]
 pub enum ValueType {
     Text,
     Object,
@@ -48,7 +48,7 @@ pub enum ValueType {
 }
 
 /// The contexts that have a key.
-#[derive(Clone, Copy, Debug, PartialEq, Eq)]
+#[derive(Clone, Copy)]
 pub enum Contexts {
     All,
     AllButMetric,
@@ -61,14 +61,14 @@ pub enum Contexts {
 }
 
 /// Whether a key has to be there.
-#[derive(Clone, Copy, Debug, PartialEq, Eq)]
+#[derive(Clone, Copy)]
 pub enum Presence {
     Required,
     Optional,
 }
 
 /// What the table says of a key beside its name.
-#[derive(Clone, Copy, Debug)]
+#[derive(Clone, Copy)]
 pub struct KeyRow {
     pub value_type: ValueType,
     pub contexts: Contexts,
@@ -102,7 +102,11 @@ const fn row(value_type: ValueType, contexts: Contexts, presence: Presence) -> K
     ensures contexts { result.contexts ≡ contexts }
     ensures presence { result.presence ≡ presence }
 {
-    KeyRow { value_type, contexts, presence }
+    KeyRow {
+        value_type,
+        contexts,
+        presence,
+    }
 }
 
 impl Contexts {
@@ -114,7 +118,10 @@ impl Contexts {
             Contexts::All => true,
             Contexts::AllButMetric => !matches!(context, JobContext::Metric),
             Contexts::AllButEval => !matches!(context, JobContext::Eval),
-            Contexts::WithMapping => matches!(context, JobContext::Filter | JobContext::Score | JobContext::Field | JobContext::Metric),
+            Contexts::WithMapping => matches!(
+                context,
+                JobContext::Filter | JobContext::Score | JobContext::Field | JobContext::Metric
+            ),
             Contexts::WithReplies => !matches!(context, JobContext::Eval | JobContext::Metric),
             Contexts::Metric => matches!(context, JobContext::Metric),
         }
@@ -160,7 +167,11 @@ impl Key {
             Key::Map => row(ValueType::Text, Contexts::Metric, Presence::Required),
             Key::Combine => row(ValueType::Text, Contexts::Metric, Presence::Required),
             Key::Reduce => row(ValueType::Text, Contexts::Metric, Presence::Required),
-            Key::Params => row(ValueType::Parameters, Contexts::AllButEval, Presence::Optional),
+            Key::Params => row(
+                ValueType::Parameters,
+                Contexts::AllButEval,
+                Presence::Optional,
+            ),
             Key::Mapping => row(ValueType::Object, Contexts::WithMapping, Presence::Optional),
             Key::Allow => row(ValueType::Text, Contexts::All, Presence::Optional),
             Key::Limits => row(ValueType::Limits, Contexts::All, Presence::Optional),
@@ -186,7 +197,8 @@ impl Key {
 fn is_among(keys: &[Key], context: JobContext, name: &str) -> bool
     ensures { result ≡ list_any (λ key. bytes_eq name.now (row_of key).name && belongs key context) keys.now }
 {
-    keys.iter().any(|key| name == key.name() && key.belongs(context))
+    keys.iter()
+        .any(|key| name == key.name() && key.belongs(context))
 }
 
 /// Whether a name is a key of a context.

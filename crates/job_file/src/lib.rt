@@ -15,6 +15,5 @@ mod values;
 pub use context::{JobCommand, JobContext};
 pub use error::JobErr;
 pub use job::Job;
-pub use keys::{Key, ValueType};
-pub use limits::{JobLimits, Limit};
+pub use limits::JobLimits;
 pub use mapping::{FieldKind, MapErr, Mapping};

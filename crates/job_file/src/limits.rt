@@ -11,7 +11,7 @@ use crate::keys::Key;
 use serde_json::Value;
 
 /// A number of a job that has a range.
-#[derive(Clone, Copy, Debug, PartialEq, Eq)]
+#[derive(Clone, Copy)]
 pub enum Limit {
     Loop,
     Depth,
@@ -25,7 +25,7 @@ pub enum Limit {
 }
 
 /// The limits of a job.
-#[derive(Clone, Copy, Debug, PartialEq, Eq)]
+#[derive(Clone, Copy)]
 pub struct JobLimits {
     /// Turns of the loops of one frame.
     pub loops: u64,
@@ -40,7 +40,7 @@ pub struct JobLimits {
 }
 
 /// What the table says of a limit beside its name.
-#[derive(Clone, Copy, Debug)]
+#[derive(Clone, Copy)]
 pub struct LimitRow {
     pub default: i64,
     pub least: i64,
@@ -53,7 +53,11 @@ const fn bounded(default: i64, least: i64, most: i64) -> LimitRow
     ensures least { result.least ≡ least }
     ensures most { result.most ≡ most }
 {
-    LimitRow { default, least, most }
+    LimitRow {
+        default,
+        least,
+        most,
+    }
 }
 
 impl Limit {

@@ -33,7 +33,9 @@ pub fn text_at<'v>(file: &'v Value, key: Key) -> &'v str
 pub fn truth_at(file: &Value, key: Key) -> bool
     ensures { result ≡ truth_at key (view file.now) }
 {
-    value_of(file, key).and_then(Value::as_bool).unwrap_or(false)
+    value_of(file, key)
+        .and_then(Value::as_bool)
+        .unwrap_or(false)
 }
 
 /// The least of some members' names that is no key of a context.

@@ -13,7 +13,7 @@ use std::alloc::{AllocError, Global};
 pub const FIELD_COUNT: usize = 1_000;
 
 /// The kind of a field.
-#[derive(Clone, Copy, Debug, PartialEq, Eq)]
+#[derive(Clone, Copy, PartialEq, Eq)]
 pub enum FieldKind {
     /// Whole numbers of 64 bits with a sign.
     Long,
@@ -24,9 +24,14 @@ pub enum FieldKind {
 }
 
 /// The fields that a script sees of a document, in the order of their names by bytes.
-#[derive(Debug, Drop)]
 pub struct Mapping {
     pub fields: Vec<(String, FieldKind)>,
+}
+
+impl Drop for Mapping {
+    fn drop(self) {
+        let Mapping { fields: _fields } = self;
+    }
 }
 
 /// Why a value gives no mapping.
@@ -95,7 +100,10 @@ fn least_bad<'a>(members: &'a Map<String, Value>) -> Option<&'a str>
 }
 
 /// The fields of an object.
-fn fields_of(alloc: Global, members: &Map<String, Value>) -> Result<Vec<(String, FieldKind)>, AllocError>
+fn fields_of(
+    alloc: Global,
+    members: &Map<String, Value>,
+) -> Result<Vec<(String, FieldKind)>, AllocError>
     ensures { IfOk result (λ fields. fields_view fields.items ≡ fields_of (members_view members.now.entries)) }
 {
     let mut fields = Vec::new(alloc);
@@ -118,7 +126,9 @@ fn read_members(alloc: Global, members: &Map<String, Value>) -> Result<Mapping, 
     }
     match least_bad(members) {
         Some(name) => Err(MapErr::Bad(String::from_str(alloc, name)?)),
-        None => Ok(Mapping { fields: fields_of(alloc, members)? }),
+        None => Ok(Mapping {
+            fields: fields_of(alloc, members)?,
+        }),
     }
 }
 
@@ -132,7 +142,9 @@ impl Mapping {
     {
         match value.as_object() {
             Some(members) => read_members(alloc, members),
-            None => Ok(Mapping { fields: Vec::new(alloc) }),
+            None => Ok(Mapping {
+                fields: Vec::new(alloc),
+            }),
         }
     }
 }

@@ -74,7 +74,13 @@ fn limits_of(file: &Value) -> Result<JobLimits, Limit>
     let ticks = in_range(Limit::Ticks, file)?;
     let room = in_range(Limit::Room, file)?;
     let input = in_range(Limit::Input, file)?;
-    Ok(JobLimits { loops, depth: depth as u32, ticks, room, input })
+    Ok(JobLimits {
+        loops,
+        depth: depth as u32,
+        ticks,
+        room,
+        input,
+    })
 }
 
 /// The number of a shard, if an entry is one.
@@ -83,7 +89,11 @@ fn shard_of(entry: &Value, shards: u32) -> Option<u32>
     ensures none { IfNone result (names_shard shards (whole_of (view entry.now)) ≡ false) }
 {
     match entry.as_i64() {
-        Some(number) => if 0 <= number && number < shards as i64 { Some(number as u32) } else { None },
+        Some(number) => if 0 <= number && number < shards as i64 {
+            Some(number as u32)
+        } else {
+            None
+        },
         None => None,
     }
 }
@@ -157,7 +167,12 @@ pub fn numbers_of(alloc: Global, file: &Value) -> Result<Numbers, JobErr>
         return Err(out_of_range(alloc, Limit::Order));
     };
     match in_range(Limit::Slice, file) {
-        Ok(slice) => Ok(Numbers { limits, shards, order, slice }),
+        Ok(slice) => Ok(Numbers {
+            limits,
+            shards,
+            order,
+            slice,
+        }),
         Err(limit) => Err(out_of_range(alloc, limit)),
     }
 }

@@ -74,7 +74,9 @@ fn mapping_of(alloc: Global, file: &Value) -> Result<Mapping, JobErr>
     ensures fault { IfErr result (λ e. IsFault e (option_map mapping (bad_field (members_of (value_at k.Mapping (view file.now)))))) }
 {
     let Some(value) = value_of(file, Key::Mapping) else {
-        return Ok(Mapping { fields: Vec::new(alloc) });
+        return Ok(Mapping {
+            fields: Vec::new(alloc),
+        });
     };
     match Mapping::read(alloc, value) {
         Ok(mapping) => Ok(mapping),
@@ -94,7 +96,11 @@ fn script_keys(context: JobContext) -> &'static [Key]
 }
 
 /// The scripts at some keys, each after its key.
-fn scripts_of(alloc: Global, file: &Value, keys: &[Key]) -> Result<Vec<(String, String)>, AllocError>
+fn scripts_of(
+    alloc: Global,
+    file: &Value,
+    keys: &[Key],
+) -> Result<Vec<(String, String)>, AllocError>
     ensures { IfOk result (λ scripts. scripts_view scripts.items ≡ map (λ key. ((row_of key).name, text_at key (view file.now))) keys.now) }
 {
     let mut scripts = Vec::new(alloc);
@@ -127,7 +133,13 @@ fn allow_of(alloc: Global, file: &Value) -> Result<Option<String>, AllocError>
 }
 
 /// The job that these parts and what is left of a file make up.
-fn made(alloc: Global, context: JobContext, file: &Value, numbers: Numbers, mapping: Mapping) -> Result<Job, AllocError>
+fn made(
+    alloc: Global,
+    context: JobContext,
+    file: &Value,
+    numbers: Numbers,
+    mapping: Mapping,
+) -> Result<Job, AllocError>
     ensures { IfOk result (λ job. job_view job ≡ parts_of context (view file.now) numbers mapping) }
 {
     let scripts = scripts_of(alloc, file, script_keys(context))?;
@@ -156,8 +168,16 @@ fn object_from(alloc: Global, bytes: &[u8]) -> Result<Value, JobErr>
     ensures bytes { ¬ IsUtf8 bytes.now → Answered view result (Err syntax) }
 {
     match Value::from_slice(alloc, bytes) {
-        Ok(value) => if value.is_object() { Ok(value) } else { Err(JobErr::Syntax) },
-        Err(error) => if error.is_memory() { Err(JobErr::NoMemory) } else { Err(JobErr::Syntax) },
+        Ok(value) => if value.is_object() {
+            Ok(value)
+        } else {
+            Err(JobErr::Syntax)
+        },
+        Err(error) => if error.is_memory() {
+            Err(JobErr::NoMemory)
+        } else {
+            Err(JobErr::Syntax)
+        },
     }
 }
 

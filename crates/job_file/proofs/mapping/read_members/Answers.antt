@@ -1,4 +1,4 @@
-use Rattle.std.proofs.Common.{◌≡◌, ◌<◌, ◌≤◌, Some, None, length, sym, ap, ◌∙◌, arith, rules}
+use Rattle.std.proofs.Common.{◌<◌, ◌≤◌, Some, length, sym, ap, ◌∙◌, arith, rules}
 use Rattle.job_file.proofs.Mappings.{bad_if_many, bad_if_few}
 use Rattle.job_file.proofs.mapping.read_members.Goals as goal
 

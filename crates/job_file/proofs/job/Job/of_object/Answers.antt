@@ -1,4 +1,4 @@
-use Rattle.std.proofs.Common.{◌≡◌, ◌∙◌, sym}
+use Rattle.std.proofs.Common.{◌∙◌}
 use Rattle.serde_json.specs.View.{view}
 use Rattle.job_file.proofs.Parts.{unknown_answers, types_answer, range_answers, mapping_answers, no_fault, job_answers, parts_are_the_job, exit_answers}
 use Rattle.job_file.proofs.job.Job.of_object.Goals as goal
@@ -20,14 +20,14 @@ returns-in_err-numbers c =
     let file = view c.args.file.now in
     let error = c.in_err-numbers.field-0.0 in
     exit_answers c.from_residual-in_err-numbers.result error _ c.from_residual-in_err-numbers.ensures.1
-        (range_answers c.args.context file error c.in_ok-try_known.ensures.known c.in_ok-try_types.ensures.right c.in_err-numbers.ensures.fault)
+    (range_answers c.args.context file error c.in_ok-try_known.ensures.known c.in_ok-try_types.ensures.right c.in_err-numbers.ensures.fault)
 
 pub returns-in_err-mapping : goal.returns-in_err-mapping
 returns-in_err-mapping c =
     let file = view c.args.file.now in
     let error = c.in_err-mapping.field-0.0 in
     exit_answers c.from_residual-in_err-mapping.result error _ c.from_residual-in_err-mapping.ensures.1
-        (mapping_answers c.args.context file error c.in_ok-try_known.ensures.known c.in_ok-try_types.ensures.right c.in_ok-numbers.ensures.within c.in_err-mapping.ensures.fault)
+    (mapping_answers c.args.context file error c.in_ok-try_known.ensures.known c.in_ok-try_types.ensures.right c.in_ok-numbers.ensures.within c.in_err-mapping.ensures.fault)
 
 pub returns : goal.returns
 returns c =
