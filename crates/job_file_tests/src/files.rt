@@ -10,19 +10,7 @@ pub const OK: Answer = ("ok", "");
 
 pub const SYNTAX: Answer = ("syntax", "");
 
-pub const fn field(key: &'static str) -> Answer {
-    ("field", key)
-}
-
-pub const fn range(key: &'static str) -> Answer {
-    ("range", key)
-}
-
-pub const fn mapping(name: &'static str) -> Answer {
-    ("mapping", name)
-}
-
-const CONTEXT: Answer = field("context");
+const CONTEXT: Answer = ("field", "context");
 
 /// Whether an error is the wanted one.
 pub fn is_error(error: &JobErr, wanted: Answer) -> bool {
@@ -56,7 +44,10 @@ const FILES: [(&[u8], Answer); 31] = [
     (b"\xff", SYNTAX),
     (b"{\"context\":\"\xff\"}", SYNTAX),
     (b"{\"context\":\"field\",\"script\":\"\\ud800\"}", SYNTAX),
-    (b"{\"context\":\"field\",\"script\":\"1\",\"params\":{\"a\":1e400}}", SYNTAX),
+    (
+        b"{\"context\":\"field\",\"script\":\"1\",\"params\":{\"a\":1e400}}",
+        SYNTAX,
+    ),
     (b"{}", CONTEXT),
     (b" {\n} ", CONTEXT),
     (b"{\"context\":null}", CONTEXT),
@@ -74,8 +65,14 @@ const FILES: [(&[u8], Answer); 31] = [
     (b"{\"context\":\"filter\",\"script\":\"true\"}", OK),
     (b"{\"context\":\"score\",\"script\":\"1\"}", OK),
     (b"{\"context\":\"field\",\"script\":\"1\"}", OK),
-    (b"{\"context\":\"eval\",\"script\":\"1\",\"context\":\"field\"}", OK),
-    (b"{\"context\":\"field\",\"script\":\"1\",\"context\":\"eval\"}", CONTEXT),
+    (
+        b"{\"context\":\"eval\",\"script\":\"1\",\"context\":\"field\"}",
+        OK,
+    ),
+    (
+        b"{\"context\":\"field\",\"script\":\"1\",\"context\":\"eval\"}",
+        CONTEXT,
+    ),
 ];
 
 #[test]
@@ -89,15 +86,39 @@ fn files_and_contexts(rt: HostRuntime) {
 /// Files of the context `eval`, and what `check` and `list` answer.
 const EVALS: [(&[u8], Answer); 13] = [
     (b"{\"context\":\"eval\",\"script\":\"1\"}", OK),
-    (b"{\"context\":\"eval\",\"script\":\"1\",\"allow\":\"a\",\"limits\":{},\"prelude\":true}", OK),
-    (b"{\"context\":\"eval\"}", field("script")),
-    (b"{\"context\":\"eval\",\"script\":\"1\",\"params\":{}}", field("params")),
-    (b"{\"context\":\"eval\",\"script\":\"1\",\"mapping\":{}}", field("mapping")),
-    (b"{\"context\":\"eval\",\"script\":\"1\",\"listing\":true}", field("listing")),
-    (b"{\"context\":\"eval\",\"script\":\"1\",\"steps\":true}", field("steps")),
-    (b"{\"context\":\"eval\",\"script\":\"1\",\"members\":true}", field("members")),
-    (b"{\"context\":\"eval\",\"script\":\"1\",\"shards\":1}", field("shards")),
-    (b"{\"context\":\"eval\",\"script\":\"1\",\"prelude\":1}", field("prelude")),
+    (
+        b"{\"context\":\"eval\",\"script\":\"1\",\"allow\":\"a\",\"limits\":{},\"prelude\":true}",
+        OK,
+    ),
+    (b"{\"context\":\"eval\"}", ("field", "script")),
+    (
+        b"{\"context\":\"eval\",\"script\":\"1\",\"params\":{}}",
+        ("field", "params"),
+    ),
+    (
+        b"{\"context\":\"eval\",\"script\":\"1\",\"mapping\":{}}",
+        ("field", "mapping"),
+    ),
+    (
+        b"{\"context\":\"eval\",\"script\":\"1\",\"listing\":true}",
+        ("field", "listing"),
+    ),
+    (
+        b"{\"context\":\"eval\",\"script\":\"1\",\"steps\":true}",
+        ("field", "steps"),
+    ),
+    (
+        b"{\"context\":\"eval\",\"script\":\"1\",\"members\":true}",
+        ("field", "members"),
+    ),
+    (
+        b"{\"context\":\"eval\",\"script\":\"1\",\"shards\":1}",
+        ("field", "shards"),
+    ),
+    (
+        b"{\"context\":\"eval\",\"script\":\"1\",\"prelude\":1}",
+        ("field", "prelude"),
+    ),
     (b"{\"context\":\"update\",\"script\":\"1\"}", CONTEXT),
     (b"{\"context\":\"sort\",\"script\":\"1\"}", CONTEXT),
     (b"[]", SYNTAX),
@@ -117,25 +138,79 @@ const PAIRS: [(&[u8], Answer); 22] = [
     (b"{\"a\":1,\"context\":\"sort\"}", CONTEXT),
     (b"{\"limits\":{\"loop\":0}}", CONTEXT),
     (b"{\"mapping\":{\"\":1},\"script\":2}", CONTEXT),
-    (b"{\"context\":\"field\",\"z\":1}", field("z")),
-    (b"{\"context\":\"field\",\"script\":1,\"z\":1}", field("z")),
-    (b"{\"context\":\"field\",\"script\":\"1\",\"params\":[],\"z\":1}", field("z")),
-    (b"{\"context\":\"field\",\"script\":\"1\",\"limits\":{\"loop\":0},\"z\":1}", field("z")),
-    (b"{\"context\":\"field\",\"script\":\"1\",\"mapping\":{\"\":1},\"z\":1}", field("z")),
-    (b"{\"context\":\"field\",\"params\":[]}", field("script")),
-    (b"{\"context\":\"field\",\"script\":1,\"params\":[]}", field("script")),
-    (b"{\"prelude\":1,\"params\":[],\"script\":\"1\",\"context\":\"field\"}", field("params")),
-    (b"{\"context\":\"field\",\"script\":\"1\",\"params\":[],\"mapping\":[]}", field("params")),
-    (b"{\"context\":\"field\",\"script\":\"1\",\"mapping\":[],\"allow\":1}", field("mapping")),
-    (b"{\"context\":\"field\",\"script\":\"1\",\"allow\":1,\"limits\":1}", field("allow")),
-    (b"{\"context\":\"field\",\"script\":\"1\",\"limits\":{\"lop\":1},\"params\":[]}", field("params")),
-    (b"{\"context\":\"field\",\"script\":\"1\",\"limits\":{\"lop\":1},\"listing\":1}", field("limits")),
-    (b"{\"context\":\"field\",\"script\":\"1\",\"listing\":1,\"steps\":1}", field("listing")),
-    (b"{\"context\":\"field\",\"script\":\"1\",\"members\":1,\"steps\":1}", field("steps")),
-    (b"{\"context\":\"field\",\"script\":\"1\",\"prelude\":1,\"members\":1}", field("members")),
-    (b"{\"context\":\"field\",\"script\":\"1\",\"limits\":{\"loop\":0},\"prelude\":1}", field("prelude")),
-    (b"{\"context\":\"field\",\"script\":\"1\",\"mapping\":{\"\":1},\"prelude\":1}", field("prelude")),
-    (b"{\"context\":\"field\",\"script\":\"1\",\"mapping\":{\"\":1},\"limits\":{\"input\":0}}", range("input")),
+    (b"{\"context\":\"field\",\"z\":1}", ("field", "z")),
+    (
+        b"{\"context\":\"field\",\"script\":1,\"z\":1}",
+        ("field", "z"),
+    ),
+    (
+        b"{\"context\":\"field\",\"script\":\"1\",\"params\":[],\"z\":1}",
+        ("field", "z"),
+    ),
+    (
+        b"{\"context\":\"field\",\"script\":\"1\",\"limits\":{\"loop\":0},\"z\":1}",
+        ("field", "z"),
+    ),
+    (
+        b"{\"context\":\"field\",\"script\":\"1\",\"mapping\":{\"\":1},\"z\":1}",
+        ("field", "z"),
+    ),
+    (
+        b"{\"context\":\"field\",\"params\":[]}",
+        ("field", "script"),
+    ),
+    (
+        b"{\"context\":\"field\",\"script\":1,\"params\":[]}",
+        ("field", "script"),
+    ),
+    (
+        b"{\"prelude\":1,\"params\":[],\"script\":\"1\",\"context\":\"field\"}",
+        ("field", "params"),
+    ),
+    (
+        b"{\"context\":\"field\",\"script\":\"1\",\"params\":[],\"mapping\":[]}",
+        ("field", "params"),
+    ),
+    (
+        b"{\"context\":\"field\",\"script\":\"1\",\"mapping\":[],\"allow\":1}",
+        ("field", "mapping"),
+    ),
+    (
+        b"{\"context\":\"field\",\"script\":\"1\",\"allow\":1,\"limits\":1}",
+        ("field", "allow"),
+    ),
+    (
+        b"{\"context\":\"field\",\"script\":\"1\",\"limits\":{\"lop\":1},\"params\":[]}",
+        ("field", "params"),
+    ),
+    (
+        b"{\"context\":\"field\",\"script\":\"1\",\"limits\":{\"lop\":1},\"listing\":1}",
+        ("field", "limits"),
+    ),
+    (
+        b"{\"context\":\"field\",\"script\":\"1\",\"listing\":1,\"steps\":1}",
+        ("field", "listing"),
+    ),
+    (
+        b"{\"context\":\"field\",\"script\":\"1\",\"members\":1,\"steps\":1}",
+        ("field", "steps"),
+    ),
+    (
+        b"{\"context\":\"field\",\"script\":\"1\",\"prelude\":1,\"members\":1}",
+        ("field", "members"),
+    ),
+    (
+        b"{\"context\":\"field\",\"script\":\"1\",\"limits\":{\"loop\":0},\"prelude\":1}",
+        ("field", "prelude"),
+    ),
+    (
+        b"{\"context\":\"field\",\"script\":\"1\",\"mapping\":{\"\":1},\"prelude\":1}",
+        ("field", "prelude"),
+    ),
+    (
+        b"{\"context\":\"field\",\"script\":\"1\",\"mapping\":{\"\":1},\"limits\":{\"input\":0}}",
+        ("range", "input"),
+    ),
 ];
 
 #[test]
