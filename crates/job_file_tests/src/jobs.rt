@@ -133,7 +133,7 @@ fn object_answers(alloc: Global, context: JobContext, text: &str, wanted: Answer
         return false;
     };
     match Job::of_object(alloc, context, &object) {
-        Ok(_) => wanted.0 == "ok",
+        Ok(_) => wanted == "ok",
         Err(error) => is_error(&error, wanted),
     }
 }
@@ -148,12 +148,12 @@ const OBJECTS: [(JobContext, &str, Answer); 30] = [
     (
         JobContext::Update,
         "{\"context\":\"update\",\"script\":\"1\",\"mapping\":{}}",
-        ("field", "mapping"),
+        "field mapping",
     ),
     (
         JobContext::Update,
         "{\"context\":\"update\",\"script\":\"1\",\"shards\":1}",
-        ("field", "shards"),
+        "field shards",
     ),
     (
         JobContext::Ingest,
@@ -163,7 +163,7 @@ const OBJECTS: [(JobContext, &str, Answer); 30] = [
     (
         JobContext::Ingest,
         "{\"context\":\"ingest\"}",
-        ("field", "script"),
+        "field script",
     ),
     (
         JobContext::Metric,
@@ -173,82 +173,82 @@ const OBJECTS: [(JobContext, &str, Answer); 30] = [
     (
         JobContext::Metric,
         "{\"context\":\"metric\",\"map\":\"m\",\"combine\":\"c\",\"reduce\":\"r\",\"script\":\"1\"}",
-        ("field", "script"),
+        "field script",
     ),
     (
         JobContext::Metric,
         "{\"context\":\"metric\",\"map\":\"m\",\"combine\":\"c\",\"reduce\":\"r\",\"steps\":true}",
-        ("field", "steps"),
+        "field steps",
     ),
     (
         JobContext::Metric,
         "{\"context\":\"metric\",\"map\":\"m\",\"combine\":\"c\",\"reduce\":\"r\",\"members\":true}",
-        ("field", "members"),
+        "field members",
     ),
     (
         JobContext::Metric,
         "{\"context\":\"metric\",\"map\":\"m\",\"combine\":\"c\",\"reduce\":\"r\",\"init\":1}",
-        ("field", "init"),
+        "field init",
     ),
     (
         JobContext::Metric,
         "{\"context\":\"metric\",\"combine\":\"c\"}",
-        ("field", "map"),
+        "field map",
     ),
     (
         JobContext::Metric,
         "{\"context\":\"metric\",\"map\":\"m\",\"reduce\":\"r\"}",
-        ("field", "combine"),
+        "field combine",
     ),
     (
         JobContext::Metric,
         "{\"context\":\"metric\",\"map\":\"m\",\"combine\":\"c\"}",
-        ("field", "reduce"),
+        "field reduce",
     ),
     (
         JobContext::Metric,
         "{\"map\":\"m\",\"combine\":\"c\",\"reduce\":\"r\"}",
-        ("field", "context"),
+        "field context",
     ),
     (
         JobContext::Metric,
         "{\"context\":\"metric\",\"map\":\"m\",\"combine\":\"c\",\"reduce\":\"r\",\"shards\":\"1\"}",
-        ("field", "shards"),
+        "field shards",
     ),
     (
         JobContext::Metric,
         "{\"context\":\"metric\",\"map\":\"m\",\"combine\":\"c\",\"reduce\":\"r\",\"order\":[1.0]}",
-        ("field", "order"),
+        "field order",
     ),
     (
         JobContext::Metric,
         "{\"context\":\"metric\",\"map\":\"m\",\"combine\":\"c\",\"reduce\":\"r\",\"order\":{}}",
-        ("field", "order"),
+        "field order",
     ),
     (
         JobContext::Metric,
         "{\"context\":\"metric\",\"map\":\"m\",\"combine\":\"c\",\"reduce\":\"r\",\"slice\":1.0}",
-        ("field", "slice"),
+        "field slice",
     ),
     (
         JobContext::Metric,
         "{\"context\":\"metric\",\"map\":\"m\",\"combine\":\"c\",\"reduce\":\"r\",\"slice\":null,\"order\":1}",
-        ("field", "order"),
+        "field order",
     ),
     (
         JobContext::Metric,
         "{\"context\":\"metric\",\"map\":\"m\",\"combine\":\"c\",\"reduce\":\"r\",\"shards\":0}",
-        ("range", "shards"),
+        "range shards",
     ),
     (
         JobContext::Metric,
         "{\"context\":\"metric\",\"map\":\"m\",\"combine\":\"c\",\"reduce\":\"r\",\"shards\":65,\"order\":[64]}",
-        ("range", "shards"),
+        "range shards",
     ),
     (
         JobContext::Metric,
         "{\"context\":\"metric\",\"map\":\"m\",\"combine\":\"c\",\"reduce\":\"r\",\"shards\":64,\"order\":[64]}",
-        ("range", "order"),
+        "range order",
     ),
     (
         JobContext::Metric,
@@ -258,37 +258,37 @@ const OBJECTS: [(JobContext, &str, Answer); 30] = [
     (
         JobContext::Metric,
         "{\"context\":\"metric\",\"map\":\"m\",\"combine\":\"c\",\"reduce\":\"r\",\"order\":[0,1]}",
-        ("range", "order"),
+        "range order",
     ),
     (
         JobContext::Metric,
         "{\"context\":\"metric\",\"map\":\"m\",\"combine\":\"c\",\"reduce\":\"r\",\"order\":[-1],\"slice\":0}",
-        ("range", "order"),
+        "range order",
     ),
     (
         JobContext::Metric,
         "{\"context\":\"metric\",\"map\":\"m\",\"combine\":\"c\",\"reduce\":\"r\",\"slice\":0}",
-        ("range", "slice"),
+        "range slice",
     ),
     (
         JobContext::Metric,
         "{\"context\":\"metric\",\"map\":\"m\",\"combine\":\"c\",\"reduce\":\"r\",\"slice\":1000000001}",
-        ("range", "slice"),
+        "range slice",
     ),
     (
         JobContext::Metric,
         "{\"context\":\"metric\",\"map\":\"m\",\"combine\":\"c\",\"reduce\":\"r\",\"shards\":0,\"limits\":{\"input\":0}}",
-        ("range", "input"),
+        "range input",
     ),
     (
         JobContext::Metric,
         "{\"context\":\"metric\",\"map\":\"m\",\"combine\":\"c\",\"reduce\":\"r\",\"slice\":0,\"mapping\":{\"\":0}}",
-        ("range", "slice"),
+        "range slice",
     ),
     (
         JobContext::Metric,
         "{\"context\":\"metric\",\"map\":\"m\",\"combine\":\"c\",\"reduce\":\"r\",\"mapping\":{\"f\":0}}",
-        ("mapping", "f"),
+        "mapping f",
     ),
 ];
 
@@ -337,7 +337,7 @@ fn entries(alloc: Global, count: u32) -> Result<String, Fail> {
     Ok(text)
 }
 
-const COUNTS: [(u32, Answer); 2] = [(100_000, OK), (100_001, ("range", "order"))];
+const COUNTS: [(u32, Answer); 2] = [(100_000, OK), (100_001, "range order")];
 
 #[test]
 fn how_many_entries(rt: HostRuntime) -> Result<(), Fail> {
