@@ -1,0 +1,4 @@
+mod Least
+mod Mappings
+mod Orders
+mod Parts

@@ -1,0 +1,12 @@
+use Rattle.std.proofs.Common.{◌≡◌, string_cmp, not}
+use Rattle.std.specs.List.Sorted.{IsStrictlySortedBy}
+use Rattle.std.specs.Map.{keys_of}
+use Rattle.serde_json.specs.View.{members_view}
+use Rattle.job_file.specs.Jobs.{is_key}
+use Rattle.job_file.specs.Mappings.{least, names_where}
+use Rattle.job_file.proofs.lookup.least_unknown.Given as goal
+
+abbrev pub invariant-loop-name : goal.invariant-loop-name
+invariant-loop-name l =
+    IsStrictlySortedBy string_cmp (keys_of l.name-iterator)
+    × (least (names_where (λ name d. not (is_key l.fn.context name)) (members_view l.members.entries)) ≡ least (names_where (λ name d. not (is_key l.fn.context name)) (members_view l.name-iterator)))

@@ -1,0 +1,19 @@
+//! Job files: a job, or the first thing that is wrong with it.
+#![tactic(auto)]
+
+mod context;
+mod error;
+mod job;
+mod keys;
+mod limits;
+mod lookup;
+mod mapping;
+mod numbers;
+mod reading;
+mod values;
+
+pub use context::{JobCommand, JobContext};
+pub use error::JobErr;
+pub use job::Job;
+pub use limits::JobLimits;
+pub use mapping::{FieldKind, MapErr, Mapping};

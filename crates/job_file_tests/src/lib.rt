@@ -1,0 +1,10 @@
+//! What the clauses of `job_file` don't say: job files with their answers, the defaults, and that each call which takes
+//! memory answers where there is some.
+#![tactic(auto)]
+
+#[cfg(test)]
+mod files;
+#[cfg(test)]
+mod jobs;
+#[cfg(test)]
+mod keys;
