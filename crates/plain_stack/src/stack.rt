@@ -1,6 +1,7 @@
 //! A stack.
 
-ghost use Rattle.std.specs.Prelude.{◌≡◌, ◌-◌, [], ◌∷◌, length, MatchOption, OnOk, IfOk};
+ghost use Rattle.std.specs.Prelude.{◌≡◌, ◌-◌, [], ◌∷◌, length, reverse, slice_get, MatchOption, MatchResult, OnOk, IfOk};
+ghost use Rattle.std.specs.Option.{option_copied};
 ghost use Rattle.plain_stack.specs.Stacks.{Takes, PopsTwo, lowest};
 
 use plain_data::Items;
@@ -44,6 +45,14 @@ impl<T> Stack<T> {
         ensures { result ≡ length self.now }
     {
         self.items.len()
+    }
+
+    /// The item that lies so high, counted from 0 at the bottom. `None` where the stack is no higher.
+    #[tactic(auto, using(crate::proofs::Lowest::twice_reversed))]
+    pub fn get(&self, height: usize) -> Option<&T>
+        ensures { option_copied result ≡ slice_get (reverse self.now) height }
+    {
+        self.items.get(height)
     }
 
     /// Its items, the top first.
@@ -107,9 +116,9 @@ impl<T: Drop> Stack<T> {
         self.items.truncate(height);
     }
 
-    /// Puts an item on the top.
+    /// Puts an item on the top. Where memory is wanted, the stack stays as it was.
     pub fn push(&mut self, item: T) -> Result<(), AllocError>
-        ensures { OnOk result (self.new ≡ item ∷ self.old) }
+        ensures { MatchResult result (λ _. self.new ≡ item ∷ self.old) (λ _. self.new ≡ self.old) }
     {
         self.items.push(item)?;
         Ok(())
