@@ -13,13 +13,13 @@ use Rattle.allowlist.specs.declared.member.MemberKind.{MemberKind}
 use Rattle.codegen.specs.Called.{call_code}
 use Rattle.source_meaning.specs.Tree.{Name, Program}
 use Rattle.pl_code.specs.declared.kinds.Numbered.TheVariants as numbered
-use Rattle.compiler_relation.specs.Lying.{Lying}
+use Rattle.compiler_relation.specs.Representation.{Representation}
 use Rattle.compiler_relation.specs.Parts.{cast_code}
 use Rattle.compiler_relation.specs.Stands.{At, AllAt, end_all}
 use Rattle.compiler_relation.specs.Placed.{untrapped}
-use Rattle.codegen.specs.Checks.{lying}
+use Rattle.codegen.specs.Checks.{denoted}
 use Rattle.codegen.specs.Labels.{or_first, bound, settled_line}
-use Rattle.codegen.specs.Jobs.{Job, Put, Convert, Ask, Call, Jump, Bind, Load, Store, Stand, Trapped, Holds, Back, IsLocal, scope_in, next_in, whole_in}
+use Rattle.codegen.specs.Worklist.{Item, Put, Convert, Ask, Call, Jump, Bind, Load, Store, Stand, Trapped, Holds, Back, IsLocal, scope_in, next_in, whole_in}
 use Rattle.codegen.specs.declared.config.Config.{Config}
 use Rattle.codegen.specs.declared.config.Flow.{Flow}
 use Rattle.codegen.specs.declared.labels.Line.{Line}
@@ -86,40 +86,40 @@ holds_before f labels c more h = record {
   locals = h.locals;
 }
 
-module _ (funs : Program) (js : List Job) (c : Config) where
+module _ (funs : Program) (todo : List Item) (c : Config) where
   -- what is to be written is another list, with nothing written
-  pub planned : (js' : List Job) → ((f : FunCode) (labels : List (Option ℕ)) (g : _) (n p : ℕ) (flows : List Flow) (whole : Trapped) → Stand funs (lying c.result) f labels js' g n p flows whole → Stand funs (lying c.result) f labels js g n p flows whole)
-      → Back funs js c js' c
-  planned js' h = record { by = λ f labels m. record { holds = m.holds; stand = h f labels (scope_in c) (next_in c) (length c.lines) c.flows (whole_in c) m.stand } }
+  pub planned : (todo' : List Item) → ((f : FunCode) (labels : List (Option ℕ)) (g : _) (n p : ℕ) (flows : List Flow) (whole : Trapped) → Stand funs (denoted c.result) f labels todo' g n p flows whole → Stand funs (denoted c.result) f labels todo g n p flows whole)
+      → Back funs todo c todo' c
+  planned todo' h = record { by = λ f labels m. record { holds = m.holds; stand = h f labels (scope_in c) (next_in c) (length c.lines) c.flows (whole_in c) m.stand } }
 
   -- the same at the place where it is done
-  pub planned_here : (js' : List Job) → ((f : FunCode) (labels : List (Option ℕ)) → Stand funs (lying c.result) f labels js' (scope_in c) (next_in c) (length c.lines) c.flows (whole_in c) → Stand funs (lying c.result) f labels js (scope_in c) (next_in c) (length c.lines) c.flows (whole_in c))
-      → Back funs js c js' c
-  planned_here js' h = record { by = λ f labels m. record { holds = m.holds; stand = h f labels m.stand } }
+  pub planned_here : (todo' : List Item) → ((f : FunCode) (labels : List (Option ℕ)) → Stand funs (denoted c.result) f labels todo' (scope_in c) (next_in c) (length c.lines) c.flows (whole_in c) → Stand funs (denoted c.result) f labels todo (scope_in c) (next_in c) (length c.lines) c.flows (whole_in c))
+      → Back funs todo c todo' c
+  planned_here todo' h = record { by = λ f labels m. record { holds = m.holds; stand = h f labels m.stand } }
 
-  pub put_more : (is : List Instruction) → Back funs (Put is ∷ js) c js (record c { lines = c.lines ++ map line.Fixed is })
+  pub put_more : (is : List Instruction) → Back funs (Put is ∷ todo) c todo (record c { lines = c.lines ++ map line.Fixed is })
   put_more is = record {
     by = λ f labels m. record {
       holds = holds_before f labels c (map line.Fixed is) m.holds;
       stand = (
         all_at f labels c.lines is m.holds.lines,
-        subst (λ p. Stand funs (lying c.result) f labels js (scope_in c) (next_in c) p c.flows (whole_in c)) (sym (all_end c.lines is)) m.stand,
+        subst (λ p. Stand funs (denoted c.result) f labels todo (scope_in c) (next_in c) p c.flows (whole_in c)) (sym (all_end c.lines is)) m.stand,
       );
     };
   }
 
-  pub jump_more : (kind : Numbered) (label : ℕ) → Back funs (Jump kind label ∷ js) c js (record c { lines = c.lines ++ line.Jump kind label ∷ [] })
+  pub jump_more : (kind : Numbered) (label : ℕ) → Back funs (Jump kind label ∷ todo) c todo (record c { lines = c.lines ++ line.Jump kind label ∷ [] })
   jump_more kind label = record {
     by = λ f labels m. record {
       holds = holds_before f labels c (line.Jump kind label ∷ []) m.holds;
       stand = (
         one_at f labels c.lines (line.Jump kind label) [] m.holds.lines,
-        subst (λ p. Stand funs (lying c.result) f labels js (scope_in c) (next_in c) p c.flows (whole_in c)) (one_longer c.lines (line.Jump kind label)) m.stand,
+        subst (λ p. Stand funs (denoted c.result) f labels todo (scope_in c) (next_in c) p c.flows (whole_in c)) (one_longer c.lines (line.Jump kind label)) m.stand,
       );
     };
   }
 
-  pub bind_more : (label : ℕ) → slice_get c.labels label ≡ Some None → Back funs (Bind label ∷ js) c js (record c { labels = slice_set c.labels label (Some (length c.lines)) })
+  pub bind_more : (label : ℕ) → slice_get c.labels label ≡ Some None → Back funs (Bind label ∷ todo) c todo (record c { labels = slice_set c.labels label (Some (length c.lines)) })
   bind_more label free = record {
     by = λ f labels m. record {
       holds = record {
@@ -136,7 +136,7 @@ module _ (funs : Program) (js : List Job) (c : Config) where
   }
 
   -- labels that are new
-  pub labels_more : (more : List (Option ℕ)) → Back funs js c js (record c { labels = c.labels ++ more })
+  pub labels_more : (more : List (Option ℕ)) → Back funs todo c todo (record c { labels = c.labels ++ more })
   labels_more more = record {
     by = λ f labels m. record {
       holds = record {
@@ -149,76 +149,76 @@ module _ (funs : Program) (js : List Job) (c : Config) where
     };
   }
 
-pub back_all : (funs : Program) (js js' js'' : List Job) (c c' c'' : Config) → Back funs js c js' c' → Back funs js' c' js'' c'' → Back funs js c js'' c''
-back_all funs js js' js'' c c' c'' b b' = record { by = λ f labels m. b.by f labels (b'.by f labels m) }
+pub back_all : (funs : Program) (todo todo' todo'' : List Item) (c c' c'' : Config) → Back funs todo c todo' c' → Back funs todo' c' todo'' c'' → Back funs todo c todo'' c''
+back_all funs todo todo' todo'' c c' c'' b b' = record { by = λ f labels m. b.by f labels (b'.by f labels m) }
 
-pub back_same : (funs : Program) (js : List Job) (c : Config) → Back funs js c js c
-back_same funs js c = record { by = λ f labels m. m }
+pub back_same : (funs : Program) (todo : List Item) (c : Config) → Back funs todo c todo c
+back_same funs todo c = record { by = λ f labels m. m }
 
 -- ---- with what a call gives
 
-module _ (funs : Program) (js : List Job) (c : Config) where
-  pub put_back : (is : List Instruction) (xs : List Line) → xs ≡ c.lines ++ map line.Fixed is → Back funs (Put is ∷ js) c js (record c { lines = xs })
-  put_back is xs e = subst (λ xs. Back funs (Put is ∷ js) c js (record c { lines = xs })) (sym e) (put_more funs js c is)
+module _ (funs : Program) (todo : List Item) (c : Config) where
+  pub put_back : (is : List Instruction) (xs : List Line) → xs ≡ c.lines ++ map line.Fixed is → Back funs (Put is ∷ todo) c todo (record c { lines = xs })
+  put_back is xs e = subst (λ xs. Back funs (Put is ∷ todo) c todo (record c { lines = xs })) (sym e) (put_more funs todo c is)
 
-  pub convert_back : (by : Cast) (to : Ty) (xs : List Line) → xs ≡ c.lines ++ map line.Fixed (cast_code by to) → Back funs (Convert by to ∷ js) c js (record c { lines = xs })
+  pub convert_back : (by : Cast) (to : Ty) (xs : List Line) → xs ≡ c.lines ++ map line.Fixed (cast_code by to) → Back funs (Convert by to ∷ todo) c todo (record c { lines = xs })
   convert_back by to xs e = record { by = λ f labels m. let before = (put_back (cast_code by to) xs e).by f labels m in record { holds = before.holds; stand = before.stand } }
 
-  pub ask_back : (is : Ty) (xs : List Line) → xs ≡ c.lines ++ line.Fixed (i.Typed typed.IsA (full_text is)) ∷ [] → Back funs (Ask is ∷ js) c js (record c { lines = xs })
+  pub ask_back : (is : Ty) (xs : List Line) → xs ≡ c.lines ++ line.Fixed (i.Typed typed.IsA (full_text is)) ∷ [] → Back funs (Ask is ∷ todo) c todo (record c { lines = xs })
   ask_back is xs e = record { by = λ f labels m. let before = (put_back (i.Typed typed.IsA (full_text is) ∷ []) xs e).by f labels m in record { holds = before.holds; stand = (before.stand.0.0, before.stand.1) } }
 
-  pub call_back : (kind : MemberKind) (text : List ℕ) (xs : List Line) → xs ≡ c.lines ++ line.Fixed (call_code kind text) ∷ [] → Back funs (Call kind text ∷ js) c js (record c { lines = xs })
+  pub call_back : (kind : MemberKind) (text : List ℕ) (xs : List Line) → xs ≡ c.lines ++ line.Fixed (call_code kind text) ∷ [] → Back funs (Call kind text ∷ todo) c todo (record c { lines = xs })
   call_back kind text xs e = record { by = λ f labels m. let before = (put_back (call_code kind text ∷ []) xs e).by f labels m in record { holds = before.holds; stand = (before.stand.0.0, before.stand.1) } }
 
-  pub jump_back : (kind : Numbered) (label : ℕ) (xs : List Line) → xs ≡ c.lines ++ line.Jump kind label ∷ [] → Back funs (Jump kind label ∷ js) c js (record c { lines = xs })
-  jump_back kind label xs e = subst (λ xs. Back funs (Jump kind label ∷ js) c js (record c { lines = xs })) (sym e) (jump_more funs js c kind label)
+  pub jump_back : (kind : Numbered) (label : ℕ) (xs : List Line) → xs ≡ c.lines ++ line.Jump kind label ∷ [] → Back funs (Jump kind label ∷ todo) c todo (record c { lines = xs })
+  jump_back kind label xs e = subst (λ xs. Back funs (Jump kind label ∷ todo) c todo (record c { lines = xs })) (sym e) (jump_more funs todo c kind label)
 
-  pub bind_back : (label n : ℕ) (ls : List (Option ℕ)) → n ≡ length c.lines → slice_get c.labels label ≡ Some None → ls ≡ slice_set c.labels label (Some n) → Back funs (Bind label ∷ js) c js (record c { labels = ls })
+  pub bind_back : (label n : ℕ) (ls : List (Option ℕ)) → n ≡ length c.lines → slice_get c.labels label ≡ Some None → ls ≡ slice_set c.labels label (Some n) → Back funs (Bind label ∷ todo) c todo (record c { labels = ls })
   bind_back label n ls e free is =
-      subst (λ ls. Back funs (Bind label ∷ js) c js (record c { labels = ls })) (sym (is ∙ ap (λ n. slice_set c.labels label (Some n)) e)) (bind_more funs js c label free)
+      subst (λ ls. Back funs (Bind label ∷ todo) c todo (record c { labels = ls })) (sym (is ∙ ap (λ n. slice_set c.labels label (Some n)) e)) (bind_more funs todo c label free)
 
-  pub with_label : (js' : List Job) (ls : List (Option ℕ)) → ls ≡ c.labels ++ None ∷ [] → Back funs js c js' c → Back funs js c js' (record c { labels = ls })
-  with_label js' ls e b =
-      subst (λ ls. Back funs js c js' (record c { labels = ls })) (sym e) (back_all funs js js' js' c c (record c { labels = c.labels ++ None ∷ [] }) b (labels_more funs js' c (None ∷ [])))
+  pub with_label : (todo' : List Item) (ls : List (Option ℕ)) → ls ≡ c.labels ++ None ∷ [] → Back funs todo c todo' c → Back funs todo c todo' (record c { labels = ls })
+  with_label todo' ls e b =
+      subst (λ ls. Back funs todo c todo' (record c { labels = ls })) (sym e) (back_all funs todo todo' todo' c c (record c { labels = c.labels ++ None ∷ [] }) b (labels_more funs todo' c (None ∷ [])))
 
-  pub with_labels : (js' : List Job) (ls ls' : List (Option ℕ)) → ls ≡ c.labels ++ None ∷ [] → ls' ≡ ls ++ None ∷ [] → Back funs js c js' c → Back funs js c js' (record c { labels = ls' })
-  with_labels js' ls ls' e e' b =
-      subst (λ ls. Back funs js c js' (record c { labels = ls })) (sym (e' ∙ ap (λ ls. ls ++ None ∷ []) e))
-      (back_all funs js js' js' c (record c { labels = c.labels ++ None ∷ [] }) _ (back_all funs js js' js' c c (record c { labels = c.labels ++ None ∷ [] }) b (labels_more funs js' c (None ∷ [])))
-      (labels_more funs js' (record c { labels = c.labels ++ None ∷ [] }) (None ∷ [])))
+  pub with_labels : (todo' : List Item) (ls ls' : List (Option ℕ)) → ls ≡ c.labels ++ None ∷ [] → ls' ≡ ls ++ None ∷ [] → Back funs todo c todo' c → Back funs todo c todo' (record c { labels = ls' })
+  with_labels todo' ls ls' e e' b =
+      subst (λ ls. Back funs todo c todo' (record c { labels = ls })) (sym (e' ∙ ap (λ ls. ls ++ None ∷ []) e))
+      (back_all funs todo todo' todo' c (record c { labels = c.labels ++ None ∷ [] }) _ (back_all funs todo todo' todo' c c (record c { labels = c.labels ++ None ∷ [] }) b (labels_more funs todo' c (None ∷ [])))
+      (labels_more funs todo' (record c { labels = c.labels ++ None ∷ [] }) (None ∷ [])))
 
-  pub label_more : (js' : List Job) (ls ls' : List (Option ℕ)) → ls' ≡ ls ++ None ∷ [] → Back funs js c js' (record c { labels = ls }) → Back funs js c js' (record c { labels = ls' })
-  label_more js' ls ls' e b =
-      subst (λ ls. Back funs js c js' (record c { labels = ls })) (sym e)
-      (back_all funs js js' js' c (record c { labels = ls }) _ b (labels_more funs js' (record c { labels = ls }) (None ∷ [])))
+  pub label_more : (todo' : List Item) (ls ls' : List (Option ℕ)) → ls' ≡ ls ++ None ∷ [] → Back funs todo c todo' (record c { labels = ls }) → Back funs todo c todo' (record c { labels = ls' })
+  label_more todo' ls ls' e b =
+      subst (λ ls. Back funs todo c todo' (record c { labels = ls })) (sym e)
+      (back_all funs todo todo' todo' c (record c { labels = ls }) _ b (labels_more funs todo' (record c { labels = ls }) (None ∷ [])))
 
-  load_more : (x : Name) (lies : Lying) (local : ℕ) → IsLocal (scope_in c) x lies local → Back funs (Load x lies ∷ js) c js (record c { lines = c.lines ++ line.Fixed (i.Numbered numbered.Load local) ∷ [] })
-  load_more x lies local l = record {
+  load_more : (x : Name) (representation : Representation) (local : ℕ) → IsLocal (scope_in c) x representation local → Back funs (Load x representation ∷ todo) c todo (record c { lines = c.lines ++ line.Fixed (i.Numbered numbered.Load local) ∷ [] })
+  load_more x representation local l = record {
     by = λ f labels m. record {
       holds = holds_before f labels c (line.Fixed (i.Numbered numbered.Load local) ∷ []) m.holds;
       stand = (
-        (l.entry, l.is, l.lies_so, subst (λ n. At (untrapped f) [] (length c.lines) (i.Numbered numbered.Load n)) l.number (one_at f labels c.lines (line.Fixed (i.Numbered numbered.Load local)) [] m.holds.lines)),
-        subst (λ p. Stand funs (lying c.result) f labels js (scope_in c) (next_in c) p c.flows (whole_in c)) (one_longer c.lines (line.Fixed (i.Numbered numbered.Load local))) m.stand,
+        (l.entry, l.is, l.represented_so, subst (λ n. At (untrapped f) [] (length c.lines) (i.Numbered numbered.Load n)) l.number (one_at f labels c.lines (line.Fixed (i.Numbered numbered.Load local)) [] m.holds.lines)),
+        subst (λ p. Stand funs (denoted c.result) f labels todo (scope_in c) (next_in c) p c.flows (whole_in c)) (one_longer c.lines (line.Fixed (i.Numbered numbered.Load local))) m.stand,
       );
     };
   }
 
-  store_more : (x : Name) (lies : Lying) (local : ℕ) → IsLocal (scope_in c) x lies local → Back funs (Store x lies ∷ js) c js (record c { lines = c.lines ++ line.Fixed (i.Numbered numbered.Store local) ∷ [] })
-  store_more x lies local l = record {
+  store_more : (x : Name) (representation : Representation) (local : ℕ) → IsLocal (scope_in c) x representation local → Back funs (Store x representation ∷ todo) c todo (record c { lines = c.lines ++ line.Fixed (i.Numbered numbered.Store local) ∷ [] })
+  store_more x representation local l = record {
     by = λ f labels m. record {
       holds = holds_before f labels c (line.Fixed (i.Numbered numbered.Store local) ∷ []) m.holds;
       stand = (
-        (l.entry, l.is, l.lies_so, subst (λ n. At (untrapped f) [] (length c.lines) (i.Numbered numbered.Store n)) l.number (one_at f labels c.lines (line.Fixed (i.Numbered numbered.Store local)) [] m.holds.lines)),
-        subst (λ p. Stand funs (lying c.result) f labels js (scope_in c) (next_in c) p c.flows (whole_in c)) (one_longer c.lines (line.Fixed (i.Numbered numbered.Store local))) m.stand,
+        (l.entry, l.is, l.represented_so, subst (λ n. At (untrapped f) [] (length c.lines) (i.Numbered numbered.Store n)) l.number (one_at f labels c.lines (line.Fixed (i.Numbered numbered.Store local)) [] m.holds.lines)),
+        subst (λ p. Stand funs (denoted c.result) f labels todo (scope_in c) (next_in c) p c.flows (whole_in c)) (one_longer c.lines (line.Fixed (i.Numbered numbered.Store local))) m.stand,
       );
     };
   }
 
-  pub load_back : (x : Name) (lies : Lying) (local : ℕ) (xs : List Line) → IsLocal (scope_in c) x lies local → xs ≡ c.lines ++ line.Fixed (i.Numbered numbered.Load local) ∷ [] → Back funs (Load x lies ∷ js) c js (record c { lines = xs })
-  load_back x lies local xs l e = subst (λ xs. Back funs (Load x lies ∷ js) c js (record c { lines = xs })) (sym e) (load_more x lies local l)
+  pub load_back : (x : Name) (representation : Representation) (local : ℕ) (xs : List Line) → IsLocal (scope_in c) x representation local → xs ≡ c.lines ++ line.Fixed (i.Numbered numbered.Load local) ∷ [] → Back funs (Load x representation ∷ todo) c todo (record c { lines = xs })
+  load_back x representation local xs l e = subst (λ xs. Back funs (Load x representation ∷ todo) c todo (record c { lines = xs })) (sym e) (load_more x representation local l)
 
-  pub store_back : (x : Name) (lies : Lying) (local : ℕ) (xs : List Line) → IsLocal (scope_in c) x lies local → xs ≡ c.lines ++ line.Fixed (i.Numbered numbered.Store local) ∷ [] → Back funs (Store x lies ∷ js) c js (record c { lines = xs })
-  store_back x lies local xs l e = subst (λ xs. Back funs (Store x lies ∷ js) c js (record c { lines = xs })) (sym e) (store_more x lies local l)
+  pub store_back : (x : Name) (representation : Representation) (local : ℕ) (xs : List Line) → IsLocal (scope_in c) x representation local → xs ≡ c.lines ++ line.Fixed (i.Numbered numbered.Store local) ∷ [] → Back funs (Store x representation ∷ todo) c todo (record c { lines = xs })
+  store_back x representation local xs l e = subst (λ xs. Back funs (Store x representation ∷ todo) c todo (record c { lines = xs })) (sym e) (store_more x representation local l)
 
-pub is_local : (g : _) (x : Name) (y : _) (lies lies' : Lying) → Rattle.compiler_relation.specs.Stands.entry_of g x ≡ Some y → lies ≡ lies' → lies' ≡ Rattle.compiler_relation.specs.Lying.lying_of y.of → IsLocal g x lies y.local
-is_local g x y lies lies' e k l = record { entry = y; is = record { is = e }; lies_so = k ∙ l; number = refl }
+pub is_local : (g : _) (x : Name) (y : _) (representation representation' : Representation) → Rattle.compiler_relation.specs.Stands.entry_of g x ≡ Some y → representation ≡ representation' → representation' ≡ Rattle.compiler_relation.specs.Representation.representation_of y.of → IsLocal g x representation y.local
+is_local g x y representation representation' e k l = record { entry = y; is = record { is = e }; represented_so = k ∙ l; number = refl }

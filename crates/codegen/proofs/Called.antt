@@ -1,4 +1,4 @@
--- Members that are called, made or read: how their parts lie, and what well-formed programs have.
+-- Members that are called, made or read: how their parts are represented, and what well-formed programs have.
 use Rattle.std.proofs.Common.{◌≡◌, ◌≢◌, ℕ, zero, suc, ◌+◌, ◌≤◌, arith, Bool, true, false, List, [], ◌∷◌, drop, Option, Some, None, Result, refl, sym, ap, ◌∙◌, subst}
 use Rattle.std.specs.Prelude.{map, slice_get}
 use Rattle.std.specs.Option.{option_map}
@@ -24,38 +24,38 @@ use Rattle.typed_tree.specs.declared.typed.Typed.{Typed}
 use Rattle.source_meaning.specs.Tree.{Exprs, Guarded, Program, type_of}
 use Rattle.source_meaning.specs.Programs.{expr_of, exprs_of}
 use Rattle.program_typing.specs.Agreeing.{Known, Scope, TakesTypes, MemberAgrees, Applies, Guards, ExprAgrees, ExprsAgree, types_of, is_primitive, is_primitive_layer}
-use Rattle.compiler_relation.specs.Lying.{Lying, Bare, Whole, lying_of, lying_of_layer}
+use Rattle.compiler_relation.specs.Representation.{Representation, Unboxed, Boxed, representation_of, representation_of_layer}
 use Rattle.compiler_relation.specs.Parts.{without_null}
-use Rattle.compiler_relation.specs.Stands.{MemberFits, GuardFits, lyings}
+use Rattle.compiler_relation.specs.Stands.{MemberFits, GuardFits, representations}
 use Rattle.codegen.specs.Called.{IsCalled, member_operation}
-use Rattle.codegen.specs.Jobs.{Job, Value, Values, Put, Call, Jump, Bind, Wanted, As, Wants, Taken, Back, parts_from, member_takes}
+use Rattle.codegen.specs.Worklist.{Item, Value, Values, Put, Call, Jump, Bind, Wanted, As, Wants, Taken, Back, parts_from, member_takes}
 use Rattle.codegen.specs.Sound.{Refuses}
 use Rattle.codegen.specs.declared.config.Config.{Config}
-use Rattle.codegen.proofs.Fitting.{is_whole, types_lie}
+use Rattle.codegen.proofs.Fitting.{is_boxed, types_lie}
 use Rattle.codegen.proofs.Parts.{drop_one, drop_end, parts_go}
 use Rattle.codegen.proofs.Plans.{guarded_plan}
 
--- ---- how parts lie
+-- ---- how parts are represented
 
 pub mapped_at : {A B : Type 0} (f : A → B) (xs : List A) (at : ℕ) → slice_get (map f xs) at ≡ option_map f (slice_get xs at)
 mapped_at f [] at = refl
 mapped_at f (x ∷ xs) zero = refl
 mapped_at f (x ∷ xs) (suc at) = mapped_at f xs at
 
-module _ (ks : List Lying) (at : ℕ) (k : Lying) where
-  pub taken_at : (one : Lying) → slice_get ks at ≡ Some one → k ≡ one → Taken (As (drop at ks)) (As (drop (at + 1) ks)) k
+module _ (ks : List Representation) (at : ℕ) (k : Representation) where
+  pub taken_at : (one : Representation) → slice_get ks at ≡ Some one → k ≡ one → Taken (As (drop at ks)) (As (drop (at + 1) ks)) k
   taken_at one is e = record { by = λ others h. ap (λ l. k ∷ l) h ∙ ap (λ l. l ∷ drop (at + 1) ks) e ∙ sym (drop_one at ks one is) }
 
-  pub refuses_at : (one : Lying) → slice_get ks at ≡ Some one → k ≢ one → Refuses (As (drop at ks)) k
+  pub refuses_at : (one : Representation) → slice_get ks at ≡ Some one → k ≢ one → Refuses (As (drop at ks)) k
   refuses_at one is n = record { by = λ others h. let e : k ∷ others ≡ one ∷ drop (at + 1) ks = h ∙ drop_one at ks one is in n cc }
 
   pub refuses_behind : slice_get ks at ≡ None → Refuses (As (drop at ks)) k
   refuses_behind is = record { by = λ others h. let e : k ∷ others ≡ [] = h ∙ drop_end at ks is in absurd cc }
 
-pub last_at : (ks : List Lying) (at : ℕ) → slice_get ks at ≡ None → Wants (As (drop at ks)) []
+pub last_at : (ks : List Representation) (at : ℕ) → slice_get ks at ≡ None → Wants (As (drop at ks)) []
 last_at ks at is = sym (drop_end at ks is)
 
-pub some_at : (ks : List Lying) (at : ℕ) (one : Lying) → slice_get ks at ≡ Some one → Wants (As (drop at ks)) [] → ⊥
+pub some_at : (ks : List Representation) (at : ℕ) (one : Representation) → slice_get ks at ≡ Some one → Wants (As (drop at ks)) [] → ⊥
 some_at ks at one is h = let e : [] ≡ one ∷ drop (at + 1) ks = h ∙ drop_one at ks one is in absurd cc
 
 -- ---- the catalogue
@@ -75,46 +75,46 @@ other_text kind m of member h written e n = let same = (bytes_eq-Decides written
 
 -- ---- calls that fit
 
-pub member_fits : (kind : MemberKind) (m : Member) (ks : List Lying) (of : Ty) (member : MemberType) → IsCalled kind m of member → ks ≡ member_takes kind member.params → MemberFits kind m ks of
+pub member_fits : (kind : MemberKind) (m : Member) (ks : List Representation) (of : Ty) (member : MemberType) → IsCalled kind m of member → ks ≡ member_takes kind member.params → MemberFits kind m ks of
 member_fits kind m ks of member h e = record { member = member; is = h.is; sort = h.sort; text = h.text; parts = e; gives = h.gives }
 
-guard_fits : (m : Member) (k : Lying) (ks : List Lying) (of : Ty) (member : MemberType) → IsCalled kinds.Instance m of member → lying_of of ≢ Bare → k ≡ Whole → ks ≡ map lying_of member.params → GuardFits (operation.Instance m) (k ∷ ks) of
-guard_fits m k ks of member h n w e = record { member = m; is = refl; fits = member_fits kinds.Instance m (k ∷ ks) of member h (ap (λ k. k ∷ ks) w ∙ ap (λ ks. Whole ∷ ks) e); whole = n }
+guard_fits : (m : Member) (k : Representation) (ks : List Representation) (of : Ty) (member : MemberType) → IsCalled kinds.Instance m of member → representation_of of ≢ Unboxed → k ≡ Boxed → ks ≡ map representation_of member.params → GuardFits (operation.Instance m) (k ∷ ks) of
+guard_fits m k ks of member h n w e = record { member = m; is = refl; fits = member_fits kinds.Instance m (k ∷ ks) of member h (ap (λ k. k ∷ ks) w ∙ ap (λ ks. Boxed ∷ ks) e); whole = n }
 
 pub forms : TextsHaveForms → (kind : MemberKind) (m : Member) (of : Ty) (member : MemberType) → IsCalled kind m of member → has_form kind m.text ≡ true
 forms law kind m of member h = ap (has_form kind) h.text ∙ subst (λ (k : MemberKind). has_form k (text_of member) ≡ true) h.sort (law m.number member h.is)
 
-module _ (funs : Program) (js : List Job) (c : Config) where
-  pub guarded_back : (at : ℕ) (of : Ty) (m : Member) (parts : List Typed) (x : Typed) (member : MemberType) (lies : Lying) (end : ℕ) → slice_get parts 0 ≡ Some x → lies ≡ lying_of of
-      → IsCalled kinds.Instance m of member → lying_of of ≢ Bare → lying_of (type_of (expr_of x)) ≡ Whole
-      → Back funs (Value (Guarded at of (operation.Instance m) (exprs_of (map expr_of parts))) ∷ js) c
-      (Value (expr_of x) ∷ Put (i.Plain plain.Dup ∷ []) ∷ Jump numbered.IfNull end ∷ Values (parts_from 1 parts) (As (drop 1 (member_takes kinds.Instance member.params))) ∷ Call kinds.Instance m.text ∷ Bind end ∷ Put (without_null lies) ∷ js) c
-  guarded_back at of m parts x member lies end is e h n w =
-      subst (λ (es : Exprs). Back funs (Value (Guarded at of (operation.Instance m) es) ∷ js) c
-      (Value (expr_of x) ∷ Put (i.Plain plain.Dup ∷ []) ∷ Jump numbered.IfNull end ∷ Values (parts_from 1 parts) (As (drop 1 (member_takes kinds.Instance member.params))) ∷ Call kinds.Instance m.text ∷ Bind end ∷ Put (without_null lies) ∷ js) c)
+module _ (funs : Program) (todo : List Item) (c : Config) where
+  pub guarded_back : (at : ℕ) (of : Ty) (m : Member) (parts : List Typed) (x : Typed) (member : MemberType) (representation : Representation) (end : ℕ) → slice_get parts 0 ≡ Some x → representation ≡ representation_of of
+      → IsCalled kinds.Instance m of member → representation_of of ≢ Unboxed → representation_of (type_of (expr_of x)) ≡ Boxed
+      → Back funs (Value (Guarded at of (operation.Instance m) (exprs_of (map expr_of parts))) ∷ todo) c
+      (Value (expr_of x) ∷ Put (i.Plain plain.Dup ∷ []) ∷ Jump numbered.IfNull end ∷ Values (parts_from 1 parts) (As (drop 1 (member_takes kinds.Instance member.params))) ∷ Call kinds.Instance m.text ∷ Bind end ∷ Put (without_null representation) ∷ todo) c
+  guarded_back at of m parts x member representation end is e h n w =
+      subst (λ (es : Exprs). Back funs (Value (Guarded at of (operation.Instance m) es) ∷ todo) c
+      (Value (expr_of x) ∷ Put (i.Plain plain.Dup ∷ []) ∷ Jump numbered.IfNull end ∷ Values (parts_from 1 parts) (As (drop 1 (member_takes kinds.Instance member.params))) ∷ Call kinds.Instance m.text ∷ Bind end ∷ Put (without_null representation) ∷ todo) c)
       (sym (parts_go parts 0 x is))
-      (guarded_plan funs js c at of m (expr_of x) (parts_from 1 parts) (As (drop 1 (member_takes kinds.Instance member.params))) lies end e
-      (λ t. guard_fits m (lying_of (type_of (expr_of x))) (lyings (parts_from 1 parts)) of member h n w t))
+      (guarded_plan funs todo c at of m (expr_of x) (parts_from 1 parts) (As (drop 1 (member_takes kinds.Instance member.params))) representation end e
+      (λ t. guard_fits m (representation_of (type_of (expr_of x))) (representations (parts_from 1 parts)) of member h n w t))
 
 -- ---- calls of a well-formed program
 
-types_taken : (kind : MemberKind) (params ofs : List Ty) → TakesTypes kind params ofs → map lying_of ofs ≡ member_takes kind params
+types_taken : (kind : MemberKind) (params ofs : List Ty) → TakesTypes kind params ofs → map representation_of ofs ≡ member_takes kind params
 types_taken kinds.Instance params [] x = absurd x
-types_taken kinds.Instance params (of ∷ ofs) x = ap (λ k. k ∷ map lying_of ofs) (is_whole of x.0) ∙ ap (λ ofs. Whole ∷ map lying_of ofs) x.1
-types_taken kinds.Constructor params ofs x = ap (map lying_of) x
-types_taken kinds.Static params ofs x = ap (map lying_of) x
-types_taken kinds.Field params ofs x = ap (map lying_of) x
+types_taken kinds.Instance params (of ∷ ofs) x = ap (λ k. k ∷ map representation_of ofs) (is_boxed of x.0) ∙ ap (λ ofs. Boxed ∷ map representation_of ofs) x.1
+types_taken kinds.Constructor params ofs x = ap (map representation_of) x
+types_taken kinds.Static params ofs x = ap (map representation_of) x
+types_taken kinds.Field params ofs x = ap (map representation_of) x
 
 same_member : (n : ℕ) (a b : MemberType) → slice_get catalogue n ≡ Some a → slice_get catalogue n ≡ Some b → b ≡ a
 same_member n a b p q = let h : Some a ≡ Some b = sym p ∙ q in cc
 
 pub agrees_called : (funs : Known) (kind : MemberKind) (m : Member) (ofs : List Ty) (of : Ty) (a : MemberAgrees funs kind m ofs of) → IsCalled kind m of a.member
-agrees_called funs kind m ofs of a = record { is = a.is; sort = a.sort; text = a.text; gives = ap lying_of a.gives }
+agrees_called funs kind m ofs of a = record { is = a.is; sort = a.sort; text = a.text; gives = ap representation_of a.gives }
 
-takes_lie : (funs : Known) (kind : MemberKind) (m : Member) (ofs : List Ty) (of : Ty) (member : MemberType) → IsCalled kind m of member → MemberAgrees funs kind m ofs of → map lying_of ofs ≡ member_takes kind member.params
+takes_lie : (funs : Known) (kind : MemberKind) (m : Member) (ofs : List Ty) (of : Ty) (member : MemberType) → IsCalled kind m of member → MemberAgrees funs kind m ofs of → map representation_of ofs ≡ member_takes kind member.params
 takes_lie funs kind m ofs of member h a = types_taken kind a.member.params ofs a.takes ∙ ap (λ (x : MemberType). member_takes kind x.params) (same_member m.number member a.member h.is a.is)
 
-pub agrees_lie : (funs : Known) (kind : MemberKind) (m : Member) (parts : Exprs) (of : Ty) (member : MemberType) → IsCalled kind m of member → MemberAgrees funs kind m (types_of parts) of → lyings parts ≡ member_takes kind member.params
+pub agrees_lie : (funs : Known) (kind : MemberKind) (m : Member) (parts : Exprs) (of : Ty) (member : MemberType) → IsCalled kind m of member → MemberAgrees funs kind m (types_of parts) of → representations parts ≡ member_takes kind member.params
 agrees_lie funs kind m parts of member h a = types_lie parts ∙ takes_lie funs kind m (types_of parts) of member h a
 
 pub agrees_member : (funs : Known) (kind : MemberKind) (m : Member) (ofs : List Ty) (of : Ty) → Applies funs (member_operation kind m) ofs of → MemberAgrees funs kind m ofs of
@@ -125,7 +125,7 @@ agrees_member funs kinds.Field m ofs of x = x
 
 -- ---- calls of a well-formed program that a null receiver leaves out
 
-no_number : (l : Ty-F Ty) → is_primitive_layer l ≡ false → lying_of_layer l ≢ Bare
+no_number : (l : Ty-F Ty) → is_primitive_layer l ≡ false → representation_of_layer l ≢ Unboxed
 no_number Ty-F.Void h e = cc
 no_number Ty-F.Null h e = cc
 no_number Ty-F.Def h e = cc
@@ -138,7 +138,7 @@ pub record Receives (funs : Known) (g : Scope) (m : Member) (x : Typed) (parts :
   pub receiver : ExprAgrees funs g (expr_of x)
   pub others : ExprsAgree funs g (parts_from 1 parts)
   pub agrees : MemberAgrees funs kinds.Instance m (type_of (expr_of x) ∷ types_of (parts_from 1 parts)) of
-  pub whole : lying_of of ≢ Bare
+  pub whole : representation_of of ≢ Unboxed
 
 guarded_member : (funs : Known) (m : Member) (ofs : List Ty) (of : Ty) → Guards funs (operation.Instance m) ofs of → MemberAgrees funs kinds.Instance m ofs of
 guarded_member funs m ofs of g = let h : operation.Instance m ≡ operation.Instance g.member = g.is in let same : g.member ≡ m = cc in subst (λ (m : Member). MemberAgrees funs kinds.Instance m ofs of) same g.agrees
@@ -151,10 +151,10 @@ receives funs g at of m (y ∷ parts) x is h =
     subst (λ (x : Typed). Receives funs g m x (y ∷ parts) of) same (record { receiver = h.0; others = h.1; agrees = guarded_member funs m _ of h.2; whole = no_number (out-Ty of) h.2.whole })
 
 module _ (funs : Known) (g : Scope) (m : Member) (x : Typed) (parts : List Typed) (of : Ty) (k : Receives funs g m x parts of) where
-  pub receiver_lies : lying_of (type_of (expr_of x)) ≡ Whole
-  receiver_lies = is_whole (type_of (expr_of x)) k.agrees.takes.0
+  pub receiver_representation : representation_of (type_of (expr_of x)) ≡ Boxed
+  receiver_representation = is_boxed (type_of (expr_of x)) k.agrees.takes.0
 
-  pub others_lie : (member : MemberType) → IsCalled kinds.Instance m of member → lyings (parts_from 1 parts) ≡ drop 1 (member_takes kinds.Instance member.params)
+  pub others_lie : (member : MemberType) → IsCalled kinds.Instance m of member → representations (parts_from 1 parts) ≡ drop 1 (member_takes kinds.Instance member.params)
   others_lie member h =
       let all = takes_lie funs kinds.Instance m (type_of (expr_of x) ∷ types_of (parts_from 1 parts)) of member h k.agrees in
       types_lie (parts_from 1 parts) ∙ ap (drop 1) all

@@ -1,4 +1,4 @@
--- How values of the types that operators, casts, constants and calls ask for lie.
+-- How values of the types that operators, casts, constants and calls ask for are represented.
 use Rattle.std.proofs.Common.{◌≡◌, ◌≢◌, ℕ, List, [], ◌∷◌, Option, Some, None, refl, sym, ap, ◌∙◌, subst}
 use Rattle.std.specs.Prelude.{Bool, true, map}
 use Rattle.pl_types.specs.declared.classes.TheConstants.{STRING}
@@ -16,10 +16,10 @@ use Rattle.typed_tree.specs.declared.operation.Operator.{Operator}
 use Rattle.typed_tree.specs.declared.operation.Operator.TheVariants as operator
 use Rattle.typed_tree.specs.declared.operation.Change.{Change}
 use Rattle.source_meaning.specs.Tree.{Exprs, None', One, type_of}
-use Rattle.compiler_relation.specs.Lying.{Lying, Bare, Whole, Absent, lying_of, lying_of_layer}
-use Rattle.compiler_relation.specs.Parts.{cast_takes, cast_gives, run_time_lies}
+use Rattle.compiler_relation.specs.Representation.{Representation, Unboxed, Boxed, Absent, representation_of, representation_of_layer}
+use Rattle.compiler_relation.specs.Parts.{cast_takes, cast_gives, run_time_representation}
 use Rattle.compiler_relation.specs.Parts as code
-use Rattle.compiler_relation.specs.Stands.{AllLie, CastFits, ChangeFits, lyings, literal_lies}
+use Rattle.compiler_relation.specs.Stands.{AllRepresented, CastFits, ChangeFits, representations, literal_representation}
 use Rattle.program_typing.specs.Types.{is_reference_layer, IsReference, has_values_layer, HasValues, IsOf, Gives, of_one, of_two, of_one_flag, of_two_flags, right_side, TakesNumbers, TakesFlags, TakesReferences, Takes, string, listed_layer, is_listed, IsNamed, Keeps, Same, References, Casts}
 use Rattle.program_typing.specs.Agreeing.{boolean, types_of, IsKnownBefore, Changes}
 use Rattle.pl_types.specs.declared.ty.Ty.TheFolds.{map-Ty}
@@ -28,35 +28,35 @@ use Rattle.codegen.proofs.Listed.{named_known, listed_out}
 
 -- ---- types
 
-primitive_lies : (p : Primitive) → lying_of (t.Prim p) ≡ Bare
+primitive_representation : (p : Primitive) → representation_of (t.Prim p) ≡ Unboxed
 unfolding out-Ty denote.Hole.Carrier.out
-primitive_lies p = refl
+primitive_representation p = refl
 
-class_lies : (class : ℕ) → lying_of (t.Class class) ≡ Whole
+class_representation : (class : ℕ) → representation_of (t.Class class) ≡ Boxed
 unfolding out-Ty denote.Hole.Carrier.out
-class_lies class = refl
+class_representation class = refl
 
 pub class_has_values : (class : ℕ) → HasValues (t.Class class)
 unfolding out-Ty denote.Hole.Carrier.out
 class_has_values class = tt
 
-pub string_lies : (of : Ty) → of ≡ string → lying_of of ≡ Whole
-string_lies of x = ap lying_of x ∙ class_lies STRING
+pub string_representation : (of : Ty) → of ≡ string → representation_of of ≡ Boxed
+string_representation of x = ap representation_of x ∙ class_representation STRING
 
-void_lies : lying_of t.Void ≡ Absent
+void_representation : representation_of t.Void ≡ Absent
 unfolding out-Ty denote.Hole.Carrier.out
-void_lies = refl
+void_representation = refl
 
-pub is_bare : (p : Primitive) (of : Ty) → of ≡ t.Prim p → lying_of of ≡ Bare
-is_bare p of x = ap lying_of x ∙ primitive_lies p
+pub is_unboxed : (p : Primitive) (of : Ty) → of ≡ t.Prim p → representation_of of ≡ Unboxed
+is_unboxed p of x = ap representation_of x ∙ primitive_representation p
 
-pub flag_lies : (of : Ty) → of ≡ boolean → lying_of of ≡ Bare
-flag_lies of x = is_bare prim.Boolean of x
+pub flag_representation : (of : Ty) → of ≡ boolean → representation_of of ≡ Unboxed
+flag_representation of x = is_unboxed prim.Boolean of x
 
-pub nothing_lies : (of : Ty) → of ≡ t.Void → lying_of of ≡ Absent
-nothing_lies of x = ap lying_of x ∙ void_lies
+pub nothing_representation : (of : Ty) → of ≡ t.Void → representation_of of ≡ Absent
+nothing_representation of x = ap representation_of x ∙ void_representation
 
-reference_layer : (l : Ty-F Ty) → is_reference_layer l → lying_of_layer l ≡ Whole
+reference_layer : (l : Ty-F Ty) → is_reference_layer l → representation_of_layer l ≡ Boxed
 reference_layer Ty-F.Void r = absurd r
 reference_layer Ty-F.Null r = refl
 reference_layer Ty-F.Def r = refl
@@ -64,10 +64,10 @@ reference_layer (Ty-F.Prim p) r = absurd r
 reference_layer (Ty-F.Class class) r = refl
 reference_layer (Ty-F.Array of) r = refl
 
-pub is_whole : (of : Ty) → IsReference of → lying_of of ≡ Whole
-is_whole of r = reference_layer (out-Ty of) r
+pub is_boxed : (of : Ty) → IsReference of → representation_of of ≡ Boxed
+is_boxed of r = reference_layer (out-Ty of) r
 
-present_layer : (l : Ty-F Ty) → has_values_layer l → lying_of_layer l ≢ Absent
+present_layer : (l : Ty-F Ty) → has_values_layer l → representation_of_layer l ≢ Absent
 present_layer Ty-F.Void r = absurd r
 present_layer Ty-F.Null r = λ e. cc
 present_layer Ty-F.Def r = λ e. cc
@@ -75,51 +75,51 @@ present_layer (Ty-F.Prim p) r = λ e. cc
 present_layer (Ty-F.Class class) r = λ e. cc
 present_layer (Ty-F.Array of) r = λ e. cc
 
-pub is_present : (of : Ty) → HasValues of → lying_of of ≢ Absent
+pub is_present : (of : Ty) → HasValues of → representation_of of ≢ Absent
 is_present of r = present_layer (out-Ty of) r
 
-pub constant_lies : (c : Constant) (of : Ty) → IsOf c of → lying_of of ≡ literal_lies c
-constant_lies constant.Null of x = is_whole of x
-constant_lies (constant.Boolean a) of x = is_bare prim.Boolean of x
-constant_lies (constant.Byte a) of x = is_bare prim.Byte of x
-constant_lies (constant.Short a) of x = is_bare prim.Short of x
-constant_lies (constant.Char a) of x = is_bare prim.Char of x
-constant_lies (constant.Int a) of x = is_bare prim.Int of x
-constant_lies (constant.Long a) of x = is_bare prim.Long of x
+pub constant_representation : (c : Constant) (of : Ty) → IsOf c of → representation_of of ≡ literal_representation c
+constant_representation constant.Null of x = is_boxed of x
+constant_representation (constant.Boolean a) of x = is_unboxed prim.Boolean of x
+constant_representation (constant.Byte a) of x = is_unboxed prim.Byte of x
+constant_representation (constant.Short a) of x = is_unboxed prim.Short of x
+constant_representation (constant.Char a) of x = is_unboxed prim.Char of x
+constant_representation (constant.Int a) of x = is_unboxed prim.Int of x
+constant_representation (constant.Long a) of x = is_unboxed prim.Long of x
 
 -- ---- operators
 
-gives_bare : (o : Option Primitive) (of : Ty) → Gives o of → lying_of of ≡ Bare
-gives_bare None of x = absurd x
-gives_bare (Some p) of x = is_bare p of x
+gives_unboxed : (o : Option Primitive) (of : Ty) → Gives o of → representation_of of ≡ Unboxed
+gives_unboxed None of x = absurd x
+gives_unboxed (Some p) of x = is_unboxed p of x
 
--- operands that all lie so, and how what an operator gives lies
-record LieSo (taken given : Lying) (ofs : List Ty) (of : Ty) : Type 0 where
-  operands : AllLie taken (map lying_of ofs)
-  gives : lying_of of ≡ given
+-- operands that are all represented so, and how what an operator gives is represented
+record RepresentedSo (taken given : Representation) (ofs : List Ty) (of : Ty) : Type 0 where
+  operands : AllRepresented taken (map representation_of ofs)
+  gives : representation_of of ≡ given
 
-numbers_lie : (p : Primitive) (o : Op) (ofs : List Ty) (of : Ty) → TakesNumbers p o ofs of → LieSo Bare Bare ofs of
+numbers_lie : (p : Primitive) (o : Op) (ofs : List Ty) (of : Ty) → TakesNumbers p o ofs of → RepresentedSo Unboxed Unboxed ofs of
 numbers_lie p o [] of x = absurd x
-numbers_lie p o (a ∷ []) of x = record { operands = (is_bare p a x.0, tt); gives = gives_bare (of_one p o) of x.1 }
-numbers_lie p o (a ∷ b ∷ []) of x = record { operands = (is_bare p a x.0, (is_bare (right_side p o) b x.1, tt)); gives = gives_bare (of_two p o) of x.2 }
+numbers_lie p o (a ∷ []) of x = record { operands = (is_unboxed p a x.0, tt); gives = gives_unboxed (of_one p o) of x.1 }
+numbers_lie p o (a ∷ b ∷ []) of x = record { operands = (is_unboxed p a x.0, (is_unboxed (right_side p o) b x.1, tt)); gives = gives_unboxed (of_two p o) of x.2 }
 numbers_lie p o (a ∷ b ∷ c ∷ ofs) of x = absurd x
 
-flags_lie : (o : Op) (ofs : List Ty) (of : Ty) → TakesFlags o ofs of → LieSo Bare Bare ofs of
+flags_lie : (o : Op) (ofs : List Ty) (of : Ty) → TakesFlags o ofs of → RepresentedSo Unboxed Unboxed ofs of
 flags_lie o [] of x = absurd x
-flags_lie o (a ∷ []) of x = record { operands = (is_bare prim.Boolean a x.0, tt); gives = gives_bare (of_one_flag o) of x.1 }
-flags_lie o (a ∷ b ∷ []) of x = record { operands = (is_bare prim.Boolean a x.0, (is_bare prim.Boolean b x.1, tt)); gives = gives_bare (of_two_flags o) of x.2 }
+flags_lie o (a ∷ []) of x = record { operands = (is_unboxed prim.Boolean a x.0, tt); gives = gives_unboxed (of_one_flag o) of x.1 }
+flags_lie o (a ∷ b ∷ []) of x = record { operands = (is_unboxed prim.Boolean a x.0, (is_unboxed prim.Boolean b x.1, tt)); gives = gives_unboxed (of_two_flags o) of x.2 }
 flags_lie o (a ∷ b ∷ c ∷ ofs) of x = absurd x
 
-references_lie : (ofs : List Ty) → TakesReferences ofs → AllLie Whole (map lying_of ofs)
+references_lie : (ofs : List Ty) → TakesReferences ofs → AllRepresented Boxed (map representation_of ofs)
 references_lie [] x = absurd x
 references_lie (a ∷ []) x = absurd x
-references_lie (a ∷ b ∷ []) x = (is_whole a x.0, (is_whole b x.1, tt))
+references_lie (a ∷ b ∷ []) x = (is_boxed a x.0, (is_boxed b x.1, tt))
 references_lie (a ∷ b ∷ c ∷ ofs) x = absurd x
 
-compared_lie : (ofs : List Ty) (of : Ty) → TakesReferences ofs × (of ≡ boolean) → LieSo Whole Bare ofs of
-compared_lie ofs of x = record { operands = references_lie ofs x.0; gives = flag_lies of x.1 }
+compared_lie : (ofs : List Ty) (of : Ty) → TakesReferences ofs × (of ≡ boolean) → RepresentedSo Boxed Unboxed ofs of
+compared_lie ofs of x = record { operands = references_lie ofs x.0; gives = flag_representation of x.1 }
 
-takes_lie : (o : Operator) (ofs : List Ty) (of : Ty) → Takes o ofs of → LieSo (code.operator_takes o) (code.operator_gives o) ofs of
+takes_lie : (o : Operator) (ofs : List Ty) (of : Ty) → Takes o ofs of → RepresentedSo (code.operator_takes o) (code.operator_gives o) ofs of
 takes_lie (operator.Int o) ofs of x = numbers_lie prim.Int o ofs of x
 takes_lie (operator.Long o) ofs of x = numbers_lie prim.Long o ofs of x
 takes_lie (operator.Boolean o) ofs of x = flags_lie o ofs of x
@@ -128,7 +128,7 @@ takes_lie operator.Equal ofs of x = compared_lie ofs of x
 takes_lie operator.NotEqual ofs of x = compared_lie ofs of x
 takes_lie operator.Same ofs of x = compared_lie ofs of x
 takes_lie operator.NotSame ofs of x = compared_lie ofs of x
-takes_lie operator.Concat ofs of x = record { operands = references_lie ofs x.0; gives = string_lies of x.1 }
+takes_lie operator.Concat ofs of x = record { operands = references_lie ofs x.0; gives = string_representation of x.1 }
 takes_lie operator.List ofs of x = absurd x
 takes_lie operator.Map ofs of x = absurd x
 takes_lie operator.NewArray ofs of x = absurd x
@@ -136,23 +136,23 @@ takes_lie operator.ArrayOf ofs of x = absurd x
 takes_lie operator.Element ofs of x = absurd x
 takes_lie operator.Length ofs of x = absurd x
 
-pub types_lie : (parts : Exprs) → lyings parts ≡ map lying_of (types_of parts)
+pub types_lie : (parts : Exprs) → representations parts ≡ map representation_of (types_of parts)
 types_lie None' = refl
-types_lie (One a parts) = ap (λ ks. lying_of (type_of a) ∷ ks) (types_lie parts)
+types_lie (One a parts) = ap (λ ks. representation_of (type_of a) ∷ ks) (types_lie parts)
 
-pub operator_gives : (o : Operator) (parts : Exprs) (of : Ty) → Takes o (types_of parts) of → lying_of of ≡ code.operator_gives o
+pub operator_gives : (o : Operator) (parts : Exprs) (of : Ty) → Takes o (types_of parts) of → representation_of of ≡ code.operator_gives o
 operator_gives o parts of x = (takes_lie o (types_of parts) of x).gives
 
-pub operator_takes : (o : Operator) (parts : Exprs) (of : Ty) → Takes o (types_of parts) of → AllLie (code.operator_takes o) (lyings parts)
-operator_takes o parts of x = subst (AllLie (code.operator_takes o)) (sym (types_lie parts)) (takes_lie o (types_of parts) of x).operands
+pub operator_takes : (o : Operator) (parts : Exprs) (of : Ty) → Takes o (types_of parts) of → AllRepresented (code.operator_takes o) (representations parts)
+operator_takes o parts of x = subst (AllRepresented (code.operator_takes o)) (sym (types_lie parts)) (takes_lie o (types_of parts) of x).operands
 
 -- ---- casts
 
-keeps_lying : (from to : Ty) → Keeps from to → lying_of to ≡ lying_of from
-keeps_lying from to (Same e) = sym (ap lying_of e)
-keeps_lying from to (References r s) = is_whole to s ∙ sym (is_whole from r)
+keeps_representation : (from to : Ty) → Keeps from to → representation_of to ≡ representation_of from
+keeps_representation from to (Same e) = sym (ap representation_of e)
+keeps_representation from to (References r s) = is_boxed to s ∙ sym (is_boxed from r)
 
-run_time_layer : (l : Ty-F Ty) → listed_layer (map-Ty Ty Bool is_listed l) ≡ true → lying_of_layer l ≡ run_time_lies l
+run_time_layer : (l : Ty-F Ty) → listed_layer (map-Ty Ty Bool is_listed l) ≡ true → representation_of_layer l ≡ run_time_representation l
 run_time_layer Ty-F.Void h = absurd cc
 run_time_layer Ty-F.Null h = refl
 run_time_layer Ty-F.Def h = refl
@@ -160,18 +160,18 @@ run_time_layer (Ty-F.Prim p) h = refl
 run_time_layer (Ty-F.Class class) h = refl
 run_time_layer (Ty-F.Array of) h = refl
 
-run_time : (to : Ty) → IsNamed to → lying_of to ≡ run_time_lies (out-Ty to)
+run_time : (to : Ty) → IsNamed to → representation_of to ≡ run_time_representation (out-Ty to)
 run_time to h = run_time_layer (out-Ty to) (listed_out to h)
 
-pub casts_fit : (c : Cast) (from to : Ty) → Casts c from to → CastFits c to (lying_of from) (lying_of to)
-casts_fit cast.Keep from to x = record { takes = refl; lies = keeps_lying from to x; asks = tt }
-casts_fit (cast.Number p q) from to x = record { takes = is_bare p from x.0; lies = is_bare q to x.1; asks = tt }
-casts_fit (cast.Wrap p q) from to x = record { takes = is_bare p from x.0; lies = is_whole to x.1; asks = tt }
+pub casts_fit : (c : Cast) (from to : Ty) → Casts c from to → CastFits c to (representation_of from) (representation_of to)
+casts_fit cast.Keep from to x = record { takes = refl; representation = keeps_representation from to x; asks = tt }
+casts_fit (cast.Number p q) from to x = record { takes = is_unboxed p from x.0; representation = is_unboxed q to x.1; asks = tt }
+casts_fit (cast.Wrap p q) from to x = record { takes = is_unboxed p from x.0; representation = is_boxed to x.1; asks = tt }
 casts_fit (cast.Unwrap p q) from to x = absurd x
-casts_fit cast.Implicit from to x = record { takes = is_whole from x.0; lies = run_time to x.1; asks = named_known to x.1 }
-casts_fit cast.Explicit from to x = record { takes = is_whole from x.0; lies = run_time to x.1; asks = named_known to x.1 }
-casts_fit cast.CharToText from to x = record { takes = is_bare prim.Char from x.0; lies = string_lies to x.1; asks = tt }
-casts_fit cast.TextToChar from to x = record { takes = is_whole from x.0; lies = is_bare prim.Char to x.1; asks = tt }
+casts_fit cast.Implicit from to x = record { takes = is_boxed from x.0; representation = run_time to x.1; asks = named_known to x.1 }
+casts_fit cast.Explicit from to x = record { takes = is_boxed from x.0; representation = run_time to x.1; asks = named_known to x.1 }
+casts_fit cast.CharToText from to x = record { takes = is_unboxed prim.Char from x.0; representation = string_representation to x.1; asks = tt }
+casts_fit cast.TextToChar from to x = record { takes = is_boxed from x.0; representation = is_unboxed prim.Char to x.1; asks = tt }
 
 pub casts_name : (c : Cast) (from to : Ty) → Casts c from to → Names c to
 casts_name cast.Keep from to x = tt
@@ -184,15 +184,15 @@ casts_name cast.CharToText from to x = tt
 casts_name cast.TextToChar from to x = tt
 
 -- a cast that does not look at the value's type may be to any
-known_fits : (c : Cast) (to other : Ty) (given gives : Lying) → IsKnownBefore c → CastFits c to given gives → CastFits c other given gives
-known_fits cast.Keep to other given gives k h = record { takes = h.takes; lies = h.lies; asks = tt }
-known_fits (cast.Number p q) to other given gives k h = record { takes = h.takes; lies = h.lies; asks = tt }
-known_fits (cast.Wrap p q) to other given gives k h = record { takes = h.takes; lies = h.lies; asks = tt }
-known_fits (cast.Unwrap p q) to other given gives k h = record { takes = h.takes; lies = h.lies; asks = tt }
+known_fits : (c : Cast) (to other : Ty) (given gives : Representation) → IsKnownBefore c → CastFits c to given gives → CastFits c other given gives
+known_fits cast.Keep to other given gives k h = record { takes = h.takes; representation = h.representation; asks = tt }
+known_fits (cast.Number p q) to other given gives k h = record { takes = h.takes; representation = h.representation; asks = tt }
+known_fits (cast.Wrap p q) to other given gives k h = record { takes = h.takes; representation = h.representation; asks = tt }
+known_fits (cast.Unwrap p q) to other given gives k h = record { takes = h.takes; representation = h.representation; asks = tt }
 known_fits cast.Implicit to other given gives k h = absurd k
 known_fits cast.Explicit to other given gives k h = absurd k
-known_fits cast.CharToText to other given gives k h = record { takes = h.takes; lies = h.lies; asks = tt }
-known_fits cast.TextToChar to other given gives k h = record { takes = h.takes; lies = h.lies; asks = tt }
+known_fits cast.CharToText to other given gives k h = record { takes = h.takes; representation = h.representation; asks = tt }
+known_fits cast.TextToChar to other given gives k h = record { takes = h.takes; representation = h.representation; asks = tt }
 
 known_names : (c : Cast) (to : Ty) → IsKnownBefore c → Names c to
 known_names cast.Keep to k = tt
@@ -205,15 +205,15 @@ known_names cast.CharToText to k = tt
 known_names cast.TextToChar to k = tt
 
 -- what is cast to a value is one
-present_before : (c : Cast) (to : Ty) (given gives : Lying) → CastFits c to given gives → gives ≢ Absent → given ≢ Absent
-present_before cast.Keep to given gives h n e = n (h.lies ∙ e)
-present_before (cast.Number p q) to given gives h n e = let bad : Bare ≡ Absent = sym h.takes ∙ e in cc
-present_before (cast.Wrap p q) to given gives h n e = let bad : Bare ≡ Absent = sym h.takes ∙ e in cc
-present_before (cast.Unwrap p q) to given gives h n e = n (h.lies ∙ e)
-present_before cast.Implicit to given gives h n e = let bad : Whole ≡ Absent = sym h.takes ∙ e in cc
-present_before cast.Explicit to given gives h n e = let bad : Whole ≡ Absent = sym h.takes ∙ e in cc
-present_before cast.CharToText to given gives h n e = let bad : Bare ≡ Absent = sym h.takes ∙ e in cc
-present_before cast.TextToChar to given gives h n e = let bad : Whole ≡ Absent = sym h.takes ∙ e in cc
+present_before : (c : Cast) (to : Ty) (given gives : Representation) → CastFits c to given gives → gives ≢ Absent → given ≢ Absent
+present_before cast.Keep to given gives h n e = n (h.representation ∙ e)
+present_before (cast.Number p q) to given gives h n e = let bad : Unboxed ≡ Absent = sym h.takes ∙ e in cc
+present_before (cast.Wrap p q) to given gives h n e = let bad : Unboxed ≡ Absent = sym h.takes ∙ e in cc
+present_before (cast.Unwrap p q) to given gives h n e = n (h.representation ∙ e)
+present_before cast.Implicit to given gives h n e = let bad : Boxed ≡ Absent = sym h.takes ∙ e in cc
+present_before cast.Explicit to given gives h n e = let bad : Boxed ≡ Absent = sym h.takes ∙ e in cc
+present_before cast.CharToText to given gives h n e = let bad : Unboxed ≡ Absent = sym h.takes ∙ e in cc
+present_before cast.TextToChar to given gives h n e = let bad : Boxed ≡ Absent = sym h.takes ∙ e in cc
 
 operand_present : (o : Operator) → code.operator_takes o ≢ Absent
 operand_present (operator.Int o) e = cc
@@ -234,16 +234,16 @@ operand_present operator.Length e = cc
 
 -- ---- changes of a variable
 
-pub changes_fit : (change : Change) (of right : Ty) → Changes change of right → ChangeFits change of (lying_of right)
+pub changes_fit : (change : Change) (of right : Ty) → Changes change of right → ChangeFits change of (representation_of right)
 changes_fit change of right x =
     let both = takes_lie change.operator (x.left ∷ right ∷ []) x.result x.does in
-    let before : CastFits change.before of (lying_of of) (code.operator_takes change.operator) =
-    subst (CastFits change.before of (lying_of of)) both.operands.0 (known_fits change.before x.left of (lying_of of) (lying_of x.left) x.known (casts_fit change.before of x.left x.before)) in
+    let before : CastFits change.before of (representation_of of) (code.operator_takes change.operator) =
+    subst (CastFits change.before of (representation_of of)) both.operands.0 (known_fits change.before x.left of (representation_of of) (representation_of x.left) x.known (casts_fit change.before of x.left x.before)) in
     record {
-      present = present_before change.before of (lying_of of) (code.operator_takes change.operator) before (operand_present change.operator);
+      present = present_before change.before of (representation_of of) (code.operator_takes change.operator) before (operand_present change.operator);
       before = before;
       right = both.operands.1.0;
-      after = subst (λ (k : Lying). CastFits change.after of k (lying_of of)) both.gives (casts_fit change.after x.result of x.after);
+      after = subst (λ (k : Representation). CastFits change.after of k (representation_of of)) both.gives (casts_fit change.after x.result of x.after);
     }
 
 -- and both of its casts are to types that code may name

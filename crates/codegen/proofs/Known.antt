@@ -5,10 +5,10 @@ use Rattle.std.specs.Str.{bytes_eq}
 use Rattle.source_meaning.specs.Tree.{Name, Stmts, Finish, Then, Declare, Variable}
 use Rattle.program_typing.specs.Agreeing.{IsVariable, variable_of}
 use Rattle.program_typing.specs.Agreeing as types
-use Rattle.compiler_relation.specs.Lying.{Lying, lying_of}
+use Rattle.compiler_relation.specs.Representation.{Representation, representation_of}
 use Rattle.compiler_relation.specs.Stands.{Entry, Scope, entry_of}
 use Rattle.compiler_relation.specs.Stands as stands
-use Rattle.codegen.specs.Jobs.{keep, scope_in}
+use Rattle.codegen.specs.Worklist.{lowest, scope_in}
 use Rattle.codegen.specs.Sound.{IsNamed, variable, names_in, names_behind}
 use Rattle.codegen.specs.declared.config.Config.{Config}
 use Rattle.codegen.proofs.Bodies.{kept_under, length_mapped}
@@ -28,14 +28,14 @@ there (z ∷ g) x y s = pick (there g x y) (bytes_eq x z.name) s
     pick older false q = older q
 
 -- a name in sight has an entry, and it is the one that is found
-pub not_missing : (g : Scope) (x : Name) (lies : Lying) → entry_of g x ≡ None → IsNamed (map variable g) x lies → ⊥
-not_missing g x lies e h = let w = there g x h.is.variable h.is.is in let q : None ≡ Some w.entry = sym e ∙ w.is in absurd cc
+pub not_missing : (g : Scope) (x : Name) (representation : Representation) → entry_of g x ≡ None → IsNamed (map variable g) x representation → ⊥
+not_missing g x representation e h = let w = there g x h.is.variable h.is.is in let q : None ≡ Some w.entry = sym e ∙ w.is in absurd cc
 
-pub lies_as_named : (g : Scope) (x : Name) (lies : Lying) (y : Entry) → entry_of g x ≡ Some y → IsNamed (map variable g) x lies → lies ≡ lying_of y.of
-lies_as_named g x lies y e h =
+pub represented_as_named : (g : Scope) (x : Name) (representation : Representation) (y : Entry) → entry_of g x ≡ Some y → IsNamed (map variable g) x representation → representation ≡ representation_of y.of
+represented_as_named g x representation y e h =
     let w = there g x h.is.variable h.is.is in
     let q : w.entry ≡ y = let z : Some w.entry ≡ Some y = sym w.is ∙ e in cc in
-    h.lies_so ∙ ap lying_of (h.is.has ∙ sym (ap (λ (v : Variable). v.of) w.same) ∙ ap (λ (y : Entry). y.of) q)
+    h.represented_so ∙ ap representation_of (h.is.has ∙ sym (ap (λ (v : Variable). v.of) w.same) ∙ ap (λ (y : Entry). y.of) q)
 
 -- ---- the names behind statements
 
@@ -44,8 +44,8 @@ grown g Finish = ([], refl)
 grown g (Then t rest) = grown g rest
 grown g (Declare x of value rest) = let w = grown (record { name = x; of = of } ∷ g) rest in (w.0 ++ record { name = x; of = of } ∷ [], w.1 ∙ sym (append_assoc w.0 (record { name = x; of = of } ∷ []) g))
 
-pub closed_names : (c : Config) (height : ℕ) (body : Stmts) → height ≡ length c.scope → keep height (names_behind (names_in c) body) ≡ names_in c
-closed_names c height body e = let w = grown (names_in c) body in ap (keep height) w.1 ∙ kept_under height w.0 (names_in c) (e ∙ sym (length_mapped c) ∙ sym (length_named (scope_in c)))
+pub closed_names : (c : Config) (height : ℕ) (body : Stmts) → height ≡ length c.scope → lowest height (names_behind (names_in c) body) ≡ names_in c
+closed_names c height body e = let w = grown (names_in c) body in ap (lowest height) w.1 ∙ kept_under height w.0 (names_in c) (e ∙ sym (length_mapped c) ∙ sym (length_named (scope_in c)))
   where
     length_named : (g : Scope) → length (map variable g) ≡ length g
     length_named [] = refl

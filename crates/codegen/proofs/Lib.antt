@@ -5,7 +5,7 @@ pub mod Lists
 pub mod Back
 pub mod Opened
 pub mod Plans
-pub mod Names
+pub mod Places
 pub mod Parts
 pub mod Bodies
 pub mod Rows

@@ -13,15 +13,15 @@ use Rattle.allowlist.specs.Allow.{AllowList}
 use Rattle.program_typing.specs.Agreeing.{Known, known, types_of, types_in, Calls, Applies}
 use Rattle.program_typing.specs.Types.{IsNamed, Casts}
 use Rattle.source_meaning.specs.Programs.{expr_of, exprs_of, fun_of, variable_of, program_of}
-use Rattle.compiler_relation.specs.Lying.{Lying, Bare, Whole, lying_of}
-use Rattle.compiler_relation.specs.Stands.{AllLie, CastFits, lyings, lyings_of, Fitting}
+use Rattle.compiler_relation.specs.Representation.{Representation, Unboxed, Boxed, representation_of}
+use Rattle.compiler_relation.specs.Stands.{AllRepresented, CastFits, representations, representations_of, Fitting}
 use Rattle.codegen.specs.Functions.{function_at}
-use Rattle.codegen.specs.Jobs.{Job, Value, Values, Back, Wanted, As, Wants, Taken, wanted, parts_from, lyings_in, member_takes}
+use Rattle.codegen.specs.Worklist.{Item, Value, Values, Back, Wanted, As, Wants, Taken, wanted, parts_from, representations_in, member_takes}
 use Rattle.codegen.specs.Sound.{Keeps, Refuses, Names}
-use Rattle.codegen.specs.declared.task.Wanted as dw
-use Rattle.codegen.specs.declared.task.Wanted.TheVariants as w
+use Rattle.codegen.specs.declared.work_item.Wanted as dw
+use Rattle.codegen.specs.declared.work_item.Wanted.TheVariants as w
 use Rattle.codegen.specs.declared.config.Config.{Config}
-use Rattle.codegen.proofs.Fitting.{is_whole, flag_lies, types_lie, casts_fit, casts_name}
+use Rattle.codegen.proofs.Fitting.{is_boxed, flag_representation, types_lie, casts_fit, casts_name}
 use Rattle.codegen.proofs.Plans.{values_end, values_more}
 use Rattle.codegen.proofs.Steps.{instead, never}
 use Rattle.codegen.specs.declared.error.CodeError.{CodeError}
@@ -41,28 +41,28 @@ drop_end zero (x ∷ all) is = absurd cc
 drop_end (suc at) [] is = refl
 drop_end (suc at) (x ∷ all) is = drop_end at all is
 
-module _ (funs : Program) (js : List Job) (c : Config) where
-  pub values_go : (parts : List Typed) (at : ℕ) (x : Typed) (wanted behind : Wanted) → slice_get parts at ≡ Some x → Taken wanted behind (lying_of (type_of (expr_of x)))
-      → Back funs (Values (parts_from at parts) wanted ∷ js) c (Value (expr_of x) ∷ Values (parts_from (at + 1) parts) behind ∷ js) c
+module _ (funs : Program) (todo : List Item) (c : Config) where
+  pub values_go : (parts : List Typed) (at : ℕ) (x : Typed) (wanted behind : Wanted) → slice_get parts at ≡ Some x → Taken wanted behind (representation_of (type_of (expr_of x)))
+      → Back funs (Values (parts_from at parts) wanted ∷ todo) c (Value (expr_of x) ∷ Values (parts_from (at + 1) parts) behind ∷ todo) c
   values_go parts at x wanted behind is e =
-      subst (λ (ps : List Typed). Back funs (Values (exprs_of (map expr_of ps)) wanted ∷ js) c (Value (expr_of x) ∷ Values (parts_from (at + 1) parts) behind ∷ js) c) (sym (drop_one at parts x is))
-      (values_more funs js c (expr_of x) (parts_from (at + 1) parts) wanted behind e)
+      subst (λ (ps : List Typed). Back funs (Values (exprs_of (map expr_of ps)) wanted ∷ todo) c (Value (expr_of x) ∷ Values (parts_from (at + 1) parts) behind ∷ todo) c) (sym (drop_one at parts x is))
+      (values_more funs todo c (expr_of x) (parts_from (at + 1) parts) wanted behind e)
 
-  pub values_stop : (parts : List Typed) (at : ℕ) (wanted : Wanted) → slice_get parts at ≡ None → Wants wanted [] → Back funs (Values (parts_from at parts) wanted ∷ js) c js c
+  pub values_stop : (parts : List Typed) (at : ℕ) (wanted : Wanted) → slice_get parts at ≡ None → Wants wanted [] → Back funs (Values (parts_from at parts) wanted ∷ todo) c todo c
   values_stop parts at wanted is e =
-      subst (λ (ps : List Typed). Back funs (Values (exprs_of (map expr_of ps)) wanted ∷ js) c js c) (sym (drop_end at parts is)) (values_end funs js c wanted e)
+      subst (λ (ps : List Typed). Back funs (Values (exprs_of (map expr_of ps)) wanted ∷ todo) c todo c) (sym (drop_end at parts is)) (values_end funs todo c wanted e)
 
-pub taken_param : (params : List Named) (at : ℕ) (x : Named) (k : Lying) → slice_get params at ≡ Some x → k ≡ lying_of x.of → Taken (As (lyings_in (drop at params))) (As (lyings_in (drop (at + 1) params))) k
-taken_param params at x k is e = record { by = λ ks h. ap (λ l. k ∷ l) h ∙ ap (λ l. l ∷ lyings_in (drop (at + 1) params)) e ∙ sym (ap lyings_in (drop_one at params x is)) }
+pub taken_param : (params : List Named) (at : ℕ) (x : Named) (k : Representation) → slice_get params at ≡ Some x → k ≡ representation_of x.of → Taken (As (representations_in (drop at params))) (As (representations_in (drop (at + 1) params))) k
+taken_param params at x k is e = record { by = λ ks h. ap (λ l. k ∷ l) h ∙ ap (λ l. l ∷ representations_in (drop (at + 1) params)) e ∙ sym (ap representations_in (drop_one at params x is)) }
 
-pub last_param : (params : List Named) (at : ℕ) → slice_get params at ≡ None → Wants (As (lyings_in (drop at params))) []
-last_param params at is = sym (ap lyings_in (drop_end at params is))
+pub last_param : (params : List Named) (at : ℕ) → slice_get params at ≡ None → Wants (As (representations_in (drop at params))) []
+last_param params at is = sym (ap representations_in (drop_end at params is))
 
 -- ---- operations
 
-params_lie : (params : List Named) → lyings_in params ≡ lyings_of (map variable_of params)
+params_lie : (params : List Named) → representations_in params ≡ representations_of (map variable_of params)
 params_lie [] = refl
-params_lie (x ∷ xs) = ap (λ l. lying_of x.of ∷ l) (params_lie xs)
+params_lie (x ∷ xs) = ap (λ l. representation_of x.of ∷ l) (params_lie xs)
 
 fun_at : (p : typed.Program) (number : ℕ) (f : TypedFunction) (g : Fun) → function_at p number ≡ Some f → slice_get (program_of p) number ≡ Some g → g ≡ fun_of f
 fun_at p zero f g is e = let h : p.main ≡ f = cc in let k : fun_of p.main ≡ g = cc in sym k ∙ ap fun_of h
@@ -73,22 +73,22 @@ fun_at p (suc number) f g is e = nested p.functions number is e
     nested (x ∷ fs) zero is e = let h : x ≡ f = cc in let k : fun_of x ≡ g = cc in sym k ∙ ap fun_of h
     nested (x ∷ fs) (suc n) is e = nested fs n is e
 
-pub call_fits : (p : typed.Program) (number : ℕ) (f : TypedFunction) (ks : List Lying) (of : Ty) → function_at p number ≡ Some f → lying_of of ≡ lying_of f.result → Wants (As (lyings_in f.parameters)) ks
+pub call_fits : (p : typed.Program) (number : ℕ) (f : TypedFunction) (ks : List Representation) (of : Ty) → function_at p number ≡ Some f → representation_of of ≡ representation_of f.result → Wants (As (representations_in f.parameters)) ks
     → Fitting (program_of p) (operation.Function number) ks of
 call_fits p number f ks of is e h = λ g at.
     let same = fun_at p number f g is at in
-    (h ∙ params_lie f.parameters ∙ sym (ap (λ (g : Fun). lyings_of g.params) same), e ∙ sym (ap (λ (g : Fun). lying_of g.result) same))
+    (h ∙ params_lie f.parameters ∙ sym (ap (λ (g : Fun). representations_of g.params) same), e ∙ sym (ap (λ (g : Fun). representation_of g.result) same))
 
 one_part : (parts : List Typed) (x : Typed) → slice_get parts 0 ≡ Some x → length parts ≡ 1 → parts ≡ x ∷ []
 one_part [] x is e = absurd cc
 one_part (y ∷ []) x is e = ap (λ y. y ∷ []) cc
 one_part (y ∷ z ∷ parts) x is e = absurd (omega arith)
 
-pub cast_fits : (funs : Program) (by : Cast) (parts : List Typed) (x : Typed) (of : Ty) (given gives : Lying) → slice_get parts 0 ≡ Some x → length parts ≡ 1
-    → given ≡ lying_of (type_of (expr_of x)) → gives ≡ lying_of of → CastFits by of given gives → Fitting funs (operation.Cast by) (lyings (exprs_of (map expr_of parts))) of
+pub cast_fits : (funs : Program) (by : Cast) (parts : List Typed) (x : Typed) (of : Ty) (given gives : Representation) → slice_get parts 0 ≡ Some x → length parts ≡ 1
+    → given ≡ representation_of (type_of (expr_of x)) → gives ≡ representation_of of → CastFits by of given gives → Fitting funs (operation.Cast by) (representations (exprs_of (map expr_of parts))) of
 cast_fits funs by parts x of given gives is e g r h =
-    subst (λ (ps : List Typed). Fitting funs (operation.Cast by) (lyings (exprs_of (map expr_of ps))) of) (sym (one_part parts x is e))
-    (subst (λ (k : Lying). CastFits by of k (lying_of of)) g (subst (λ (k : Lying). CastFits by of given k) r h))
+    subst (λ (ps : List Typed). Fitting funs (operation.Cast by) (representations (exprs_of (map expr_of ps))) of) (sym (one_part parts x is e))
+    (subst (λ (k : Representation). CastFits by of k (representation_of of)) g (subst (λ (k : Representation). CastFits by of given k) r h))
 
 -- ---- parts of a well-formed program
 
@@ -98,32 +98,32 @@ parts_go parts at x is = ap (λ (ps : List Typed). exprs_of (map expr_of ps)) (d
 pub parts_stop : (parts : List Typed) (at : ℕ) → slice_get parts at ≡ None → parts_from at parts ≡ None'
 parts_stop parts at is = ap (λ (ps : List Typed). exprs_of (map expr_of ps)) (drop_end at parts is)
 
-others_lie : (params : List Named) (at : ℕ) (k : Lying) (ks : List Lying) → k ∷ ks ≡ lyings_in (drop at params) → ks ≡ lyings_in (drop (suc at) params)
+others_lie : (params : List Named) (at : ℕ) (k : Representation) (ks : List Representation) → k ∷ ks ≡ representations_in (drop at params) → ks ≡ representations_in (drop (suc at) params)
 others_lie [] zero k ks e = absurd cc
 others_lie [] (suc at) k ks e = absurd cc
 others_lie (x ∷ params) zero k ks e = cc
 others_lie (x ∷ params) (suc at) k ks e = others_lie params at k ks e
 
-rest_lie : (ls : List Lying) (at : ℕ) (k : Lying) (ks : List Lying) → k ∷ ks ≡ drop at ls → ks ≡ drop (suc at) ls
+rest_lie : (ls : List Representation) (at : ℕ) (k : Representation) (ks : List Representation) → k ∷ ks ≡ drop at ls → ks ≡ drop (suc at) ls
 rest_lie [] zero k ks e = absurd cc
 rest_lie [] (suc at) k ks e = absurd cc
 rest_lie (x ∷ ls) zero k ks e = cc
 rest_lie (x ∷ ls) (suc at) k ks e = rest_lie ls at k ks e
 
-pub wanted_of_others : (kind : dw.Wanted) (at : ℕ) (k : Lying) (ks : List Lying) → Wants (wanted at kind) (k ∷ ks) → Wants (wanted (at + 1) kind) ks
+pub wanted_of_others : (kind : dw.Wanted) (at : ℕ) (k : Representation) (ks : List Representation) → Wants (wanted at kind) (k ∷ ks) → Wants (wanted (at + 1) kind) ks
 wanted_of_others w.Any at k ks h = tt
 wanted_of_others (w.All one) at k ks h = h.1
-wanted_of_others (w.As params) at k ks h = others_lie params.now at k ks h ∙ ap (λ n. lyings_in (drop n params.now)) (sym (add-one at))
+wanted_of_others (w.As params) at k ks h = others_lie params.now at k ks h ∙ ap (λ n. representations_in (drop n params.now)) (sym (add-one at))
 wanted_of_others (w.Member kind params) at k ks h = rest_lie (member_takes kind params.now) at k ks h ∙ ap (λ n. drop n (member_takes kind params.now)) (sym (add-one at))
 
-pub refuses_param : (params : List Named) (at : ℕ) (x : Named) (k : Lying) → slice_get params at ≡ Some x → k ≢ lying_of x.of → Refuses (As (lyings_in (drop at params))) k
-refuses_param params at x k is n = record { by = λ ks h. let e : k ∷ ks ≡ lying_of x.of ∷ lyings_in (drop (at + 1) params) = h ∙ ap lyings_in (drop_one at params x is) in n cc }
+pub refuses_param : (params : List Named) (at : ℕ) (x : Named) (k : Representation) → slice_get params at ≡ Some x → k ≢ representation_of x.of → Refuses (As (representations_in (drop at params))) k
+refuses_param params at x k is n = record { by = λ ks h. let e : k ∷ ks ≡ representation_of x.of ∷ representations_in (drop (at + 1) params) = h ∙ ap representations_in (drop_one at params x is) in n cc }
 
-pub refuses_more : (params : List Named) (at : ℕ) (k : Lying) → slice_get params at ≡ None → Refuses (As (lyings_in (drop at params))) k
-refuses_more params at k is = record { by = λ ks h. let e : k ∷ ks ≡ [] = h ∙ ap lyings_in (drop_end at params is) in absurd cc }
+pub refuses_more : (params : List Named) (at : ℕ) (k : Representation) → slice_get params at ≡ None → Refuses (As (representations_in (drop at params))) k
+refuses_more params at k is = record { by = λ ks h. let e : k ∷ ks ≡ [] = h ∙ ap representations_in (drop_end at params is) in absurd cc }
 
-pub some_param : (params : List Named) (at : ℕ) (x : Named) → slice_get params at ≡ Some x → Wants (As (lyings_in (drop at params))) [] → ⊥
-some_param params at x is h = let e : [] ≡ lying_of x.of ∷ lyings_in (drop (at + 1) params) = h ∙ ap lyings_in (drop_one at params x is) in absurd cc
+pub some_param : (params : List Named) (at : ℕ) (x : Named) → slice_get params at ≡ Some x → Wants (As (representations_in (drop at params))) [] → ⊥
+some_param params at x is h = let e : [] ≡ representation_of x.of ∷ representations_in (drop (at + 1) params) = h ∙ ap representations_in (drop_one at params x is) in absurd cc
 
 -- ---- calls of a well-formed program
 
@@ -136,42 +136,42 @@ function_there p (suc number) g is e = nested p.functions number is e
     nested (x ∷ fs) zero is e = absurd cc
     nested (x ∷ fs) (suc n) is e = nested fs n is e
 
-params_typed : (params : List Named) → map lying_of (types_in (map variable_of params)) ≡ lyings_in params
+params_typed : (params : List Named) → map representation_of (types_in (map variable_of params)) ≡ representations_in params
 params_typed [] = refl
-params_typed (x ∷ xs) = ap (λ l. lying_of x.of ∷ l) (params_typed xs)
+params_typed (x ∷ xs) = ap (λ l. representation_of x.of ∷ l) (params_typed xs)
 
-pub call_gives : (allow : AllowList) (p : typed.Program) (number : ℕ) (f : TypedFunction) (ofs : List Ty) (of : Ty) → function_at p number ≡ Some f → Calls (known allow (program_of p)) number ofs of → lying_of of ≡ lying_of f.result
-call_gives allow p number f ofs of is x = ap lying_of (x.gives ∙ ap (λ (g : Fun). g.result) (fun_at p number f x.fun is x.is))
+pub call_gives : (allow : AllowList) (p : typed.Program) (number : ℕ) (f : TypedFunction) (ofs : List Ty) (of : Ty) → function_at p number ≡ Some f → Calls (known allow (program_of p)) number ofs of → representation_of of ≡ representation_of f.result
+call_gives allow p number f ofs of is x = ap representation_of (x.gives ∙ ap (λ (g : Fun). g.result) (fun_at p number f x.fun is x.is))
 
-pub call_takes : (allow : AllowList) (p : typed.Program) (number : ℕ) (f : TypedFunction) (parts : Exprs) (of : Ty) → function_at p number ≡ Some f → Calls (known allow (program_of p)) number (types_of parts) of → Wants (As (lyings_in f.parameters)) (lyings parts)
+pub call_takes : (allow : AllowList) (p : typed.Program) (number : ℕ) (f : TypedFunction) (parts : Exprs) (of : Ty) → function_at p number ≡ Some f → Calls (known allow (program_of p)) number (types_of parts) of → Wants (As (representations_in f.parameters)) (representations parts)
 call_takes allow p number f parts of is x =
-    types_lie parts ∙ ap (map lying_of) (x.takes ∙ ap (λ (g : Fun). types_in g.params) (fun_at p number f x.fun is x.is)) ∙ params_typed f.parameters
+    types_lie parts ∙ ap (map representation_of) (x.takes ∙ ap (λ (g : Fun). types_in g.params) (fun_at p number f x.fun is x.is)) ∙ params_typed f.parameters
 
 -- ---- steps over the parts of a well-formed program
 
-module _ (funs : Program) (js : List Job) (c : Config) where
+module _ (funs : Program) (todo : List Item) (c : Config) where
   pub keeps_part : (parts : List Typed) (at : ℕ) (x : Typed) (kind : dw.Wanted) → slice_get parts at ≡ Some x
-      → Keeps funs (Values (parts_from at parts) (wanted at kind) ∷ js) c (Ok tt) (Value (expr_of x) ∷ Values (parts_from (at + 1) parts) (wanted (at + 1) kind) ∷ js) c
+      → Keeps funs (Values (parts_from at parts) (wanted at kind) ∷ todo) c (Ok tt) (Value (expr_of x) ∷ Values (parts_from (at + 1) parts) (wanted (at + 1) kind) ∷ todo) c
   keeps_part parts at x kind is =
-      subst (λ (es : Exprs). Keeps funs (Values es (wanted at kind) ∷ js) c (Ok tt) (Value (expr_of x) ∷ Values (parts_from (at + 1) parts) (wanted (at + 1) kind) ∷ js) c) (sym (parts_go parts at x is))
-      (instead funs (Values (One (expr_of x) (parts_from (at + 1) parts)) (wanted at kind) ∷ js) (Value (expr_of x) ∷ Values (parts_from (at + 1) parts) (wanted (at + 1) kind) ∷ js) c
-      (λ allow of s. (s.0.0.0, ((s.0.0.1, wanted_of_others kind at (lying_of (type_of (expr_of x))) (lyings (parts_from (at + 1) parts)) s.0.1), s.1))) refl)
+      subst (λ (es : Exprs). Keeps funs (Values es (wanted at kind) ∷ todo) c (Ok tt) (Value (expr_of x) ∷ Values (parts_from (at + 1) parts) (wanted (at + 1) kind) ∷ todo) c) (sym (parts_go parts at x is))
+      (instead funs (Values (One (expr_of x) (parts_from (at + 1) parts)) (wanted at kind) ∷ todo) (Value (expr_of x) ∷ Values (parts_from (at + 1) parts) (wanted (at + 1) kind) ∷ todo) c
+      (λ allow of s. (s.0.0.0, ((s.0.0.1, wanted_of_others kind at (representation_of (type_of (expr_of x))) (representations (parts_from (at + 1) parts)) s.0.1), s.1))) refl)
 
-  pub keeps_no_part : (parts : List Typed) (at : ℕ) (kind : dw.Wanted) → slice_get parts at ≡ None → Keeps funs (Values (parts_from at parts) (wanted at kind) ∷ js) c (Ok tt) js c
+  pub keeps_no_part : (parts : List Typed) (at : ℕ) (kind : dw.Wanted) → slice_get parts at ≡ None → Keeps funs (Values (parts_from at parts) (wanted at kind) ∷ todo) c (Ok tt) todo c
   keeps_no_part parts at kind is =
-      subst (λ (es : Exprs). Keeps funs (Values es (wanted at kind) ∷ js) c (Ok tt) js c) (sym (parts_stop parts at is)) (instead funs (Values None' (wanted at kind) ∷ js) js c (λ allow of s. s.1) refl)
+      subst (λ (es : Exprs). Keeps funs (Values es (wanted at kind) ∷ todo) c (Ok tt) todo c) (sym (parts_stop parts at is)) (instead funs (Values None' (wanted at kind) ∷ todo) todo c (λ allow of s. s.1) refl)
 
-  pub keeps_unfit : (parts : List Typed) (at : ℕ) (x : Typed) (kind : dw.Wanted) (result : Result Unit CodeError) (js' : List Job) (c' : Config) → slice_get parts at ≡ Some x
-      → Refuses (wanted at kind) (lying_of (type_of (expr_of x))) → Keeps funs (Values (parts_from at parts) (wanted at kind) ∷ js) c result js' c'
-  keeps_unfit parts at x kind result js' c' is n =
-      subst (λ (es : Exprs). Keeps funs (Values es (wanted at kind) ∷ js) c result js' c') (sym (parts_go parts at x is))
-      (never funs (Values (One (expr_of x) (parts_from (at + 1) parts)) (wanted at kind) ∷ js) js' c result c' (λ allow of s. n.by (lyings (parts_from (at + 1) parts)) s.0.1))
+  pub keeps_unfit : (parts : List Typed) (at : ℕ) (x : Typed) (kind : dw.Wanted) (result : Result Unit CodeError) (todo' : List Item) (c' : Config) → slice_get parts at ≡ Some x
+      → Refuses (wanted at kind) (representation_of (type_of (expr_of x))) → Keeps funs (Values (parts_from at parts) (wanted at kind) ∷ todo) c result todo' c'
+  keeps_unfit parts at x kind result todo' c' is n =
+      subst (λ (es : Exprs). Keeps funs (Values es (wanted at kind) ∷ todo) c result todo' c') (sym (parts_go parts at x is))
+      (never funs (Values (One (expr_of x) (parts_from (at + 1) parts)) (wanted at kind) ∷ todo) todo' c result c' (λ allow of s. n.by (representations (parts_from (at + 1) parts)) s.0.1))
 
-  pub keeps_unended : (parts : List Typed) (at : ℕ) (kind : dw.Wanted) (result : Result Unit CodeError) (js' : List Job) (c' : Config) → slice_get parts at ≡ None
-      → (Wants (wanted at kind) [] → ⊥) → Keeps funs (Values (parts_from at parts) (wanted at kind) ∷ js) c result js' c'
-  keeps_unended parts at kind result js' c' is n =
-      subst (λ (es : Exprs). Keeps funs (Values es (wanted at kind) ∷ js) c result js' c') (sym (parts_stop parts at is))
-      (never funs (Values None' (wanted at kind) ∷ js) js' c result c' (λ allow of s. n s.0.1))
+  pub keeps_unended : (parts : List Typed) (at : ℕ) (kind : dw.Wanted) (result : Result Unit CodeError) (todo' : List Item) (c' : Config) → slice_get parts at ≡ None
+      → (Wants (wanted at kind) [] → ⊥) → Keeps funs (Values (parts_from at parts) (wanted at kind) ∷ todo) c result todo' c'
+  keeps_unended parts at kind result todo' c' is n =
+      subst (λ (es : Exprs). Keeps funs (Values es (wanted at kind) ∷ todo) c result todo' c') (sym (parts_stop parts at is))
+      (never funs (Values None' (wanted at kind) ∷ todo) todo' c result c' (λ allow of s. n s.0.1))
 
 -- ---- casts of a well-formed program
 
@@ -190,21 +190,21 @@ casts funs c (y ∷ []) x of e h = let same : y ≡ x = cc in subst (λ (x : Typ
 casts funs c (y ∷ z ∷ parts) x of e h = absurd h
 
 module _ (funs : Known) (c : Cast) (parts : List Typed) (x : Typed) (of : Ty) where
-  pub well_cast_fits : (given gives : Lying) → slice_get parts 0 ≡ Some x → given ≡ lying_of (type_of (expr_of x)) → gives ≡ lying_of of → Applies funs (operation.Cast c) (types_of (exprs_of (map expr_of parts))) of → CastFits c of given gives
+  pub well_cast_fits : (given gives : Representation) → slice_get parts 0 ≡ Some x → given ≡ representation_of (type_of (expr_of x)) → gives ≡ representation_of of → Applies funs (operation.Cast c) (types_of (exprs_of (map expr_of parts))) of → CastFits c of given gives
   well_cast_fits given gives is e r h =
-      subst (λ (k : Lying). CastFits c of k gives) (sym e) (subst (λ (k : Lying). CastFits c of (lying_of (type_of (expr_of x))) k) (sym r) (casts_fit c (type_of (expr_of x)) of (casts funs c parts x of is h)))
+      subst (λ (k : Representation). CastFits c of k gives) (sym e) (subst (λ (k : Representation). CastFits c of (representation_of (type_of (expr_of x))) k) (sym r) (casts_fit c (type_of (expr_of x)) of (casts funs c parts x of is h)))
 
   pub well_cast_names : slice_get parts 0 ≡ Some x → Applies funs (operation.Cast c) (types_of (exprs_of (map expr_of parts))) of → Names c of
   well_cast_names is h = casts_name c (type_of (expr_of x)) of (casts funs c parts x of is h)
 
 -- ---- questions of a well-formed program whether a value is of a type
 
-pub record AskLies (is : Ty) (parts : Exprs) (of : Ty) : Type 0 where
-  pub operands : AllLie Whole (lyings parts)
-  pub gives : lying_of of ≡ Bare
+pub record AskRepresented (is : Ty) (parts : Exprs) (of : Ty) : Type 0 where
+  pub operands : AllRepresented Boxed (representations parts)
+  pub gives : representation_of of ≡ Unboxed
   pub named : IsNamed is
 
-pub ask_lies : (funs : Known) (is : Ty) (parts : Exprs) (of : Ty) → Applies funs (operation.InstanceOf is) (types_of parts) of → AskLies is parts of
-ask_lies funs is None' of x = absurd x
-ask_lies funs is (One a None') of x = record { operands = (is_whole (type_of a) x.0, tt); gives = flag_lies of x.2; named = x.1 }
-ask_lies funs is (One a (One b parts)) of x = absurd x
+pub ask_representation : (funs : Known) (is : Ty) (parts : Exprs) (of : Ty) → Applies funs (operation.InstanceOf is) (types_of parts) of → AskRepresented is parts of
+ask_representation funs is None' of x = absurd x
+ask_representation funs is (One a None') of x = record { operands = (is_boxed (type_of a) x.0, tt); gives = flag_representation of x.2; named = x.1 }
+ask_representation funs is (One a (One b parts)) of x = absurd x

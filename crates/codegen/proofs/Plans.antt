@@ -15,17 +15,17 @@ use Rattle.typed_tree.specs.declared.operation.Target.TheVariants as target
 use Rattle.typed_tree.specs.declared.operation.Change.{Change}
 use Rattle.typed_tree.specs.declared.operation.Gives.{Gives}
 use Rattle.source_meaning.specs.Tree.{Name, Expr, Local, Logic, Conditional, Elvis, Assign, Modify, Apply, Guarded, Exprs, None', One, Program, type_of}
-use Rattle.compiler_relation.specs.Lying.{lying_of, Lying, Bare, Whole}
+use Rattle.compiler_relation.specs.Representation.{representation_of, Representation, Unboxed, Boxed}
 use Rattle.compiler_relation.specs.Parts.{operation_code, operator_code, kept_before, kept_behind, without_null}
 use Rattle.allowlist.specs.declared.member.MemberKind.{MemberKind}
 use Rattle.allowlist.specs.declared.member.MemberKind.TheVariants as kinds
 use Rattle.typed_tree.specs.declared.operation.Member.{Member}
 use Rattle.codegen.specs.Called.{member_operation}
 use Rattle.codegen.specs.Checks.{jump_of}
-use Rattle.compiler_relation.specs.Stands.{Entry, Scope, IsEntry, At, end_expr, end_exprs, MemberFits, GuardFits, settled, settles, Fitting, ChangeFits, lyings, change_first, change_last, elvis_right}
+use Rattle.compiler_relation.specs.Stands.{Entry, Scope, IsEntry, At, end_expr, end_exprs, MemberFits, GuardFits, settled, settles, Fitting, ChangeFits, representations, change_first, change_last, elvis_right}
 use Rattle.compiler_relation.specs.Placed.{untrapped}
 use Rattle.codegen.specs.Labels.{line_of}
-use Rattle.codegen.specs.Jobs.{Job, Value, Values, Put, Convert, Ask, Call, Jump, Bind, Load, Store, Wanted, Wants, Taken, Back}
+use Rattle.codegen.specs.Worklist.{Item, Value, Values, Put, Convert, Ask, Call, Jump, Bind, Load, Store, Wanted, Wants, Taken, Back}
 use Rattle.codegen.specs.declared.config.Config.{Config}
 use Rattle.codegen.proofs.Back.{planned}
 
@@ -41,15 +41,15 @@ settles_so f p Or to a = a
 same_entry : (g : Scope) (x : Name) (y z : Entry) → IsEntry g x y → IsEntry g x z → z ≡ y
 same_entry g x y z a b = let h : Some z ≡ Some y = sym b.is ∙ a.is in cc
 
-module _ (funs : Program) (js : List Job) (c : Config) where
-  pub local_plan : (at : ℕ) (of : Ty) (x : Name) (lies : Lying) → lies ≡ lying_of of → Back funs (Value (Local at of x) ∷ js) c (Load x lies ∷ js) c
-  local_plan at of x lies e = planned funs (Value (Local at of x) ∷ js) c (Load x lies ∷ js) (λ f labels g n p flows whole s. ((s.0.0, s.0.1, sym e ∙ s.0.2, s.0.3), s.1))
+module _ (funs : Program) (todo : List Item) (c : Config) where
+  pub local_plan : (at : ℕ) (of : Ty) (x : Name) (representation : Representation) → representation ≡ representation_of of → Back funs (Value (Local at of x) ∷ todo) c (Load x representation ∷ todo) c
+  local_plan at of x representation e = planned funs (Value (Local at of x) ∷ todo) c (Load x representation ∷ todo) (λ f labels g n p flows whole s. ((s.0.0, s.0.1, sym e ∙ s.0.2, s.0.3), s.1))
 
-  pub conditional_plan : (at : ℕ) (of : Ty) (a b d : Expr) (other end : ℕ) → lying_of (type_of a) ≡ Bare → lying_of (type_of b) ≡ lying_of of → lying_of (type_of d) ≡ lying_of of
-      → Back funs (Value (Conditional at of a b d) ∷ js) c
-      (Value a ∷ Jump numbered.IfZero other ∷ Value b ∷ Jump numbered.Goto end ∷ Bind other ∷ Value d ∷ Bind end ∷ js) c
+  pub conditional_plan : (at : ℕ) (of : Ty) (a b d : Expr) (other end : ℕ) → representation_of (type_of a) ≡ Unboxed → representation_of (type_of b) ≡ representation_of of → representation_of (type_of d) ≡ representation_of of
+      → Back funs (Value (Conditional at of a b d) ∷ todo) c
+      (Value a ∷ Jump numbered.IfZero other ∷ Value b ∷ Jump numbered.Goto end ∷ Bind other ∷ Value d ∷ Bind end ∷ todo) c
   conditional_plan at of a b d other end ea eb ed =
-      planned funs (Value (Conditional at of a b d) ∷ js) c (Value a ∷ Jump numbered.IfZero other ∷ Value b ∷ Jump numbered.Goto end ∷ Bind other ∷ Value d ∷ Bind end ∷ js)
+      planned funs (Value (Conditional at of a b d) ∷ todo) c (Value a ∷ Jump numbered.IfZero other ∷ Value b ∷ Jump numbered.Goto end ∷ Bind other ∷ Value d ∷ Bind end ∷ todo)
       (λ f labels g n p flows whole s.
       let q = suc (end_expr p a) in
       let r = suc (end_expr q b) in (
@@ -66,12 +66,12 @@ module _ (funs : Program) (js : List Job) (c : Config) where
         s.1.1.1.1.1.1.1,
       ))
 
-  pub elvis_plan : (at : ℕ) (of : Ty) (a b : Expr) (other end : ℕ) → lying_of (type_of a) ≡ Whole → lying_of (type_of b) ≡ Whole → lying_of of ≡ Whole
-      → Back funs (Value (Elvis at of a b) ∷ js) c
-      (Value a ∷ Put (i.Plain plain.Dup ∷ []) ∷ Jump numbered.IfNull other ∷ Jump numbered.Goto end ∷ Bind other ∷ Put (i.Plain plain.Pop ∷ []) ∷ Value b ∷ Bind end ∷ js) c
+  pub elvis_plan : (at : ℕ) (of : Ty) (a b : Expr) (other end : ℕ) → representation_of (type_of a) ≡ Boxed → representation_of (type_of b) ≡ Boxed → representation_of of ≡ Boxed
+      → Back funs (Value (Elvis at of a b) ∷ todo) c
+      (Value a ∷ Put (i.Plain plain.Dup ∷ []) ∷ Jump numbered.IfNull other ∷ Jump numbered.Goto end ∷ Bind other ∷ Put (i.Plain plain.Pop ∷ []) ∷ Value b ∷ Bind end ∷ todo) c
   elvis_plan at of a b other end ea eb e =
-      planned funs (Value (Elvis at of a b) ∷ js) c
-      (Value a ∷ Put (i.Plain plain.Dup ∷ []) ∷ Jump numbered.IfNull other ∷ Jump numbered.Goto end ∷ Bind other ∷ Put (i.Plain plain.Pop ∷ []) ∷ Value b ∷ Bind end ∷ js)
+      planned funs (Value (Elvis at of a b) ∷ todo) c
+      (Value a ∷ Put (i.Plain plain.Dup ∷ []) ∷ Jump numbered.IfNull other ∷ Jump numbered.Goto end ∷ Bind other ∷ Put (i.Plain plain.Pop ∷ []) ∷ Value b ∷ Bind end ∷ todo)
       (λ f labels g n p flows whole s.
       let q = end_expr p a in (
         (
@@ -88,11 +88,11 @@ module _ (funs : Program) (js : List Job) (c : Config) where
         s.1.1.1.1.1.1.1.1,
       ))
 
-  pub logical_plan : (at : ℕ) (of : Ty) (o : Logical) (a b : Expr) (other end : ℕ) → lying_of (type_of a) ≡ Bare → lying_of (type_of b) ≡ Bare → lying_of of ≡ Bare
-      → Back funs (Value (Logic at of o a b) ∷ js) c
-      (Value a ∷ Jump (jump_of o) other ∷ Value b ∷ Jump numbered.Goto end ∷ Bind other ∷ Put (settled o ∷ []) ∷ Bind end ∷ js) c
+  pub logical_plan : (at : ℕ) (of : Ty) (o : Logical) (a b : Expr) (other end : ℕ) → representation_of (type_of a) ≡ Unboxed → representation_of (type_of b) ≡ Unboxed → representation_of of ≡ Unboxed
+      → Back funs (Value (Logic at of o a b) ∷ todo) c
+      (Value a ∷ Jump (jump_of o) other ∷ Value b ∷ Jump numbered.Goto end ∷ Bind other ∷ Put (settled o ∷ []) ∷ Bind end ∷ todo) c
   logical_plan at of o a b other end ea eb e =
-      planned funs (Value (Logic at of o a b) ∷ js) c (Value a ∷ Jump (jump_of o) other ∷ Value b ∷ Jump numbered.Goto end ∷ Bind other ∷ Put (settled o ∷ []) ∷ Bind end ∷ js)
+      planned funs (Value (Logic at of o a b) ∷ todo) c (Value a ∷ Jump (jump_of o) other ∷ Value b ∷ Jump numbered.Goto end ∷ Bind other ∷ Put (settled o ∷ []) ∷ Bind end ∷ todo)
       (λ f labels g n p flows whole s.
       let q = suc (end_expr p a) in
       let r = end_expr q b in (
@@ -109,18 +109,18 @@ module _ (funs : Program) (js : List Job) (c : Config) where
         s.1.1.1.1.1.1.1,
       ))
 
-  pub assign_plan : (at : ℕ) (of : Ty) (x : Name) (parts : Exprs) (a : Expr) (lies : Lying) → lies ≡ lying_of of → lying_of (type_of a) ≡ lies
-      → Back funs (Value (Assign at of (target.Local x) parts a) ∷ js) c (Value a ∷ Put (i.Plain plain.Dup ∷ []) ∷ Store x lies ∷ js) c
-  assign_plan at of x parts a lies e ea =
-      planned funs (Value (Assign at of (target.Local x) parts a) ∷ js) c (Value a ∷ Put (i.Plain plain.Dup ∷ []) ∷ Store x lies ∷ js)
+  pub assign_plan : (at : ℕ) (of : Ty) (x : Name) (parts : Exprs) (a : Expr) (representation : Representation) → representation ≡ representation_of of → representation_of (type_of a) ≡ representation
+      → Back funs (Value (Assign at of (target.Local x) parts a) ∷ todo) c (Value a ∷ Put (i.Plain plain.Dup ∷ []) ∷ Store x representation ∷ todo) c
+  assign_plan at of x parts a representation e ea =
+      planned funs (Value (Assign at of (target.Local x) parts a) ∷ todo) c (Value a ∷ Put (i.Plain plain.Dup ∷ []) ∷ Store x representation ∷ todo)
       (λ f labels g n p flows whole s. ((s.0, s.1.0.0, (s.1.1.0.0, s.1.1.0.1, ea ∙ s.1.1.0.2, sym e ∙ s.1.1.0.2, s.1.1.0.3)), s.1.1.1))
 
-  pub modify_plan : (at : ℕ) (of : Ty) (x : Name) (parts : Exprs) (change : Change) (a : Expr) (gives : Gives) (lies : Lying) → lies ≡ lying_of of → ChangeFits change of (lying_of (type_of a))
-      → Back funs (Value (Modify at of (target.Local x) parts change a gives) ∷ js) c
-      (Load x lies ∷ Put (kept_before gives) ∷ Convert change.before of ∷ Value a ∷ Put (operator_code change.operator) ∷ Convert change.after of ∷ Put (kept_behind gives) ∷ Store x lies ∷ js) c
-  modify_plan at of x parts change a gives lies e fits =
-      planned funs (Value (Modify at of (target.Local x) parts change a gives) ∷ js) c
-      (Load x lies ∷ Put (kept_before gives) ∷ Convert change.before of ∷ Value a ∷ Put (operator_code change.operator) ∷ Convert change.after of ∷ Put (kept_behind gives) ∷ Store x lies ∷ js)
+  pub modify_plan : (at : ℕ) (of : Ty) (x : Name) (parts : Exprs) (change : Change) (a : Expr) (gives : Gives) (representation : Representation) → representation ≡ representation_of of → ChangeFits change of (representation_of (type_of a))
+      → Back funs (Value (Modify at of (target.Local x) parts change a gives) ∷ todo) c
+      (Load x representation ∷ Put (kept_before gives) ∷ Convert change.before of ∷ Value a ∷ Put (operator_code change.operator) ∷ Convert change.after of ∷ Put (kept_behind gives) ∷ Store x representation ∷ todo) c
+  modify_plan at of x parts change a gives representation e fits =
+      planned funs (Value (Modify at of (target.Local x) parts change a gives) ∷ todo) c
+      (Load x representation ∷ Put (kept_before gives) ∷ Convert change.before of ∷ Value a ∷ Put (operator_code change.operator) ∷ Convert change.after of ∷ Put (kept_behind gives) ∷ Store x representation ∷ todo)
       (λ f labels g n p flows whole s.
       let load = s.0 in
       let store = s.1.1.1.1.1.1.1.0 in (
@@ -141,50 +141,50 @@ module _ (funs : Program) (js : List Job) (c : Config) where
         s.1.1.1.1.1.1.1.1,
       ))
 
-  pub apply_plan : (at : ℕ) (of : Ty) (o : Operation) (parts : Exprs) (wanted : Wanted) → (Wants wanted (lyings parts) → Fitting funs o (lyings parts) of)
-      → Back funs (Value (Apply at of o parts) ∷ js) c (Values parts wanted ∷ Put (operation_code o of) ∷ js) c
+  pub apply_plan : (at : ℕ) (of : Ty) (o : Operation) (parts : Exprs) (wanted : Wanted) → (Wants wanted (representations parts) → Fitting funs o (representations parts) of)
+      → Back funs (Value (Apply at of o parts) ∷ todo) c (Values parts wanted ∷ Put (operation_code o of) ∷ todo) c
   apply_plan at of o parts wanted e =
-      planned funs (Value (Apply at of o parts) ∷ js) c (Values parts wanted ∷ Put (operation_code o of) ∷ js) (λ f labels g n p flows whole s. ((s.0.0, s.1.0, e s.0.1), s.1.1))
+      planned funs (Value (Apply at of o parts) ∷ todo) c (Values parts wanted ∷ Put (operation_code o of) ∷ todo) (λ f labels g n p flows whole s. ((s.0.0, s.1.0, e s.0.1), s.1.1))
 
-  pub cast_plan : (at : ℕ) (of : Ty) (by : Cast) (parts : Exprs) (wanted : Wanted) → (Wants wanted (lyings parts) → Fitting funs (operation.Cast by) (lyings parts) of)
-      → Back funs (Value (Apply at of (operation.Cast by) parts) ∷ js) c (Values parts wanted ∷ Convert by of ∷ js) c
+  pub cast_plan : (at : ℕ) (of : Ty) (by : Cast) (parts : Exprs) (wanted : Wanted) → (Wants wanted (representations parts) → Fitting funs (operation.Cast by) (representations parts) of)
+      → Back funs (Value (Apply at of (operation.Cast by) parts) ∷ todo) c (Values parts wanted ∷ Convert by of ∷ todo) c
   cast_plan at of by parts wanted e =
-      planned funs (Value (Apply at of (operation.Cast by) parts) ∷ js) c (Values parts wanted ∷ Convert by of ∷ js) (λ f labels g n p flows whole s. ((s.0.0, s.1.0, e s.0.1), s.1.1))
+      planned funs (Value (Apply at of (operation.Cast by) parts) ∷ todo) c (Values parts wanted ∷ Convert by of ∷ todo) (λ f labels g n p flows whole s. ((s.0.0, s.1.0, e s.0.1), s.1.1))
 
-  pub ask_plan : (at : ℕ) (of is : Ty) (parts : Exprs) (wanted : Wanted) → (Wants wanted (lyings parts) → Fitting funs (operation.InstanceOf is) (lyings parts) of)
-      → Back funs (Value (Apply at of (operation.InstanceOf is) parts) ∷ js) c (Values parts wanted ∷ Ask is ∷ js) c
+  pub ask_plan : (at : ℕ) (of is : Ty) (parts : Exprs) (wanted : Wanted) → (Wants wanted (representations parts) → Fitting funs (operation.InstanceOf is) (representations parts) of)
+      → Back funs (Value (Apply at of (operation.InstanceOf is) parts) ∷ todo) c (Values parts wanted ∷ Ask is ∷ todo) c
   ask_plan at of is parts wanted e =
-      planned funs (Value (Apply at of (operation.InstanceOf is) parts) ∷ js) c (Values parts wanted ∷ Ask is ∷ js) (λ f labels g n p flows whole s. ((s.0.0, (s.1.0, tt), e s.0.1), s.1.1))
+      planned funs (Value (Apply at of (operation.InstanceOf is) parts) ∷ todo) c (Values parts wanted ∷ Ask is ∷ todo) (λ f labels g n p flows whole s. ((s.0.0, (s.1.0, tt), e s.0.1), s.1.1))
 
-  pub member_plan : (at : ℕ) (of : Ty) (kind : MemberKind) (m : Member) (parts : Exprs) (wanted : Wanted) (lies : Lying) → lies ≡ lying_of of → (Wants wanted (lyings parts) → MemberFits kind m (lyings parts) of)
-      → Back funs (Value (Apply at of (member_operation kind m) parts) ∷ js) c (Values parts wanted ∷ Call kind m.text ∷ Put (without_null lies) ∷ js) c
-  member_plan at of kind m parts wanted lies e fits =
-      subst (λ (lies : Lying). Back funs (Value (Apply at of (member_operation kind m) parts) ∷ js) c (Values parts wanted ∷ Call kind m.text ∷ Put (without_null lies) ∷ js) c) (sym e) (by_kind kind fits)
+  pub member_plan : (at : ℕ) (of : Ty) (kind : MemberKind) (m : Member) (parts : Exprs) (wanted : Wanted) (representation : Representation) → representation ≡ representation_of of → (Wants wanted (representations parts) → MemberFits kind m (representations parts) of)
+      → Back funs (Value (Apply at of (member_operation kind m) parts) ∷ todo) c (Values parts wanted ∷ Call kind m.text ∷ Put (without_null representation) ∷ todo) c
+  member_plan at of kind m parts wanted representation e fits =
+      subst (λ (representation : Representation). Back funs (Value (Apply at of (member_operation kind m) parts) ∷ todo) c (Values parts wanted ∷ Call kind m.text ∷ Put (without_null representation) ∷ todo) c) (sym e) (by_kind kind fits)
     where
-      by_kind : (kind : MemberKind) → (Wants wanted (lyings parts) → MemberFits kind m (lyings parts) of)
-          → Back funs (Value (Apply at of (member_operation kind m) parts) ∷ js) c (Values parts wanted ∷ Call kind m.text ∷ Put (without_null (lying_of of)) ∷ js) c
+      by_kind : (kind : MemberKind) → (Wants wanted (representations parts) → MemberFits kind m (representations parts) of)
+          → Back funs (Value (Apply at of (member_operation kind m) parts) ∷ todo) c (Values parts wanted ∷ Call kind m.text ∷ Put (without_null (representation_of of)) ∷ todo) c
       by_kind kinds.Constructor fits =
-          planned funs (Value (Apply at of (operation.Constructor m) parts) ∷ js) c (Values parts wanted ∷ Call kinds.Constructor m.text ∷ Put (without_null (lying_of of)) ∷ js)
+          planned funs (Value (Apply at of (operation.Constructor m) parts) ∷ todo) c (Values parts wanted ∷ Call kinds.Constructor m.text ∷ Put (without_null (representation_of of)) ∷ todo)
           (λ f labels g n p flows whole s. ((s.0.0, (s.1.0, s.1.1.0), fits s.0.1), s.1.1.1))
       by_kind kinds.Static fits =
-          planned funs (Value (Apply at of (operation.Static m) parts) ∷ js) c (Values parts wanted ∷ Call kinds.Static m.text ∷ Put (without_null (lying_of of)) ∷ js)
+          planned funs (Value (Apply at of (operation.Static m) parts) ∷ todo) c (Values parts wanted ∷ Call kinds.Static m.text ∷ Put (without_null (representation_of of)) ∷ todo)
           (λ f labels g n p flows whole s. ((s.0.0, (s.1.0, s.1.1.0), fits s.0.1), s.1.1.1))
       by_kind kinds.Instance fits =
-          planned funs (Value (Apply at of (operation.Instance m) parts) ∷ js) c (Values parts wanted ∷ Call kinds.Instance m.text ∷ Put (without_null (lying_of of)) ∷ js)
+          planned funs (Value (Apply at of (operation.Instance m) parts) ∷ todo) c (Values parts wanted ∷ Call kinds.Instance m.text ∷ Put (without_null (representation_of of)) ∷ todo)
           (λ f labels g n p flows whole s. ((s.0.0, (s.1.0, s.1.1.0), fits s.0.1), s.1.1.1))
       by_kind kinds.Field fits =
-          planned funs (Value (Apply at of (operation.Field m) parts) ∷ js) c (Values parts wanted ∷ Call kinds.Field m.text ∷ Put (without_null (lying_of of)) ∷ js)
+          planned funs (Value (Apply at of (operation.Field m) parts) ∷ todo) c (Values parts wanted ∷ Call kinds.Field m.text ∷ Put (without_null (representation_of of)) ∷ todo)
           (λ f labels g n p flows whole s. ((s.0.0, (s.1.0, s.1.1.0), fits s.0.1), s.1.1.1))
 
-  pub guarded_plan : (at : ℕ) (of : Ty) (m : Member) (a : Expr) (others : Exprs) (wanted : Wanted) (lies : Lying) (end : ℕ) → lies ≡ lying_of of
-      → (Wants wanted (lyings others) → GuardFits (operation.Instance m) (lying_of (type_of a) ∷ lyings others) of)
-      → Back funs (Value (Guarded at of (operation.Instance m) (One a others)) ∷ js) c
-      (Value a ∷ Put (i.Plain plain.Dup ∷ []) ∷ Jump numbered.IfNull end ∷ Values others wanted ∷ Call kinds.Instance m.text ∷ Bind end ∷ Put (without_null lies) ∷ js) c
-  guarded_plan at of m a others wanted lies end e fits =
-      subst (λ (lies : Lying). Back funs (Value (Guarded at of (operation.Instance m) (One a others)) ∷ js) c
-      (Value a ∷ Put (i.Plain plain.Dup ∷ []) ∷ Jump numbered.IfNull end ∷ Values others wanted ∷ Call kinds.Instance m.text ∷ Bind end ∷ Put (without_null lies) ∷ js) c) (sym e)
-      (planned funs (Value (Guarded at of (operation.Instance m) (One a others)) ∷ js) c
-      (Value a ∷ Put (i.Plain plain.Dup ∷ []) ∷ Jump numbered.IfNull end ∷ Values others wanted ∷ Call kinds.Instance m.text ∷ Bind end ∷ Put (without_null (lying_of of)) ∷ js)
+  pub guarded_plan : (at : ℕ) (of : Ty) (m : Member) (a : Expr) (others : Exprs) (wanted : Wanted) (representation : Representation) (end : ℕ) → representation ≡ representation_of of
+      → (Wants wanted (representations others) → GuardFits (operation.Instance m) (representation_of (type_of a) ∷ representations others) of)
+      → Back funs (Value (Guarded at of (operation.Instance m) (One a others)) ∷ todo) c
+      (Value a ∷ Put (i.Plain plain.Dup ∷ []) ∷ Jump numbered.IfNull end ∷ Values others wanted ∷ Call kinds.Instance m.text ∷ Bind end ∷ Put (without_null representation) ∷ todo) c
+  guarded_plan at of m a others wanted representation end e fits =
+      subst (λ (representation : Representation). Back funs (Value (Guarded at of (operation.Instance m) (One a others)) ∷ todo) c
+      (Value a ∷ Put (i.Plain plain.Dup ∷ []) ∷ Jump numbered.IfNull end ∷ Values others wanted ∷ Call kinds.Instance m.text ∷ Bind end ∷ Put (without_null representation) ∷ todo) c) (sym e)
+      (planned funs (Value (Guarded at of (operation.Instance m) (One a others)) ∷ todo) c
+      (Value a ∷ Put (i.Plain plain.Dup ∷ []) ∷ Jump numbered.IfNull end ∷ Values others wanted ∷ Call kinds.Instance m.text ∷ Bind end ∷ Put (without_null (representation_of of)) ∷ todo)
       (λ f labels g n p flows whole s.
       let q = end_expr p a in
       let r = end_exprs (suc (suc q)) others in (
@@ -200,9 +200,9 @@ module _ (funs : Program) (js : List Job) (c : Config) where
         s.1.1.1.1.1.1.1,
       )))
 
-  pub values_end : (wanted : Wanted) → Wants wanted [] → Back funs (Values None' wanted ∷ js) c js c
-  values_end wanted e = planned funs (Values None' wanted ∷ js) c js (λ f labels g n p flows whole s. ((tt, e), s))
+  pub values_end : (wanted : Wanted) → Wants wanted [] → Back funs (Values None' wanted ∷ todo) c todo c
+  values_end wanted e = planned funs (Values None' wanted ∷ todo) c todo (λ f labels g n p flows whole s. ((tt, e), s))
 
-  pub values_more : (a : Expr) (parts : Exprs) (wanted behind : Wanted) → Taken wanted behind (lying_of (type_of a)) → Back funs (Values (One a parts) wanted ∷ js) c (Value a ∷ Values parts behind ∷ js) c
+  pub values_more : (a : Expr) (parts : Exprs) (wanted behind : Wanted) → Taken wanted behind (representation_of (type_of a)) → Back funs (Values (One a parts) wanted ∷ todo) c (Value a ∷ Values parts behind ∷ todo) c
   values_more a parts wanted behind e =
-      planned funs (Values (One a parts) wanted ∷ js) c (Value a ∷ Values parts behind ∷ js) (λ f labels g n p flows whole s. (((s.0, s.1.0.0), e.by (lyings parts) s.1.0.1), s.1.1))
+      planned funs (Values (One a parts) wanted ∷ todo) c (Value a ∷ Values parts behind ∷ todo) (λ f labels g n p flows whole s. (((s.0, s.1.0.0), e.by (representations parts) s.1.0.1), s.1.1))

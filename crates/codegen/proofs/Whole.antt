@@ -1,6 +1,7 @@
 -- The code of a function and of a program.
-use Rattle.std.proofs.Common.{◌≡◌, ◌≢◌, ℕ, zero, suc, ◌+◌, List, [], ◌∷◌, ◌++◌, length, drop, take, refl, sym, ap, ◌∙◌, subst, Some, None, false, arith, add-one, append_assoc, append-nil}
+use Rattle.std.proofs.Common.{◌≡◌, ◌≢◌, ℕ, zero, suc, ◌+◌, ◌<◌, ◌≤◌, List, get_or, [], ◌∷◌, ◌++◌, length, drop, take, refl, sym, ap, ◌∙◌, subst, Some, None, false, arith, add-one, append_assoc, append-nil}
 use Rattle.std.specs.Prelude.{map, slice_get}
+use Rattle.std.proofs.lemmas.Option.{slice_get-get_or}
 use Rattle.pl_code.specs.declared.kinds.Slot.{Slot}
 use Rattle.pl_code.specs.declared.code.FunCode.{FunCode}
 use Rattle.typed_tree.specs.declared.program.Named.{Named}
@@ -10,18 +11,18 @@ use Rattle.program_typing.specs.Agreeing.{Known, StmtsAgree, HaveValues, FunAgre
 use Rattle.source_meaning.specs.Programs.{variable_of, fun_of, program_of}
 use Rattle.typed_tree.specs.declared.program.Program as typed
 use Rattle.typed_tree.specs.declared.program.TypedFunction.{TypedFunction}
-use Rattle.compiler_relation.specs.Lying.{Absent, lying_of, kind_of}
+use Rattle.compiler_relation.specs.Representation.{Absent, representation_of, kind_of}
 use Rattle.object_values.specs.declared.object.Owner.TheVariants.{Script}
 use Rattle.compiler_relation.specs.Correct.{IsCodeOf}
 use Rattle.compiler_relation.specs.Placed.{untrapped, CatchesCover, StmtsIn}
-use Rattle.compiler_relation.specs.Stands.{EndAt, traps_stmts, ArePresent, Compiled, lyings_of, scope_of, no_jumps, all_fall, end_stmts, end_end, kinds_of}
-use Rattle.codegen.specs.Checks.{lying}
+use Rattle.compiler_relation.specs.Stands.{EndAt, traps_stmts, ArePresent, Compiled, representations_of, scope_of, no_jumps, all_fall, end_stmts, end_end, kinds_of}
+use Rattle.codegen.specs.Checks.{denoted}
 use Rattle.codegen.specs.Labels.{settled_line}
-use Rattle.codegen.specs.Jobs.{Run, End, Meets, Back, entry, scope_in, next_in}
+use Rattle.codegen.specs.Worklist.{Run, End, Meets, Back, entry, scope_in, next_in}
 use Rattle.codegen.specs.Sound.{Sound, variable}
 use Rattle.codegen.specs.Functions.{FunStands, Begun, Finished, Written, InScope}
 use Rattle.codegen.specs.declared.config.Config.{Config}
-use Rattle.codegen.specs.declared.config.Entry as d
+use Rattle.codegen.specs.declared.symbols.Entry as d
 use Rattle.codegen.proofs.Known.{parameters_named}
 use Rattle.codegen.proofs.Parts.{drop_one, drop_end}
 
@@ -30,7 +31,19 @@ got_mapped f [] at x e = absurd cc
 got_mapped f (y ∷ xs) zero x e = let h : y ≡ x = cc in ap (λ x. Some (f x)) h
 got_mapped f (y ∷ xs) (suc at) x e = got_mapped f xs at x e
 
-length_mapped : {A B : Type 0} (f : A → B) (xs : List A) → length (map f xs) ≡ length xs
+-- the item at a place of a list, and that there is none past its end
+pub got_item : {A : Type 0} (xs ys : List A) (at : ℕ) (x : A) → xs ≡ ys → at < length xs → x ≡ get_or xs at x → slice_get ys at ≡ Some x
+got_item xs ys at x same within is = ap (λ zs. slice_get zs at) (sym same) ∙ slice_get-get_or xs at x within ∙ ap (λ y. Some y) (sym is)
+
+pub got_none : {A : Type 0} (xs ys : List A) (at : ℕ) → xs ≡ ys → length xs ≤ at → slice_get ys at ≡ None
+got_none xs ys at same past = ap (λ zs. slice_get zs at) (sym same) ∙ past_end xs at past
+  where
+    past_end : {A : Type 0} (xs : List A) (at : ℕ) → length xs ≤ at → slice_get xs at ≡ None
+    past_end [] at past = refl
+    past_end (x ∷ xs) zero past = absurd (omega (arith, past))
+    past_end (x ∷ xs) (suc at) past = past_end xs at (omega (arith, past))
+
+pub length_mapped : {A B : Type 0} (f : A → B) (xs : List A) → length (map f xs) ≡ length xs
 length_mapped f [] = refl
 length_mapped f (x ∷ xs) = ap suc (length_mapped f xs)
 
@@ -49,14 +62,14 @@ function_stands funs fun c c' code cover begun back finished =
     let n : next_in c ≡ length fun.params = omega (arith, ap length begun.params, length_mapped (λ (x : Variable). kind_of x.of) fun.params, ap length begun.locals) in
     let p : length c.lines ≡ 0 = ap length begun.lines in
     let placed =
-    subst (λ p. StmtsIn funs (untrapped code) (lying_of fun.result) (scope_of fun.params 0 []) (length fun.params) no_jumps p fun.body) p
-    (subst (λ n. StmtsIn funs (untrapped code) (lying_of fun.result) (scope_of fun.params 0 []) n no_jumps (length c.lines) fun.body) n
-    (subst (λ g. StmtsIn funs (untrapped code) (lying_of fun.result) g (next_in c) no_jumps (length c.lines) fun.body) begun.scope
+    subst (λ p. StmtsIn funs (untrapped code) (representation_of fun.result) (scope_of fun.params 0 []) (length fun.params) no_jumps p fun.body) p
+    (subst (λ n. StmtsIn funs (untrapped code) (representation_of fun.result) (scope_of fun.params 0 []) n no_jumps (length c.lines) fun.body) n
+    (subst (λ g. StmtsIn funs (untrapped code) (representation_of fun.result) g (next_in c) no_jumps (length c.lines) fun.body) begun.scope
     (subst (λ k. StmtsIn funs (untrapped code) k (scope_in c) (next_in c) no_jumps (length c.lines) fun.body) begun.result s.stand.0))) in
     let ends = subst (λ p. EndAt (untrapped code) (all_fall fun.body) (end_stmts p fun.body) fun.result) p s.stand.1.2.0 in
     let traps : code.traps ≡ traps_stmts 0 fun.body =
     s.stand.1.2.1.1 ∙ ap (λ ts. ts ++ (traps_stmts (length c.lines) fun.body ++ [])) begun.traps ∙ append-nil (traps_stmts (length c.lines) fun.body) ∙ ap (λ p. traps_stmts p fun.body) p in
-    let covered = cover funs code (lying_of fun.result) (scope_of fun.params 0 []) (length fun.params) fun.body fun.result traps placed ends in
+    let covered = cover funs code (representation_of fun.result) (scope_of fun.params 0 []) (length fun.params) fun.body fun.result traps placed ends in
     record {
       loops = finished.loops;
       params = s.holds.params ∙ begun.params;
@@ -73,13 +86,13 @@ function_stands funs fun c c' code cover begun back finished =
 pub record Ahead (all : List Named) (at : ℕ) (old now : List Slot) (scope : List d.Entry) : Type 0 where
   pub names : scope_of (map variable_of (drop at all)) at (map entry scope) ≡ scope_of (map variable_of all) 0 []
   pub kinds : now ++ kinds_of (map variable_of (drop at all)) ≡ old ++ kinds_of (map variable_of all)
-  pub present : ArePresent (lyings_of (map variable_of (drop at all))) → ArePresent (lyings_of (map variable_of all))
+  pub present : ArePresent (representations_of (map variable_of (drop at all))) → ArePresent (representations_of (map variable_of all))
 
 pub ahead_start : (all : List Named) (old : List Slot) (scope : List d.Entry) → scope ≡ [] → Ahead all 0 old old scope
 ahead_start all old scope e = record { names = ap (λ g. scope_of (map variable_of all) 0 (map entry g)) e; kinds = refl; present = λ h. h }
 
 pub ahead_more : (all : List Named) (at : ℕ) (old now now' : List Slot) (scope scope' : List d.Entry) (x : Named) → slice_get all at ≡ Some x → Ahead all at old now scope
-    → lying_of x.of ≢ Absent → map entry scope' ≡ record { name = x.name; of = x.of; local = at } ∷ map entry scope → now' ≡ now ++ kind_of x.of ∷ [] → Ahead all (at + 1) old now' scope'
+    → representation_of x.of ≢ Absent → map entry scope' ≡ record { name = x.name; of = x.of; local = at } ∷ map entry scope → now' ≡ now ++ kind_of x.of ∷ [] → Ahead all (at + 1) old now' scope'
 ahead_more all at old now now' scope scope' x is a present names kinds =
     let front = drop_one at all x is in
     record {
@@ -89,7 +102,7 @@ ahead_more all at old now now' scope scope' x is a present names kinds =
       kinds =
           ap (λ ks. ks ++ kinds_of (map variable_of (drop (at + 1) all))) kinds ∙ append_assoc now (kind_of x.of ∷ []) (kinds_of (map variable_of (drop (at + 1) all)))
           ∙ sym (ap (λ (xs : List Named). now ++ kinds_of (map variable_of xs)) front) ∙ a.kinds;
-      present = λ h. a.present (subst (λ (xs : List Named). ArePresent (lyings_of (map variable_of xs))) (sym front) (present, h));
+      present = λ h. a.present (subst (λ (xs : List Named). ArePresent (representations_of (map variable_of xs))) (sym front) (present, h));
     }
 
 pub ahead_end : (all : List Named) (at : ℕ) (old now : List Slot) (scope : List d.Entry) → slice_get all at ≡ None → Ahead all at old now scope → InScope all old now scope
@@ -98,10 +111,10 @@ ahead_end all at old now scope is a =
     record {
       names = sym (ap (λ (xs : List Named). scope_of (map variable_of xs) at (map entry scope)) none) ∙ a.names;
       kinds = sym (append-nil now) ∙ sym (ap (λ (xs : List Named). now ++ kinds_of (map variable_of xs)) none) ∙ a.kinds;
-      present = a.present (subst (λ (xs : List Named). ArePresent (lyings_of (map variable_of xs))) (sym none) tt);
+      present = a.present (subst (λ (xs : List Named). ArePresent (representations_of (map variable_of xs))) (sym none) tt);
     }
 
-pub begun : (f : TypedFunction) (c : Config) (old : List Slot) → old ≡ [] → lying c.result ≡ lying_of f.result → InScope f.parameters old c.params c.scope → c.locals ≡ [] → c.traps ≡ [] → c.lines ≡ [] → c.labels ≡ [] → c.flows ≡ [] → Begun (fun_of f) c
+pub begun : (f : TypedFunction) (c : Config) (old : List Slot) → old ≡ [] → denoted c.result ≡ representation_of f.result → InScope f.parameters old c.params c.scope → c.locals ≡ [] → c.traps ≡ [] → c.lines ≡ [] → c.labels ≡ [] → c.flows ≡ [] → Begun (fun_of f) c
 begun f c old none result a locals traps lines labels flows = record {
   result = result;
   params = a.kinds ∙ ap (λ ks. ks ++ kinds_of (map variable_of f.parameters)) none;
@@ -124,7 +137,7 @@ has_values_at (y ∷ all) (suc at) x is h = has_values_at all at x is h.1
 pub sound_start : (funs : Known) (fun : Fun) (c : Config) → Begun fun c → FunAgrees funs fun → Sound funs (Run fun.body None ∷ End fun.result ∷ []) c
 sound_start funs fun c begun h = record {
   result = fun.result;
-  lies = begun.result;
+  representation = begun.result;
   agree = (subst (λ (g : List Variable). StmtsAgree funs fun.result false g fun.body) (sym (ap (map variable) begun.scope ∙ parameters_named fun.params 0 [])) h.body, tt);
   free = tt;
 }

@@ -8,7 +8,7 @@ use Rattle.member_names.specs.Names.{text_of}
 use Rattle.pl_code.specs.declared.code.Instruction.{Instruction}
 use Rattle.pl_code.specs.declared.code.Instruction.TheVariants as i
 use Rattle.pl_types.specs.declared.ty.Ty.{Ty}
-use Rattle.compiler_relation.specs.Lying.{lying_of}
+use Rattle.compiler_relation.specs.Representation.{representation_of}
 use Rattle.typed_tree.specs.declared.operation.Member.{Member}
 use Rattle.typed_tree.specs.declared.operation.Operation.{Operation}
 use Rattle.typed_tree.specs.declared.operation.Operation.TheVariants as operation
@@ -26,10 +26,10 @@ call_code kind.Static text = i.Invoke text
 call_code kind.Instance text = i.Invoke text
 call_code kind.Field text = i.Field text
 
--- The member of the catalogue that a call names: it is of this number, of this kind and of this text, and what it gives lies as the call's
+-- The member of the catalogue that a call names: it is of this number, of this kind and of this text, and what it gives is represented as the call's
 -- type says.
 pub record IsCalled (kind : MemberKind) (m : Member) (of : Ty) (member : MemberType) : Type 0 where
   pub is : slice_get catalogue m.number ≡ Some member
   pub sort : member.kind ≡ kind
   pub text : m.text ≡ text_of member
-  pub gives : lying_of of ≡ lying_of member.result
+  pub gives : representation_of of ≡ representation_of member.result

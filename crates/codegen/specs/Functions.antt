@@ -4,9 +4,9 @@ use Rattle.typed_tree.specs.declared.program.Program as typed
 use Rattle.typed_tree.specs.declared.program.TypedFunction.{TypedFunction}
 use Rattle.pl_code.specs.declared.code.FunCode.{FunCode}
 use Rattle.source_meaning.specs.Tree.{Fun, Program}
-use Rattle.compiler_relation.specs.Lying.{lying_of, result_of}
-use Rattle.compiler_relation.specs.Stands.{ArePresent, Compiled, StmtsAt, EndAt, lyings_of, scope_of, no_jumps, all_fall, end_stmts, end_end, kinds_of, traps_stmts}
-use Rattle.codegen.specs.Checks.{lying}
+use Rattle.compiler_relation.specs.Representation.{representation_of, result_of}
+use Rattle.compiler_relation.specs.Stands.{ArePresent, Compiled, StmtsAt, EndAt, representations_of, scope_of, no_jumps, all_fall, end_stmts, end_end, kinds_of, traps_stmts}
+use Rattle.codegen.specs.Checks.{denoted}
 use Rattle.pl_types.specs.declared.ty.Ty.{Ty}
 use Rattle.pl_code.specs.declared.kinds.Slot.{Slot}
 use Rattle.typed_tree.specs.declared.program.Named.{Named}
@@ -18,8 +18,8 @@ use Rattle.code_meaning.specs.declared.word.Word.{Word}
 use Rattle.compiler_relation.specs.Correct.{Words, EndsAs, codes_of, program_ends}
 use Rattle.code_meaning.specs.Machine.{start}
 use Rattle.codegen.specs.Labels.{settled_line}
-use Rattle.codegen.specs.declared.config.Entry as d
-use Rattle.codegen.specs.Jobs.{scope_in, entry}
+use Rattle.codegen.specs.declared.symbols.Entry as d
+use Rattle.codegen.specs.Worklist.{scope_in, entry}
 use Rattle.codegen.specs.declared.config.Config.{Config}
 
 abbrev pub function_at : typed.Program → ℕ → Option TypedFunction
@@ -30,16 +30,16 @@ function_at p (suc number) = slice_get p.functions number
 pub record FunStands (funs : Program) (body : FunCode) (fun : Fun) : Type 0 where
   pub loops : body.loops ≡ true
   pub params : body.params ≡ kinds_of fun.params
-  pub present : ArePresent (lyings_of fun.params)
+  pub present : ArePresent (representations_of fun.params)
   pub result : body.result ≡ result_of fun.result
-  pub stands : StmtsAt funs body [] (lying_of fun.result) (scope_of fun.params 0 []) (length fun.params) no_jumps 0 fun.body
+  pub stands : StmtsAt funs body [] (representation_of fun.result) (scope_of fun.params 0 []) (length fun.params) no_jumps 0 fun.body
   pub ends : EndAt body (all_fall fun.body) (end_stmts 0 fun.body) fun.result
   pub lines : length body.lines ≡ end_end (all_fall fun.body) (end_stmts 0 fun.body) fun.result
   pub traps : body.traps ≡ traps_stmts 0 fun.body
 
 -- nothing is written yet of a function, and its parameters are in scope
 pub record Begun (fun : Fun) (c : Config) : Type 0 where
-  pub result : lying c.result ≡ lying_of fun.result
+  pub result : denoted c.result ≡ representation_of fun.result
   pub params : c.params ≡ kinds_of fun.params
   pub locals : c.locals ≡ []
   pub traps : c.traps ≡ []
@@ -47,7 +47,7 @@ pub record Begun (fun : Fun) (c : Config) : Type 0 where
   pub scope : scope_in c ≡ scope_of fun.params 0 []
   pub labels : c.labels ≡ []
   pub flows : c.flows ≡ []
-  pub present : ArePresent (lyings_of fun.params)
+  pub present : ArePresent (representations_of fun.params)
 
 -- each function has its code
 abbrev pub Written : Program → List Fun → List FunCode → Type 0
@@ -69,7 +69,7 @@ pub record Finished (c : Config) (of : Ty) (code : FunCode) : Type 0 where
 pub record InScope (params : List Named) (old new : List Slot) (scope : List d.Entry) : Type 0 where
   pub names : map entry scope ≡ scope_of (map variable_of params) 0 []
   pub kinds : new ≡ old ++ kinds_of (map variable_of params)
-  pub present : ArePresent (lyings_of (map variable_of params))
+  pub present : ArePresent (representations_of (map variable_of params))
 
 -- Where a typed program ends at some bound, this code ends alike, from every start, whatever the prelude and the host are.
 abbrev pub EndsAsProgram : typed.Program → List FunCode → Type 0

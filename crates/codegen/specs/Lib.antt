@@ -4,7 +4,7 @@ pub mod Labels
 pub mod Pieces
 pub mod Called
 pub mod Opened
-pub mod Jobs
-pub mod Scopes
+pub mod Worklist
+pub mod Symbols
 pub mod Sound
 pub mod Functions

@@ -7,7 +7,7 @@ use Rattle.pl_code.specs.declared.kinds.Numbered.TheVariants as numbered
 use Rattle.pl_code.specs.declared.kinds.Width.{Width}
 use Rattle.compiler_relation.specs.Parts.{constant_code, text_code, default_code, operator_code, pops, without_null, kept_before, kept_behind}
 use Rattle.compiler_relation.specs.Stands.{settled}
-use Rattle.codegen.specs.Checks.{lying}
+use Rattle.codegen.specs.Checks.{denoted}
 use Rattle.codegen.specs.declared.pieces.Piece.{Piece}
 use Rattle.codegen.specs.declared.pieces.Piece.TheVariants as p
 
@@ -26,8 +26,8 @@ piece (p.Plain plain) = i.Plain plain ∷ []
 piece (p.Int number) = i.Int number ∷ []
 piece (p.Constant constant) = constant_code constant ∷ []
 piece (p.Text text) = text_code text.now ∷ []
-piece (p.Pop lies) = pops (lying lies)
-piece (p.WithoutNull lies) = without_null (lying lies)
+piece (p.Pop representation) = pops (denoted representation)
+piece (p.WithoutNull representation) = without_null (denoted representation)
 piece (p.Settled operator) = settled operator ∷ []
 piece (p.Before gives) = kept_before gives
 piece (p.Behind gives) = kept_behind gives

@@ -10,11 +10,11 @@ use Rattle.program_typing.specs.Types as types
 use Rattle.allowlist.specs.Allow.{AllowList}
 use Rattle.member_names.specs.Names.{has_form}
 use Rattle.program_typing.specs.Agreeing.{Known, known, IsVariable, ExprAgrees, ExprsAgree, TestAgrees, UpdateAgrees, StmtAgrees, StmtsAgree, CatchesAgree}
-use Rattle.compiler_relation.specs.Lying.{Lying, lying_of}
-use Rattle.compiler_relation.specs.Stands.{Entry, lyings}
-use Rattle.codegen.specs.Checks.{lying}
-use Rattle.codegen.specs.Jobs.{Job, Value, Values, Put, Convert, Ask, Call, Jump, Bind, Load, Store, One, Run, Declared, Close, Flows, Both, Either, Skip, Update, Test, Last, Turned, Tried, Caught, Over, End, Wanted, Wants, keep, scope_in, flow_of, flow_in, flow_caught, both, either, on, on_top, on_two}
-use Rattle.codegen.specs.declared.task.Exits.{Exits}
+use Rattle.compiler_relation.specs.Representation.{Representation, representation_of}
+use Rattle.compiler_relation.specs.Stands.{Entry, representations}
+use Rattle.codegen.specs.Checks.{denoted}
+use Rattle.codegen.specs.Worklist.{Item, Value, Values, Put, Convert, Ask, Call, Jump, Bind, Load, Store, One, Run, Declared, Close, Flows, Both, Either, Skip, Update, Test, Last, Turned, Tried, Caught, Over, End, Wanted, Wants, lowest, scope_in, flow_of, flow_in, flow_caught, both, either, on, on_top, on_two}
+use Rattle.codegen.specs.declared.work_item.Exits.{Exits}
 use Rattle.codegen.specs.declared.config.Config.{Config}
 use Rattle.codegen.specs.declared.config.Flow.{Flow}
 use Rattle.codegen.specs.declared.error.CodeError.{CodeError}
@@ -29,20 +29,20 @@ variable y = record { name = y.name; of = y.of }
 abbrev pub names_in : Config → List Variable
 names_in c = map variable (scope_in c)
 
--- a name in sight, whose values lie so
-pub record IsNamed (g : List Variable) (x : Name) (lies : Lying) : Type 0 where
+-- a name in sight, whose values are represented so
+pub record IsNamed (g : List Variable) (x : Name) (representation : Representation) : Type 0 where
   pub of : Ty
   pub is : IsVariable g x of
-  pub lies_so : lies ≡ lying_of of
+  pub represented_so : representation ≡ representation_of of
 
--- what a variable of a type begins with lies as its values do
-abbrev pub BeginLies : Maybe → Ty → Type 0
-BeginLies Missing of = Unit {0}
-BeginLies (Given a) of = lying_of (type_of a) ≡ lying_of of
+-- what a variable of a type begins with is represented as its values are
+abbrev pub BeginRepresented : Maybe → Ty → Type 0
+BeginRepresented Missing of = Unit {0}
+BeginRepresented (Given a) of = representation_of (type_of a) ≡ representation_of of
 
--- no parts that begin with one that lies so are wanted
-pub record Refuses (before : Wanted) (one : Lying) : Type 0 where
-  pub by : (ks : List Lying) → Wants before (one ∷ ks) → ⊥
+-- no parts that begin with one that is represented so are wanted
+pub record Refuses (before : Wanted) (one : Representation) : Type 0 where
+  pub by : (ks : List Representation) → Wants before (one ∷ ks) → ⊥
 
 -- the names in sight behind some statements
 abbrev pub names_behind : List Variable → Stmts → List Variable
@@ -65,45 +65,45 @@ is_looped (Some exits) = true
 
 -- What is still to be written of a function that gives a value of this type agrees with the names in sight and with the flows.
 module _ (funs : Known) (result : Ty) where
-  abbrev pub Agree : List Job → List Variable → List Flow → Type 0
+  abbrev pub Agree : List Item → List Variable → List Flow → Type 0
   Agree [] g flows = Unit {0}
-  Agree (Value e ∷ js) g flows = ExprAgrees funs g e × Agree js g flows
-  Agree (Values es wanted ∷ js) g flows = (ExprsAgree funs g es × Wants wanted (lyings es)) × Agree js g flows
-  Agree (Put is ∷ js) g flows = Agree js g flows
-  Agree (Convert by to ∷ js) g flows = Names by to × Agree js g flows
-  Agree (Ask is ∷ js) g flows = types.IsNamed is × Agree js g flows
-  Agree (Call kind text ∷ js) g flows = (has_form kind text ≡ true) × Agree js g flows
-  Agree (Jump kind label ∷ js) g flows = Agree js g flows
-  Agree (Bind label ∷ js) g flows = Agree js g flows
-  Agree (Load x lies ∷ js) g flows = IsNamed g x lies × Agree js g flows
-  Agree (Store x lies ∷ js) g flows = IsNamed g x lies × Agree js g flows
-  Agree (One t exits ∷ js) g flows = StmtAgrees funs result (is_looped exits) g t × Agree js g (flow_in t ∷ flows)
-  Agree (Run body exits ∷ js) g flows = StmtsAgree funs result (is_looped exits) g body × Agree js (names_behind g body) (flow_of body ∷ flows)
-  Agree (Declared x of ∷ js) g flows = HasValues of × Agree js (record { name = x; of = of } ∷ g) flows
-  Agree (Close height ∷ js) g flows = Agree js (keep height g) flows
-  Agree (Flows x ∷ js) g flows = Agree js g (x ∷ flows)
-  Agree (Both ∷ js) g flows = on_two flows (λ x y flows. Agree js g (both x y ∷ flows))
-  Agree (Either ∷ js) g flows = on_two flows (λ x y flows. Agree js g (either x y ∷ flows))
-  Agree (Skip label ∷ js) g flows = on_top flows (λ x flows. Agree js g (x ∷ flows))
-  Agree (Update update ∷ js) g flows = UpdateAgrees funs g update × on_top flows (λ x flows. Agree js g (x ∷ flows))
-  Agree (Test test ∷ js) g flows = TestAgrees funs g test × Agree js g flows
-  Agree (Last test label ∷ js) g flows = TestAgrees funs g test × on_top flows (λ x flows. Agree js g (x ∷ flows))
-  Agree (Turned ∷ js) g flows = on_top flows (λ x flows. Agree js g (on ∷ flows))
-  Agree (Tried catches from label exits ∷ js) g flows = CatchesAgree funs result (is_looped exits) g catches × Agree js g (flow_caught catches ∷ flows)
-  Agree (Caught catches from to label exits ∷ js) g flows = CatchesAgree funs result (is_looped exits) g catches × Agree js g (flow_caught catches ∷ flows)
-  Agree (Over NoCatch label ∷ js) g flows = Agree js g flows
-  Agree (Over (Catch class x body rest) label ∷ js) g flows = on_top flows (λ x flows. Agree js g (x ∷ flows))
-  Agree (End of ∷ js) g flows = on_top flows (λ x flows. Agree js g (x ∷ flows))
+  Agree (Value e ∷ todo) g flows = ExprAgrees funs g e × Agree todo g flows
+  Agree (Values es wanted ∷ todo) g flows = (ExprsAgree funs g es × Wants wanted (representations es)) × Agree todo g flows
+  Agree (Put is ∷ todo) g flows = Agree todo g flows
+  Agree (Convert by to ∷ todo) g flows = Names by to × Agree todo g flows
+  Agree (Ask is ∷ todo) g flows = types.IsNamed is × Agree todo g flows
+  Agree (Call kind text ∷ todo) g flows = (has_form kind text ≡ true) × Agree todo g flows
+  Agree (Jump kind label ∷ todo) g flows = Agree todo g flows
+  Agree (Bind label ∷ todo) g flows = Agree todo g flows
+  Agree (Load x representation ∷ todo) g flows = IsNamed g x representation × Agree todo g flows
+  Agree (Store x representation ∷ todo) g flows = IsNamed g x representation × Agree todo g flows
+  Agree (One t exits ∷ todo) g flows = StmtAgrees funs result (is_looped exits) g t × Agree todo g (flow_in t ∷ flows)
+  Agree (Run body exits ∷ todo) g flows = StmtsAgree funs result (is_looped exits) g body × Agree todo (names_behind g body) (flow_of body ∷ flows)
+  Agree (Declared x of ∷ todo) g flows = HasValues of × Agree todo (record { name = x; of = of } ∷ g) flows
+  Agree (Close height ∷ todo) g flows = Agree todo (lowest height g) flows
+  Agree (Flows x ∷ todo) g flows = Agree todo g (x ∷ flows)
+  Agree (Both ∷ todo) g flows = on_two flows (λ x y flows. Agree todo g (both x y ∷ flows))
+  Agree (Either ∷ todo) g flows = on_two flows (λ x y flows. Agree todo g (either x y ∷ flows))
+  Agree (Skip label ∷ todo) g flows = on_top flows (λ x flows. Agree todo g (x ∷ flows))
+  Agree (Update update ∷ todo) g flows = UpdateAgrees funs g update × on_top flows (λ x flows. Agree todo g (x ∷ flows))
+  Agree (Test test ∷ todo) g flows = TestAgrees funs g test × Agree todo g flows
+  Agree (Last test label ∷ todo) g flows = TestAgrees funs g test × on_top flows (λ x flows. Agree todo g (x ∷ flows))
+  Agree (Turned ∷ todo) g flows = on_top flows (λ x flows. Agree todo g (on ∷ flows))
+  Agree (Tried catches from label exits ∷ todo) g flows = CatchesAgree funs result (is_looped exits) g catches × Agree todo g (flow_caught catches ∷ flows)
+  Agree (Caught catches from to label exits ∷ todo) g flows = CatchesAgree funs result (is_looped exits) g catches × Agree todo g (flow_caught catches ∷ flows)
+  Agree (Over NoCatch label ∷ todo) g flows = Agree todo g flows
+  Agree (Over (Catch class x body rest) label ∷ todo) g flows = on_top flows (λ x flows. Agree todo g (x ∷ flows))
+  Agree (End of ∷ todo) g flows = on_top flows (λ x flows. Agree todo g (x ∷ flows))
 
 -- ---- labels that are still to be bound
 
-abbrev pub bind_of : Job → List ℕ
+abbrev pub bind_of : Item → List ℕ
 bind_of (Bind label) = label ∷ []
 bind_of other = []
 
-abbrev pub binds : List Job → List ℕ
+abbrev pub binds : List Item → List ℕ
 binds [] = []
-binds (job ∷ js) = bind_of job ++ binds js
+binds (item_of ∷ todo) = bind_of item_of ++ binds todo
 
 -- They are below a limit and fall from each to the next, and none has a line yet.
 abbrev pub AreFree : List (Option ℕ) → ℕ → List ℕ → Type 0
@@ -113,12 +113,12 @@ AreFree labels limit (label ∷ more) = (label < limit) × (slice_get labels lab
 -- ---- steps
 
 -- What is still to be written of a function of a well-formed program, behind what is written.
-pub record Sound (funs : Known) (js : List Job) (c : Config) : Type 0 where
+pub record Sound (funs : Known) (todo : List Item) (c : Config) : Type 0 where
   pub result : Ty
-  pub lies : lying c.result ≡ lying_of result
-  pub agree : Agree funs result js (names_in c) c.flows
-  pub free : AreFree c.labels (length c.labels) (binds js)
+  pub representation : denoted c.result ≡ representation_of result
+  pub agree : Agree funs result todo (names_in c) c.flows
+  pub free : AreFree c.labels (length c.labels) (binds todo)
 
 -- A step leaves what is still to be written so, whatever members are allowed, unless memory runs out.
-pub record Keeps (funs : Program) (js : List Job) (c : Config) (result : Result Unit CodeError) (js' : List Job) (c' : Config) : Type 0 where
-  pub by : (allow : AllowList) → Sound (known allow funs) js c → MatchResult result (λ done. Sound (known allow funs) js' c') (λ e. e ≡ NoMemory)
+pub record Keeps (funs : Program) (todo : List Item) (c : Config) (result : Result Unit CodeError) (todo' : List Item) (c' : Config) : Type 0 where
+  pub by : (allow : AllowList) → Sound (known allow funs) todo c → MatchResult result (λ done. Sound (known allow funs) todo' c') (λ e. e ≡ NoMemory)

@@ -1,12 +1,15 @@
 //! Whether casts and changes fit the types that they go between.
 
 ghost use Rattle.std.specs.Prelude.{◌≡◌, ◌≢◌, Bool, true, MatchResult};
-ghost use Rattle.codegen.specs.Checks.{lying};
+ghost use Rattle.codegen.specs.Checks.{denoted};
 ghost use Rattle.pl_types.specs.Texts.{is_known};
 ghost use Rattle.compiler_relation.specs.Stands.{AsksKnown, CastFits, ChangeFits};
 
 use crate::error::CodeError;
-use crate::lying::{Lies, alike, cast_gives, cast_takes, lies_of, operator_gives, operator_takes};
+use crate::representation::{
+    Representation, alike, cast_gives, cast_takes, operator_gives, operator_takes,
+    representation_of,
+};
 use crate::scopes::present;
 use pl_types::classes::CLASS_COUNT;
 use pl_types::{Cast, Ty};
@@ -48,9 +51,14 @@ fn asks_known(cast: Cast, to: &Ty) -> Result<(), CodeError>
     }
 }
 
-/// A cast to a type takes what lies so, and gives what lies so.
-pub fn cast_fits(cast: Cast, to: &Ty, given: Lies, gives: Lies) -> Result<(), CodeError>
-    ensures { MatchResult result (λ _. CastFits cast to.now (lying given) (lying gives)) (λ _. CastFits cast to.now (lying given) (lying gives) → ⊥) }
+/// A cast to a type takes what is represented so, and gives what is represented so.
+pub fn cast_fits(
+    cast: Cast,
+    to: &Ty,
+    given: Representation,
+    gives: Representation,
+) -> Result<(), CodeError>
+    ensures { MatchResult result (λ _. CastFits cast to.now (denoted given) (denoted gives)) (λ _. CastFits cast to.now (denoted given) (denoted gives) → ⊥) }
 {
     alike(given, cast_takes(cast, given))?;
     alike(gives, cast_gives(cast, to, given))?;
@@ -58,14 +66,24 @@ pub fn cast_fits(cast: Cast, to: &Ty, given: Lies, gives: Lies) -> Result<(), Co
     Ok(())
 }
 
-/// A change of a variable of a type, by a right side that lies so.
-pub fn change_fits(change: Change, of: &Ty, operand: Lies) -> Result<(), CodeError>
-    ensures { MatchResult result (λ _. ChangeFits change of.now (lying operand)) (λ _. ChangeFits change of.now (lying operand) → ⊥) }
+/// A change of a variable of a type, by a right side that is represented so.
+pub fn change_fits(change: Change, of: &Ty, operand: Representation) -> Result<(), CodeError>
+    ensures { MatchResult result (λ _. ChangeFits change of.now (denoted operand)) (λ _. ChangeFits change of.now (denoted operand) → ⊥) }
 {
-    let lies = lies_of(of);
+    let representation = representation_of(of);
     present(of)?;
-    cast_fits(change.before, of, lies, operator_takes(change.operator))?;
+    cast_fits(
+        change.before,
+        of,
+        representation,
+        operator_takes(change.operator),
+    )?;
     alike(operand, operator_takes(change.operator))?;
-    cast_fits(change.after, of, operator_gives(change.operator), lies)?;
+    cast_fits(
+        change.after,
+        of,
+        operator_gives(change.operator),
+        representation,
+    )?;
     Ok(())
 }

@@ -1,37 +1,19 @@
 //! What is written so far.
 
-ghost use Rattle.std.specs.Prelude.{IfOk};
+ghost use Rattle.std.specs.Prelude.{◌≡◌, ◌<◌, length, IfOk, MatchResult, OnErr};
 ghost use Rattle.codegen.specs.Functions.{Finished};
 ghost use Rattle.codegen.specs.Errors.{OnlyMemory};
+ghost use Rattle.codegen.specs.Worklist.{next_in};
 
 use crate::error::CodeError;
 use crate::labels::{Labels, Line, settle};
-use crate::lying::{Lies, given};
-use crate::pile::Pile;
+use crate::representation::{Representation, given};
+use crate::symbols::SymbolTable;
 use pl_code::{FunCode, Slot, Trap};
 use pl_types::Ty;
-use plain_data::{Items, Text};
+use plain_data::Items;
+use plain_stack::Stack;
 use std::alloc::Global;
-
-/// A name in sight, its type, and the number of its local.
-pub struct Entry {
-    /// The name.
-    pub name: Text,
-    /// Its type.
-    pub of: Ty,
-    /// The number of its local.
-    pub local: u32,
-}
-
-impl Drop for Entry {
-    fn drop(self) {
-        let Entry {
-            name: _name,
-            of: _of,
-            local: _,
-        } = self;
-    }
-}
 
 /// Whether the line behind a statement's code is reached, and whether a `continue` of its own is.
 #[derive(Clone, Copy, Debug, PartialEq, Eq)]
@@ -44,8 +26,8 @@ pub struct Flow {
 
 /// What is written so far of a function.
 pub struct Config {
-    /// How what it gives lies.
-    pub result: Lies,
+    /// How its result is represented.
+    pub result: Representation,
     /// The kinds of its parameters.
     pub params: Items<Slot>,
     /// The kinds of its further locals.
@@ -56,10 +38,10 @@ pub struct Config {
     pub lines: Items<Line>,
     /// The lines of labels that are bound.
     pub labels: Labels,
-    /// The names in sight, the newest on the top.
-    pub scope: Pile<Entry>,
+    /// The names in sight.
+    pub scope: SymbolTable,
     /// Of the statements that are written and not yet part of another.
-    pub flows: Pile<Flow>,
+    pub flows: Stack<Flow>,
 }
 
 impl Drop for Config {
@@ -103,4 +85,35 @@ impl Config {
             lines,
         })
     }
+}
+
+/// So many as an instruction has it, which has 32 bits for a number of lines or locals. `NoMemory` where there are more: code has no room for
+/// them.
+pub fn number_of(count: usize) -> Result<u32, CodeError>
+    ensures { MatchResult result (λ number. number ≡ count) (λ error. (error ≡ CodeError.NoMemory) × (4294967295 < count)) }
+{
+    if count > 4294967295 {
+        return Err(CodeError::NoMemory);
+    }
+    Ok(count as u32)
+}
+
+/// The number of the next line.
+pub fn next_line(config: &Config) -> Result<u32, CodeError>
+    ensures number { IfOk result (λ line. line ≡ length config.now.lines) }
+    ensures memory { OnlyMemory result }
+    ensures full { OnErr result (4294967295 < length config.now.lines) }
+{
+    number_of(config.lines.len())
+}
+
+/// The number of the next local.
+pub fn next_local(config: &Config) -> Result<u32, CodeError>
+    ensures number { IfOk result (λ local. local ≡ next_in config.now) }
+    ensures memory { OnlyMemory result }
+    ensures full { OnErr result (4294967295 < next_in config.now) }
+{
+    let params = config.params.len();
+    let locals = config.locals.len();
+    number_of(params.saturating_add(locals))
 }

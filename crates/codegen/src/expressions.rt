@@ -1,14 +1,14 @@
 //! Expressions: what is to be written for a node.
 
 ghost use Rattle.std.specs.Prelude.{◌≡◌, ◌≢◌, ◌∷◌, map, MatchResult, OnOk};
-ghost use Rattle.codegen.specs.Checks.{lying, jump_of};
-ghost use Rattle.codegen.specs.Jobs as j;
-ghost use Rattle.codegen.specs.Jobs.{Back, jobs};
+ghost use Rattle.codegen.specs.Checks.{denoted, jump_of};
+ghost use Rattle.codegen.specs.Worklist as w;
+ghost use Rattle.codegen.specs.Worklist.{Back, items_of};
 ghost use Rattle.codegen.specs.Opened.{opened};
 ghost use Rattle.codegen.specs.Functions.{function_at};
 ghost use Rattle.codegen.specs.Sound.{Keeps};
 ghost use Rattle.std.specs.Option.{option_copied};
-ghost use Rattle.compiler_relation.specs.Lying.{lying_of};
+ghost use Rattle.compiler_relation.specs.Representation.{representation_of};
 ghost use Rattle.compiler_relation.specs.Stands as stands;
 ghost use Rattle.source_meaning.specs.Programs.{program_of, expr_of, exprs_of};
 ghost use Rattle.source_meaning.specs.Tree.{type_of};
@@ -18,33 +18,35 @@ ghost use Rattle.typed_tree.specs.declared.operation.Operation.TheVariants as op
 use crate::checks::{cast_fits, change_fits, known};
 use crate::config::Config;
 use crate::error::CodeError;
-use crate::lying::{Lies, alike, lies_of, operator_gives, operator_takes};
 use crate::members::{apply_member, guarded};
 use crate::pieces::Piece;
-use crate::pile::Pile;
-use crate::task::{Task, Wanted};
+use crate::representation::{
+    Representation, alike, operator_gives, operator_takes, representation_of,
+};
+use crate::work_item::{Wanted, WorkItem};
 use allowlist::{Allow, MemberKind};
 use pl_code::{Numbered, Plain};
 use pl_types::{Cast, Ty};
 use plain_data::{Items, Subtree, Text};
+use plain_stack::Stack;
 use std::alloc::Global;
 use typed_tree::{
     Change, Constant, Gives, Logical, Node, Operation, Operator, Program, Target, Typed,
     TypedFunction,
 };
 
-/// How an expression's values lie.
-pub fn lies_in(e: &Typed) -> Lies
-    ensures { lying result ≡ lying_of (type_of (expr_of e.now)) }
+/// How an expression's values are represented.
+pub fn representation_in(e: &Typed) -> Representation
+    ensures { denoted result ≡ representation_of (type_of (expr_of e.now)) }
 {
-    lies_of(&e.of)
+    representation_of(&e.of)
 }
 
-/// An expression's values have to lie so.
-pub fn lies_as(e: &Typed, wanted: Lies) -> Result<(), CodeError>
-    ensures { MatchResult result (λ _. lying_of (type_of (expr_of e.now)) ≡ lying wanted) (λ _. lying_of (type_of (expr_of e.now)) ≢ lying wanted) }
+/// An expression's values have to be represented so.
+pub fn represented_as(e: &Typed, wanted: Representation) -> Result<(), CodeError>
+    ensures { MatchResult result (λ _. representation_of (type_of (expr_of e.now)) ≡ denoted wanted) (λ _. representation_of (type_of (expr_of e.now)) ≢ denoted wanted) }
 {
-    alike(lies_in(e), wanted)
+    alike(representation_in(e), wanted)
 }
 
 /// What is to be written for an expression.
@@ -53,20 +55,20 @@ pub fn value<'a>(
     catalogue: &'a Allow,
     program: &'a Program,
     config: &mut Config,
-    tasks: &mut Pile<Task<'a>>,
+    worklist: &mut Stack<WorkItem<'a>>,
     e: &'a Typed,
 ) -> Result<(), CodeError>
-    ensures back { OnOk result (Back (program_of program.now) (j.Value (opened e.now) ∷ jobs tasks.old) config.old (jobs tasks.new) config.new) }
-    ensures sound { Keeps (program_of program.now) (j.Value (opened e.now) ∷ jobs tasks.old) config.old result (jobs tasks.new) config.new }
+    ensures back { OnOk result (Back (program_of program.now) (w.Value (opened e.now) ∷ items_of worklist.old) config.old (items_of worklist.new) config.new) }
+    ensures sound { Keeps (program_of program.now) (w.Value (opened e.now) ∷ items_of worklist.old) config.old result (items_of worklist.new) config.new }
 {
     match &e.node {
-        Node::Constant(it) => constant(program, config, tasks, e.at, &e.of, *it),
-        Node::Text(text) => quoted(program, config, tasks, e.at, &e.of, text),
-        Node::Local(name) => local(program, config, tasks, e.at, &e.of, name),
+        Node::Constant(it) => constant(program, config, worklist, e.at, &e.of, *it),
+        Node::Text(text) => quoted(program, config, worklist, e.at, &e.of, text),
+        Node::Local(name) => local(program, config, worklist, e.at, &e.of, name),
         Node::Conditional { condition, yes, no } => conditional(
             program,
             config,
-            tasks,
+            worklist,
             e.at,
             &e.of,
             condition.get(),
@@ -76,7 +78,7 @@ pub fn value<'a>(
         Node::Elvis { left, right } => elvis(
             program,
             config,
-            tasks,
+            worklist,
             e.at,
             &e.of,
             left.get(),
@@ -84,7 +86,7 @@ pub fn value<'a>(
         ),
         Node::Apply { operation, parts } => {
             apply(
-                alloc, catalogue, program, config, tasks, e.at, &e.of, operation, parts,
+                alloc, catalogue, program, config, worklist, e.at, &e.of, operation, parts,
             )
         }
         Node::Logical {
@@ -94,7 +96,7 @@ pub fn value<'a>(
         } => logical(
             program,
             config,
-            tasks,
+            worklist,
             e.at,
             &e.of,
             *operator,
@@ -108,7 +110,7 @@ pub fn value<'a>(
         } => assign(
             program,
             config,
-            tasks,
+            worklist,
             e.at,
             &e.of,
             target,
@@ -124,7 +126,7 @@ pub fn value<'a>(
         } => modify(
             program,
             config,
-            tasks,
+            worklist,
             e.at,
             &e.of,
             target,
@@ -135,7 +137,7 @@ pub fn value<'a>(
         ),
         Node::Guarded { operation, parts } => {
             guarded(
-                alloc, catalogue, program, config, tasks, e.at, &e.of, operation, parts,
+                alloc, catalogue, program, config, worklist, e.at, &e.of, operation, parts,
             )
         }
         Node::Lambda { .. } => Err(CodeError::Unbuilt),
@@ -147,83 +149,87 @@ pub fn value<'a>(
 fn constant<'a>(
     program: &'a Program,
     config: &mut Config,
-    tasks: &mut Pile<Task<'a>>,
+    worklist: &mut Stack<WorkItem<'a>>,
     at: u32,
     of: &Ty,
     it: Constant,
 ) -> Result<(), CodeError>
-    ensures back { OnOk result (Back (program_of program.now) (j.Value (tree.Literal at of.now it) ∷ jobs tasks.old) config.old (jobs tasks.new) config.new) }
-    ensures sound { Keeps (program_of program.now) (j.Value (tree.Literal at of.now it) ∷ jobs tasks.old) config.old result (jobs tasks.new) config.new }
+    ensures back { OnOk result (Back (program_of program.now) (w.Value (tree.Literal at of.now it) ∷ items_of worklist.old) config.old (items_of worklist.new) config.new) }
+    ensures sound { Keeps (program_of program.now) (w.Value (tree.Literal at of.now it) ∷ items_of worklist.old) config.old result (items_of worklist.new) config.new }
 {
-    alike(lies_of(of), literal_lies(it))?;
-    tasks.push(Task::Put(Piece::Constant(it)))?;
+    alike(representation_of(of), literal_representation(it))?;
+    worklist.push(WorkItem::Put(Piece::Constant(it)))?;
     Ok(())
 }
 
 fn quoted<'a>(
     program: &'a Program,
     config: &Config,
-    tasks: &mut Pile<Task<'a>>,
+    worklist: &mut Stack<WorkItem<'a>>,
     at: u32,
     of: &Ty,
     text: &'a Text,
 ) -> Result<(), CodeError>
-    ensures back { OnOk result (Back (program_of program.now) (j.Value (tree.Quoted at of.now text.now) ∷ jobs tasks.old) config.now (jobs tasks.new) config.now) }
-    ensures sound { Keeps (program_of program.now) (j.Value (tree.Quoted at of.now text.now) ∷ jobs tasks.old) config.now result (jobs tasks.new) config.now }
+    ensures back { OnOk result (Back (program_of program.now) (w.Value (tree.Quoted at of.now text.now) ∷ items_of worklist.old) config.now (items_of worklist.new) config.now) }
+    ensures sound { Keeps (program_of program.now) (w.Value (tree.Quoted at of.now text.now) ∷ items_of worklist.old) config.now result (items_of worklist.new) config.now }
 {
-    alike(lies_of(of), Lies::Whole)?;
-    tasks.push(Task::Put(Piece::Text(text)))?;
+    alike(representation_of(of), Representation::Boxed)?;
+    worklist.push(WorkItem::Put(Piece::Text(text)))?;
     Ok(())
 }
 
-fn literal_lies(it: Constant) -> Lies
-    ensures { lying result ≡ stands.literal_lies it }
+fn literal_representation(it: Constant) -> Representation
+    ensures { denoted result ≡ stands.literal_representation it }
 {
     match it {
-        Constant::Null => Lies::Whole,
-        _ => Lies::Bare,
+        Constant::Null => Representation::Boxed,
+        _ => Representation::Unboxed,
     }
 }
 
 fn local<'a>(
     program: &'a Program,
     config: &Config,
-    tasks: &mut Pile<Task<'a>>,
+    worklist: &mut Stack<WorkItem<'a>>,
     at: u32,
     of: &Ty,
     name: &'a Text,
 ) -> Result<(), CodeError>
-    ensures back { OnOk result (Back (program_of program.now) (j.Value (tree.Local at of.now name.now) ∷ jobs tasks.old) config.now (jobs tasks.new) config.now) }
-    ensures sound { Keeps (program_of program.now) (j.Value (tree.Local at of.now name.now) ∷ jobs tasks.old) config.now result (jobs tasks.new) config.now }
+    ensures back { OnOk result (Back (program_of program.now) (w.Value (tree.Local at of.now name.now) ∷ items_of worklist.old) config.now (items_of worklist.new) config.now) }
+    ensures sound { Keeps (program_of program.now) (w.Value (tree.Local at of.now name.now) ∷ items_of worklist.old) config.now result (items_of worklist.new) config.now }
 {
-    tasks.push(Task::Load(name, lies_of(of)))?;
+    worklist.push(WorkItem::Load(name, representation_of(of)))?;
     Ok(())
 }
 
 fn conditional<'a>(
     program: &'a Program,
     config: &mut Config,
-    tasks: &mut Pile<Task<'a>>,
+    worklist: &mut Stack<WorkItem<'a>>,
     at: u32,
     of: &Ty,
     condition: &'a Typed,
     yes: &'a Typed,
     no: &'a Typed,
 ) -> Result<(), CodeError>
-    ensures back { OnOk result (Back (program_of program.now) (j.Value (tree.Conditional at of.now (expr_of condition.now) (expr_of yes.now) (expr_of no.now)) ∷ jobs tasks.old) config.old (jobs tasks.new) config.new) }
-    ensures sound { Keeps (program_of program.now) (j.Value (tree.Conditional at of.now (expr_of condition.now) (expr_of yes.now) (expr_of no.now)) ∷ jobs tasks.old) config.old result (jobs tasks.new) config.new }
+    ensures back { OnOk result (Back (program_of program.now) (w.Value (tree.Conditional at of.now (expr_of condition.now) (expr_of yes.now) (expr_of no.now)) ∷ items_of worklist.old) config.old (items_of worklist.new) config.new) }
+    ensures sound { Keeps (program_of program.now) (w.Value (tree.Conditional at of.now (expr_of condition.now) (expr_of yes.now) (expr_of no.now)) ∷ items_of worklist.old) config.old result (items_of worklist.new) config.new }
 {
-    lies_as(condition, Lies::Bare)?;
-    lies_as(yes, lies_of(of))?;
-    lies_as(no, lies_of(of))?;
+    represented_as(condition, Representation::Unboxed)?;
+    represented_as(yes, representation_of(of))?;
+    represented_as(no, representation_of(of))?;
     let end = config.labels.fresh()?;
     let other = config.labels.fresh()?;
-    tasks.push_three(Task::Bind(other), Task::Value(no), Task::Bind(end))?;
-    tasks.push_four(
-        Task::Value(condition),
-        Task::Jump(Numbered::IfZero, other),
-        Task::Value(yes),
-        Task::Jump(Numbered::Goto, end),
+    worklist.push_three(
+        WorkItem::Bind(other),
+        WorkItem::Value(no),
+        WorkItem::Bind(end),
+    )?;
+    worklist.push_four(
+        WorkItem::Value(condition),
+        WorkItem::Jump(Numbered::IfZero, other),
+        WorkItem::Value(yes),
+        WorkItem::Jump(Numbered::Goto, end),
     )?;
     Ok(())
 }
@@ -231,30 +237,30 @@ fn conditional<'a>(
 fn elvis<'a>(
     program: &'a Program,
     config: &mut Config,
-    tasks: &mut Pile<Task<'a>>,
+    worklist: &mut Stack<WorkItem<'a>>,
     at: u32,
     of: &Ty,
     left: &'a Typed,
     right: &'a Typed,
 ) -> Result<(), CodeError>
-    ensures back { OnOk result (Back (program_of program.now) (j.Value (tree.Elvis at of.now (expr_of left.now) (expr_of right.now)) ∷ jobs tasks.old) config.old (jobs tasks.new) config.new) }
-    ensures sound { Keeps (program_of program.now) (j.Value (tree.Elvis at of.now (expr_of left.now) (expr_of right.now)) ∷ jobs tasks.old) config.old result (jobs tasks.new) config.new }
+    ensures back { OnOk result (Back (program_of program.now) (w.Value (tree.Elvis at of.now (expr_of left.now) (expr_of right.now)) ∷ items_of worklist.old) config.old (items_of worklist.new) config.new) }
+    ensures sound { Keeps (program_of program.now) (w.Value (tree.Elvis at of.now (expr_of left.now) (expr_of right.now)) ∷ items_of worklist.old) config.old result (items_of worklist.new) config.new }
 {
-    lies_as(left, Lies::Whole)?;
-    lies_as(right, Lies::Whole)?;
-    alike(lies_of(of), Lies::Whole)?;
+    represented_as(left, Representation::Boxed)?;
+    represented_as(right, Representation::Boxed)?;
+    alike(representation_of(of), Representation::Boxed)?;
     let end = config.labels.fresh()?;
     let other = config.labels.fresh()?;
-    tasks.push_three(
-        Task::Put(Piece::Plain(Plain::Pop)),
-        Task::Value(right),
-        Task::Bind(end),
+    worklist.push_three(
+        WorkItem::Put(Piece::Plain(Plain::Pop)),
+        WorkItem::Value(right),
+        WorkItem::Bind(end),
     )?;
-    tasks.push_two(Task::Jump(Numbered::Goto, end), Task::Bind(other))?;
-    tasks.push_three(
-        Task::Value(left),
-        Task::Put(Piece::Plain(Plain::Dup)),
-        Task::Jump(Numbered::IfNull, other),
+    worklist.push_two(WorkItem::Jump(Numbered::Goto, end), WorkItem::Bind(other))?;
+    worklist.push_three(
+        WorkItem::Value(left),
+        WorkItem::Put(Piece::Plain(Plain::Dup)),
+        WorkItem::Jump(Numbered::IfNull, other),
     )?;
     Ok(())
 }
@@ -262,31 +268,31 @@ fn elvis<'a>(
 fn logical<'a>(
     program: &'a Program,
     config: &mut Config,
-    tasks: &mut Pile<Task<'a>>,
+    worklist: &mut Stack<WorkItem<'a>>,
     at: u32,
     of: &Ty,
     operator: Logical,
     left: &'a Typed,
     right: &'a Typed,
 ) -> Result<(), CodeError>
-    ensures back { OnOk result (Back (program_of program.now) (j.Value (tree.Logic at of.now operator (expr_of left.now) (expr_of right.now)) ∷ jobs tasks.old) config.old (jobs tasks.new) config.new) }
-    ensures sound { Keeps (program_of program.now) (j.Value (tree.Logic at of.now operator (expr_of left.now) (expr_of right.now)) ∷ jobs tasks.old) config.old result (jobs tasks.new) config.new }
+    ensures back { OnOk result (Back (program_of program.now) (w.Value (tree.Logic at of.now operator (expr_of left.now) (expr_of right.now)) ∷ items_of worklist.old) config.old (items_of worklist.new) config.new) }
+    ensures sound { Keeps (program_of program.now) (w.Value (tree.Logic at of.now operator (expr_of left.now) (expr_of right.now)) ∷ items_of worklist.old) config.old result (items_of worklist.new) config.new }
 {
-    lies_as(left, Lies::Bare)?;
-    lies_as(right, Lies::Bare)?;
-    alike(lies_of(of), Lies::Bare)?;
+    represented_as(left, Representation::Unboxed)?;
+    represented_as(right, Representation::Unboxed)?;
+    alike(representation_of(of), Representation::Unboxed)?;
     let end = config.labels.fresh()?;
     let settled = config.labels.fresh()?;
-    tasks.push_three(
-        Task::Bind(settled),
-        Task::Put(Piece::Settled(operator)),
-        Task::Bind(end),
+    worklist.push_three(
+        WorkItem::Bind(settled),
+        WorkItem::Put(Piece::Settled(operator)),
+        WorkItem::Bind(end),
     )?;
-    tasks.push_four(
-        Task::Value(left),
-        Task::Jump(settling(operator), settled),
-        Task::Value(right),
-        Task::Jump(Numbered::Goto, end),
+    worklist.push_four(
+        WorkItem::Value(left),
+        WorkItem::Jump(settling(operator), settled),
+        WorkItem::Value(right),
+        WorkItem::Jump(Numbered::Goto, end),
     )?;
     Ok(())
 }
@@ -304,25 +310,25 @@ fn settling(operator: Logical) -> Numbered
 fn assign<'a>(
     program: &'a Program,
     config: &Config,
-    tasks: &mut Pile<Task<'a>>,
+    worklist: &mut Stack<WorkItem<'a>>,
     at: u32,
     of: &Ty,
     target: &'a Target,
     parts: &Items<Subtree<Typed>>,
     value: &'a Typed,
 ) -> Result<(), CodeError>
-    ensures back { OnOk result (Back (program_of program.now) (j.Value (tree.Assign at of.now target.now (exprs_of (map expr_of parts.now)) (expr_of value.now)) ∷ jobs tasks.old) config.now (jobs tasks.new) config.now) }
-    ensures sound { Keeps (program_of program.now) (j.Value (tree.Assign at of.now target.now (exprs_of (map expr_of parts.now)) (expr_of value.now)) ∷ jobs tasks.old) config.now result (jobs tasks.new) config.now }
+    ensures back { OnOk result (Back (program_of program.now) (w.Value (tree.Assign at of.now target.now (exprs_of (map expr_of parts.now)) (expr_of value.now)) ∷ items_of worklist.old) config.now (items_of worklist.new) config.now) }
+    ensures sound { Keeps (program_of program.now) (w.Value (tree.Assign at of.now target.now (exprs_of (map expr_of parts.now)) (expr_of value.now)) ∷ items_of worklist.old) config.now result (items_of worklist.new) config.now }
 {
     let Target::Local(name) = target else {
         return Err(CodeError::Unbuilt);
     };
-    let lies = lies_of(of);
-    lies_as(value, lies)?;
-    tasks.push_three(
-        Task::Value(value),
-        Task::Put(Piece::Plain(Plain::Dup)),
-        Task::Store(name, lies),
+    let representation = representation_of(of);
+    represented_as(value, representation)?;
+    worklist.push_three(
+        WorkItem::Value(value),
+        WorkItem::Put(Piece::Plain(Plain::Dup)),
+        WorkItem::Store(name, representation),
     )?;
     Ok(())
 }
@@ -330,7 +336,7 @@ fn assign<'a>(
 fn modify<'a>(
     program: &'a Program,
     config: &Config,
-    tasks: &mut Pile<Task<'a>>,
+    worklist: &mut Stack<WorkItem<'a>>,
     at: u32,
     of: &'a Ty,
     target: &'a Target,
@@ -339,25 +345,25 @@ fn modify<'a>(
     right: &'a Typed,
     gives: Gives,
 ) -> Result<(), CodeError>
-    ensures back { OnOk result (Back (program_of program.now) (j.Value (tree.Modify at of.now target.now (exprs_of (map expr_of parts.now)) change (expr_of right.now) gives) ∷ jobs tasks.old) config.now (jobs tasks.new) config.now) }
-    ensures sound { Keeps (program_of program.now) (j.Value (tree.Modify at of.now target.now (exprs_of (map expr_of parts.now)) change (expr_of right.now) gives) ∷ jobs tasks.old) config.now result (jobs tasks.new) config.now }
+    ensures back { OnOk result (Back (program_of program.now) (w.Value (tree.Modify at of.now target.now (exprs_of (map expr_of parts.now)) change (expr_of right.now) gives) ∷ items_of worklist.old) config.now (items_of worklist.new) config.now) }
+    ensures sound { Keeps (program_of program.now) (w.Value (tree.Modify at of.now target.now (exprs_of (map expr_of parts.now)) change (expr_of right.now) gives) ∷ items_of worklist.old) config.now result (items_of worklist.new) config.now }
 {
     let Target::Local(name) = target else {
         return Err(CodeError::Unbuilt);
     };
-    let lies = lies_of(of);
-    change_fits(change, of, lies_in(right))?;
-    tasks.push_four(
-        Task::Put(Piece::Operator(change.operator)),
-        Task::Convert(change.after, of),
-        Task::Put(Piece::Behind(gives)),
-        Task::Store(name, lies),
+    let representation = representation_of(of);
+    change_fits(change, of, representation_in(right))?;
+    worklist.push_four(
+        WorkItem::Put(Piece::Operator(change.operator)),
+        WorkItem::Convert(change.after, of),
+        WorkItem::Put(Piece::Behind(gives)),
+        WorkItem::Store(name, representation),
     )?;
-    tasks.push_four(
-        Task::Load(name, lies),
-        Task::Put(Piece::Before(gives)),
-        Task::Convert(change.before, of),
-        Task::Value(right),
+    worklist.push_four(
+        WorkItem::Load(name, representation),
+        WorkItem::Put(Piece::Before(gives)),
+        WorkItem::Convert(change.before, of),
+        WorkItem::Value(right),
     )?;
     Ok(())
 }
@@ -367,29 +373,29 @@ fn apply<'a>(
     catalogue: &'a Allow,
     program: &'a Program,
     config: &Config,
-    tasks: &mut Pile<Task<'a>>,
+    worklist: &mut Stack<WorkItem<'a>>,
     at: u32,
     of: &'a Ty,
     operation: &'a Operation,
     parts: &'a Items<Subtree<Typed>>,
 ) -> Result<(), CodeError>
-    ensures back { OnOk result (Back (program_of program.now) (j.Value (tree.Apply at of.now operation.now (exprs_of (map expr_of parts.now))) ∷ jobs tasks.old) config.now (jobs tasks.new) config.now) }
-    ensures sound { Keeps (program_of program.now) (j.Value (tree.Apply at of.now operation.now (exprs_of (map expr_of parts.now))) ∷ jobs tasks.old) config.now result (jobs tasks.new) config.now }
+    ensures back { OnOk result (Back (program_of program.now) (w.Value (tree.Apply at of.now operation.now (exprs_of (map expr_of parts.now))) ∷ items_of worklist.old) config.now (items_of worklist.new) config.now) }
+    ensures sound { Keeps (program_of program.now) (w.Value (tree.Apply at of.now operation.now (exprs_of (map expr_of parts.now))) ∷ items_of worklist.old) config.now result (items_of worklist.new) config.now }
 {
     match operation {
-        Operation::Operator(it) => apply_operator(program, config, tasks, at, of, *it, parts),
-        Operation::Cast(it) => apply_cast(program, config, tasks, at, of, *it, parts),
+        Operation::Operator(it) => apply_operator(program, config, worklist, at, of, *it, parts),
+        Operation::Cast(it) => apply_cast(program, config, worklist, at, of, *it, parts),
         Operation::InstanceOf(is) => {
-            apply_instance_of(program, config, tasks, at, of, is, parts)
+            apply_instance_of(program, config, worklist, at, of, is, parts)
         }
-        Operation::Function(it) => apply_call(program, config, tasks, at, of, *it, parts),
+        Operation::Function(it) => apply_call(program, config, worklist, at, of, *it, parts),
         Operation::Instance(it) => {
             apply_member(
                 alloc,
                 catalogue,
                 program,
                 config,
-                tasks,
+                worklist,
                 at,
                 of,
                 MemberKind::Instance,
@@ -403,7 +409,7 @@ fn apply<'a>(
                 catalogue,
                 program,
                 config,
-                tasks,
+                worklist,
                 at,
                 of,
                 MemberKind::Static,
@@ -417,7 +423,7 @@ fn apply<'a>(
                 catalogue,
                 program,
                 config,
-                tasks,
+                worklist,
                 at,
                 of,
                 MemberKind::Constructor,
@@ -431,7 +437,7 @@ fn apply<'a>(
                 catalogue,
                 program,
                 config,
-                tasks,
+                worklist,
                 at,
                 of,
                 MemberKind::Field,
@@ -446,19 +452,19 @@ fn apply<'a>(
 fn apply_operator<'a>(
     program: &'a Program,
     config: &Config,
-    tasks: &mut Pile<Task<'a>>,
+    worklist: &mut Stack<WorkItem<'a>>,
     at: u32,
     of: &Ty,
     operator: Operator,
     parts: &'a Items<Subtree<Typed>>,
 ) -> Result<(), CodeError>
-    ensures back { OnOk result (Back (program_of program.now) (j.Value (tree.Apply at of.now (operation.Operator operator) (exprs_of (map expr_of parts.now))) ∷ jobs tasks.old) config.now (jobs tasks.new) config.now) }
-    ensures sound { Keeps (program_of program.now) (j.Value (tree.Apply at of.now (operation.Operator operator) (exprs_of (map expr_of parts.now))) ∷ jobs tasks.old) config.now result (jobs tasks.new) config.now }
+    ensures back { OnOk result (Back (program_of program.now) (w.Value (tree.Apply at of.now (operation.Operator operator) (exprs_of (map expr_of parts.now))) ∷ items_of worklist.old) config.now (items_of worklist.new) config.now) }
+    ensures sound { Keeps (program_of program.now) (w.Value (tree.Apply at of.now (operation.Operator operator) (exprs_of (map expr_of parts.now))) ∷ items_of worklist.old) config.now result (items_of worklist.new) config.now }
 {
-    alike(lies_of(of), operator_gives(operator))?;
-    tasks.push_two(
-        Task::Values(parts, 0, Wanted::All(operator_takes(operator))),
-        Task::Put(Piece::Operator(operator)),
+    alike(representation_of(of), operator_gives(operator))?;
+    worklist.push_two(
+        WorkItem::Values(parts, 0, Wanted::All(operator_takes(operator))),
+        WorkItem::Put(Piece::Operator(operator)),
     )?;
     Ok(())
 }
@@ -466,14 +472,14 @@ fn apply_operator<'a>(
 fn apply_cast<'a>(
     program: &'a Program,
     config: &Config,
-    tasks: &mut Pile<Task<'a>>,
+    worklist: &mut Stack<WorkItem<'a>>,
     at: u32,
     of: &'a Ty,
     cast: Cast,
     parts: &'a Items<Subtree<Typed>>,
 ) -> Result<(), CodeError>
-    ensures back { OnOk result (Back (program_of program.now) (j.Value (tree.Apply at of.now (operation.Cast cast) (exprs_of (map expr_of parts.now))) ∷ jobs tasks.old) config.now (jobs tasks.new) config.now) }
-    ensures sound { Keeps (program_of program.now) (j.Value (tree.Apply at of.now (operation.Cast cast) (exprs_of (map expr_of parts.now))) ∷ jobs tasks.old) config.now result (jobs tasks.new) config.now }
+    ensures back { OnOk result (Back (program_of program.now) (w.Value (tree.Apply at of.now (operation.Cast cast) (exprs_of (map expr_of parts.now))) ∷ items_of worklist.old) config.now (items_of worklist.new) config.now) }
+    ensures sound { Keeps (program_of program.now) (w.Value (tree.Apply at of.now (operation.Cast cast) (exprs_of (map expr_of parts.now))) ∷ items_of worklist.old) config.now result (items_of worklist.new) config.now }
 {
     let Some(part) = parts.get(0) else {
         return Err(CodeError::Malformed);
@@ -481,28 +487,36 @@ fn apply_cast<'a>(
     if parts.len() != 1 {
         return Err(CodeError::Malformed);
     }
-    cast_fits(cast, of, lies_in(part.get()), lies_of(of))?;
-    tasks.push_two(Task::Values(parts, 0, Wanted::Any), Task::Convert(cast, of))?;
+    cast_fits(
+        cast,
+        of,
+        representation_in(part.get()),
+        representation_of(of),
+    )?;
+    worklist.push_two(
+        WorkItem::Values(parts, 0, Wanted::Any),
+        WorkItem::Convert(cast, of),
+    )?;
     Ok(())
 }
 
 fn apply_instance_of<'a>(
     program: &'a Program,
     config: &Config,
-    tasks: &mut Pile<Task<'a>>,
+    worklist: &mut Stack<WorkItem<'a>>,
     at: u32,
     of: &Ty,
     is: &'a Ty,
     parts: &'a Items<Subtree<Typed>>,
 ) -> Result<(), CodeError>
-    ensures back { OnOk result (Back (program_of program.now) (j.Value (tree.Apply at of.now (operation.InstanceOf is.now) (exprs_of (map expr_of parts.now))) ∷ jobs tasks.old) config.now (jobs tasks.new) config.now) }
-    ensures sound { Keeps (program_of program.now) (j.Value (tree.Apply at of.now (operation.InstanceOf is.now) (exprs_of (map expr_of parts.now))) ∷ jobs tasks.old) config.now result (jobs tasks.new) config.now }
+    ensures back { OnOk result (Back (program_of program.now) (w.Value (tree.Apply at of.now (operation.InstanceOf is.now) (exprs_of (map expr_of parts.now))) ∷ items_of worklist.old) config.now (items_of worklist.new) config.now) }
+    ensures sound { Keeps (program_of program.now) (w.Value (tree.Apply at of.now (operation.InstanceOf is.now) (exprs_of (map expr_of parts.now))) ∷ items_of worklist.old) config.now result (items_of worklist.new) config.now }
 {
-    alike(lies_of(of), Lies::Bare)?;
+    alike(representation_of(of), Representation::Unboxed)?;
     known(is)?;
-    tasks.push_two(
-        Task::Values(parts, 0, Wanted::All(Lies::Whole)),
-        Task::Ask(is),
+    worklist.push_two(
+        WorkItem::Values(parts, 0, Wanted::All(Representation::Boxed)),
+        WorkItem::Ask(is),
     )?;
     Ok(())
 }
@@ -510,22 +524,22 @@ fn apply_instance_of<'a>(
 fn apply_call<'a>(
     program: &'a Program,
     config: &Config,
-    tasks: &mut Pile<Task<'a>>,
+    worklist: &mut Stack<WorkItem<'a>>,
     at: u32,
     of: &Ty,
     number: u32,
     parts: &'a Items<Subtree<Typed>>,
 ) -> Result<(), CodeError>
-    ensures back { OnOk result (Back (program_of program.now) (j.Value (tree.Apply at of.now (operation.Function number) (exprs_of (map expr_of parts.now))) ∷ jobs tasks.old) config.now (jobs tasks.new) config.now) }
-    ensures sound { Keeps (program_of program.now) (j.Value (tree.Apply at of.now (operation.Function number) (exprs_of (map expr_of parts.now))) ∷ jobs tasks.old) config.now result (jobs tasks.new) config.now }
+    ensures back { OnOk result (Back (program_of program.now) (w.Value (tree.Apply at of.now (operation.Function number) (exprs_of (map expr_of parts.now))) ∷ items_of worklist.old) config.now (items_of worklist.new) config.now) }
+    ensures sound { Keeps (program_of program.now) (w.Value (tree.Apply at of.now (operation.Function number) (exprs_of (map expr_of parts.now))) ∷ items_of worklist.old) config.now result (items_of worklist.new) config.now }
 {
     let Some(callee) = function(program, number) else {
         return Err(CodeError::Malformed);
     };
-    alike(lies_of(of), lies_of(&callee.result))?;
-    tasks.push_two(
-        Task::Values(parts, 0, Wanted::As(&callee.parameters)),
-        Task::Put(Piece::Call(number)),
+    alike(representation_of(of), representation_of(&callee.result))?;
+    worklist.push_two(
+        WorkItem::Values(parts, 0, Wanted::As(&callee.parameters)),
+        WorkItem::Put(Piece::Call(number)),
     )?;
     Ok(())
 }

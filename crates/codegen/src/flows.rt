@@ -1,24 +1,24 @@
 //! How control goes on behind what is written, and what depends on it.
 
 ghost use Rattle.std.specs.Prelude.{◌≡◌, ◌≢◌, [], ◌∷◌, IfOk, OnOk};
-ghost use Rattle.codegen.specs.Jobs as j;
-ghost use Rattle.codegen.specs.Jobs.{Back, IsTop, jobs, maybe_in};
+ghost use Rattle.codegen.specs.Worklist as w;
+ghost use Rattle.codegen.specs.Worklist.{Back, IsTop, items_of, maybe_in};
 ghost use Rattle.codegen.specs.Errors.{OnlyMemory};
 ghost use Rattle.codegen.specs.Sound.{Keeps};
 ghost use Rattle.source_meaning.specs.Programs.{program_of};
 
 use crate::config::{Config, Flow};
 use crate::error::CodeError;
-use crate::expressions::{lies_as, lies_in};
-use crate::lying::Lies;
+use crate::expressions::{representation_in, represented_as};
 use crate::pieces::Piece;
-use crate::pile::Pile;
-use crate::task::Task;
+use crate::representation::Representation;
+use crate::work_item::WorkItem;
 use pl_code::{Numbered, Plain};
 use pl_types::Ty;
+use plain_stack::Stack;
 use typed_tree::{Program, Typed};
 
-fn top(flows: &mut Pile<Flow>) -> Result<Flow, CodeError>
+fn top(flows: &mut Stack<Flow>) -> Result<Flow, CodeError>
     ensures top { IfOk result (λ x. IsTop flows.old x) }
     ensures same { OnOk result (flows.new ≡ flows.old) }
     ensures memory { flows.old ≢ [] → OnlyMemory result }
@@ -31,7 +31,7 @@ fn top(flows: &mut Pile<Flow>) -> Result<Flow, CodeError>
 }
 
 fn turns_on(flow: Flow) -> bool
-    ensures { result ≡ j.turns_on flow }
+    ensures { result ≡ w.turns_on flow }
 {
     flow.falls || flow.continues
 }
@@ -40,11 +40,11 @@ fn turns_on(flow: Flow) -> bool
 pub fn add<'a>(
     program: &'a Program,
     config: &mut Config,
-    tasks: &Pile<Task<'a>>,
+    worklist: &Stack<WorkItem<'a>>,
     flow: Flow,
 ) -> Result<(), CodeError>
-    ensures back { OnOk result (Back (program_of program.now) (j.Flows flow ∷ jobs tasks.now) config.old (jobs tasks.now) config.new) }
-    ensures sound { Keeps (program_of program.now) (j.Flows flow ∷ jobs tasks.now) config.old result (jobs tasks.now) config.new }
+    ensures back { OnOk result (Back (program_of program.now) (w.Flows flow ∷ items_of worklist.now) config.old (items_of worklist.now) config.new) }
+    ensures sound { Keeps (program_of program.now) (w.Flows flow ∷ items_of worklist.now) config.old result (items_of worklist.now) config.new }
 {
     config.flows.push(flow)?;
     Ok(())
@@ -54,10 +54,10 @@ pub fn add<'a>(
 pub fn both<'a>(
     program: &'a Program,
     config: &mut Config,
-    tasks: &Pile<Task<'a>>,
+    worklist: &Stack<WorkItem<'a>>,
 ) -> Result<(), CodeError>
-    ensures back { OnOk result (Back (program_of program.now) (j.Both ∷ jobs tasks.now) config.old (jobs tasks.now) config.new) }
-    ensures sound { Keeps (program_of program.now) (j.Both ∷ jobs tasks.now) config.old result (jobs tasks.now) config.new }
+    ensures back { OnOk result (Back (program_of program.now) (w.Both ∷ items_of worklist.now) config.old (items_of worklist.now) config.new) }
+    ensures sound { Keeps (program_of program.now) (w.Both ∷ items_of worklist.now) config.old result (items_of worklist.now) config.new }
 {
     let Some(rest) = config.flows.pop() else {
         return Err(CodeError::Malformed);
@@ -71,7 +71,7 @@ pub fn both<'a>(
 }
 
 fn in_row(first: Flow, rest: Flow) -> Flow
-    ensures { result ≡ j.both first rest }
+    ensures { result ≡ w.both first rest }
 {
     Flow {
         falls: first.falls && rest.falls,
@@ -83,10 +83,10 @@ fn in_row(first: Flow, rest: Flow) -> Flow
 pub fn either<'a>(
     program: &'a Program,
     config: &mut Config,
-    tasks: &Pile<Task<'a>>,
+    worklist: &Stack<WorkItem<'a>>,
 ) -> Result<(), CodeError>
-    ensures back { OnOk result (Back (program_of program.now) (j.Either ∷ jobs tasks.now) config.old (jobs tasks.now) config.new) }
-    ensures sound { Keeps (program_of program.now) (j.Either ∷ jobs tasks.now) config.old result (jobs tasks.now) config.new }
+    ensures back { OnOk result (Back (program_of program.now) (w.Either ∷ items_of worklist.now) config.old (items_of worklist.now) config.new) }
+    ensures sound { Keeps (program_of program.now) (w.Either ∷ items_of worklist.now) config.old result (items_of worklist.now) config.new }
 {
     let Some(no) = config.flows.pop() else {
         return Err(CodeError::Malformed);
@@ -100,7 +100,7 @@ pub fn either<'a>(
 }
 
 fn in_choice(yes: Flow, no: Flow) -> Flow
-    ensures { result ≡ j.either yes no }
+    ensures { result ≡ w.either yes no }
 {
     Flow {
         falls: yes.falls || no.falls,
@@ -112,10 +112,10 @@ fn in_choice(yes: Flow, no: Flow) -> Flow
 pub fn turned<'a>(
     program: &'a Program,
     config: &mut Config,
-    tasks: &Pile<Task<'a>>,
+    worklist: &Stack<WorkItem<'a>>,
 ) -> Result<(), CodeError>
-    ensures back { OnOk result (Back (program_of program.now) (j.Turned ∷ jobs tasks.now) config.old (jobs tasks.now) config.new) }
-    ensures sound { Keeps (program_of program.now) (j.Turned ∷ jobs tasks.now) config.old result (jobs tasks.now) config.new }
+    ensures back { OnOk result (Back (program_of program.now) (w.Turned ∷ items_of worklist.now) config.old (items_of worklist.now) config.new) }
+    ensures sound { Keeps (program_of program.now) (w.Turned ∷ items_of worklist.now) config.old result (items_of worklist.now) config.new }
 {
     let Some(_body) = config.flows.pop() else {
         return Err(CodeError::Malformed);
@@ -131,15 +131,15 @@ pub fn turned<'a>(
 pub fn skip<'a>(
     program: &'a Program,
     config: &mut Config,
-    tasks: &mut Pile<Task<'a>>,
-    label: u32,
+    worklist: &mut Stack<WorkItem<'a>>,
+    label: usize,
 ) -> Result<(), CodeError>
-    ensures back { OnOk result (Back (program_of program.now) (j.Skip label ∷ jobs tasks.old) config.old (jobs tasks.new) config.new) }
-    ensures sound { Keeps (program_of program.now) (j.Skip label ∷ jobs tasks.old) config.old result (jobs tasks.new) config.new }
+    ensures back { OnOk result (Back (program_of program.now) (w.Skip label ∷ items_of worklist.old) config.old (items_of worklist.new) config.new) }
+    ensures sound { Keeps (program_of program.now) (w.Skip label ∷ items_of worklist.old) config.old result (items_of worklist.new) config.new }
 {
     let flow = top(&mut config.flows)?;
     if flow.falls {
-        tasks.push(Task::Jump(Numbered::Goto, label))?;
+        worklist.push(WorkItem::Jump(Numbered::Goto, label))?;
         return Ok(());
     }
     Ok(())
@@ -149,19 +149,22 @@ pub fn skip<'a>(
 pub fn update<'a>(
     program: &'a Program,
     config: &mut Config,
-    tasks: &mut Pile<Task<'a>>,
+    worklist: &mut Stack<WorkItem<'a>>,
     what: Option<&'a Typed>,
 ) -> Result<(), CodeError>
-    ensures back { OnOk result (Back (program_of program.now) (j.Update (maybe_in what.entry) ∷ jobs tasks.old) config.old (jobs tasks.new) config.new) }
-    ensures sound { Keeps (program_of program.now) (j.Update (maybe_in what.entry) ∷ jobs tasks.old) config.old result (jobs tasks.new) config.new }
+    ensures back { OnOk result (Back (program_of program.now) (w.Update (maybe_in what.entry) ∷ items_of worklist.old) config.old (items_of worklist.new) config.new) }
+    ensures sound { Keeps (program_of program.now) (w.Update (maybe_in what.entry) ∷ items_of worklist.old) config.old result (items_of worklist.new) config.new }
 {
     let flow = top(&mut config.flows)?;
     let Some(e) = what else {
         return Ok(());
     };
     if turns_on(flow) {
-        let lies = lies_in(e);
-        tasks.push_two(Task::Value(e), Task::Put(Piece::Pop(lies)))?;
+        let representation = representation_in(e);
+        worklist.push_two(
+            WorkItem::Value(e),
+            WorkItem::Put(Piece::Pop(representation)),
+        )?;
         return Ok(());
     }
     Ok(())
@@ -171,18 +174,18 @@ pub fn update<'a>(
 pub fn test<'a>(
     program: &'a Program,
     config: &Config,
-    tasks: &mut Pile<Task<'a>>,
+    worklist: &mut Stack<WorkItem<'a>>,
     what: Option<&'a Typed>,
 ) -> Result<(), CodeError>
-    ensures back { OnOk result (Back (program_of program.now) (j.Test (maybe_in what.entry) ∷ jobs tasks.old) config.now (jobs tasks.new) config.now) }
-    ensures sound { Keeps (program_of program.now) (j.Test (maybe_in what.entry) ∷ jobs tasks.old) config.now result (jobs tasks.new) config.now }
+    ensures back { OnOk result (Back (program_of program.now) (w.Test (maybe_in what.entry) ∷ items_of worklist.old) config.now (items_of worklist.new) config.now) }
+    ensures sound { Keeps (program_of program.now) (w.Test (maybe_in what.entry) ∷ items_of worklist.old) config.now result (items_of worklist.new) config.now }
 {
     let Some(e) = what else {
-        tasks.push(Task::Put(Piece::Int(1)))?;
+        worklist.push(WorkItem::Put(Piece::Int(1)))?;
         return Ok(());
     };
-    lies_as(e, Lies::Bare)?;
-    tasks.push(Task::Value(e))?;
+    represented_as(e, Representation::Unboxed)?;
+    worklist.push(WorkItem::Value(e))?;
     Ok(())
 }
 
@@ -190,20 +193,20 @@ pub fn test<'a>(
 pub fn last<'a>(
     program: &'a Program,
     config: &mut Config,
-    tasks: &mut Pile<Task<'a>>,
+    worklist: &mut Stack<WorkItem<'a>>,
     what: Option<&'a Typed>,
-    label: u32,
+    label: usize,
 ) -> Result<(), CodeError>
-    ensures back { OnOk result (Back (program_of program.now) (j.Last (maybe_in what.entry) label ∷ jobs tasks.old) config.old (jobs tasks.new) config.new) }
-    ensures sound { Keeps (program_of program.now) (j.Last (maybe_in what.entry) label ∷ jobs tasks.old) config.old result (jobs tasks.new) config.new }
+    ensures back { OnOk result (Back (program_of program.now) (w.Last (maybe_in what.entry) label ∷ items_of worklist.old) config.old (items_of worklist.new) config.new) }
+    ensures sound { Keeps (program_of program.now) (w.Last (maybe_in what.entry) label ∷ items_of worklist.old) config.old result (items_of worklist.new) config.new }
 {
     let flow = top(&mut config.flows)?;
     let Some(e) = what else {
         return Ok(());
     };
     if turns_on(flow) {
-        lies_as(e, Lies::Bare)?;
-        tasks.push_two(Task::Value(e), Task::Jump(Numbered::IfZero, label))?;
+        represented_as(e, Representation::Unboxed)?;
+        worklist.push_two(WorkItem::Value(e), WorkItem::Jump(Numbered::IfZero, label))?;
         return Ok(());
     }
     Ok(())
@@ -213,17 +216,17 @@ pub fn last<'a>(
 pub fn end<'a>(
     program: &'a Program,
     config: &mut Config,
-    tasks: &mut Pile<Task<'a>>,
+    worklist: &mut Stack<WorkItem<'a>>,
     of: &'a Ty,
 ) -> Result<(), CodeError>
-    ensures back { OnOk result (Back (program_of program.now) (j.End of.now ∷ jobs tasks.old) config.old (jobs tasks.new) config.new) }
-    ensures sound { Keeps (program_of program.now) (j.End of.now ∷ jobs tasks.old) config.old result (jobs tasks.new) config.new }
+    ensures back { OnOk result (Back (program_of program.now) (w.End of.now ∷ items_of worklist.old) config.old (items_of worklist.new) config.new) }
+    ensures sound { Keeps (program_of program.now) (w.End of.now ∷ items_of worklist.old) config.old result (items_of worklist.new) config.new }
 {
     let flow = top(&mut config.flows)?;
     if flow.falls {
-        tasks.push_two(
-            Task::Put(Piece::Default(of)),
-            Task::Put(Piece::Plain(Plain::Ret)),
+        worklist.push_two(
+            WorkItem::Put(Piece::Default(of)),
+            WorkItem::Put(Piece::Plain(Plain::Ret)),
         )?;
         return Ok(());
     }

@@ -2,27 +2,28 @@
 
 ghost use Rattle.std.specs.Prelude.{◌≡◌, ◌≢◌, ◌++◌, [], ◌∷◌, map, IfOk, OnOk};
 ghost use Rattle.codegen.specs.Functions.{Begun, EndsAsProgram, FunStands, InScope};
-ghost use Rattle.codegen.specs.Jobs.{entry};
+ghost use Rattle.codegen.specs.Worklist.{entry};
 ghost use Rattle.codegen.specs.Errors.{OnlyMemory};
 ghost use Rattle.compiler_relation.specs.Correct.{IsCodeOf};
-ghost use Rattle.compiler_relation.specs.Lying.{Absent, kind_of, lying_of};
+ghost use Rattle.compiler_relation.specs.Representation.{Absent, kind_of, representation_of};
 ghost use Rattle.source_meaning.specs.Programs.{program_of, fun_of, variable_of};
 ghost use Rattle.allowlist.specs.Allow.{AllowList};
 ghost use Rattle.program_typing.specs.Agreeing.{FunAgrees, HaveValues, WellFormed, known};
 ghost use Rattle.program_typing.specs.Types.{HasValues};
 
-use crate::config::{Config, Entry};
+use crate::config::{Config, number_of};
 use crate::error::CodeError;
 use crate::labels::Labels;
-use crate::lying::{lies_of, slot};
-use crate::pile::Pile;
+use crate::representation::{representation_of, slot};
 use crate::scopes::{entry_for, present};
-use crate::task::{Tail, Task};
+use crate::symbols::{Entry, SymbolTable};
+use crate::work_item::{Tail, WorkItem};
 use crate::writer::walk;
 use allowlist::Allow;
 use compiler_relation::{compiler_laws, covering_laws};
 use pl_code::{Code, FunCode, Slot};
 use plain_data::Items;
+use plain_stack::Stack;
 use std::alloc::Global;
 use typed_tree::{Named, Program, TypedFunction};
 
@@ -49,14 +50,11 @@ fn write(alloc: Global, catalogue: &Allow, program: &Program) -> Result<Code, Co
     let mut functions = Items::new(alloc);
     let main = function(alloc, catalogue, program, &program.main)?;
     functions.push(main)?;
-    for at in 0..u64::MAX {
-        let Some(f) = program.functions.get(at as usize) else {
-            return Ok(Code { functions });
-        };
+    for f in program.functions.as_slice() {
         let code = function(alloc, catalogue, program, f)?;
         functions.push(code)?;
     }
-    Err(CodeError::NoMemory)
+    Ok(Code { functions })
 }
 
 /// Code of a function.
@@ -70,12 +68,12 @@ fn function(
     ensures total { (allow : AllowList) → FunAgrees (known allow (program_of program.now)) (fun_of f.now) → OnlyMemory result }
 {
     let mut config = begin(alloc, f)?;
-    let mut tasks = Pile::new(alloc);
-    tasks.push_two(
-        Task::Rest(Tail::Row(&f.body, 0), None),
-        Task::End(&f.result),
+    let mut worklist = Stack::new(alloc);
+    worklist.push_two(
+        WorkItem::Rest(Tail::Row(&f.body, 0), None),
+        WorkItem::End(&f.result),
     )?;
-    walk(alloc, catalogue, program, &mut config, &mut tasks)?;
+    walk(alloc, catalogue, program, &mut config, &mut worklist)?;
     covering_laws();
     config.finish(alloc, &f.result)
 }
@@ -88,14 +86,14 @@ fn begin(alloc: Global, f: &TypedFunction) -> Result<Config, CodeError>
     let mut params = Items::new(alloc);
     let scope = parameters(alloc, &f.parameters, &mut params)?;
     Ok(Config {
-        result: lies_of(&f.result),
+        result: representation_of(&f.result),
         params,
         locals: Items::new(alloc),
         traps: Items::new(alloc),
         lines: Items::new(alloc),
         labels: Labels::new(alloc),
         scope,
-        flows: Pile::new(alloc),
+        flows: Stack::new(alloc),
     })
 }
 
@@ -104,35 +102,33 @@ fn parameters(
     alloc: Global,
     all: &Items<Named>,
     params: &mut Items<Slot>,
-) -> Result<Pile<Entry>, CodeError>
+) -> Result<SymbolTable, CodeError>
     ensures scope { IfOk result (λ scope. InScope all.now params.old params.new scope) }
     ensures total { HaveValues (map variable_of all.now) → OnlyMemory result }
 {
-    let mut scope = Pile::new(alloc);
-    for at in 0..4294967295u32 {
-        let Some(param) = all.get(at as usize) else {
-            return Ok(scope);
-        };
-        parameter(alloc, param, at, &mut scope, params)?;
+    let mut scope = SymbolTable::new(alloc);
+    for param in all.as_slice() {
+        let local = number_of(scope.len())?;
+        parameter(alloc, param, local, &mut scope, params)?;
     }
-    Err(CodeError::NoMemory)
+    Ok(scope)
 }
 
 fn parameter(
     alloc: Global,
     param: &Named,
     local: u32,
-    scope: &mut Pile<Entry>,
+    scope: &mut SymbolTable,
     params: &mut Items<Slot>,
 ) -> Result<(), CodeError>
-    ensures present { OnOk result (lying_of param.now.of ≢ Absent) }
+    ensures present { OnOk result (representation_of param.now.of ≢ Absent) }
     ensures scope { OnOk result (map entry scope.new ≡ record { name = param.now.name; of = param.now.of; local = local } ∷ map entry scope.old) }
     ensures kinds { OnOk result (params.new ≡ params.old ++ kind_of param.now.of ∷ []) }
     ensures total { HasValues param.now.of → OnlyMemory result }
 {
     present(&param.of)?;
     let one = entry_for(alloc, &param.name, &param.of, local)?;
-    scope.push(one)?;
+    scope.push(alloc, one)?;
     params.push(slot(&param.of))?;
     Ok(())
 }

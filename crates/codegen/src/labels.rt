@@ -6,16 +6,16 @@ ghost use Rattle.codegen.specs.Labels.{bound, settled_line};
 ghost use Rattle.codegen.specs.Errors.{OnlyMemory};
 
 use crate::error::CodeError;
-use crate::pile::Pile;
 use pl_code::{Instruction, Numbered};
 use plain_data::Items;
+use plain_stack::Stack;
 use std::alloc::Global;
 use std::marker::Model;
 
 /// A line of code. A jump names its label.
 pub enum Line {
     Fixed(Instruction),
-    Jump(Numbered, u32),
+    Jump(Numbered, usize),
 }
 
 impl Drop for Line {
@@ -57,37 +57,33 @@ impl Labels {
     }
 
     /// A label that is not bound.
-    pub fn fresh(&mut self) -> Result<u32, CodeError>
+    pub fn fresh(&mut self) -> Result<usize, CodeError>
         ensures label { IfOk result (λ label. label ≡ length self.old) }
         ensures labels { OnOk result (self.new ≡ self.old ++ None ∷ []) }
         ensures memory { OnlyMemory result }
     {
         let label = self.lines.len();
-        if label > 4294967295 {
-            return Err(CodeError::NoMemory);
-        }
         self.lines.push(None)?;
-        Ok(label as u32)
+        Ok(label)
     }
 
     /// Gives a label its line. It has none yet.
-    pub fn bind(&mut self, label: u32, line: u32) -> Result<(), CodeError>
+    pub fn bind(&mut self, label: usize, line: u32) -> Result<(), CodeError>
         ensures free { MatchResult result (λ _. slice_get self.old label ≡ Some None) (λ _. slice_get self.old label ≢ Some None) }
         ensures labels { OnOk result (self.new ≡ slice_set self.old label (Some line)) }
     {
-        let at = label as usize;
-        let Some(None) = self.lines.get(at) else {
+        let Some(None) = self.lines.get(label) else {
             return Err(CodeError::Malformed);
         };
-        self.lines[at] = Some(line);
+        self.lines[label] = Some(line);
         Ok(())
     }
 
     /// The line of a label.
-    pub fn get(&self, label: u32) -> Option<u32>
+    pub fn get(&self, label: usize) -> Option<u32>
         ensures { result ≡ bound (slice_get self.now label) }
     {
-        match self.lines.get(label as usize) {
+        match self.lines.get(label) {
             Some(line) => *line,
             None => None,
         }
@@ -124,7 +120,7 @@ pub fn settle(
     ensures lines { IfOk result (λ instructions. instructions ≡ map (settled_line labels.now) lines) }
     ensures memory { OnlyMemory result }
 {
-    let mut settled = Pile::new(alloc);
+    let mut settled = Stack::new(alloc);
     while let Some(line) = lines.pop() {
         settled.push(line.settled(labels))?;
     }

@@ -1,7 +1,7 @@
 //! From typed programs to code.
 //!
-//! A function's code is written in one pass: what is still to be written lies on a pile, and each piece of it puts lines at the end, or
-//! other pieces on the pile. A jump names a label until the end, when each label has its line.
+//! A function's code is written in one pass: what is still to be written lies as items on a worklist, a stack, and each item puts lines at the
+//! end, or other items on the worklist. A jump names a label until the end, when each label has its line.
 #![tactic(auto, using(crate::proofs::Memory::only_memory))]
 
 mod checks;
@@ -12,17 +12,17 @@ mod expressions;
 mod flows;
 mod functions;
 mod labels;
-mod lying;
 mod members;
 mod naming;
 mod pieces;
-mod pile;
+mod representation;
 mod scopes;
 mod statements;
 mod step;
-mod task;
+mod symbols;
 mod tries;
 mod values;
+mod work_item;
 mod writer;
 
 pub use error::CodeError;

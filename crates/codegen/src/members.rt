@@ -5,12 +5,12 @@ ghost use Rattle.std.specs.Option.{option_map};
 ghost use Rattle.std.specs.Str.{bytes_eq};
 ghost use Rattle.allowlist.specs.declared.member.MemberType.{MemberType};
 ghost use Rattle.codegen.specs.Called.{IsCalled, member_operation};
-ghost use Rattle.codegen.specs.Checks.{lying};
+ghost use Rattle.codegen.specs.Checks.{denoted};
 ghost use Rattle.codegen.specs.Errors.{OnlyMemory};
-ghost use Rattle.codegen.specs.Jobs as j;
-ghost use Rattle.codegen.specs.Jobs.{Back, jobs, member_takes};
+ghost use Rattle.codegen.specs.Worklist as w;
+ghost use Rattle.codegen.specs.Worklist.{Back, items_of, member_takes};
 ghost use Rattle.codegen.specs.Sound.{Keeps};
-ghost use Rattle.compiler_relation.specs.Lying.{Bare, lying_of};
+ghost use Rattle.compiler_relation.specs.Representation.{Unboxed, representation_of};
 ghost use Rattle.source_meaning.specs.Programs.{program_of, expr_of, exprs_of};
 ghost use Rattle.source_meaning.specs.Tree as tree;
 ghost use Rattle.typed_tree.specs.declared.operation.Member.{Member};
@@ -18,27 +18,27 @@ ghost use Rattle.typed_tree.specs.declared.operation.Operation.TheVariants as op
 
 use crate::config::Config;
 use crate::error::CodeError;
-use crate::expressions::lies_as;
-use crate::lying::{Lies, alike, lies_of};
+use crate::expressions::represented_as;
 use crate::pieces::Piece;
-use crate::pile::Pile;
-use crate::task::{Task, Wanted};
+use crate::representation::{Representation, alike, representation_of};
+use crate::work_item::{Wanted, WorkItem};
 use allowlist::{Allow, MEMBER_COUNT, MemberKind, MemberType};
 use member_names::{member_text, names_of_members};
 use pl_code::{Numbered, Plain};
 use pl_types::Ty;
 use plain_data::{Items, Subtree, Text};
+use plain_stack::Stack;
 use std::alloc::Global;
 use typed_tree::{Member, Operation, Program, Typed};
 
-/// How the part at a place lies of a member with these parameters: before the arguments comes the receiver, where there is one.
-pub fn parameter(kind: MemberKind, params: &Items<Ty>, at: usize) -> Option<Lies>
-    ensures { option_map lying result ≡ slice_get (member_takes kind params.now) at }
+/// How the part at a place of a member with these parameters is represented: before the arguments comes the receiver, where there is one.
+pub fn parameter(kind: MemberKind, params: &Items<Ty>, at: usize) -> Option<Representation>
+    ensures { option_map denoted result ≡ slice_get (member_takes kind params.now) at }
 {
     match kind {
         MemberKind::Instance => {
             if at == 0 {
-                Some(Lies::Whole)
+                Some(Representation::Boxed)
             } else {
                 argument(params, at - 1)
             }
@@ -49,11 +49,11 @@ pub fn parameter(kind: MemberKind, params: &Items<Ty>, at: usize) -> Option<Lies
     }
 }
 
-fn argument(params: &Items<Ty>, at: usize) -> Option<Lies>
-    ensures { option_map lying result ≡ slice_get (map lying_of params.now) at }
+fn argument(params: &Items<Ty>, at: usize) -> Option<Representation>
+    ensures { option_map denoted result ≡ slice_get (map representation_of params.now) at }
 {
     match params.get(at) {
-        Some(of) => Some(lies_of(of)),
+        Some(of) => Some(representation_of(of)),
         None => None,
     }
 }
@@ -100,7 +100,7 @@ fn called<'a>(
     same_kind(member.kind, kind)?;
     let text = member_text(alloc, catalogue, named.number)?;
     same_text(&text, &named.text)?;
-    alike(lies_of(of), lies_of(&member.result))?;
+    alike(representation_of(of), representation_of(&member.result))?;
     Ok(member)
 }
 
@@ -110,29 +110,29 @@ pub fn apply_member<'a>(
     catalogue: &'a Allow,
     program: &'a Program,
     config: &Config,
-    tasks: &mut Pile<Task<'a>>,
+    worklist: &mut Stack<WorkItem<'a>>,
     at: u32,
     of: &Ty,
     kind: MemberKind,
     named: &'a Member,
     parts: &'a Items<Subtree<Typed>>,
 ) -> Result<(), CodeError>
-    ensures back { OnOk result (Back (program_of program.now) (j.Value (tree.Apply at of.now (member_operation kind named.now) (exprs_of (map expr_of parts.now))) ∷ jobs tasks.old) config.now (jobs tasks.new) config.now) }
-    ensures sound { Keeps (program_of program.now) (j.Value (tree.Apply at of.now (member_operation kind named.now) (exprs_of (map expr_of parts.now))) ∷ jobs tasks.old) config.now result (jobs tasks.new) config.now }
+    ensures back { OnOk result (Back (program_of program.now) (w.Value (tree.Apply at of.now (member_operation kind named.now) (exprs_of (map expr_of parts.now))) ∷ items_of worklist.old) config.now (items_of worklist.new) config.now) }
+    ensures sound { Keeps (program_of program.now) (w.Value (tree.Apply at of.now (member_operation kind named.now) (exprs_of (map expr_of parts.now))) ∷ items_of worklist.old) config.now result (items_of worklist.new) config.now }
 {
     names_of_members();
     let member = called(alloc, catalogue, kind, named, of)?;
-    tasks.push_three(
-        Task::Values(parts, 0, Wanted::Member(kind, &member.params)),
-        Task::Call(kind, &named.text),
-        Task::Put(Piece::WithoutNull(lies_of(of))),
+    worklist.push_three(
+        WorkItem::Values(parts, 0, Wanted::Member(kind, &member.params)),
+        WorkItem::Call(kind, &named.text),
+        WorkItem::Put(Piece::WithoutNull(representation_of(of))),
     )?;
     Ok(())
 }
 
-/// A value does not lie as a number.
-fn not_bare(of: &Ty) -> Result<(), CodeError>
-    ensures { MatchResult result (λ _. lying_of of.now ≢ Bare) (λ _. lying_of of.now ≡ Bare) }
+/// A value is not represented as a number.
+fn not_unboxed(of: &Ty) -> Result<(), CodeError>
+    ensures { MatchResult result (λ _. representation_of of.now ≢ Unboxed) (λ _. representation_of of.now ≡ Unboxed) }
 {
     match of {
         Ty::Prim(_) => Err(CodeError::Malformed),
@@ -156,14 +156,14 @@ pub fn guarded<'a>(
     catalogue: &'a Allow,
     program: &'a Program,
     config: &mut Config,
-    tasks: &mut Pile<Task<'a>>,
+    worklist: &mut Stack<WorkItem<'a>>,
     at: u32,
     of: &Ty,
     operation: &'a Operation,
     parts: &'a Items<Subtree<Typed>>,
 ) -> Result<(), CodeError>
-    ensures back { OnOk result (Back (program_of program.now) (j.Value (tree.Guarded at of.now operation.now (exprs_of (map expr_of parts.now))) ∷ jobs tasks.old) config.old (jobs tasks.new) config.new) }
-    ensures sound { Keeps (program_of program.now) (j.Value (tree.Guarded at of.now operation.now (exprs_of (map expr_of parts.now))) ∷ jobs tasks.old) config.old result (jobs tasks.new) config.new }
+    ensures back { OnOk result (Back (program_of program.now) (w.Value (tree.Guarded at of.now operation.now (exprs_of (map expr_of parts.now))) ∷ items_of worklist.old) config.old (items_of worklist.new) config.new) }
+    ensures sound { Keeps (program_of program.now) (w.Value (tree.Guarded at of.now operation.now (exprs_of (map expr_of parts.now))) ∷ items_of worklist.old) config.old result (items_of worklist.new) config.new }
 {
     names_of_members();
     let named = instance(operation)?;
@@ -171,20 +171,26 @@ pub fn guarded<'a>(
         return Err(CodeError::Malformed);
     };
     let receiver = receiver.get();
-    lies_as(receiver, Lies::Whole)?;
-    not_bare(of)?;
+    represented_as(receiver, Representation::Boxed)?;
+    not_unboxed(of)?;
     let member = called(alloc, catalogue, MemberKind::Instance, named, of)?;
     let end = config.labels.fresh()?;
-    tasks.push_two(Task::Bind(end), Task::Put(Piece::WithoutNull(lies_of(of))))?;
-    tasks.push_three(
-        Task::Jump(Numbered::IfNull, end),
-        Task::Values(
+    worklist.push_two(
+        WorkItem::Bind(end),
+        WorkItem::Put(Piece::WithoutNull(representation_of(of))),
+    )?;
+    worklist.push_three(
+        WorkItem::Jump(Numbered::IfNull, end),
+        WorkItem::Values(
             parts,
             1,
             Wanted::Member(MemberKind::Instance, &member.params),
         ),
-        Task::Call(MemberKind::Instance, &named.text),
+        WorkItem::Call(MemberKind::Instance, &named.text),
     )?;
-    tasks.push_two(Task::Value(receiver), Task::Put(Piece::Plain(Plain::Dup)))?;
+    worklist.push_two(
+        WorkItem::Value(receiver),
+        WorkItem::Put(Piece::Plain(Plain::Dup)),
+    )?;
     Ok(())
 }

@@ -1,7 +1,7 @@
 //! Instructions that depend on nothing but what is done.
 
 ghost use Rattle.std.specs.Prelude.{◌≡◌, [], ◌∷◌, ◌++◌, map, OnOk};
-ghost use Rattle.codegen.specs.Checks.{lying};
+ghost use Rattle.codegen.specs.Checks.{denoted};
 ghost use Rattle.codegen.specs.declared.labels.Line.TheVariants.{Fixed};
 ghost use Rattle.codegen.specs.Pieces.{piece, if_any, in_width};
 ghost use Rattle.pl_code.specs.declared.code.Instruction.TheVariants as i;
@@ -10,7 +10,7 @@ ghost use Rattle.compiler_relation.specs.Parts.{constant_code, text_code, arithm
 ghost use Rattle.compiler_relation.specs.Stands.{settled};
 
 use crate::labels::Line;
-use crate::lying::Lies;
+use crate::representation::Representation;
 use arithmetic::Op;
 use pl_code::{ArithmeticOp, Instruction, Numbered, Plain, Quoting, Width};
 use pl_types::{Primitive, Ty};
@@ -27,10 +27,10 @@ pub enum Piece<'a> {
     Int(i32),
     Constant(Constant),
     Text(&'a Text),
-    /// A value is dropped that lies so.
-    Pop(Lies),
-    /// A null is dropped where what is given lies so.
-    WithoutNull(Lies),
+    /// A value is dropped that is represented so.
+    Pop(Representation),
+    /// A null is dropped where what is given is represented so.
+    WithoutNull(Representation),
     /// The value that settles an operator before its right side.
     Settled(Logical),
     /// What keeps a value below a change of it.
@@ -60,8 +60,8 @@ pub fn put<'a>(alloc: Global, lines: &mut Items<Line>, what: Piece<'a>) -> Resul
         Piece::Int(number) => one(lines, Instruction::Int(number)),
         Piece::Constant(constant) => one(lines, constant_of(constant)),
         Piece::Text(text) => put_text(alloc, lines, text),
-        Piece::Pop(lies) => put_pop(lines, lies),
-        Piece::WithoutNull(lies) => put_without_null(lines, lies),
+        Piece::Pop(representation) => put_pop(lines, representation),
+        Piece::WithoutNull(representation) => put_without_null(lines, representation),
         Piece::Settled(operator) => put_settled(lines, operator),
         Piece::Before(gives) => put_before(lines, gives),
         Piece::Behind(gives) => put_behind(lines, gives),
@@ -90,20 +90,23 @@ fn put_text(alloc: Global, lines: &mut Items<Line>, text: &Text) -> Result<(), A
     one(lines, Instruction::Quoted(Quoting::Constant, text))
 }
 
-fn put_pop(lines: &mut Items<Line>, lies: Lies) -> Result<(), AllocError>
-    ensures { OnOk result (lines.new ≡ lines.old ++ map Fixed (pops (lying lies))) }
+fn put_pop(lines: &mut Items<Line>, representation: Representation) -> Result<(), AllocError>
+    ensures { OnOk result (lines.new ≡ lines.old ++ map Fixed (pops (denoted representation))) }
 {
-    match lies {
-        Lies::Absent => Ok(()),
+    match representation {
+        Representation::Absent => Ok(()),
         _ => one(lines, Instruction::Plain(Plain::Pop)),
     }
 }
 
-fn put_without_null(lines: &mut Items<Line>, lies: Lies) -> Result<(), AllocError>
-    ensures { OnOk result (lines.new ≡ lines.old ++ map Fixed (without_null (lying lies))) }
+fn put_without_null(
+    lines: &mut Items<Line>,
+    representation: Representation,
+) -> Result<(), AllocError>
+    ensures { OnOk result (lines.new ≡ lines.old ++ map Fixed (without_null (denoted representation))) }
 {
-    match lies {
-        Lies::Absent => one(lines, Instruction::Plain(Plain::Pop)),
+    match representation {
+        Representation::Absent => one(lines, Instruction::Plain(Plain::Pop)),
         _ => Ok(()),
     }
 }

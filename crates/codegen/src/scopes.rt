@@ -1,28 +1,29 @@
 //! Statements that stand in one scope, the variables that they declare, and how control goes on behind them.
 
 ghost use Rattle.std.specs.Prelude.{◌≡◌, ◌≢◌, ◌∷◌, drop, IfOk, MatchResult, OnOk};
-ghost use Rattle.codegen.specs.Jobs as j;
-ghost use Rattle.codegen.specs.Jobs.{Back, IsFirst, entry, job, jobs, next_in, tail_of};
+ghost use Rattle.codegen.specs.Worklist as w;
+ghost use Rattle.codegen.specs.Worklist.{Back, IsFirst, entry, item_of, items_of, next_in, tail_of};
 ghost use Rattle.codegen.specs.Opened.{statement_of, opened_before, loop_before};
 ghost use Rattle.codegen.specs.Errors.{OnlyMemory};
-ghost use Rattle.codegen.specs.Sound.{BeginLies, Keeps};
+ghost use Rattle.codegen.specs.Sound.{BeginRepresented, Keeps};
 ghost use Rattle.typed_tree.specs.declared.statement.StatementNode.{out-StatementNode};
 ghost use Rattle.typed_tree.specs.declared.statement.TypedStatement.{out-TypedStatement};
-ghost use Rattle.compiler_relation.specs.Lying.{Absent, lying_of};
+ghost use Rattle.compiler_relation.specs.Representation.{Absent, representation_of};
 ghost use Rattle.source_meaning.specs.Programs.{program_of, before, declared, maybe_of, stmts_of};
 ghost use Rattle.source_meaning.specs.Tree as tree;
 
-use crate::config::{Config, Entry, Flow};
+use crate::config::{Config, Flow, next_local};
 use crate::error::CodeError;
-use crate::expressions::lies_as;
+use crate::expressions::represented_as;
 use crate::labels::Line;
-use crate::lying::{Lies, lies_of, slot};
 use crate::pieces::Piece;
-use crate::pile::Pile;
-use crate::task::{Exits, Tail, Task};
+use crate::representation::{Representation, representation_of, slot};
+use crate::symbols::Entry;
+use crate::work_item::{Exits, Tail, WorkItem};
 use pl_code::{Instruction, Numbered};
 use pl_types::Ty;
 use plain_data::{Items, Subtree, Text};
+use plain_stack::Stack;
 use std::alloc::Global;
 use typed_tree::{Program, StatementNode, TypedStatement, TypedVariable};
 
@@ -30,71 +31,77 @@ use typed_tree::{Program, StatementNode, TypedStatement, TypedVariable};
 pub fn statement<'a>(
     program: &'a Program,
     config: &Config,
-    tasks: &mut Pile<Task<'a>>,
+    worklist: &mut Stack<WorkItem<'a>>,
     s: &'a TypedStatement,
     tail: Tail<'a>,
     exits: Option<Exits>,
 ) -> Result<(), CodeError>
-    ensures back { OnOk result (Back (program_of program.now) (j.Run (before s.now (tail_of tail.entry)) exits ∷ jobs tasks.old) config.now (jobs tasks.new) config.now) }
-    ensures sound { Keeps (program_of program.now) (j.Run (before s.now (tail_of tail.entry)) exits ∷ jobs tasks.old) config.now result (jobs tasks.new) config.now }
+    ensures back { OnOk result (Back (program_of program.now) (w.Run (before s.now (tail_of tail.entry)) exits ∷ items_of worklist.old) config.now (items_of worklist.new) config.now) }
+    ensures sound { Keeps (program_of program.now) (w.Run (before s.now (tail_of tail.entry)) exits ∷ items_of worklist.old) config.now result (items_of worklist.new) config.now }
 {
-    by_kind(program, config, tasks, s, tail, exits)
+    by_kind(program, config, worklist, s, tail, exits)
 }
 
 fn by_kind<'a>(
     program: &'a Program,
     config: &Config,
-    tasks: &mut Pile<Task<'a>>,
+    worklist: &mut Stack<WorkItem<'a>>,
     s: &'a TypedStatement,
     tail: Tail<'a>,
     exits: Option<Exits>,
 ) -> Result<(), CodeError>
-    ensures back { OnOk result (Back (program_of program.now) (j.Run (opened_before (out-StatementNode (out-TypedStatement s.now).node) (tail_of tail.entry)) exits ∷ jobs tasks.old) config.now (jobs tasks.new) config.now) }
-    ensures sound { Keeps (program_of program.now) (j.Run (opened_before (out-StatementNode (out-TypedStatement s.now).node) (tail_of tail.entry)) exits ∷ jobs tasks.old) config.now result (jobs tasks.new) config.now }
+    ensures back { OnOk result (Back (program_of program.now) (w.Run (opened_before (out-StatementNode (out-TypedStatement s.now).node) (tail_of tail.entry)) exits ∷ items_of worklist.old) config.now (items_of worklist.new) config.now) }
+    ensures sound { Keeps (program_of program.now) (w.Run (opened_before (out-StatementNode (out-TypedStatement s.now).node) (tail_of tail.entry)) exits ∷ items_of worklist.old) config.now result (items_of worklist.new) config.now }
 {
     match &s.node {
-        StatementNode::Expression(_) => simple(program, config, tasks, s, tail, exits),
-        StatementNode::Declare(all) => declaration(program, config, tasks, all, tail, exits),
-        StatementNode::Block(_) => simple(program, config, tasks, s, tail, exits),
-        StatementNode::If { .. } => simple(program, config, tasks, s, tail, exits),
-        StatementNode::Loop { first, .. } => begun(program, config, tasks, s, first, tail, exits),
-        StatementNode::Do { .. } => simple(program, config, tasks, s, tail, exits),
+        StatementNode::Expression(_) => simple(program, config, worklist, s, tail, exits),
+        StatementNode::Declare(all) => declaration(program, config, worklist, all, tail, exits),
+        StatementNode::Block(_) => simple(program, config, worklist, s, tail, exits),
+        StatementNode::If { .. } => simple(program, config, worklist, s, tail, exits),
+        StatementNode::Loop { first, .. } => begun(
+            program, config, worklist, s, first, tail, exits,
+        ),
+        StatementNode::Do { .. } => simple(program, config, worklist, s, tail, exits),
         StatementNode::ForEach { .. } => Err(CodeError::Unbuilt),
-        StatementNode::Try { .. } => simple(program, config, tasks, s, tail, exits),
-        StatementNode::Break => simple(program, config, tasks, s, tail, exits),
-        StatementNode::Continue => simple(program, config, tasks, s, tail, exits),
-        StatementNode::Return(_) => simple(program, config, tasks, s, tail, exits),
-        StatementNode::Throw(_) => simple(program, config, tasks, s, tail, exits),
+        StatementNode::Try { .. } => simple(program, config, worklist, s, tail, exits),
+        StatementNode::Break => simple(program, config, worklist, s, tail, exits),
+        StatementNode::Continue => simple(program, config, worklist, s, tail, exits),
+        StatementNode::Return(_) => simple(program, config, worklist, s, tail, exits),
+        StatementNode::Throw(_) => simple(program, config, worklist, s, tail, exits),
     }
 }
 
 fn simple<'a>(
     program: &'a Program,
     config: &Config,
-    tasks: &mut Pile<Task<'a>>,
+    worklist: &mut Stack<WorkItem<'a>>,
     s: &'a TypedStatement,
     tail: Tail<'a>,
     exits: Option<Exits>,
 ) -> Result<(), CodeError>
-    ensures back { OnOk result (Back (program_of program.now) (j.Run (tree.Then (statement_of s.now) (tail_of tail.entry)) exits ∷ jobs tasks.old) config.now (jobs tasks.new) config.now) }
-    ensures sound { Keeps (program_of program.now) (j.Run (tree.Then (statement_of s.now) (tail_of tail.entry)) exits ∷ jobs tasks.old) config.now result (jobs tasks.new) config.now }
+    ensures back { OnOk result (Back (program_of program.now) (w.Run (tree.Then (statement_of s.now) (tail_of tail.entry)) exits ∷ items_of worklist.old) config.now (items_of worklist.new) config.now) }
+    ensures sound { Keeps (program_of program.now) (w.Run (tree.Then (statement_of s.now) (tail_of tail.entry)) exits ∷ items_of worklist.old) config.now result (items_of worklist.new) config.now }
 {
-    tasks.push_three(Task::One(s, exits), Task::Rest(tail, exits), Task::Both)?;
+    worklist.push_three(
+        WorkItem::One(s, exits),
+        WorkItem::Rest(tail, exits),
+        WorkItem::Both,
+    )?;
     Ok(())
 }
 
 fn declaration<'a>(
     program: &'a Program,
     config: &Config,
-    tasks: &mut Pile<Task<'a>>,
+    worklist: &mut Stack<WorkItem<'a>>,
     all: &'a Items<TypedVariable>,
     tail: Tail<'a>,
     exits: Option<Exits>,
 ) -> Result<(), CodeError>
-    ensures back { OnOk result (Back (program_of program.now) (j.Run (declared all.now (tail_of tail.entry)) exits ∷ jobs tasks.old) config.now (jobs tasks.new) config.now) }
-    ensures sound { Keeps (program_of program.now) (j.Run (declared all.now (tail_of tail.entry)) exits ∷ jobs tasks.old) config.now result (jobs tasks.new) config.now }
+    ensures back { OnOk result (Back (program_of program.now) (w.Run (declared all.now (tail_of tail.entry)) exits ∷ items_of worklist.old) config.now (items_of worklist.new) config.now) }
+    ensures sound { Keeps (program_of program.now) (w.Run (declared all.now (tail_of tail.entry)) exits ∷ items_of worklist.old) config.now result (items_of worklist.new) config.now }
 {
-    tasks.push(Task::Variables(all, 0, tail, exits))?;
+    worklist.push(WorkItem::Variables(all, 0, tail, exits))?;
     Ok(())
 }
 
@@ -102,39 +109,39 @@ fn declaration<'a>(
 fn begun<'a>(
     program: &'a Program,
     config: &Config,
-    tasks: &mut Pile<Task<'a>>,
+    worklist: &mut Stack<WorkItem<'a>>,
     s: &'a TypedStatement,
     first: &'a Option<Subtree<TypedStatement>>,
     tail: Tail<'a>,
     exits: Option<Exits>,
 ) -> Result<(), CodeError>
-    ensures back { OnOk result (Back (program_of program.now) (j.Run (loop_before first.now (statement_of s.now) (tail_of tail.entry)) exits ∷ jobs tasks.old) config.now (jobs tasks.new) config.now) }
-    ensures sound { Keeps (program_of program.now) (j.Run (loop_before first.now (statement_of s.now) (tail_of tail.entry)) exits ∷ jobs tasks.old) config.now result (jobs tasks.new) config.now }
+    ensures back { OnOk result (Back (program_of program.now) (w.Run (loop_before first.now (statement_of s.now) (tail_of tail.entry)) exits ∷ items_of worklist.old) config.now (items_of worklist.new) config.now) }
+    ensures sound { Keeps (program_of program.now) (w.Run (loop_before first.now (statement_of s.now) (tail_of tail.entry)) exits ∷ items_of worklist.old) config.now result (items_of worklist.new) config.now }
 {
     match first {
-        Some(first) => begun_by(program, config, tasks, s, first.get(), tail, exits),
-        None => simple(program, config, tasks, s, tail, exits),
+        Some(first) => begun_by(program, config, worklist, s, first.get(), tail, exits),
+        None => simple(program, config, worklist, s, tail, exits),
     }
 }
 
 fn begun_by<'a>(
     program: &'a Program,
     config: &Config,
-    tasks: &mut Pile<Task<'a>>,
+    worklist: &mut Stack<WorkItem<'a>>,
     s: &'a TypedStatement,
     first: &'a TypedStatement,
     tail: Tail<'a>,
     exits: Option<Exits>,
 ) -> Result<(), CodeError>
-    ensures back { OnOk result (Back (program_of program.now) (j.Run (tree.Then (tree.Block (before first.now (tree.Then (statement_of s.now) tree.Finish))) (tail_of tail.entry)) exits ∷ jobs tasks.old) config.now (jobs tasks.new) config.now) }
-    ensures sound { Keeps (program_of program.now) (j.Run (tree.Then (tree.Block (before first.now (tree.Then (statement_of s.now) tree.Finish))) (tail_of tail.entry)) exits ∷ jobs tasks.old) config.now result (jobs tasks.new) config.now }
+    ensures back { OnOk result (Back (program_of program.now) (w.Run (tree.Then (tree.Block (before first.now (tree.Then (statement_of s.now) tree.Finish))) (tail_of tail.entry)) exits ∷ items_of worklist.old) config.now (items_of worklist.new) config.now) }
+    ensures sound { Keeps (program_of program.now) (w.Run (tree.Then (tree.Block (before first.now (tree.Then (statement_of s.now) tree.Finish))) (tail_of tail.entry)) exits ∷ items_of worklist.old) config.now result (items_of worklist.new) config.now }
 {
     let height = config.scope.len();
-    tasks.push_four(
-        Task::Statement(first, Tail::Loop(s), exits),
-        Task::Close(height),
-        Task::Rest(tail, exits),
-        Task::Both,
+    worklist.push_four(
+        WorkItem::Statement(first, Tail::Loop(s), exits),
+        WorkItem::Close(height),
+        WorkItem::Rest(tail, exits),
+        WorkItem::Both,
     )?;
     Ok(())
 }
@@ -143,22 +150,22 @@ fn begun_by<'a>(
 pub fn rest<'a>(
     program: &'a Program,
     config: &Config,
-    tasks: &mut Pile<Task<'a>>,
+    worklist: &mut Stack<WorkItem<'a>>,
     tail: Tail<'a>,
     exits: Option<Exits>,
 ) -> Result<(), CodeError>
-    ensures back { OnOk result (Back (program_of program.now) (j.Run (tail_of tail.entry) exits ∷ jobs tasks.old) config.now (jobs tasks.new) config.now) }
-    ensures sound { Keeps (program_of program.now) (j.Run (tail_of tail.entry) exits ∷ jobs tasks.old) config.now result (jobs tasks.new) config.now }
+    ensures back { OnOk result (Back (program_of program.now) (w.Run (tail_of tail.entry) exits ∷ items_of worklist.old) config.now (items_of worklist.new) config.now) }
+    ensures sound { Keeps (program_of program.now) (w.Run (tail_of tail.entry) exits ∷ items_of worklist.old) config.now result (items_of worklist.new) config.now }
 {
     match tail {
         Tail::Nothing => {
-            return finish(program, config, tasks, exits);
+            return finish(program, config, worklist, exits);
         }
         Tail::Row(all, at) => {
-            return row(program, config, tasks, all, at, exits);
+            return row(program, config, worklist, all, at, exits);
         }
         Tail::Loop(s) => {
-            return last(program, config, tasks, s, exits);
+            return last(program, config, worklist, s, exits);
         }
     }
 }
@@ -166,13 +173,13 @@ pub fn rest<'a>(
 fn finish<'a>(
     program: &'a Program,
     config: &Config,
-    tasks: &mut Pile<Task<'a>>,
+    worklist: &mut Stack<WorkItem<'a>>,
     exits: Option<Exits>,
 ) -> Result<(), CodeError>
-    ensures back { OnOk result (Back (program_of program.now) (j.Run tree.Finish exits ∷ jobs tasks.old) config.now (jobs tasks.new) config.now) }
-    ensures sound { Keeps (program_of program.now) (j.Run tree.Finish exits ∷ jobs tasks.old) config.now result (jobs tasks.new) config.now }
+    ensures back { OnOk result (Back (program_of program.now) (w.Run tree.Finish exits ∷ items_of worklist.old) config.now (items_of worklist.new) config.now) }
+    ensures sound { Keeps (program_of program.now) (w.Run tree.Finish exits ∷ items_of worklist.old) config.now result (items_of worklist.new) config.now }
 {
-    tasks.push(Task::Flows(Flow {
+    worklist.push(WorkItem::Flows(Flow {
         falls: true,
         continues: false,
     }))?;
@@ -182,17 +189,17 @@ fn finish<'a>(
 fn last<'a>(
     program: &'a Program,
     config: &Config,
-    tasks: &mut Pile<Task<'a>>,
+    worklist: &mut Stack<WorkItem<'a>>,
     s: &'a TypedStatement,
     exits: Option<Exits>,
 ) -> Result<(), CodeError>
-    ensures back { OnOk result (Back (program_of program.now) (j.Run (tree.Then (statement_of s.now) tree.Finish) exits ∷ jobs tasks.old) config.now (jobs tasks.new) config.now) }
-    ensures sound { Keeps (program_of program.now) (j.Run (tree.Then (statement_of s.now) tree.Finish) exits ∷ jobs tasks.old) config.now result (jobs tasks.new) config.now }
+    ensures back { OnOk result (Back (program_of program.now) (w.Run (tree.Then (statement_of s.now) tree.Finish) exits ∷ items_of worklist.old) config.now (items_of worklist.new) config.now) }
+    ensures sound { Keeps (program_of program.now) (w.Run (tree.Then (statement_of s.now) tree.Finish) exits ∷ items_of worklist.old) config.now result (items_of worklist.new) config.now }
 {
-    tasks.push_three(
-        Task::One(s, exits),
-        Task::Rest(Tail::Nothing, exits),
-        Task::Both,
+    worklist.push_three(
+        WorkItem::One(s, exits),
+        WorkItem::Rest(Tail::Nothing, exits),
+        WorkItem::Both,
     )?;
     Ok(())
 }
@@ -201,20 +208,20 @@ fn last<'a>(
 fn row<'a>(
     program: &'a Program,
     config: &Config,
-    tasks: &mut Pile<Task<'a>>,
+    worklist: &mut Stack<WorkItem<'a>>,
     all: &'a Items<Subtree<TypedStatement>>,
     at: usize,
     exits: Option<Exits>,
 ) -> Result<(), CodeError>
-    ensures back { OnOk result (Back (program_of program.now) (j.Run (stmts_of (drop at all.now)) exits ∷ jobs tasks.old) config.now (jobs tasks.new) config.now) }
-    ensures sound { Keeps (program_of program.now) (j.Run (stmts_of (drop at all.now)) exits ∷ jobs tasks.old) config.now result (jobs tasks.new) config.now }
+    ensures back { OnOk result (Back (program_of program.now) (w.Run (stmts_of (drop at all.now)) exits ∷ items_of worklist.old) config.now (items_of worklist.new) config.now) }
+    ensures sound { Keeps (program_of program.now) (w.Run (stmts_of (drop at all.now)) exits ∷ items_of worklist.old) config.now result (items_of worklist.new) config.now }
 {
     let _count = all.len();
     let Some(s) = all.get(at) else {
-        return finish(program, config, tasks, exits);
+        return finish(program, config, worklist, exits);
     };
     let s = s.get();
-    tasks.push(Task::Statement(s, Tail::Row(all, at + 1), exits))?;
+    worklist.push(WorkItem::Statement(s, Tail::Row(all, at + 1), exits))?;
     Ok(())
 }
 
@@ -222,40 +229,40 @@ fn row<'a>(
 pub fn variables<'a>(
     program: &'a Program,
     config: &Config,
-    tasks: &mut Pile<Task<'a>>,
+    worklist: &mut Stack<WorkItem<'a>>,
     all: &'a Items<TypedVariable>,
     at: usize,
     tail: Tail<'a>,
     exits: Option<Exits>,
 ) -> Result<(), CodeError>
-    ensures back { OnOk result (Back (program_of program.now) (j.Run (declared (drop at all.now) (tail_of tail.entry)) exits ∷ jobs tasks.old) config.now (jobs tasks.new) config.now) }
-    ensures sound { Keeps (program_of program.now) (j.Run (declared (drop at all.now) (tail_of tail.entry)) exits ∷ jobs tasks.old) config.now result (jobs tasks.new) config.now }
+    ensures back { OnOk result (Back (program_of program.now) (w.Run (declared (drop at all.now) (tail_of tail.entry)) exits ∷ items_of worklist.old) config.now (items_of worklist.new) config.now) }
+    ensures sound { Keeps (program_of program.now) (w.Run (declared (drop at all.now) (tail_of tail.entry)) exits ∷ items_of worklist.old) config.now result (items_of worklist.new) config.now }
 {
     let _count = all.len();
     let Some(variable) = all.get(at) else {
-        tasks.push(Task::Rest(tail, exits))?;
+        worklist.push(WorkItem::Rest(tail, exits))?;
         return Ok(());
     };
     let first = first_value(variable)?;
-    tasks.push_three(
+    worklist.push_three(
         first,
-        Task::Declared(variable),
-        Task::Variables(all, at + 1, tail, exits),
+        WorkItem::Declared(variable),
+        WorkItem::Variables(all, at + 1, tail, exits),
     )?;
     Ok(())
 }
 
 /// What a variable begins with.
-fn first_value<'a>(variable: &'a TypedVariable) -> Result<Task<'a>, CodeError>
-    ensures { MatchResult result (λ first. IsFirst variable.now (job first)) (λ _. BeginLies (maybe_of variable.now.value) variable.now.of → ⊥) }
+fn first_value<'a>(variable: &'a TypedVariable) -> Result<WorkItem<'a>, CodeError>
+    ensures { MatchResult result (λ first. IsFirst variable.now (item_of first)) (λ _. BeginRepresented (maybe_of variable.now.value) variable.now.of → ⊥) }
 {
     match &variable.value {
         Some(value) => {
             let value = value.get();
-            lies_as(value, lies_of(&variable.of))?;
-            Ok(Task::Value(value))
+            represented_as(value, representation_of(&variable.of))?;
+            Ok(WorkItem::Value(value))
         }
-        None => Ok(Task::Put(Piece::Default(&variable.of))),
+        None => Ok(WorkItem::Put(Piece::Default(&variable.of))),
     }
 }
 
@@ -264,38 +271,22 @@ pub fn declare<'a>(
     alloc: Global,
     program: &'a Program,
     config: &mut Config,
-    tasks: &Pile<Task<'a>>,
+    worklist: &Stack<WorkItem<'a>>,
     name: &Text,
     of: &Ty,
 ) -> Result<(), CodeError>
-    ensures back { OnOk result (Back (program_of program.now) (j.Declared name.now of.now ∷ jobs tasks.now) config.old (jobs tasks.now) config.new) }
-    ensures sound { Keeps (program_of program.now) (j.Declared name.now of.now ∷ jobs tasks.now) config.old result (jobs tasks.now) config.new }
+    ensures back { OnOk result (Back (program_of program.now) (w.Declared name.now of.now ∷ items_of worklist.now) config.old (items_of worklist.now) config.new) }
+    ensures sound { Keeps (program_of program.now) (w.Declared name.now of.now ∷ items_of worklist.now) config.old result (items_of worklist.now) config.new }
 {
     present(of)?;
-    let local = next(config)?;
+    let local = next_local(config)?;
     let one = entry_for(alloc, name, of, local)?;
-    config.scope.push(one)?;
+    config.scope.push(alloc, one)?;
     config.locals.push(slot(of))?;
     config
         .lines
         .push(Line::Fixed(Instruction::Numbered(Numbered::Store, local)))?;
     Ok(())
-}
-
-/// The number of the next local.
-fn next(config: &Config) -> Result<u32, CodeError>
-    ensures number { IfOk result (λ next. next ≡ next_in config.now) }
-    ensures memory { OnlyMemory result }
-{
-    let params = config.params.len();
-    let locals = config.locals.len();
-    if params > 2147483647 {
-        return Err(CodeError::NoMemory);
-    }
-    if locals > 2147483647 {
-        return Err(CodeError::NoMemory);
-    }
-    Ok((params + locals) as u32)
 }
 
 /// The entry of a name.
@@ -310,10 +301,10 @@ pub fn entry_for(alloc: Global, name: &Text, of: &Ty, local: u32) -> Result<Entr
 
 /// A type has values.
 pub fn present(of: &Ty) -> Result<(), CodeError>
-    ensures { MatchResult result (λ _. lying_of of.now ≢ Absent) (λ _. lying_of of.now ≡ Absent) }
+    ensures { MatchResult result (λ _. representation_of of.now ≢ Absent) (λ _. representation_of of.now ≡ Absent) }
 {
-    match lies_of(of) {
-        Lies::Absent => Err(CodeError::Malformed),
+    match representation_of(of) {
+        Representation::Absent => Err(CodeError::Malformed),
         _ => Ok(()),
     }
 }
@@ -322,11 +313,11 @@ pub fn present(of: &Ty) -> Result<(), CodeError>
 pub fn close<'a>(
     program: &'a Program,
     config: &mut Config,
-    tasks: &Pile<Task<'a>>,
+    worklist: &Stack<WorkItem<'a>>,
     height: usize,
 ) -> Result<(), CodeError>
-    ensures back { OnOk result (Back (program_of program.now) (j.Close height ∷ jobs tasks.now) config.old (jobs tasks.now) config.new) }
-    ensures sound { Keeps (program_of program.now) (j.Close height ∷ jobs tasks.now) config.old result (jobs tasks.now) config.new }
+    ensures back { OnOk result (Back (program_of program.now) (w.Close height ∷ items_of worklist.now) config.old (items_of worklist.now) config.new) }
+    ensures sound { Keeps (program_of program.now) (w.Close height ∷ items_of worklist.now) config.old result (items_of worklist.now) config.new }
 {
     config.scope.lower(height);
     Ok(())

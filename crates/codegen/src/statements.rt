@@ -1,8 +1,8 @@
 //! Statements: what is to be written for one.
 
 ghost use Rattle.std.specs.Prelude.{◌≡◌, ◌∷◌, OnOk};
-ghost use Rattle.codegen.specs.Jobs as j;
-ghost use Rattle.codegen.specs.Jobs.{Back, job, jobs, maybe_in};
+ghost use Rattle.codegen.specs.Worklist as w;
+ghost use Rattle.codegen.specs.Worklist.{Back, item_of, items_of, maybe_in};
 ghost use Rattle.codegen.specs.Opened.{body_of, body_if, statement_of};
 ghost use Rattle.codegen.specs.Sound.{Keeps};
 ghost use Rattle.source_meaning.specs.Programs.{program_of, declared, expr_of, maybe_of, stmts_of};
@@ -10,32 +10,32 @@ ghost use Rattle.source_meaning.specs.Tree as tree;
 
 use crate::config::{Config, Flow};
 use crate::error::CodeError;
-use crate::expressions::{lies_as, lies_in};
-use crate::lying::{Lies, alike};
+use crate::expressions::{representation_in, represented_as};
 use crate::pieces::Piece;
-use crate::pile::Pile;
-use crate::task::{Exits, Tail, Task};
+use crate::representation::{Representation, alike};
 use crate::tries::attempt;
+use crate::work_item::{Exits, Tail, WorkItem};
 use pl_code::{Numbered, Plain};
 use plain_data::{Items, Subtree};
+use plain_stack::Stack;
 use typed_tree::{Program, StatementNode, Typed, TypedStatement, TypedVariable};
 
 /// What is to be written for a statement that declares nothing, without what is done before a loop.
 pub fn one<'a>(
     program: &'a Program,
     config: &mut Config,
-    tasks: &mut Pile<Task<'a>>,
+    worklist: &mut Stack<WorkItem<'a>>,
     s: &'a TypedStatement,
     exits: Option<Exits>,
 ) -> Result<(), CodeError>
-    ensures back { OnOk result (Back (program_of program.now) (j.One (statement_of s.now) exits ∷ jobs tasks.old) config.old (jobs tasks.new) config.new) }
-    ensures sound { Keeps (program_of program.now) (j.One (statement_of s.now) exits ∷ jobs tasks.old) config.old result (jobs tasks.new) config.new }
+    ensures back { OnOk result (Back (program_of program.now) (w.One (statement_of s.now) exits ∷ items_of worklist.old) config.old (items_of worklist.new) config.new) }
+    ensures sound { Keeps (program_of program.now) (w.One (statement_of s.now) exits ∷ items_of worklist.old) config.old result (items_of worklist.new) config.new }
 {
     match &s.node {
         StatementNode::Expression(value) => {
-            expression(program, config, tasks, value.get(), exits)
+            expression(program, config, worklist, value.get(), exits)
         }
-        StatementNode::Block(statements) => block(program, config, tasks, statements, exits),
+        StatementNode::Block(statements) => block(program, config, worklist, statements, exits),
         StatementNode::If {
             condition,
             then,
@@ -43,7 +43,7 @@ pub fn one<'a>(
         } => choice(
             program,
             config,
-            tasks,
+            worklist,
             condition.get(),
             then.get(),
             otherwise,
@@ -54,19 +54,19 @@ pub fn one<'a>(
             condition,
             update,
             body,
-        } => turns(program, config, tasks, condition, update, body, exits),
+        } => turns(program, config, worklist, condition, update, body, exits),
         StatementNode::Do { body, condition } => {
-            turns_at_least_once(program, config, tasks, body.get(), condition, exits)
+            turns_at_least_once(program, config, worklist, body.get(), condition, exits)
         }
-        StatementNode::Break => leave(program, config, tasks, exits),
-        StatementNode::Continue => go_on(program, config, tasks, exits),
-        StatementNode::Return(value) => give(program, config, tasks, value, exits),
-        StatementNode::Declare(all) => variables(program, config, tasks, all, exits),
+        StatementNode::Break => leave(program, config, worklist, exits),
+        StatementNode::Continue => go_on(program, config, worklist, exits),
+        StatementNode::Return(value) => give(program, config, worklist, value, exits),
+        StatementNode::Declare(all) => variables(program, config, worklist, all, exits),
         StatementNode::ForEach { .. } => Err(CodeError::Unbuilt),
         StatementNode::Try { body, catches } => {
-            attempt(program, config, tasks, body.get(), catches, exits)
+            attempt(program, config, worklist, body.get(), catches, exits)
         }
-        StatementNode::Throw(value) => throw(program, config, tasks, value.get(), exits),
+        StatementNode::Throw(value) => throw(program, config, worklist, value.get(), exits),
     }
 }
 
@@ -81,36 +81,36 @@ pub fn part<'a>(it: &'a Option<Subtree<Typed>>) -> Option<&'a Typed>
 }
 
 /// A statement by itself.
-fn body<'a>(it: &'a TypedStatement, exits: Option<Exits>) -> Task<'a>
-    ensures { job result ≡ j.Run (body_of it.now) exits }
+fn body<'a>(it: &'a TypedStatement, exits: Option<Exits>) -> WorkItem<'a>
+    ensures { item_of result ≡ w.Run (body_of it.now) exits }
 {
-    Task::Statement(it, Tail::Nothing, exits)
+    WorkItem::Statement(it, Tail::Nothing, exits)
 }
 
 /// A statement by itself that may be missing.
-fn body_if_any<'a>(it: &'a Option<Subtree<TypedStatement>>, exits: Option<Exits>) -> Task<'a>
-    ensures { job result ≡ j.Run (body_if it.now) exits }
+fn body_if_any<'a>(it: &'a Option<Subtree<TypedStatement>>, exits: Option<Exits>) -> WorkItem<'a>
+    ensures { item_of result ≡ w.Run (body_if it.now) exits }
 {
     match it {
         Some(it) => body(it.get(), exits),
-        None => Task::Rest(Tail::Nothing, exits),
+        None => WorkItem::Rest(Tail::Nothing, exits),
     }
 }
 
 fn expression<'a>(
     program: &'a Program,
     config: &Config,
-    tasks: &mut Pile<Task<'a>>,
+    worklist: &mut Stack<WorkItem<'a>>,
     value: &'a Typed,
     exits: Option<Exits>,
 ) -> Result<(), CodeError>
-    ensures back { OnOk result (Back (program_of program.now) (j.One (tree.Do (expr_of value.now)) exits ∷ jobs tasks.old) config.now (jobs tasks.new) config.now) }
-    ensures sound { Keeps (program_of program.now) (j.One (tree.Do (expr_of value.now)) exits ∷ jobs tasks.old) config.now result (jobs tasks.new) config.now }
+    ensures back { OnOk result (Back (program_of program.now) (w.One (tree.Do (expr_of value.now)) exits ∷ items_of worklist.old) config.now (items_of worklist.new) config.now) }
+    ensures sound { Keeps (program_of program.now) (w.One (tree.Do (expr_of value.now)) exits ∷ items_of worklist.old) config.now result (items_of worklist.new) config.now }
 {
-    tasks.push_three(
-        Task::Value(value),
-        Task::Put(Piece::Pop(lies_in(value))),
-        Task::Flows(Flow {
+    worklist.push_three(
+        WorkItem::Value(value),
+        WorkItem::Put(Piece::Pop(representation_in(value))),
+        WorkItem::Flows(Flow {
             falls: true,
             continues: false,
         }),
@@ -121,17 +121,17 @@ fn expression<'a>(
 fn block<'a>(
     program: &'a Program,
     config: &Config,
-    tasks: &mut Pile<Task<'a>>,
+    worklist: &mut Stack<WorkItem<'a>>,
     statements: &'a Items<Subtree<TypedStatement>>,
     exits: Option<Exits>,
 ) -> Result<(), CodeError>
-    ensures back { OnOk result (Back (program_of program.now) (j.One (tree.Block (stmts_of statements.now)) exits ∷ jobs tasks.old) config.now (jobs tasks.new) config.now) }
-    ensures sound { Keeps (program_of program.now) (j.One (tree.Block (stmts_of statements.now)) exits ∷ jobs tasks.old) config.now result (jobs tasks.new) config.now }
+    ensures back { OnOk result (Back (program_of program.now) (w.One (tree.Block (stmts_of statements.now)) exits ∷ items_of worklist.old) config.now (items_of worklist.new) config.now) }
+    ensures sound { Keeps (program_of program.now) (w.One (tree.Block (stmts_of statements.now)) exits ∷ items_of worklist.old) config.now result (items_of worklist.new) config.now }
 {
     let height = config.scope.len();
-    tasks.push_two(
-        Task::Rest(Tail::Row(statements, 0), exits),
-        Task::Close(height),
+    worklist.push_two(
+        WorkItem::Rest(Tail::Row(statements, 0), exits),
+        WorkItem::Close(height),
     )?;
     Ok(())
 }
@@ -140,17 +140,17 @@ fn block<'a>(
 fn variables<'a>(
     program: &'a Program,
     config: &Config,
-    tasks: &mut Pile<Task<'a>>,
+    worklist: &mut Stack<WorkItem<'a>>,
     all: &'a Items<TypedVariable>,
     exits: Option<Exits>,
 ) -> Result<(), CodeError>
-    ensures back { OnOk result (Back (program_of program.now) (j.One (tree.Block (declared all.now tree.Finish)) exits ∷ jobs tasks.old) config.now (jobs tasks.new) config.now) }
-    ensures sound { Keeps (program_of program.now) (j.One (tree.Block (declared all.now tree.Finish)) exits ∷ jobs tasks.old) config.now result (jobs tasks.new) config.now }
+    ensures back { OnOk result (Back (program_of program.now) (w.One (tree.Block (declared all.now tree.Finish)) exits ∷ items_of worklist.old) config.now (items_of worklist.new) config.now) }
+    ensures sound { Keeps (program_of program.now) (w.One (tree.Block (declared all.now tree.Finish)) exits ∷ items_of worklist.old) config.now result (items_of worklist.new) config.now }
 {
     let height = config.scope.len();
-    tasks.push_two(
-        Task::Variables(all, 0, Tail::Nothing, exits),
-        Task::Close(height),
+    worklist.push_two(
+        WorkItem::Variables(all, 0, Tail::Nothing, exits),
+        WorkItem::Close(height),
     )?;
     Ok(())
 }
@@ -158,28 +158,32 @@ fn variables<'a>(
 fn choice<'a>(
     program: &'a Program,
     config: &mut Config,
-    tasks: &mut Pile<Task<'a>>,
+    worklist: &mut Stack<WorkItem<'a>>,
     condition: &'a Typed,
     then: &'a TypedStatement,
     otherwise: &'a Option<Subtree<TypedStatement>>,
     exits: Option<Exits>,
 ) -> Result<(), CodeError>
-    ensures back { OnOk result (Back (program_of program.now) (j.One (tree.If (expr_of condition.now) (body_of then.now) (body_if otherwise.now)) exits ∷ jobs tasks.old) config.old (jobs tasks.new) config.new) }
-    ensures sound { Keeps (program_of program.now) (j.One (tree.If (expr_of condition.now) (body_of then.now) (body_if otherwise.now)) exits ∷ jobs tasks.old) config.old result (jobs tasks.new) config.new }
+    ensures back { OnOk result (Back (program_of program.now) (w.One (tree.If (expr_of condition.now) (body_of then.now) (body_if otherwise.now)) exits ∷ items_of worklist.old) config.old (items_of worklist.new) config.new) }
+    ensures sound { Keeps (program_of program.now) (w.One (tree.If (expr_of condition.now) (body_of then.now) (body_if otherwise.now)) exits ∷ items_of worklist.old) config.old result (items_of worklist.new) config.new }
 {
-    lies_as(condition, Lies::Bare)?;
+    represented_as(condition, Representation::Unboxed)?;
     let height = config.scope.len();
     let yes = body(then, exits);
     let no = body_if_any(otherwise, exits);
     let end = config.labels.fresh()?;
     let over = config.labels.fresh()?;
-    tasks.push_three(Task::Close(height), Task::Bind(end), Task::Either)?;
-    tasks.push_three(Task::Skip(end), Task::Bind(over), no)?;
-    tasks.push_four(
-        Task::Value(condition),
-        Task::Jump(Numbered::IfZero, over),
+    worklist.push_three(
+        WorkItem::Close(height),
+        WorkItem::Bind(end),
+        WorkItem::Either,
+    )?;
+    worklist.push_three(WorkItem::Skip(end), WorkItem::Bind(over), no)?;
+    worklist.push_four(
+        WorkItem::Value(condition),
+        WorkItem::Jump(Numbered::IfZero, over),
         yes,
-        Task::Close(height),
+        WorkItem::Close(height),
     )?;
     Ok(())
 }
@@ -187,14 +191,14 @@ fn choice<'a>(
 fn turns<'a>(
     program: &'a Program,
     config: &mut Config,
-    tasks: &mut Pile<Task<'a>>,
+    worklist: &mut Stack<WorkItem<'a>>,
     condition: &'a Option<Subtree<Typed>>,
     update: &'a Option<Subtree<Typed>>,
     turn: &'a Option<Subtree<TypedStatement>>,
     exits: Option<Exits>,
 ) -> Result<(), CodeError>
-    ensures back { OnOk result (Back (program_of program.now) (j.One (tree.While (maybe_of condition.now) (maybe_of update.now) (body_if turn.now)) exits ∷ jobs tasks.old) config.old (jobs tasks.new) config.new) }
-    ensures sound { Keeps (program_of program.now) (j.One (tree.While (maybe_of condition.now) (maybe_of update.now) (body_if turn.now)) exits ∷ jobs tasks.old) config.old result (jobs tasks.new) config.new }
+    ensures back { OnOk result (Back (program_of program.now) (w.One (tree.While (maybe_of condition.now) (maybe_of update.now) (body_if turn.now)) exits ∷ items_of worklist.old) config.old (items_of worklist.new) config.new) }
+    ensures sound { Keeps (program_of program.now) (w.One (tree.While (maybe_of condition.now) (maybe_of update.now) (body_if turn.now)) exits ∷ items_of worklist.old) config.old result (items_of worklist.new) config.new }
 {
     let height = config.scope.len();
     let test = part(condition);
@@ -204,22 +208,22 @@ fn turns<'a>(
     let on = config.labels.fresh()?;
     let start = config.labels.fresh()?;
     let within = body_if_any(turn, Some(Exits { out, on }));
-    tasks.push_three(
-        Task::Jump(Numbered::Loop, start),
-        Task::Bind(out),
-        Task::Turned,
+    worklist.push_three(
+        WorkItem::Jump(Numbered::Loop, start),
+        WorkItem::Bind(out),
+        WorkItem::Turned,
     )?;
-    tasks.push_four(
-        Task::Bind(on),
-        Task::Update(behind),
-        Task::Bind(first),
-        Task::Test(test),
+    worklist.push_four(
+        WorkItem::Bind(on),
+        WorkItem::Update(behind),
+        WorkItem::Bind(first),
+        WorkItem::Test(test),
     )?;
-    tasks.push_four(
-        Task::Jump(Numbered::Goto, first),
-        Task::Bind(start),
+    worklist.push_four(
+        WorkItem::Jump(Numbered::Goto, first),
+        WorkItem::Bind(start),
         within,
-        Task::Close(height),
+        WorkItem::Close(height),
     )?;
     Ok(())
 }
@@ -227,13 +231,13 @@ fn turns<'a>(
 fn turns_at_least_once<'a>(
     program: &'a Program,
     config: &mut Config,
-    tasks: &mut Pile<Task<'a>>,
+    worklist: &mut Stack<WorkItem<'a>>,
     turn: &'a TypedStatement,
     condition: &'a Option<Subtree<Typed>>,
     exits: Option<Exits>,
 ) -> Result<(), CodeError>
-    ensures back { OnOk result (Back (program_of program.now) (j.One (tree.DoWhile (body_of turn.now) (maybe_of condition.now)) exits ∷ jobs tasks.old) config.old (jobs tasks.new) config.new) }
-    ensures sound { Keeps (program_of program.now) (j.One (tree.DoWhile (body_of turn.now) (maybe_of condition.now)) exits ∷ jobs tasks.old) config.old result (jobs tasks.new) config.new }
+    ensures back { OnOk result (Back (program_of program.now) (w.One (tree.DoWhile (body_of turn.now) (maybe_of condition.now)) exits ∷ items_of worklist.old) config.old (items_of worklist.new) config.new) }
+    ensures sound { Keeps (program_of program.now) (w.One (tree.DoWhile (body_of turn.now) (maybe_of condition.now)) exits ∷ items_of worklist.old) config.old result (items_of worklist.new) config.new }
 {
     let height = config.scope.len();
     let test = part(condition);
@@ -242,22 +246,22 @@ fn turns_at_least_once<'a>(
     let on = config.labels.fresh()?;
     let start = config.labels.fresh()?;
     let within = body(turn, Some(Exits { out, on }));
-    tasks.push_three(
-        Task::Jump(Numbered::Loop, start),
-        Task::Bind(out),
-        Task::Turned,
+    worklist.push_three(
+        WorkItem::Jump(Numbered::Loop, start),
+        WorkItem::Bind(out),
+        WorkItem::Turned,
     )?;
-    tasks.push_four(
-        Task::Bind(on),
-        Task::Last(test, out),
-        Task::Bind(first),
-        Task::Put(Piece::Int(1)),
+    worklist.push_four(
+        WorkItem::Bind(on),
+        WorkItem::Last(test, out),
+        WorkItem::Bind(first),
+        WorkItem::Put(Piece::Int(1)),
     )?;
-    tasks.push_four(
-        Task::Jump(Numbered::Goto, first),
-        Task::Bind(start),
+    worklist.push_four(
+        WorkItem::Jump(Numbered::Goto, first),
+        WorkItem::Bind(start),
         within,
-        Task::Close(height),
+        WorkItem::Close(height),
     )?;
     Ok(())
 }
@@ -265,18 +269,18 @@ fn turns_at_least_once<'a>(
 fn leave<'a>(
     program: &'a Program,
     config: &Config,
-    tasks: &mut Pile<Task<'a>>,
+    worklist: &mut Stack<WorkItem<'a>>,
     exits: Option<Exits>,
 ) -> Result<(), CodeError>
-    ensures back { OnOk result (Back (program_of program.now) (j.One tree.Break exits ∷ jobs tasks.old) config.now (jobs tasks.new) config.now) }
-    ensures sound { Keeps (program_of program.now) (j.One tree.Break exits ∷ jobs tasks.old) config.now result (jobs tasks.new) config.now }
+    ensures back { OnOk result (Back (program_of program.now) (w.One tree.Break exits ∷ items_of worklist.old) config.now (items_of worklist.new) config.now) }
+    ensures sound { Keeps (program_of program.now) (w.One tree.Break exits ∷ items_of worklist.old) config.now result (items_of worklist.new) config.now }
 {
     let Some(to) = exits else {
         return Err(CodeError::Malformed);
     };
-    tasks.push_two(
-        Task::Jump(Numbered::Goto, to.out),
-        Task::Flows(Flow {
+    worklist.push_two(
+        WorkItem::Jump(Numbered::Goto, to.out),
+        WorkItem::Flows(Flow {
             falls: false,
             continues: false,
         }),
@@ -287,18 +291,18 @@ fn leave<'a>(
 fn go_on<'a>(
     program: &'a Program,
     config: &Config,
-    tasks: &mut Pile<Task<'a>>,
+    worklist: &mut Stack<WorkItem<'a>>,
     exits: Option<Exits>,
 ) -> Result<(), CodeError>
-    ensures back { OnOk result (Back (program_of program.now) (j.One tree.Continue exits ∷ jobs tasks.old) config.now (jobs tasks.new) config.now) }
-    ensures sound { Keeps (program_of program.now) (j.One tree.Continue exits ∷ jobs tasks.old) config.now result (jobs tasks.new) config.now }
+    ensures back { OnOk result (Back (program_of program.now) (w.One tree.Continue exits ∷ items_of worklist.old) config.now (items_of worklist.new) config.now) }
+    ensures sound { Keeps (program_of program.now) (w.One tree.Continue exits ∷ items_of worklist.old) config.now result (items_of worklist.new) config.now }
 {
     let Some(to) = exits else {
         return Err(CodeError::Malformed);
     };
-    tasks.push_two(
-        Task::Jump(Numbered::Goto, to.on),
-        Task::Flows(Flow {
+    worklist.push_two(
+        WorkItem::Jump(Numbered::Goto, to.on),
+        WorkItem::Flows(Flow {
             falls: false,
             continues: true,
         }),
@@ -309,34 +313,34 @@ fn go_on<'a>(
 fn give<'a>(
     program: &'a Program,
     config: &Config,
-    tasks: &mut Pile<Task<'a>>,
+    worklist: &mut Stack<WorkItem<'a>>,
     value: &'a Option<Subtree<Typed>>,
     exits: Option<Exits>,
 ) -> Result<(), CodeError>
-    ensures back { OnOk result (Back (program_of program.now) (j.One (tree.Return (maybe_of value.now)) exits ∷ jobs tasks.old) config.now (jobs tasks.new) config.now) }
-    ensures sound { Keeps (program_of program.now) (j.One (tree.Return (maybe_of value.now)) exits ∷ jobs tasks.old) config.now result (jobs tasks.new) config.now }
+    ensures back { OnOk result (Back (program_of program.now) (w.One (tree.Return (maybe_of value.now)) exits ∷ items_of worklist.old) config.now (items_of worklist.new) config.now) }
+    ensures sound { Keeps (program_of program.now) (w.One (tree.Return (maybe_of value.now)) exits ∷ items_of worklist.old) config.now result (items_of worklist.new) config.now }
 {
     match value {
-        Some(value) => give_value(program, config, tasks, value.get(), exits),
-        None => give_nothing(program, config, tasks, exits),
+        Some(value) => give_value(program, config, worklist, value.get(), exits),
+        None => give_nothing(program, config, worklist, exits),
     }
 }
 
 fn give_value<'a>(
     program: &'a Program,
     config: &Config,
-    tasks: &mut Pile<Task<'a>>,
+    worklist: &mut Stack<WorkItem<'a>>,
     value: &'a Typed,
     exits: Option<Exits>,
 ) -> Result<(), CodeError>
-    ensures back { OnOk result (Back (program_of program.now) (j.One (tree.Return (tree.Given (expr_of value.now))) exits ∷ jobs tasks.old) config.now (jobs tasks.new) config.now) }
-    ensures sound { Keeps (program_of program.now) (j.One (tree.Return (tree.Given (expr_of value.now))) exits ∷ jobs tasks.old) config.now result (jobs tasks.new) config.now }
+    ensures back { OnOk result (Back (program_of program.now) (w.One (tree.Return (tree.Given (expr_of value.now))) exits ∷ items_of worklist.old) config.now (items_of worklist.new) config.now) }
+    ensures sound { Keeps (program_of program.now) (w.One (tree.Return (tree.Given (expr_of value.now))) exits ∷ items_of worklist.old) config.now result (items_of worklist.new) config.now }
 {
-    lies_as(value, config.result)?;
-    tasks.push_three(
-        Task::Value(value),
-        Task::Put(Piece::Plain(Plain::Ret)),
-        Task::Flows(Flow {
+    represented_as(value, config.result)?;
+    worklist.push_three(
+        WorkItem::Value(value),
+        WorkItem::Put(Piece::Plain(Plain::Ret)),
+        WorkItem::Flows(Flow {
             falls: false,
             continues: false,
         }),
@@ -347,16 +351,16 @@ fn give_value<'a>(
 fn give_nothing<'a>(
     program: &'a Program,
     config: &Config,
-    tasks: &mut Pile<Task<'a>>,
+    worklist: &mut Stack<WorkItem<'a>>,
     exits: Option<Exits>,
 ) -> Result<(), CodeError>
-    ensures back { OnOk result (Back (program_of program.now) (j.One (tree.Return tree.Missing) exits ∷ jobs tasks.old) config.now (jobs tasks.new) config.now) }
-    ensures sound { Keeps (program_of program.now) (j.One (tree.Return tree.Missing) exits ∷ jobs tasks.old) config.now result (jobs tasks.new) config.now }
+    ensures back { OnOk result (Back (program_of program.now) (w.One (tree.Return tree.Missing) exits ∷ items_of worklist.old) config.now (items_of worklist.new) config.now) }
+    ensures sound { Keeps (program_of program.now) (w.One (tree.Return tree.Missing) exits ∷ items_of worklist.old) config.now result (items_of worklist.new) config.now }
 {
-    alike(config.result, Lies::Absent)?;
-    tasks.push_two(
-        Task::Put(Piece::Plain(Plain::Ret)),
-        Task::Flows(Flow {
+    alike(config.result, Representation::Absent)?;
+    worklist.push_two(
+        WorkItem::Put(Piece::Plain(Plain::Ret)),
+        WorkItem::Flows(Flow {
             falls: false,
             continues: false,
         }),
@@ -367,18 +371,18 @@ fn give_nothing<'a>(
 fn throw<'a>(
     program: &'a Program,
     config: &Config,
-    tasks: &mut Pile<Task<'a>>,
+    worklist: &mut Stack<WorkItem<'a>>,
     value: &'a Typed,
     exits: Option<Exits>,
 ) -> Result<(), CodeError>
-    ensures back { OnOk result (Back (program_of program.now) (j.One (tree.Throw (expr_of value.now)) exits ∷ jobs tasks.old) config.now (jobs tasks.new) config.now) }
-    ensures sound { Keeps (program_of program.now) (j.One (tree.Throw (expr_of value.now)) exits ∷ jobs tasks.old) config.now result (jobs tasks.new) config.now }
+    ensures back { OnOk result (Back (program_of program.now) (w.One (tree.Throw (expr_of value.now)) exits ∷ items_of worklist.old) config.now (items_of worklist.new) config.now) }
+    ensures sound { Keeps (program_of program.now) (w.One (tree.Throw (expr_of value.now)) exits ∷ items_of worklist.old) config.now result (items_of worklist.new) config.now }
 {
-    lies_as(value, Lies::Whole)?;
-    tasks.push_three(
-        Task::Value(value),
-        Task::Put(Piece::Plain(Plain::Throw)),
-        Task::Flows(Flow {
+    represented_as(value, Representation::Boxed)?;
+    worklist.push_three(
+        WorkItem::Value(value),
+        WorkItem::Put(Piece::Plain(Plain::Throw)),
+        WorkItem::Flows(Flow {
             falls: false,
             continues: false,
         }),

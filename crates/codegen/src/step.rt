@@ -1,136 +1,137 @@
-//! Goes on with a task.
+//! Goes on with an item of the worklist.
 
 ghost use Rattle.std.specs.Prelude.{◌∷◌, map, MatchResult, OnOk};
-ghost use Rattle.codegen.specs.Checks.{lying};
-ghost use Rattle.codegen.specs.Jobs as j;
-ghost use Rattle.codegen.specs.Jobs.{Back, IsLocal, job, jobs, entry};
+ghost use Rattle.codegen.specs.Checks.{denoted};
+ghost use Rattle.codegen.specs.Worklist as w;
+ghost use Rattle.codegen.specs.Worklist.{Back, IsLocal, item_of, items_of, entry};
 ghost use Rattle.codegen.specs.Pieces as pieces;
 ghost use Rattle.codegen.specs.Sound.{IsNamed, Keeps, variable};
 ghost use Rattle.source_meaning.specs.Programs.{program_of, expr_of};
 
-use crate::config::{Config, Entry};
+use crate::config::{Config, next_line};
 use crate::conversions::{put_cast, put_instance_of};
 use crate::error::CodeError;
 use crate::expressions::value;
 use crate::flows::{add, both, either, end, last, skip, test, turned, update};
 use crate::labels::Line;
-use crate::lying::{Lies, alike, lies_of};
 use crate::naming::put_member;
 use crate::pieces::{Piece, put};
-use crate::pile::Pile;
+use crate::representation::{Representation, alike, representation_of};
 use crate::scopes::{close, declare, rest, statement, variables};
 use crate::statements::one;
-use crate::task::Task;
+use crate::symbols::{Entry, SymbolTable};
 use crate::tries::{caught, named, over, tried};
 use crate::values::values;
+use crate::work_item::WorkItem;
 use allowlist::{Allow, MemberKind};
 use pl_code::{Instruction, Numbered};
 use pl_types::{Cast, Ty};
 use plain_data::Text;
+use plain_stack::Stack;
 use std::alloc::Global;
 use typed_tree::{Program, Typed, TypedVariable};
 
-/// Goes on with a task.
+/// Goes on with an item of the worklist.
 pub fn step<'a>(
     alloc: Global,
     catalogue: &'a Allow,
     program: &'a Program,
     config: &mut Config,
-    tasks: &mut Pile<Task<'a>>,
-    task: Task<'a>,
+    worklist: &mut Stack<WorkItem<'a>>,
+    item: WorkItem<'a>,
 ) -> Result<(), CodeError>
-    ensures back { OnOk result (Back (program_of program.now) (job task.entry ∷ jobs tasks.old) config.old (jobs tasks.new) config.new) }
-    ensures sound { Keeps (program_of program.now) (job task.entry ∷ jobs tasks.old) config.old result (jobs tasks.new) config.new }
+    ensures back { OnOk result (Back (program_of program.now) (item_of item.entry ∷ items_of worklist.old) config.old (items_of worklist.new) config.new) }
+    ensures sound { Keeps (program_of program.now) (item_of item.entry ∷ items_of worklist.old) config.old result (items_of worklist.new) config.new }
 {
-    match task {
-        Task::Value(e) => {
-            return expression(alloc, catalogue, program, config, tasks, e);
+    match item {
+        WorkItem::Value(e) => {
+            return expression(alloc, catalogue, program, config, worklist, e);
         }
-        Task::Put(what) => {
-            return piece(alloc, program, config, tasks, what);
+        WorkItem::Put(what) => {
+            return piece(alloc, program, config, worklist, what);
         }
-        Task::Convert(cast, to) => {
-            return convert(alloc, program, config, tasks, cast, to);
+        WorkItem::Convert(cast, to) => {
+            return convert(alloc, program, config, worklist, cast, to);
         }
-        Task::Ask(is) => {
-            return ask(alloc, program, config, tasks, is);
+        WorkItem::Ask(is) => {
+            return ask(alloc, program, config, worklist, is);
         }
-        Task::Call(kind, text) => {
-            return call(alloc, program, config, tasks, kind, text);
+        WorkItem::Call(kind, text) => {
+            return call(alloc, program, config, worklist, kind, text);
         }
-        Task::Jump(kind, label) => {
-            return jump(program, config, tasks, kind, label);
+        WorkItem::Jump(kind, label) => {
+            return jump(program, config, worklist, kind, label);
         }
-        Task::Bind(label) => {
-            return bind(program, config, tasks, label);
+        WorkItem::Bind(label) => {
+            return bind(program, config, worklist, label);
         }
-        Task::Values(parts, at, kind) => {
-            return values(program, config, tasks, parts, at, kind);
+        WorkItem::Values(parts, at, kind) => {
+            return values(program, config, worklist, parts, at, kind);
         }
-        Task::Load(name, lies) => {
-            return load(program, config, tasks, name, lies);
+        WorkItem::Load(name, representation) => {
+            return load(program, config, worklist, name, representation);
         }
-        Task::Store(name, lies) => {
-            return store(program, config, tasks, name, lies);
+        WorkItem::Store(name, representation) => {
+            return store(program, config, worklist, name, representation);
         }
-        Task::One(s, exits) => {
-            return one(program, config, tasks, s, exits);
+        WorkItem::One(s, exits) => {
+            return one(program, config, worklist, s, exits);
         }
-        Task::Statement(s, tail, exits) => {
-            return statement(program, config, tasks, s, tail, exits);
+        WorkItem::Statement(s, tail, exits) => {
+            return statement(program, config, worklist, s, tail, exits);
         }
-        Task::Rest(tail, exits) => {
-            return rest(program, config, tasks, tail, exits);
+        WorkItem::Rest(tail, exits) => {
+            return rest(program, config, worklist, tail, exits);
         }
-        Task::Variables(all, at, tail, exits) => {
-            return variables(program, config, tasks, all, at, tail, exits);
+        WorkItem::Variables(all, at, tail, exits) => {
+            return variables(program, config, worklist, all, at, tail, exits);
         }
-        Task::Declared(variable) => {
-            return declared(alloc, program, config, tasks, variable);
+        WorkItem::Declared(variable) => {
+            return declared(alloc, program, config, worklist, variable);
         }
-        Task::Close(height) => {
-            return close(program, config, tasks, height);
+        WorkItem::Close(height) => {
+            return close(program, config, worklist, height);
         }
-        Task::Flows(flow) => {
-            return add(program, config, tasks, flow);
+        WorkItem::Flows(flow) => {
+            return add(program, config, worklist, flow);
         }
-        Task::Both => {
-            return both(program, config, tasks);
+        WorkItem::Both => {
+            return both(program, config, worklist);
         }
-        Task::Either => {
-            return either(program, config, tasks);
+        WorkItem::Either => {
+            return either(program, config, worklist);
         }
-        Task::Skip(label) => {
-            return skip(program, config, tasks, label);
+        WorkItem::Skip(label) => {
+            return skip(program, config, worklist, label);
         }
-        Task::Update(what) => {
-            return update(program, config, tasks, what);
+        WorkItem::Update(what) => {
+            return update(program, config, worklist, what);
         }
-        Task::Test(what) => {
-            return test(program, config, tasks, what);
+        WorkItem::Test(what) => {
+            return test(program, config, worklist, what);
         }
-        Task::Last(what, label) => {
-            return last(program, config, tasks, what, label);
+        WorkItem::Last(what, label) => {
+            return last(program, config, worklist, what, label);
         }
-        Task::Turned => {
-            return turned(program, config, tasks);
+        WorkItem::Turned => {
+            return turned(program, config, worklist);
         }
-        Task::Named(one) => {
-            return named(alloc, program, config, tasks, one);
+        WorkItem::Named(one) => {
+            return named(alloc, program, config, worklist, one);
         }
-        Task::Tried(catches, from, label, exits) => {
-            return tried(program, config, tasks, catches, from, label, exits);
+        WorkItem::Tried(catches, from, label, exits) => {
+            return tried(program, config, worklist, catches, from, label, exits);
         }
-        Task::Caught(catches, at, from, to, label, exits) => {
+        WorkItem::Caught(catches, at, from, to, label, exits) => {
             return caught(
-                alloc, program, config, tasks, catches, at, from, to, label, exits,
+                alloc, program, config, worklist, catches, at, from, to, label, exits,
             );
         }
-        Task::Over(catches, at, label) => {
-            return over(program, config, tasks, catches, at, label);
+        WorkItem::Over(catches, at, label) => {
+            return over(program, config, worklist, catches, at, label);
         }
-        Task::End(of) => {
-            return end(program, config, tasks, of);
+        WorkItem::End(of) => {
+            return end(program, config, worklist, of);
         }
     }
 }
@@ -140,37 +141,44 @@ fn expression<'a>(
     catalogue: &'a Allow,
     program: &'a Program,
     config: &mut Config,
-    tasks: &mut Pile<Task<'a>>,
+    worklist: &mut Stack<WorkItem<'a>>,
     e: &'a Typed,
 ) -> Result<(), CodeError>
-    ensures back { OnOk result (Back (program_of program.now) (j.Value (expr_of e.now) ∷ jobs tasks.old) config.old (jobs tasks.new) config.new) }
-    ensures sound { Keeps (program_of program.now) (j.Value (expr_of e.now) ∷ jobs tasks.old) config.old result (jobs tasks.new) config.new }
+    ensures back { OnOk result (Back (program_of program.now) (w.Value (expr_of e.now) ∷ items_of worklist.old) config.old (items_of worklist.new) config.new) }
+    ensures sound { Keeps (program_of program.now) (w.Value (expr_of e.now) ∷ items_of worklist.old) config.old result (items_of worklist.new) config.new }
 {
-    value(alloc, catalogue, program, config, tasks, e)
+    value(alloc, catalogue, program, config, worklist, e)
 }
 
 fn declared<'a>(
     alloc: Global,
     program: &'a Program,
     config: &mut Config,
-    tasks: &Pile<Task<'a>>,
+    worklist: &Stack<WorkItem<'a>>,
     variable: &TypedVariable,
 ) -> Result<(), CodeError>
-    ensures back { OnOk result (Back (program_of program.now) (j.Declared variable.now.name variable.now.of ∷ jobs tasks.now) config.old (jobs tasks.now) config.new) }
-    ensures sound { Keeps (program_of program.now) (j.Declared variable.now.name variable.now.of ∷ jobs tasks.now) config.old result (jobs tasks.now) config.new }
+    ensures back { OnOk result (Back (program_of program.now) (w.Declared variable.now.name variable.now.of ∷ items_of worklist.now) config.old (items_of worklist.now) config.new) }
+    ensures sound { Keeps (program_of program.now) (w.Declared variable.now.name variable.now.of ∷ items_of worklist.now) config.old result (items_of worklist.now) config.new }
 {
-    declare(alloc, program, config, tasks, &variable.name, &variable.of)
+    declare(
+        alloc,
+        program,
+        config,
+        worklist,
+        &variable.name,
+        &variable.of,
+    )
 }
 
 fn piece<'a>(
     alloc: Global,
     program: &'a Program,
     config: &mut Config,
-    tasks: &Pile<Task<'a>>,
+    worklist: &Stack<WorkItem<'a>>,
     what: Piece<'a>,
 ) -> Result<(), CodeError>
-    ensures back { OnOk result (Back (program_of program.now) (j.Put (pieces.piece what.entry) ∷ jobs tasks.now) config.old (jobs tasks.now) config.new) }
-    ensures sound { Keeps (program_of program.now) (j.Put (pieces.piece what.entry) ∷ jobs tasks.now) config.old result (jobs tasks.now) config.new }
+    ensures back { OnOk result (Back (program_of program.now) (w.Put (pieces.piece what.entry) ∷ items_of worklist.now) config.old (items_of worklist.now) config.new) }
+    ensures sound { Keeps (program_of program.now) (w.Put (pieces.piece what.entry) ∷ items_of worklist.now) config.old result (items_of worklist.now) config.new }
 {
     put(alloc, &mut config.lines, what)?;
     Ok(())
@@ -180,12 +188,12 @@ fn convert<'a>(
     alloc: Global,
     program: &'a Program,
     config: &mut Config,
-    tasks: &Pile<Task<'a>>,
+    worklist: &Stack<WorkItem<'a>>,
     cast: Cast,
     to: &Ty,
 ) -> Result<(), CodeError>
-    ensures back { OnOk result (Back (program_of program.now) (j.Convert cast to.now ∷ jobs tasks.now) config.old (jobs tasks.now) config.new) }
-    ensures sound { Keeps (program_of program.now) (j.Convert cast to.now ∷ jobs tasks.now) config.old result (jobs tasks.now) config.new }
+    ensures back { OnOk result (Back (program_of program.now) (w.Convert cast to.now ∷ items_of worklist.now) config.old (items_of worklist.now) config.new) }
+    ensures sound { Keeps (program_of program.now) (w.Convert cast to.now ∷ items_of worklist.now) config.old result (items_of worklist.now) config.new }
 {
     put_cast(alloc, &mut config.lines, cast, to)?;
     Ok(())
@@ -195,11 +203,11 @@ fn ask<'a>(
     alloc: Global,
     program: &'a Program,
     config: &mut Config,
-    tasks: &Pile<Task<'a>>,
+    worklist: &Stack<WorkItem<'a>>,
     is: &Ty,
 ) -> Result<(), CodeError>
-    ensures back { OnOk result (Back (program_of program.now) (j.Ask is.now ∷ jobs tasks.now) config.old (jobs tasks.now) config.new) }
-    ensures sound { Keeps (program_of program.now) (j.Ask is.now ∷ jobs tasks.now) config.old result (jobs tasks.now) config.new }
+    ensures back { OnOk result (Back (program_of program.now) (w.Ask is.now ∷ items_of worklist.now) config.old (items_of worklist.now) config.new) }
+    ensures sound { Keeps (program_of program.now) (w.Ask is.now ∷ items_of worklist.now) config.old result (items_of worklist.now) config.new }
 {
     put_instance_of(alloc, &mut config.lines, is)?;
     Ok(())
@@ -209,12 +217,12 @@ fn call<'a>(
     alloc: Global,
     program: &'a Program,
     config: &mut Config,
-    tasks: &Pile<Task<'a>>,
+    worklist: &Stack<WorkItem<'a>>,
     kind: MemberKind,
     text: &Text,
 ) -> Result<(), CodeError>
-    ensures back { OnOk result (Back (program_of program.now) (j.Call kind text.now ∷ jobs tasks.now) config.old (jobs tasks.now) config.new) }
-    ensures sound { Keeps (program_of program.now) (j.Call kind text.now ∷ jobs tasks.now) config.old result (jobs tasks.now) config.new }
+    ensures back { OnOk result (Back (program_of program.now) (w.Call kind text.now ∷ items_of worklist.now) config.old (items_of worklist.now) config.new) }
+    ensures sound { Keeps (program_of program.now) (w.Call kind text.now ∷ items_of worklist.now) config.old result (items_of worklist.now) config.new }
 {
     put_member(alloc, &mut config.lines, kind, text)?;
     Ok(())
@@ -223,12 +231,12 @@ fn call<'a>(
 fn jump<'a>(
     program: &'a Program,
     config: &mut Config,
-    tasks: &Pile<Task<'a>>,
+    worklist: &Stack<WorkItem<'a>>,
     kind: Numbered,
-    label: u32,
+    label: usize,
 ) -> Result<(), CodeError>
-    ensures back { OnOk result (Back (program_of program.now) (j.Jump kind label ∷ jobs tasks.now) config.old (jobs tasks.now) config.new) }
-    ensures sound { Keeps (program_of program.now) (j.Jump kind label ∷ jobs tasks.now) config.old result (jobs tasks.now) config.new }
+    ensures back { OnOk result (Back (program_of program.now) (w.Jump kind label ∷ items_of worklist.now) config.old (items_of worklist.now) config.new) }
+    ensures sound { Keeps (program_of program.now) (w.Jump kind label ∷ items_of worklist.now) config.old result (items_of worklist.now) config.new }
 {
     config.lines.push(Line::Jump(kind, label))?;
     Ok(())
@@ -237,40 +245,37 @@ fn jump<'a>(
 fn bind<'a>(
     program: &'a Program,
     config: &mut Config,
-    tasks: &Pile<Task<'a>>,
-    label: u32,
+    worklist: &Stack<WorkItem<'a>>,
+    label: usize,
 ) -> Result<(), CodeError>
-    ensures back { OnOk result (Back (program_of program.now) (j.Bind label ∷ jobs tasks.now) config.old (jobs tasks.now) config.new) }
-    ensures sound { Keeps (program_of program.now) (j.Bind label ∷ jobs tasks.now) config.old result (jobs tasks.now) config.new }
+    ensures back { OnOk result (Back (program_of program.now) (w.Bind label ∷ items_of worklist.now) config.old (items_of worklist.now) config.new) }
+    ensures sound { Keeps (program_of program.now) (w.Bind label ∷ items_of worklist.now) config.old result (items_of worklist.now) config.new }
 {
-    let line = config.lines.len();
-    if line > 4294967295 {
-        return Err(CodeError::NoMemory);
-    }
-    config.labels.bind(label, line as u32)?;
+    let line = next_line(config)?;
+    config.labels.bind(label, line)?;
     Ok(())
 }
 
-/// The number of a name's local. Its values have to lie so.
-fn local(scope: &Pile<Entry>, name: &Text, wanted: Lies) -> Result<u32, CodeError>
-    ensures { MatchResult result (λ local. IsLocal (map entry scope.now) name.now (lying wanted) local) (λ _. IsNamed (map variable (map entry scope.now)) name.now (lying wanted) → ⊥) }
+/// The number of a name's local. Its values have to be represented so.
+fn local(scope: &SymbolTable, name: &Text, wanted: Representation) -> Result<u32, CodeError>
+    ensures { MatchResult result (λ local. IsLocal (map entry scope.now) name.now (denoted wanted) local) (λ _. IsNamed (map variable (map entry scope.now)) name.now (denoted wanted) → ⊥) }
 {
     let Some(found) = scope.find(name) else {
         return Err(CodeError::Malformed);
     };
-    alike(wanted, lies_of(&found.of))?;
+    alike(wanted, representation_of(&found.of))?;
     Ok(found.local)
 }
 
 fn load<'a>(
     program: &'a Program,
     config: &mut Config,
-    tasks: &Pile<Task<'a>>,
+    worklist: &Stack<WorkItem<'a>>,
     name: &Text,
-    wanted: Lies,
+    wanted: Representation,
 ) -> Result<(), CodeError>
-    ensures back { OnOk result (Back (program_of program.now) (j.Load name.now (lying wanted) ∷ jobs tasks.now) config.old (jobs tasks.now) config.new) }
-    ensures sound { Keeps (program_of program.now) (j.Load name.now (lying wanted) ∷ jobs tasks.now) config.old result (jobs tasks.now) config.new }
+    ensures back { OnOk result (Back (program_of program.now) (w.Load name.now (denoted wanted) ∷ items_of worklist.now) config.old (items_of worklist.now) config.new) }
+    ensures sound { Keeps (program_of program.now) (w.Load name.now (denoted wanted) ∷ items_of worklist.now) config.old result (items_of worklist.now) config.new }
 {
     let local = local(&config.scope, name, wanted)?;
     config
@@ -282,12 +287,12 @@ fn load<'a>(
 fn store<'a>(
     program: &'a Program,
     config: &mut Config,
-    tasks: &Pile<Task<'a>>,
+    worklist: &Stack<WorkItem<'a>>,
     name: &Text,
-    wanted: Lies,
+    wanted: Representation,
 ) -> Result<(), CodeError>
-    ensures back { OnOk result (Back (program_of program.now) (j.Store name.now (lying wanted) ∷ jobs tasks.now) config.old (jobs tasks.now) config.new) }
-    ensures sound { Keeps (program_of program.now) (j.Store name.now (lying wanted) ∷ jobs tasks.now) config.old result (jobs tasks.now) config.new }
+    ensures back { OnOk result (Back (program_of program.now) (w.Store name.now (denoted wanted) ∷ items_of worklist.now) config.old (items_of worklist.now) config.new) }
+    ensures sound { Keeps (program_of program.now) (w.Store name.now (denoted wanted) ∷ items_of worklist.now) config.old result (items_of worklist.now) config.new }
 {
     let local = local(&config.scope, name, wanted)?;
     config

@@ -2,8 +2,8 @@
 
 ghost use Rattle.std.specs.Prelude.{◌≡◌, ◌<◌, ◌∷◌, length, IfOk, OnOk};
 ghost use Rattle.codegen.specs.Errors.{OnlyMemory};
-ghost use Rattle.codegen.specs.Jobs as j;
-ghost use Rattle.codegen.specs.Jobs.{Back, catches_from, jobs};
+ghost use Rattle.codegen.specs.Worklist as w;
+ghost use Rattle.codegen.specs.Worklist.{Back, catches_from, items_of};
 ghost use Rattle.codegen.specs.Opened.{body_of};
 ghost use Rattle.codegen.specs.Sound.{Keeps};
 ghost use Rattle.pl_types.specs.Classes.{full_name};
@@ -14,55 +14,43 @@ ghost use Rattle.source_meaning.specs.Tree as tree;
 ghost use Rattle.program_typing.specs.Types.{IsNamed};
 ghost use Rattle.typed_tree.specs.declared.statement.TypedCatch.{out-TypedCatch};
 
-use crate::config::{Config, Flow};
+use crate::config::{Config, Flow, next_line};
 use crate::error::CodeError;
-use crate::pile::Pile;
 use crate::scopes::declare;
-use crate::task::{Exits, Tail, Task};
+use crate::work_item::{Exits, Tail, WorkItem};
 use listing_parts::ClassName;
 use pl_code::Trap;
 use pl_types::Ty;
 use pl_types::classes::{CLASS_COUNT, class_full};
 use plain_data::Items;
+use plain_stack::Stack;
 use std::alloc::Global;
 use typed_tree::{Program, TypedCatch, TypedStatement};
-
-/// The number of the next line.
-fn next_line(config: &Config) -> Result<u32, CodeError>
-    ensures number { IfOk result (λ line. line ≡ length config.now.lines) }
-    ensures memory { OnlyMemory result }
-{
-    let line = config.lines.len();
-    if line > 4294967295 {
-        return Err(CodeError::NoMemory);
-    }
-    Ok(line as u32)
-}
 
 /// A block and a jump over its catches, and then these.
 pub fn attempt<'a>(
     program: &'a Program,
     config: &mut Config,
-    tasks: &mut Pile<Task<'a>>,
+    worklist: &mut Stack<WorkItem<'a>>,
     body: &'a TypedStatement,
     catches: &'a Items<TypedCatch>,
     exits: Option<Exits>,
 ) -> Result<(), CodeError>
-    ensures back { OnOk result (Back (program_of program.now) (j.One (tree.Try (body_of body.now) (catches_from 0 catches.now)) exits ∷ jobs tasks.old) config.old (jobs tasks.new) config.new) }
-    ensures sound { Keeps (program_of program.now) (j.One (tree.Try (body_of body.now) (catches_from 0 catches.now)) exits ∷ jobs tasks.old) config.old result (jobs tasks.new) config.new }
+    ensures back { OnOk result (Back (program_of program.now) (w.One (tree.Try (body_of body.now) (catches_from 0 catches.now)) exits ∷ items_of worklist.old) config.old (items_of worklist.new) config.new) }
+    ensures sound { Keeps (program_of program.now) (w.One (tree.Try (body_of body.now) (catches_from 0 catches.now)) exits ∷ items_of worklist.old) config.old result (items_of worklist.new) config.new }
 {
     let height = config.scope.len();
     let from = next_line(config)?;
     let end = config.labels.fresh()?;
-    tasks.push_three(
-        Task::Tried(catches, from, end, exits),
-        Task::Bind(end),
-        Task::Either,
+    worklist.push_three(
+        WorkItem::Tried(catches, from, end, exits),
+        WorkItem::Bind(end),
+        WorkItem::Either,
     )?;
-    tasks.push_three(
-        Task::Statement(body, Tail::Nothing, exits),
-        Task::Close(height),
-        Task::Skip(end),
+    worklist.push_three(
+        WorkItem::Statement(body, Tail::Nothing, exits),
+        WorkItem::Close(height),
+        WorkItem::Skip(end),
     )?;
     Ok(())
 }
@@ -71,17 +59,17 @@ pub fn attempt<'a>(
 pub fn tried<'a>(
     program: &'a Program,
     config: &Config,
-    tasks: &mut Pile<Task<'a>>,
+    worklist: &mut Stack<WorkItem<'a>>,
     catches: &'a Items<TypedCatch>,
     from: u32,
-    label: u32,
+    label: usize,
     exits: Option<Exits>,
 ) -> Result<(), CodeError>
-    ensures back { OnOk result (Back (program_of program.now) (j.Tried (catches_from 0 catches.now) from label exits ∷ jobs tasks.old) config.now (jobs tasks.new) config.now) }
-    ensures sound { Keeps (program_of program.now) (j.Tried (catches_from 0 catches.now) from label exits ∷ jobs tasks.old) config.now result (jobs tasks.new) config.now }
+    ensures back { OnOk result (Back (program_of program.now) (w.Tried (catches_from 0 catches.now) from label exits ∷ items_of worklist.old) config.now (items_of worklist.new) config.now) }
+    ensures sound { Keeps (program_of program.now) (w.Tried (catches_from 0 catches.now) from label exits ∷ items_of worklist.old) config.now result (items_of worklist.new) config.now }
 {
     let to = next_line(config)?;
-    tasks.push(Task::Caught(catches, 0, from, to, label, exits))?;
+    worklist.push(WorkItem::Caught(catches, 0, from, to, label, exits))?;
     Ok(())
 }
 
@@ -90,20 +78,20 @@ pub fn caught<'a>(
     alloc: Global,
     program: &'a Program,
     config: &mut Config,
-    tasks: &mut Pile<Task<'a>>,
+    worklist: &mut Stack<WorkItem<'a>>,
     catches: &'a Items<TypedCatch>,
     at: usize,
     from: u32,
     to: u32,
-    label: u32,
+    label: usize,
     exits: Option<Exits>,
 ) -> Result<(), CodeError>
-    ensures back { OnOk result (Back (program_of program.now) (j.Caught (catches_from at catches.now) from to label exits ∷ jobs tasks.old) config.old (jobs tasks.new) config.new) }
-    ensures sound { Keeps (program_of program.now) (j.Caught (catches_from at catches.now) from to label exits ∷ jobs tasks.old) config.old result (jobs tasks.new) config.new }
+    ensures back { OnOk result (Back (program_of program.now) (w.Caught (catches_from at catches.now) from to label exits ∷ items_of worklist.old) config.old (items_of worklist.new) config.new) }
+    ensures sound { Keeps (program_of program.now) (w.Caught (catches_from at catches.now) from to label exits ∷ items_of worklist.old) config.old result (items_of worklist.new) config.new }
 {
     let _count = catches.len();
     let Some(one) = catches.get(at) else {
-        tasks.push(Task::Flows(Flow {
+        worklist.push(WorkItem::Flows(Flow {
             falls: false,
             continues: false,
         }))?;
@@ -113,15 +101,15 @@ pub fn caught<'a>(
     let line = next_line(config)?;
     let trap = trap(alloc, one.class, from, to, line)?;
     config.traps.push(trap)?;
-    tasks.push_three(
-        Task::Over(catches, at + 1, label),
-        Task::Caught(catches, at + 1, from, to, label, exits),
-        Task::Either,
+    worklist.push_three(
+        WorkItem::Over(catches, at + 1, label),
+        WorkItem::Caught(catches, at + 1, from, to, label, exits),
+        WorkItem::Either,
     )?;
-    tasks.push_three(
-        Task::Named(one),
-        Task::Statement(one.body.get(), Tail::Nothing, exits),
-        Task::Close(height),
+    worklist.push_three(
+        WorkItem::Named(one),
+        WorkItem::Statement(one.body.get(), Tail::Nothing, exits),
+        WorkItem::Close(height),
     )?;
     Ok(())
 }
@@ -161,32 +149,32 @@ pub fn named<'a>(
     alloc: Global,
     program: &'a Program,
     config: &mut Config,
-    tasks: &Pile<Task<'a>>,
+    worklist: &Stack<WorkItem<'a>>,
     one: &TypedCatch,
 ) -> Result<(), CodeError>
-    ensures back { OnOk result (Back (program_of program.now) (j.Declared (out-TypedCatch one.now).name (t.Class (out-TypedCatch one.now).class) ∷ jobs tasks.now) config.old (jobs tasks.now) config.new) }
-    ensures sound { Keeps (program_of program.now) (j.Declared (out-TypedCatch one.now).name (t.Class (out-TypedCatch one.now).class) ∷ jobs tasks.now) config.old result (jobs tasks.now) config.new }
+    ensures back { OnOk result (Back (program_of program.now) (w.Declared (out-TypedCatch one.now).name (t.Class (out-TypedCatch one.now).class) ∷ items_of worklist.now) config.old (items_of worklist.now) config.new) }
+    ensures sound { Keeps (program_of program.now) (w.Declared (out-TypedCatch one.now).name (t.Class (out-TypedCatch one.now).class) ∷ items_of worklist.now) config.old result (items_of worklist.now) config.new }
 {
     let of = Ty::Class(one.class);
-    declare(alloc, program, config, tasks, &one.name, &of)
+    declare(alloc, program, config, worklist, &one.name, &of)
 }
 
 /// A jump over the catches from one on, if there are any, where it is reached.
 pub fn over<'a>(
     program: &'a Program,
     config: &Config,
-    tasks: &mut Pile<Task<'a>>,
+    worklist: &mut Stack<WorkItem<'a>>,
     catches: &'a Items<TypedCatch>,
     at: usize,
-    label: u32,
+    label: usize,
 ) -> Result<(), CodeError>
-    ensures back { OnOk result (Back (program_of program.now) (j.Over (catches_from at catches.now) label ∷ jobs tasks.old) config.now (jobs tasks.new) config.now) }
-    ensures sound { Keeps (program_of program.now) (j.Over (catches_from at catches.now) label ∷ jobs tasks.old) config.now result (jobs tasks.new) config.now }
+    ensures back { OnOk result (Back (program_of program.now) (w.Over (catches_from at catches.now) label ∷ items_of worklist.old) config.now (items_of worklist.new) config.now) }
+    ensures sound { Keeps (program_of program.now) (w.Over (catches_from at catches.now) label ∷ items_of worklist.old) config.now result (items_of worklist.new) config.now }
 {
     let _count = catches.len();
     let Some(_next) = catches.get(at) else {
         return Ok(());
     };
-    tasks.push(Task::Skip(label))?;
+    worklist.push(WorkItem::Skip(label))?;
     Ok(())
 }

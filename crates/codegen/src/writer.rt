@@ -1,7 +1,7 @@
 //! Goes on until nothing is left to be written.
 
 ghost use Rattle.std.specs.Prelude.{[], OnOk};
-ghost use Rattle.codegen.specs.Jobs.{Back, jobs};
+ghost use Rattle.codegen.specs.Worklist.{Back, items_of};
 ghost use Rattle.codegen.specs.Errors.{OnlyMemory};
 ghost use Rattle.codegen.specs.Sound.{Sound};
 ghost use Rattle.allowlist.specs.Allow.{AllowList};
@@ -10,10 +10,10 @@ ghost use Rattle.program_typing.specs.Agreeing.{known};
 
 use crate::config::Config;
 use crate::error::CodeError;
-use crate::pile::Pile;
 use crate::step::step;
-use crate::task::Task;
+use crate::work_item::WorkItem;
 use allowlist::Allow;
+use plain_stack::Stack;
 use std::alloc::Global;
 use typed_tree::Program;
 
@@ -23,16 +23,16 @@ pub fn walk<'a>(
     catalogue: &'a Allow,
     program: &'a Program,
     config: &mut Config,
-    tasks: &mut Pile<Task<'a>>,
+    worklist: &mut Stack<WorkItem<'a>>,
 ) -> Result<(), CodeError>
-    ensures back { OnOk result (Back (program_of program.now) (jobs tasks.old) config.old [] config.new) }
-    ensures total { (allow : AllowList) → Sound (known allow (program_of program.now)) (jobs tasks.old) config.old → OnlyMemory result }
+    ensures back { OnOk result (Back (program_of program.now) (items_of worklist.old) config.old [] config.new) }
+    ensures total { (allow : AllowList) → Sound (known allow (program_of program.now)) (items_of worklist.old) config.old → OnlyMemory result }
 {
     for _ in 0..u64::MAX {
-        let Some(task) = tasks.pop() else {
+        let Some(item) = worklist.pop() else {
             return Ok(());
         };
-        step(alloc, catalogue, program, config, tasks, task)?;
+        step(alloc, catalogue, program, config, worklist, item)?;
     }
     Err(CodeError::NoMemory)
 }

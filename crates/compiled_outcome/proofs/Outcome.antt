@@ -11,7 +11,7 @@ use Rattle.source_meaning.specs.Meaning.{Out, Done, Thrown, Over, More, Flow, No
 use Rattle.source_meaning.specs.Laws.{Stays}
 use Rattle.source_meaning.proofs.Greater.{stays_above}
 use Rattle.code_meaning.specs.declared.word.Word.{Word}
-use Rattle.compiler_relation.specs.Lying.{lying_of, lying_of_layer, low}
+use Rattle.compiler_relation.specs.Representation.{representation_of, representation_of_layer, low}
 use Rattle.compiler_relation.specs.Correct.{EndsAlike, end_of, source_in, words_of, programs_of, program_ends}
 use Rattle.program_typing.specs.Types.{has_values_layer, HaveAll}
 use Rattle.program_typing.specs.Agreeing.{types_in, HaveValues}
@@ -23,9 +23,9 @@ use Rattle.compiled_outcome.specs.Outcome.{CodeEndsAsPrograms}
 
 record HasWord (of : Ty) (value : Value) : Type 0 where
   word : Word
-  is : low (lying_of of) value ≡ Some word
+  is : low (representation_of of) value ≡ Some word
 
-has_word_layer : (l : Ty-F Ty) (value : Value) → has_values_layer l → (w : Word) × (low (lying_of_layer l) value ≡ Some w)
+has_word_layer : (l : Ty-F Ty) (value : Value) → has_values_layer l → (w : Word) × (low (representation_of_layer l) value ≡ Some w)
 has_word_layer Ty-F.Void value h = absurd h
 has_word_layer Ty-F.Null value h = (_, refl)
 has_word_layer Ty-F.Def value h = (_, refl)
@@ -44,7 +44,7 @@ have_words (x ∷ xs) [] v h = absurd h
 have_words (x ∷ xs) (value ∷ values) v h =
     let first = has_word_layer (out-Ty x.of) value v.0 in
     let rest = have_words xs values v.1 h.1 in
-    record { words = first.0 ∷ rest.words; are = ap (λ o. o ∷ map Some rest.words) (sym first.1) ∙ ap (λ os. low (lying_of x.of) value ∷ os) rest.are }
+    record { words = first.0 ∷ rest.words; are = ap (λ o. o ∷ map Some rest.words) (sym first.1) ∙ ap (λ os. low (representation_of x.of) value ∷ os) rest.are }
 
 -- ---- the end
 
@@ -53,10 +53,10 @@ record Comes (of : Ty) (o : Out Flow) : Type 0 where
   is : end_of of o ≡ Some end
 
 comes : (of : Ty) (o : Out Flow) → IsEnough of o → Comes of o
-comes of (Done Normal s e) x = record { end = Result (low (lying_of of) (default_of of)) s.world; is = refl }
+comes of (Done Normal s e) x = record { end = Result (low (representation_of of) (default_of of)) s.world; is = refl }
 comes of (Done Broke s e) x = absurd x
 comes of (Done Continued s e) x = absurd x
-comes of (Done (Returned value) s e) x = record { end = Result (low (lying_of of) value) s.world; is = refl }
+comes of (Done (Returned value) s e) x = record { end = Result (low (representation_of of) value) s.world; is = refl }
 comes of (Thrown id s e) x = record { end = Uncaught id s.world; is = refl }
 comes of (Over limit w) x = record { end = Limited limit w; is = refl }
 comes of More x = absurd x

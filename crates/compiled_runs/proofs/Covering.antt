@@ -18,7 +18,7 @@ use Rattle.allowlist.specs.Allow.{AllowList}
 use Rattle.member_names.specs.Names.{TextsName}
 use Rattle.source_meaning.specs.Tree.{Expr, Literal, Quoted, Local, Apply, Guarded, Logic, Conditional, Elvis, Assign, Modify, Lambda, Reference, NewReference, Exprs, None', One, Maybe, Missing, Given, Stmt, Do, If, While, DoWhile, ForEach, Try, Block, Break, Continue, Return, Throw, Stmts, Finish, Then, Declare, Catches, NoCatch, Catch, Program, type_of}
 use Rattle.source_meaning.specs.Falls.{all_fall}
-use Rattle.compiler_relation.specs.Lying.{Lying, lying_of}
+use Rattle.compiler_relation.specs.Representation.{Representation, representation_of}
 use Rattle.compiler_relation.specs.Parts.{constant_code, text_code, default_code, operator_code, operation_code, cast_code, member_code, without_null, kept_before, kept_behind, pops}
 use Rattle.compiler_relation.specs.Stands.{Scope, At, AllAt, end_all, end_expr, end_exprs, change_first, change_last, elvis_right, settled, settles, ExprAt, ExprsAt, goes_on, end_skip, end_dropped, end_update, end_test, end_last, end_value, end_returned, end_stmt, end_stmts, end_catches, end_tried, end_caught, jumps_over, handlers_of, next_stmt, next_stmts, Jumps, SkipAt, DroppedAt, UpdateAt, TestAt, LastAt, ValueAt, ReturnedAt, StmtAt, StmtsAt, CatchesAt}
 use Rattle.program_typing.specs.Agreeing as agreeing
@@ -88,13 +88,13 @@ module _ (allow : AllowList) (f : FunCode) where
           let q = end_expr p a in
           let r = end_exprs (suc (suc q)) others in
           let c = end_all r (member_code o) in
-          let e = end_all c (without_null (lying_of of)) in
+          let e = end_all c (without_null (representation_of of)) in
           join p q e (expr_covered g names p a ok.0 s.0)
           (join q (suc q) e (one h q (i.Plain plain.Dup) s.1 refl)
           (join (suc q) (suc (suc q)) e (one h (suc q) (i.Numbered numbered.IfNull c) s.2 refl)
           (join (suc (suc q)) r e (exprs_covered g names (suc (suc q)) others ok.1 s.3)
           (join r c e (all h r (member_code o) s.4 (guard_rows allow texts funs o (type_of a ∷ types_of others) of ok.2))
-          (all h c (without_null (lying_of of)) s.5 (null_rows allow (lying_of of)))))))
+          (all h c (without_null (representation_of of)) s.5 (null_rows allow (representation_of of)))))))
       expr_covered g names p (Logic at of o left right) ok s =
           let q = end_expr p left in
           let r = end_expr (suc q) right in
@@ -150,7 +150,7 @@ module _ (allow : AllowList) (f : FunCode) where
 
     dropped : (g : Scope) (names : agreeing.Scope) (p : ℕ) (a : Expr) → ExprAgrees (known allow funs) names a → DroppedAt funs f h g p a → Covered p (end_dropped p a)
     dropped g names p a ok s =
-        join p (end_expr p a) (end_dropped p a) (expr_covered g names p a ok s.0) (all h (end_expr p a) (pops (lying_of (type_of a))) s.1 (pops_rows allow (lying_of (type_of a))))
+        join p (end_expr p a) (end_dropped p a) (expr_covered g names p a ok s.0) (all h (end_expr p a) (pops (representation_of (type_of a))) s.1 (pops_rows allow (representation_of (type_of a))))
 
     skipped : (b : Bool) (p to : ℕ) → SkipAt f h b p to → Covered p (end_skip b p)
     skipped true p to s = one h p (i.Numbered numbered.Goto to) s refl
@@ -175,7 +175,7 @@ module _ (allow : AllowList) (f : FunCode) where
     valued g names p Missing of ok s = all h p (default_code of) s (default_rows allow of)
     valued g names p (Given a) of ok s = expr_covered g names p a ok.0 s.0
 
-    returned : (k : Lying) (g : Scope) (names : agreeing.Scope) (p : ℕ) (value : Maybe) (of : Ty) → ReturnAgrees (known allow funs) names value of → ReturnedAt funs f h g k p value → Covered p (end_returned p value)
+    returned : (k : Representation) (g : Scope) (names : agreeing.Scope) (p : ℕ) (value : Maybe) (of : Ty) → ReturnAgrees (known allow funs) names value of → ReturnedAt funs f h g k p value → Covered p (end_returned p value)
     returned k g names p Missing of ok s = nothing p
     returned k g names p (Given a) of ok s = expr_covered g names p a ok.0 s.0
 
@@ -183,7 +183,7 @@ module _ (allow : AllowList) (f : FunCode) where
 
   module _ (texts : TextsName) (funs : Program) where
     mutual
-      stmt_covered : (h : Handlers) (k : Lying) (of : Ty) (looped : Bool) (g : Scope) (names : agreeing.Scope) (n : ℕ) (j : Jumps) (p : ℕ) (t : Stmt) → StmtAgrees (known allow funs) of looped names t → StmtAt funs f h k g n j p t → Covered p (end_stmt p t)
+      stmt_covered : (h : Handlers) (k : Representation) (of : Ty) (looped : Bool) (g : Scope) (names : agreeing.Scope) (n : ℕ) (j : Jumps) (p : ℕ) (t : Stmt) → StmtAgrees (known allow funs) of looped names t → StmtAt funs f h k g n j p t → Covered p (end_stmt p t)
       stmt_covered h k of looped g names n j p (Do a) ok s = dropped texts funs h g names p a ok s
       stmt_covered h k of looped g names n j p (If c a b) ok s =
           let q = end_expr p c in
@@ -225,7 +225,7 @@ module _ (allow : AllowList) (f : FunCode) where
           let q = end_expr p value in
           join p q (suc q) (expr_covered texts funs h g names p value ok.0 s.0) (one h q (i.Plain plain.Throw) s.2 refl)
 
-      pub stmts_covered : (h : Handlers) (k : Lying) (of : Ty) (looped : Bool) (g : Scope) (names : agreeing.Scope) (n : ℕ) (j : Jumps) (p : ℕ) (ts : Stmts) → StmtsAgree (known allow funs) of looped names ts → StmtsAt funs f h k g n j p ts → Covered p (end_stmts p ts)
+      pub stmts_covered : (h : Handlers) (k : Representation) (of : Ty) (looped : Bool) (g : Scope) (names : agreeing.Scope) (n : ℕ) (j : Jumps) (p : ℕ) (ts : Stmts) → StmtsAgree (known allow funs) of looped names ts → StmtsAt funs f h k g n j p ts → Covered p (end_stmts p ts)
       stmts_covered h k of looped g names n j p Finish ok s = nothing p
       stmts_covered h k of looped g names n j p (Then t rest) ok s =
           join p (end_stmt p t) (end_stmts (end_stmt p t) rest) (stmt_covered h k of looped g names n j p t ok.0 s.0) (stmts_covered h k of looped g names (next_stmt n t) j (end_stmt p t) rest ok.1 s.1)
@@ -235,7 +235,7 @@ module _ (allow : AllowList) (f : FunCode) where
           (join q (suc q) (end_stmts (suc q) rest) (one h q (i.Numbered numbered.Store n) s.3 refl)
           (stmts_covered h k of looped (record { name = x; of = at; local = n } ∷ g) (record { name = x; of = at } ∷ names) (suc n) j (suc q) rest ok.2 s.4))
 
-      catches_covered : (h : Handlers) (k : Lying) (of : Ty) (looped : Bool) (g : Scope) (names : agreeing.Scope) (n : ℕ) (j : Jumps) (to p : ℕ) (catches : Catches) → CatchesAgree (known allow funs) of looped names catches → CatchesAt funs f h k g n j to p catches → Covered p (end_catches p catches)
+      catches_covered : (h : Handlers) (k : Representation) (of : Ty) (looped : Bool) (g : Scope) (names : agreeing.Scope) (n : ℕ) (j : Jumps) (to p : ℕ) (catches : Catches) → CatchesAgree (known allow funs) of looped names catches → CatchesAt funs f h k g n j to p catches → Covered p (end_catches p catches)
       catches_covered h k of looped g names n j to p NoCatch ok s = nothing p
       catches_covered h k of looped g names n j to p (Catch class x body others) ok s =
           let r = end_stmts (suc p) body in

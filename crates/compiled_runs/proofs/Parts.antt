@@ -41,9 +41,9 @@ use Rattle.member_names.specs.Names.{TextsName, named_by}
 use Rattle.typed_tree.specs.declared.operation.Member.{Member}
 use Rattle.source_meaning.specs.Tree.{Exprs, None', One, Program}
 use Rattle.program_typing.specs.Agreeing.{known, Applies, MemberAgrees, Guards, types_of}
-use Rattle.compiler_relation.specs.Lying.{Lying, Bare, Whole, Absent, lying_of}
+use Rattle.compiler_relation.specs.Representation.{Representation, Unboxed, Boxed, Absent, representation_of}
 use Rattle.compiler_relation.specs.Parts.{constant_code, default_code_layer, default_code, arithmetic_code, boolean_code, operator_code, from_int_code, from_long_code, from_byte_code, from_short_code, from_char_code, number_code, run_time_code_layer, run_time_code, cast_code, operation_code, member_code, without_null, pops, kept_before, kept_behind}
-use Rattle.compiler_relation.specs.Stands.{AsksKnown, Fitting, lyings}
+use Rattle.compiler_relation.specs.Stands.{AsksKnown, Fitting, representations}
 use Rattle.verifier_soundness.specs.Rows.{member_has_row, has_row}
 
 module _ (allow : AllowList) where
@@ -198,9 +198,9 @@ module _ (allow : AllowList) where
 
   -- ---- members
 
-  pub null_rows : (k : Lying) → AllRows (without_null k)
-  null_rows Bare = refl
-  null_rows Whole = refl
+  pub null_rows : (k : Representation) → AllRows (without_null k)
+  null_rows Unboxed = refl
+  null_rows Boxed = refl
   null_rows Absent = refl
 
   row_and : (instruction : Instruction) (lines : List Instruction) → has_row allow instruction ≡ true → AllRows lines → AllRows (instruction ∷ lines)
@@ -220,8 +220,8 @@ module _ (allow : AllowList) where
     guard_rows o ofs of guards =
         ap (λ o. list_all (has_row allow) (member_code o)) guards.is ∙ one_row (i.Invoke guards.member.text) (member_row kind.Instance guards.member ofs of guards.agrees)
 
-    -- an operation on parts that agree and lie as it takes them
-    pub operation_rows : (o : Operation) (parts : Exprs) (of : Ty) → Applies (known allow funs) o (types_of parts) of → Fitting funs o (lyings parts) of → AllRows (operation_code o of)
+    -- an operation on parts that agree and are represented as it takes them
+    pub operation_rows : (o : Operation) (parts : Exprs) (of : Ty) → Applies (known allow funs) o (types_of parts) of → Fitting funs o (representations parts) of → AllRows (operation_code o of)
     operation_rows (operation.Operator o) parts of applies fits = operator_rows o
     operation_rows (operation.Cast c) None' of applies fits = absurd applies
     operation_rows (operation.Cast c) (One a None') of applies fits = cast_rows c of fits.asks
@@ -229,13 +229,13 @@ module _ (allow : AllowList) where
     operation_rows (operation.InstanceOf is) parts of applies fits = one_row (i.Typed typed.IsA (full_text is)) (known_row is fits.2)
     operation_rows (operation.Function k) parts of applies fits = refl
     operation_rows (operation.Instance m) parts of applies fits =
-        row_and (i.Invoke m.text) (without_null (lying_of of)) (member_row kind.Instance m (types_of parts) of applies) (null_rows (lying_of of))
+        row_and (i.Invoke m.text) (without_null (representation_of of)) (member_row kind.Instance m (types_of parts) of applies) (null_rows (representation_of of))
     operation_rows (operation.Static m) parts of applies fits =
-        row_and (i.Invoke m.text) (without_null (lying_of of)) (member_row kind.Static m (types_of parts) of applies) (null_rows (lying_of of))
+        row_and (i.Invoke m.text) (without_null (representation_of of)) (member_row kind.Static m (types_of parts) of applies) (null_rows (representation_of of))
     operation_rows (operation.Constructor m) parts of applies fits =
-        row_and (i.New m.text) (without_null (lying_of of)) (member_row kind.Constructor m (types_of parts) of applies) (null_rows (lying_of of))
+        row_and (i.New m.text) (without_null (representation_of of)) (member_row kind.Constructor m (types_of parts) of applies) (null_rows (representation_of of))
     operation_rows (operation.Field m) parts of applies fits =
-        row_and (i.Field m.text) (without_null (lying_of of)) (member_row kind.Field m (types_of parts) of applies) (null_rows (lying_of of))
+        row_and (i.Field m.text) (without_null (representation_of of)) (member_row kind.Field m (types_of parts) of applies) (null_rows (representation_of of))
     operation_rows other parts of applies fits = refl
 
   default_layer_rows : (l : Ty-F Ty) → AllRows (default_code_layer l)
@@ -254,9 +254,9 @@ module _ (allow : AllowList) where
   pub default_rows : (of : Ty) → AllRows (default_code of)
   default_rows of = default_layer_rows (out-Ty of)
 
-  pub pops_rows : (k : Lying) → AllRows (pops k)
-  pops_rows Bare = refl
-  pops_rows Whole = refl
+  pub pops_rows : (k : Representation) → AllRows (pops k)
+  pops_rows Unboxed = refl
+  pops_rows Boxed = refl
   pops_rows Absent = refl
 
   pub before_rows : (g : Gives) → AllRows (kept_before g)

@@ -14,7 +14,7 @@ use Rattle.member_names.specs.Names.{TextsName}
 use Rattle.source_meaning.specs.Tree.{Fun, Program}
 use Rattle.source_meaning.specs.Programs.{program_of}
 use Rattle.source_meaning.specs.Falls.{all_fall}
-use Rattle.compiler_relation.specs.Lying.{lying_of}
+use Rattle.compiler_relation.specs.Representation.{representation_of}
 use Rattle.compiler_relation.specs.Parts.{default_code}
 use Rattle.compiler_relation.specs.Stands.{scope_of, no_jumps, end_all, end_stmts, EndAt, end_end, FunAt, Compiled}
 use Rattle.program_typing.specs.Agreeing as agreeing
@@ -47,7 +47,7 @@ module _ (texts : TextsName) (allow : AllowList) (funs : Program) (code : List F
       let q = end_stmts 0 fun.body in
       subst (Covered allow fa.body 0) (sym fa.lines)
       (join allow fa.body 0 q (end_end (all_fall fun.body) q fun.result)
-      (stmts_covered allow fa.body texts funs [] (lying_of fun.result) fun.result false (scope_of fun.params 0 []) (agreeing.scope_of fun.params []) (length fun.params) no_jumps 0 fun.body agrees.body fa.stands)
+      (stmts_covered allow fa.body texts funs [] (representation_of fun.result) fun.result false (scope_of fun.params 0 []) (agreeing.scope_of fun.params []) (length fun.params) no_jumps 0 fun.body agrees.body fa.stands)
       (ending allow fa.body (all_fall fun.body) q fun.result fa.ends))
 
 -- an instruction of a function whose lines have rows

@@ -22,7 +22,7 @@ use Rattle.typed_tree.specs.declared.operation.Change.{Change}
 use Rattle.typed_tree.specs.declared.operation.Gives.{Gives}
 use Rattle.object_values.specs.declared.object.Owner.{Owner}
 use Rattle.source_meaning.specs.Tree.{Name, Expr, Literal, Quoted, Local, Apply, Guarded, Logic, Conditional, Elvis, Assign, Modify, Lambda, Reference, NewReference, Exprs, None', One, Program, type_of}
-use Rattle.compiler_relation.specs.Lying.{lying_of}
+use Rattle.compiler_relation.specs.Representation.{representation_of}
 use Rattle.compiler_relation.specs.Parts.{operator_code, operation_code, member_code, without_null, cast_code, kept_before, kept_behind}
 use Rattle.compiler_relation.specs.Stands.{Scope, end_all, end_expr, end_exprs, change_first, elvis_right, settled, settles, ExprAt, ExprsAt, Compiled}
 use Rattle.member_names.specs.Names.{TextsName}
@@ -192,7 +192,7 @@ module _ {text : Owner} (texts : TextsName) (allow : AllowList) (funs : Program)
       let c = cut (expr_ends allow functions f p s a) have in
       let d = cut (exprs_ends allow functions f (suc (suc q)) (R ∷ s) others) (rest (rest c.1)) in
       let e = cut (spans_end allow functions f (member_code o) call takes) d.1 in
-      let drops = straight allow functions f shapes h (without_null (lying_of of)) last (R ∷ s) (push of s) stands.5
+      let drops = straight allow functions f shapes h (without_null (representation_of of)) last (R ∷ s) (push of s) stands.5
       (guard_null allow functions f texts funs o (type_of a ∷ types_of others) of s guards) e.1 next in
       let calls = straight allow functions f shapes h (member_code o) call takes (R ∷ s) stands.4
       (guarded_straight allow functions f texts funs o (type_of a) of (types_of others) s guards) e.0 drops.has in

@@ -21,7 +21,7 @@ use Rattle.verifier.specs.Shaped.{Leads, begins, catches, turns, passes, LineSta
 use Rattle.object_values.specs.declared.object.Owner.{Owner}
 use Rattle.source_meaning.specs.Falls.{all_fall}
 use Rattle.source_meaning.specs.Tree.{Variable, Fun, Program}
-use Rattle.compiler_relation.specs.Lying.{lying_of, kind_of, result_of}
+use Rattle.compiler_relation.specs.Representation.{representation_of, kind_of, result_of}
 use Rattle.compiler_relation.specs.Parts.{default_code}
 use Rattle.compiler_relation.specs.Stands.{Scope, end_stmts, traps_stmts, scope_of, no_jumps, kinds_of, EndAt, end_end, FunAt, Compiled}
 use Rattle.member_names.specs.Names.{TextsName}
@@ -186,7 +186,7 @@ module _ {text : Owner} (texts : TextsName) (allow : AllowList) (funs : Program)
       let own = traps_stmts 0 fun.body in
       let agree = subst (λ names. StmtsAgree (known allow funs) of false names fun.body) (sym (names_params fun.params 0 [])) agrees.body in
       let body =
-      stmts_fit texts allow funs functions formed made f shapes many (lying_of of) of fa.result fun.body [] false g (length fun.params) no_jumps 0 locals agree reached fa.stands (own_traps f own fa.traps) c.0
+      stmts_fit texts allow funs functions formed made f shapes many (representation_of of) of fa.result fun.body [] false g (length fun.params) no_jumps 0 locals agree reached fa.stands (own_traps f own fa.traps) c.0
       (λ e. absurd (false≢true e)) last.has in
       let traps = subst (TrapsFit shapes) (sym fa.traps) (stmts_traps allow functions f shapes (known allow funs) of fun.body false (names g) 0 agree c.0) in
       let ran = body.runs begins in

@@ -27,7 +27,7 @@ use Rattle.typed_tree.specs.declared.operation.Member.{Member}
 use Rattle.typed_tree.specs.declared.operation.Operation.{Operation}
 use Rattle.typed_tree.specs.declared.operation.Operation.TheVariants as operation
 use Rattle.source_meaning.specs.Tree.{Program}
-use Rattle.compiler_relation.specs.Lying.{lying_of_layer, lying_of, kind_of_layer, kind_of}
+use Rattle.compiler_relation.specs.Representation.{representation_of_layer, representation_of, kind_of_layer, kind_of}
 use Rattle.compiler_relation.specs.Parts.{operation_code, member_code, without_null}
 use Rattle.program_typing.specs.Types.{IsReference, has_values_layer}
 use Rattle.program_typing.specs.Agreeing.{known, TakesTypes, MemberAgrees, Guards, is_primitive_layer}
@@ -75,13 +75,13 @@ stands_at number m is = get_or_from_slice_get catalogue number m (constructor 0 
 
 -- ---- kinds
 
-whole_kind : (l : Ty-F Ty) → is_primitive_layer l ≡ false → kind_of_layer l ≡ R
-whole_kind Ty-F.Void h = refl
-whole_kind Ty-F.Null h = refl
-whole_kind Ty-F.Def h = refl
-whole_kind (Ty-F.Prim p) h = cc
-whole_kind (Ty-F.Class class) h = refl
-whole_kind (Ty-F.Array of) h = refl
+boxed_kind : (l : Ty-F Ty) → is_primitive_layer l ≡ false → kind_of_layer l ≡ R
+boxed_kind Ty-F.Void h = refl
+boxed_kind Ty-F.Null h = refl
+boxed_kind Ty-F.Def h = refl
+boxed_kind (Ty-F.Prim p) h = cc
+boxed_kind (Ty-F.Class class) h = refl
+boxed_kind (Ty-F.Array of) h = refl
 
 there_has_values : (l : Ty-F Ty) → is_there_layer l ≡ true → has_values_layer l
 there_has_values Ty-F.Void h = absurd (false≢true h)
@@ -202,7 +202,7 @@ module _ (allow : AllowList) (functions : List FunCode) (f : FunCode) where
   }
 
   -- the null that a method leaves which gives nothing is dropped
-  null_layer : (l : Ty-F Ty) (s : List Slot) → Straight allow functions f (without_null (lying_of_layer l)) (kind_of_layer l ∷ s) (push_layer l s)
+  null_layer : (l : Ty-F Ty) (s : List Slot) → Straight allow functions f (without_null (representation_of_layer l)) (kind_of_layer l ∷ s) (push_layer l s)
   null_layer Ty-F.Void s = only allow functions f (pop_passes allow functions f R s) refl refl
   null_layer Ty-F.Null s = refl
   null_layer Ty-F.Def s = refl
@@ -210,7 +210,7 @@ module _ (allow : AllowList) (functions : List FunCode) (f : FunCode) where
   null_layer (Ty-F.Class class) s = refl
   null_layer (Ty-F.Array of) s = refl
 
-  pub null_straight : (of : Ty) (s : List Slot) → Straight allow functions f (without_null (lying_of of)) (kind_of of ∷ s) (push of s)
+  pub null_straight : (of : Ty) (s : List Slot) → Straight allow functions f (without_null (representation_of of)) (kind_of of ∷ s) (push of s)
   null_straight of s = null_layer (out-Ty of) s
 
   module _ (texts : TextsName) (funs : Program) where
@@ -271,7 +271,7 @@ module _ (allow : AllowList) (functions : List FunCode) (f : FunCode) where
     guard_takes o from of ofs h = h.agrees.takes.0
 
     pub guard_kind : (o : Operation) (ofs : List Ty) (of : Ty) → Guards (known allow funs) o ofs of → kind_of of ≡ R
-    guard_kind o ofs of h = whole_kind (out-Ty of) h.whole
+    guard_kind o ofs of h = boxed_kind (out-Ty of) h.whole
 
     -- the call, behind a receiver
     pub guarded_straight : (o : Operation) (from of : Ty) (ofs : List Ty) (s : List Slot) → Guards (known allow funs) o (from ∷ ofs) of
@@ -286,6 +286,6 @@ module _ (allow : AllowList) (functions : List FunCode) (f : FunCode) where
         subst (λ o. Straight allow functions f (member_code o) (push_types ofs (R ∷ s)) (R ∷ s)) (sym h.is) (only allow functions f given refl refl)
 
     pub guard_null : (o : Operation) (ofs : List Ty) (of : Ty) (s : List Slot) → Guards (known allow funs) o ofs of
-        → Straight allow functions f (without_null (lying_of of)) (R ∷ s) (push of s)
+        → Straight allow functions f (without_null (representation_of of)) (R ∷ s) (push of s)
     guard_null o ofs of s h =
-        subst (λ k. Straight allow functions f (without_null (lying_of of)) (k ∷ s) (push of s)) (guard_kind o ofs of h) (null_straight of s)
+        subst (λ k. Straight allow functions f (without_null (representation_of of)) (k ∷ s) (push of s)) (guard_kind o ofs of h) (null_straight of s)

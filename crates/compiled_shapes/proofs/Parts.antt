@@ -11,7 +11,7 @@ use Rattle.typed_tree.specs.declared.operation.Gives.{Gives}
 use Rattle.typed_tree.specs.declared.operation.Gives.TheVariants as gives
 use Rattle.source_meaning.specs.Falls.{all_fall}
 use Rattle.source_meaning.specs.Tree.{Expr, Literal, Quoted, Local, Apply, Guarded, Logic, Conditional, Elvis, Assign, Modify, Lambda, Reference, NewReference, Exprs, None', One, Maybe, Missing, Given, Stmt, Do, If, While, DoWhile, ForEach, Try, Block, Break, Continue, Return, Throw, Stmts, Finish, Then, Declare, Catches, NoCatch, Catch, type_of}
-use Rattle.compiler_relation.specs.Lying.{lying_of, result_of}
+use Rattle.compiler_relation.specs.Representation.{representation_of, result_of}
 use Rattle.compiler_relation.specs.Parts.{default_code, operator_code, cast_code, operation_code, member_code, without_null, pops, kept_before, kept_behind}
 use Rattle.compiler_relation.specs.Stands.{change_first, end_expr, end_exprs, goes_on, end_skip, end_dropped, end_update, end_test, end_last, end_value, end_returned, jumps_over, end_stmt, end_stmts, end_catches}
 use Rattle.program_typing.specs.Agreeing.{types_of}
@@ -55,7 +55,7 @@ module _ (allow : AllowList) (functions : List FunCode) (f : FunCode) where
         ∷ (R ∷ R ∷ s)
         ∷ (exprs_kinds (R ∷ s) others
         ++ (spans allow functions f (member_code o) (push_types (types_of others) (R ∷ s))
-        ++ spans allow functions f (without_null (lying_of of)) (R ∷ s))))
+        ++ spans allow functions f (without_null (representation_of of)) (R ∷ s))))
     expr_kinds s (Logic at of o left right) = expr_kinds s left ++ ((I ∷ s) ∷ (expr_kinds s right ++ ((I ∷ s) ∷ s ∷ [])))
     expr_kinds s (Conditional at of c a b) = expr_kinds s c ++ ((I ∷ s) ∷ (expr_kinds s a ++ (push of s ∷ expr_kinds s b)))
     expr_kinds s (Elvis at of left right) = expr_kinds s left ++ ((R ∷ s) ∷ (R ∷ R ∷ s) ∷ (R ∷ s) ∷ (R ∷ s) ∷ expr_kinds s right)
@@ -83,7 +83,7 @@ module _ (allow : AllowList) (functions : List FunCode) (f : FunCode) where
   skip_kinds false = []
 
   abbrev pub dropped_kinds : Expr → List (List Slot)
-  dropped_kinds a = expr_kinds [] a ++ spans allow functions f (pops (lying_of (type_of a))) (push (type_of a) [])
+  dropped_kinds a = expr_kinds [] a ++ spans allow functions f (pops (representation_of (type_of a))) (push (type_of a) [])
 
   abbrev pub update_kinds : Bool → Maybe → List (List Slot)
   update_kinds false update = []
@@ -154,7 +154,7 @@ module _ (allow : AllowList) (functions : List FunCode) (f : FunCode) where
         (behind (R ∷ R ∷ s)
         (joined (exprs_ends _ (R ∷ s) others)
         (joined (spans_end allow functions f (member_code o) _ (push_types (types_of others) (R ∷ s)))
-        (spans_end allow functions f (without_null (lying_of of)) _ (R ∷ s))))))
+        (spans_end allow functions f (without_null (representation_of of)) _ (R ∷ s))))))
     expr_ends p s (Logic at of o left right) = joined (expr_ends p s left) (behind (I ∷ s) (joined (expr_ends _ s right) (behind (I ∷ s) (one s))))
     expr_ends p s (Conditional at of c a b) = joined (expr_ends p s c) (behind (I ∷ s) (joined (expr_ends _ s a) (behind (push of s) (expr_ends _ s b))))
     expr_ends p s (Elvis at of left right) = joined (expr_ends p s left) (behind (R ∷ s) (behind (R ∷ R ∷ s) (behind (R ∷ s) (behind (R ∷ s) (expr_ends _ s right)))))
@@ -180,7 +180,7 @@ module _ (allow : AllowList) (functions : List FunCode) (f : FunCode) where
   skip_ends false p = ended
 
   pub dropped_ends : (p : ℕ) (a : Expr) → Ends p (dropped_kinds a) (end_dropped p a)
-  dropped_ends p a = joined (expr_ends p [] a) (spans_end allow functions f (pops (lying_of (type_of a))) _ _)
+  dropped_ends p a = joined (expr_ends p [] a) (spans_end allow functions f (pops (representation_of (type_of a))) _ _)
 
   pub update_ends : (b : Bool) (p : ℕ) (update : Maybe) → Ends p (update_kinds b update) (end_update b p update)
   update_ends false p update = ended

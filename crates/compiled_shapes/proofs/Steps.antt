@@ -43,7 +43,7 @@ use Rattle.typed_tree.specs.declared.operation.Gives.{Gives}
 use Rattle.typed_tree.specs.declared.operation.Gives.TheVariants as gives
 use Rattle.object_values.specs.declared.object.Owner.{Owner}
 use Rattle.source_meaning.specs.Tree.{Variable, Fun, Program}
-use Rattle.compiler_relation.specs.Lying.{lying_of_layer, lying_of, kind_of_primitive, kind_of_layer, kind_of, result_of_layer}
+use Rattle.compiler_relation.specs.Representation.{representation_of_layer, representation_of, kind_of_primitive, kind_of_layer, kind_of, result_of_layer}
 use Rattle.compiler_relation.specs.Parts.{text_code, constant_code, default_code_layer, default_code, arithmetic_code, boolean_code, turned_round, operator_code, from_int_code, number_code, run_time_code_layer, run_time_code, cast_code, pops, kept_before, kept_behind}
 use Rattle.compiler_relation.specs.Stands.{HasLocal, kinds_of, Compiled}
 use Rattle.program_typing.specs.Types.{is_reference_layer, IsReference, has_values_layer, HasValues, IsOf, TakesNumbers, TakesFlags, TakesReferences, string, Takes, Converts, IsNamed, Keeps, Same, References, Casts}
@@ -432,7 +432,7 @@ module _ (allow : AllowList) (functions : List FunCode) (f : FunCode) where
 
   -- ---- values that are dropped or kept
 
-  pops_layer : (l : Ty-F Ty) (s : List Slot) → Straight allow functions f (pops (lying_of_layer l)) (push_layer l s) s
+  pops_layer : (l : Ty-F Ty) (s : List Slot) → Straight allow functions f (pops (representation_of_layer l)) (push_layer l s) s
   pops_layer Ty-F.Void s = refl
   pops_layer Ty-F.Null s = only (pop_passes R s) refl refl
   pops_layer Ty-F.Def s = only (pop_passes R s) refl refl
@@ -440,7 +440,7 @@ module _ (allow : AllowList) (functions : List FunCode) (f : FunCode) where
   pops_layer (Ty-F.Class class) s = only (pop_passes R s) refl refl
   pops_layer (Ty-F.Array of) s = only (pop_passes R s) refl refl
 
-  pub pops_straight : (of : Ty) (s : List Slot) → Straight allow functions f (pops (lying_of of)) (push of s) s
+  pub pops_straight : (of : Ty) (s : List Slot) → Straight allow functions f (pops (representation_of of)) (push of s) s
   pops_straight of s = pops_layer (out-Ty of) s
 
   pub copy_passes : (of : Ty) (s : List Slot) → HasValues of → Passes allow functions f (i.Plain plain.Dup) (push of s) (push of (push of s))

@@ -16,7 +16,7 @@ use Rattle.code_meaning.specs.Machine.{Handlers}
 use Rattle.object_values.specs.declared.object.Owner.{Owner}
 use Rattle.source_meaning.specs.Falls.{falls, all_fall, any_falls, continues, any_continues, catches_continue}
 use Rattle.source_meaning.specs.Tree.{Name, Expr, Maybe, Missing, Given, Stmt, Do, If, While, DoWhile, ForEach, Try, Block, Break, Continue, Return, Throw, Stmts, Finish, Then, Declare, Catches, NoCatch, Catch, Program, type_of}
-use Rattle.compiler_relation.specs.Lying.{Lying, lying_of, result_of}
+use Rattle.compiler_relation.specs.Representation.{Representation, representation_of, result_of}
 use Rattle.compiler_relation.specs.Parts.{default_code, pops}
 use Rattle.compiler_relation.specs.Stands.{Scope, end_expr, goes_on, end_skip, end_dropped, end_update, end_test, end_last, end_value, end_stmt, end_stmts, end_catches, next_stmt, next_stmts, handlers_of, trap_of, traps_stmt, traps_stmts, traps_catches, Jumps, At, HasLocal, SkipAt, DroppedAt, UpdateAt, TestAt, LastAt, ValueAt, StmtAt, StmtsAt, CatchesAt, Compiled}
 use Rattle.member_names.specs.Names.{TextsName}
@@ -75,7 +75,7 @@ module _ (allow : AllowList) (functions : List FunCode) (f : FunCode) (shapes : 
   falling r = record { has = r.has; runs = λ led. let x = r.runs led in record { fine = x.fine; falls = λ e. x.led; continues = λ e. no e } }
 
 module _ {text : Owner} (texts : TextsName) (allow : AllowList) (funs : Program) (functions : List FunCode) (formed : WellFormed (known allow funs)) (made : Compiled text funs functions) (f : FunCode) (shapes : List (List Slot)) (many : length shapes ≡ length f.lines)
-    (k : Lying) (of : Ty) (result : f.result ≡ result_of of) where
+    (k : Representation) (of : Ty) (result : f.result ≡ result_of of) where
   abbrev pub StmtFits : Stmt → Type 0
   StmtFits t =
       (h : Handlers) (looped : Bool) (g : Scope) (n : ℕ) (j : Jumps) (p : ℕ) → HaveLocals f g → StmtAgrees (known allow funs) of looped (names g) t → StmtReached t → StmtAt funs f h k g n j p t → AreTraps f (traps_stmt p t) → Have shapes p (stmt_kinds allow functions f t)
@@ -98,7 +98,7 @@ module _ {text : Owner} (texts : TextsName) (allow : AllowList) (funs : Program)
   dropped_fits : (h : Handlers) (g : Scope) (a : Expr) (p : ℕ) → HaveLocals f g → ExprAgrees (known allow funs) (names g) a → DroppedAt funs f h g p a → Have shapes p (dropped_kinds allow functions f a) → Has shapes (end_dropped p a) [] → Runs allow functions f shapes p [] (end_dropped p a) []
   dropped_fits h g a p locals agrees stands have next =
       let c = cut (expr_ends allow functions f p [] a) have in
-      then_ allow functions f shapes (straight allow functions f shapes h (pops (lying_of (type_of a))) (end_expr p a) (push (type_of a) []) [] stands.1 (pops_straight allow functions f (type_of a) []) c.1 next) (λ n.
+      then_ allow functions f shapes (straight allow functions f shapes h (pops (representation_of (type_of a))) (end_expr p a) (push (type_of a) []) [] stands.1 (pops_straight allow functions f (type_of a) []) c.1 next) (λ n.
       expr_fits texts allow funs functions formed made f shapes many g a h p [] locals agrees stands.0 c.0 n)
 
   test_fits : (h : Handlers) (g : Scope) (test : Maybe) (p : ℕ) → HaveLocals f g → TestAgrees (known allow funs) (names g) test → TestAt funs f h g p test → Have shapes p (test_kinds allow functions f test) → Has shapes (end_test p test) (I ∷ []) → Runs allow functions f shapes p [] (end_test p test) (I ∷ [])

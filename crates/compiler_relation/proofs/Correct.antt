@@ -9,8 +9,8 @@ use Rattle.source_meaning.specs.Meaning.{State, Env, Out, Done, Thrown, Over, Mo
 use Rattle.code_meaning.specs.declared.word.Word.{Word}
 use Rattle.code_meaning.specs.Words.{start_of}
 use Rattle.code_meaning.specs.Machine.{Codes, Next, Goes, Ends, Stuck, unwind, gives_back}
-use Rattle.compiler_relation.specs.Lying.{lying_of, low}
-use Rattle.compiler_relation.specs.Stands.{Scope, all_fall, any_continues, end_stmts, scope_of, no_jumps, ArePresent, lyings_of, EndAt, FunAt, AreCompiled}
+use Rattle.compiler_relation.specs.Representation.{representation_of, low}
+use Rattle.compiler_relation.specs.Stands.{Scope, all_fall, any_continues, end_stmts, scope_of, no_jumps, ArePresent, representations_of, EndAt, FunAt, AreCompiled}
 use Rattle.compiler_relation.proofs.Locals.{Under, under_more}
 use Rattle.compiler_relation.proofs.Follows.{Ctx, Leads, ended, at, Follows}
 use Rattle.compiler_relation.proofs.Refines.{Good, land_flow}
@@ -28,15 +28,15 @@ use Rattle.compiler_relation.proofs.Simulates.{refines}
 some_injective : (w u : Word) (ws us : List (Option Word)) → (Some w ∷ ws) ≡ (Some u ∷ us) → (w ≡ u) × (ws ≡ us)
 some_injective w u ws us e = (cc, cc)
 
-words_are : (xs : List Variable) (values : List Value) (words : List Word) → ArePresent (lyings_of xs) → length xs ≡ length values → map Some words ≡ words_of xs values → words ≡ words_at (lyings_of xs) values
+words_are : (xs : List Variable) (values : List Value) (words : List Word) → ArePresent (representations_of xs) → length xs ≡ length values → map Some words ≡ words_of xs values → words ≡ words_at (representations_of xs) values
 words_are [] values [] present count is = refl
 words_are [] values (w ∷ words) present count is = cc
 words_are (x ∷ xs) [] words present count is = absurd (omega arith)
 words_are (x ∷ xs) (value ∷ values) [] present count is = cc
 words_are (x ∷ xs) (value ∷ values) (w ∷ words) present count is =
-    let lies : low (lying_of x.of) value ≡ Some (word_at (lying_of x.of) value) = low_is (lying_of x.of) value present.0 in
-    let both = some_injective w (word_at (lying_of x.of) value) (map Some words) (words_of xs values) (is ∙ ap (λ o. o ∷ words_of xs values) lies) in
-    let rest : words ≡ words_at (lyings_of xs) values = words_are xs values words present.1 (omega arith) both.1 in
+    let representation : low (representation_of x.of) value ≡ Some (word_at (representation_of x.of) value) = low_is (representation_of x.of) value present.0 in
+    let both = some_injective w (word_at (representation_of x.of) value) (map Some words) (words_of xs values) (is ∙ ap (λ o. o ∷ words_of xs values) representation) in
+    let rest : words ≡ words_at (representations_of xs) values = words_are xs values words present.1 (omega arith) both.1 in
     λ k. both.0 k ∷ rest k
 
 module _ (codes : Codes) (limits : Limits) where
@@ -53,15 +53,15 @@ module _ (funs : Programs) (codes : Codes) (limits : Limits) where
   finishes : (c : Ctx codes) (g : Scope) (falling continuing : Bool) (q : ℕ) → c.below ≡ [] → EndAt c.body falling q c.result → (from : Next) (o : Out Flow) (r : End (Option Word))
       → Follows codes limits c [] g (land_flow funs codes limits c no_jumps q) (Good falling continuing) from o → end_of c.result o ≡ Some r → Leads codes limits from r
   finishes c g falling continuing q none ends from (Done Normal s e) r d is =
-      let same : Result (low (lying_of c.result) (default_of c.result)) s.world ≡ r = cc in
-      let last : Leads codes limits (gives_back codes limits c.below [] (low (lying_of c.result) (default_of c.result)) s.world) r =
-      subst (λ b. Leads codes limits (gives_back codes limits b [] (low (lying_of c.result) (default_of c.result)) s.world) r) (sym none)
-      (subst (λ r. Leads codes limits (Ends (Result (low (lying_of c.result) (default_of c.result)) s.world)) r) same (ended codes limits _)) in
+      let same : Result (low (representation_of c.result) (default_of c.result)) s.world ≡ r = cc in
+      let last : Leads codes limits (gives_back codes limits c.below [] (low (representation_of c.result) (default_of c.result)) s.world) r =
+      subst (λ b. Leads codes limits (gives_back codes limits b [] (low (representation_of c.result) (default_of c.result)) s.world) r) (sym none)
+      (subst (λ r. Leads codes limits (Ends (Result (low (representation_of c.result) (default_of c.result)) s.world)) r) same (ended codes limits _)) in
       d r (λ l f good. function_ends codes limits c falling q l s r ends good last)
   finishes c g falling continuing q none ends from (Done (Returned value) s e) r d is =
-      let same : Result (low (lying_of c.result) value) s.world ≡ r = cc in
-      d r (λ l f good. subst (λ b. Leads codes limits (gives_back codes limits b [] (low (lying_of c.result) value) s.world) r) (sym none)
-      (subst (λ r. Leads codes limits (Ends (Result (low (lying_of c.result) value) s.world)) r) same (ended codes limits _)))
+      let same : Result (low (representation_of c.result) value) s.world ≡ r = cc in
+      d r (λ l f good. subst (λ b. Leads codes limits (gives_back codes limits b [] (low (representation_of c.result) value) s.world) r) (sym none)
+      (subst (λ r. Leads codes limits (Ends (Result (low (representation_of c.result) value) s.world)) r) same (ended codes limits _)))
   finishes c g falling continuing q none ends from (Done Broke s e) r d is = cc
   finishes c g falling continuing q none ends from (Done Continued s e) r d is = cc
   finishes c g falling continuing q none ends from (Thrown id s e) r d is =
@@ -84,8 +84,8 @@ ends_alike reads texts funs codes made limits main is args words are w bound end
     body None q e = cc
     body (Some env) q e =
         let count : length main.params ≡ length args = entry_count main.params args [] env q in
-        let same : words ≡ words_at (lyings_of main.params) args = words_are main.params args words fa.present count are.are in
-        let locals = words_at (lyings_of main.params) args ++ map start_of fa.body.locals in
+        let same : words ≡ words_at (representations_of main.params) args = words_are main.params args words fa.present count are.are in
+        let locals = words_at (representations_of main.params) args ++ map start_of fa.body.locals in
         let c : Ctx codes = record { text = Script; fun = 0; body = fa.body; result = main.result; below = []; is = fa.is; loops = fa.loops; gives = fa.result } in
         let scope = scope_of main.params 0 [] in
         let s : State = record { world = w; turns = 0 } in

@@ -8,7 +8,7 @@ use Rattle.pl_types.specs.declared.conversion.Cast.TheVariants as cast
 use Rattle.arithmetic.specs.declared.operator.Op.TheVariants as op
 use Rattle.typed_tree.specs.declared.operation.Operator.TheVariants as operator
 use Rattle.source_meaning.specs.Tree.{Fun}
-use Rattle.compiler_relation.specs.Lying.{Bare, Absent}
+use Rattle.compiler_relation.specs.Representation.{Unboxed, Absent}
 use Rattle.compiler_relation.specs.Stands.{Entry, At, ChangeFits, FunAt}
 use Rattle.compiler_relation.specs.Example.{int, x, main, code, IsExample}
 
@@ -18,16 +18,16 @@ here is = record { here = is; traps = refl }
 abbrev entry : Entry
 entry = record { name = x; of = int; local = 0 }
 
-bare_some : Bare ≢ Absent
-bare_some e = cc
+unboxed_some : Unboxed ≢ Absent
+unboxed_some e = cc
 
-change_fits : ChangeFits (record { before = cast.Keep; operator = operator.Int op.Add; after = cast.Keep }) int Bare
+change_fits : ChangeFits (record { before = cast.Keep; operator = operator.Int op.Add; after = cast.Keep }) int Unboxed
 unfolding ty.out-Ty denote.Hole.Carrier.out
 change_fits = record {
-  present = bare_some;
-  before = record { takes = refl; lies = refl; asks = tt };
+  present = unboxed_some;
+  before = record { takes = refl; representation = refl; asks = tt };
   right = refl;
-  after = record { takes = refl; lies = refl; asks = tt };
+  after = record { takes = refl; representation = refl; asks = tt };
 }
 
 main_stands : FunAt Script (main ∷ []) (code ∷ []) 0 main
@@ -41,7 +41,7 @@ main_stands = record {
   result = refl;
   stands = (
     ((here refl, refl), refl),
-    bare_some,
+    unboxed_some,
     record { is = refl },
     here refl,
     (

@@ -11,7 +11,7 @@ use Rattle.run_state.specs.World.{Limits, End, Limited, has_loop_limit}
 use Rattle.source_meaning.specs.Meaning.{State, Env, Place, Out, Done, Thrown, Over, More, bind, leave, choose}
 use Rattle.code_meaning.specs.declared.word.Word.{Word}
 use Rattle.code_meaning.specs.Machine.{Codes, code_in, Frame, Config, Next, Goes, Ends, Handlers, traps_of, lands, unwind, act, acts, lines_of, step, after, depth_of, on_top, on_int, unless_zero, pushed}
-use Rattle.compiler_relation.specs.Lying.{Lying, Bare, Whole, Absent, low, result_of}
+use Rattle.compiler_relation.specs.Representation.{Representation, Unboxed, Boxed, Absent, low, result_of}
 use Rattle.compiler_relation.specs.Stands.{Entry, Scope, At}
 use Rattle.compiler_relation.proofs.Locals.{Fits, leaves}
 
@@ -162,11 +162,11 @@ module _ (codes : Codes) (limits : Limits) where
   leaving {c = c} {h = h} {g = g} y {land = land} {good = good} {n = n} {o = o} d = record { by = left c h g y land good n o d.by }
 
   -- a test, whose value lies on the stack
-  pub tested : {A : Type 0} {c : Ctx codes} {h : Handlers} {g : Scope} {land : A → State → List Word → Next} {good : A → Type 0} (value : Value) (k : Lying) (st : List Word) (first second : List Word → Next) {o o' : Out A} → k ≡ Bare
+  pub tested : {A : Type 0} {c : Ctx codes} {h : Handlers} {g : Scope} {land : A → State → List Word → Next} {good : A → Type 0} (value : Value) (k : Representation) (st : List Word) (first second : List Word → Next) {o o' : Out A} → k ≡ Unboxed
       → Sim c h g land good (first st) o → Sim c h g land good (second st) o'
       → Sim c h g land good (on_top (pushed (low k value) st) (λ word stack. on_int word (λ a. unless_zero a (first stack) (second stack)))) (choose value o o')
-  tested (v.Bool true) Bare st first second is d d' = d
-  tested (v.Bool false) Bare st first second is d d' = d'
+  tested (v.Bool true) Unboxed st first second is d d' = d
+  tested (v.Bool false) Unboxed st first second is d d' = d'
   tested v.Null k st first second is d d' = record { by = tt }
   tested (v.Byte a) k st first second is d d' = record { by = tt }
   tested (v.Short a) k st first second is d d' = record { by = tt }
@@ -175,5 +175,5 @@ module _ (codes : Codes) (limits : Limits) where
   tested (v.Long a) k st first second is d d' = record { by = tt }
   tested (v.Str a) k st first second is d d' = record { by = tt }
   tested (v.Ref a) k st first second is d d' = record { by = tt }
-  tested (v.Bool a) Whole st first second is d d' = cc
+  tested (v.Bool a) Boxed st first second is d d' = cc
   tested (v.Bool a) Absent st first second is d d' = cc

@@ -9,15 +9,15 @@ use Rattle.pl_code.specs.declared.code.FunCode.{FunCode}
 use Rattle.source_meaning.specs.Tree.{Name}
 use Rattle.source_meaning.specs.Meaning.{Env, lookup, assigned, older}
 use Rattle.code_meaning.specs.declared.word.Word.{Word}
-use Rattle.compiler_relation.specs.Lying.{Absent, lying_of, kind_of, low}
+use Rattle.compiler_relation.specs.Representation.{Absent, representation_of, kind_of, low}
 use Rattle.compiler_relation.specs.Stands.{Entry, Scope, entry_of, HasLocal}
 
--- each name's local has its value as it lies there
+-- each name's local has its value as it is represented there
 abbrev pub Agrees : Scope → Env → List Word → Type 0
 Agrees [] [] l = Unit {0}
 Agrees [] (b ∷ e) l = ⊥
 Agrees (y ∷ g) [] l = ⊥
-Agrees (y ∷ g) (b ∷ e) l = (b.name ≡ y.name) × (lying_of y.of ≢ Absent) × (slice_get l y.local ≡ low (lying_of y.of) b.value) × Agrees g e l
+Agrees (y ∷ g) (b ∷ e) l = (b.name ≡ y.name) × (representation_of y.of ≢ Absent) × (slice_get l y.local ≡ low (representation_of y.of) b.value) × Agrees g e l
 
 -- all locals of a scope are below a number
 abbrev pub Under : ℕ → Scope → Type 0
@@ -77,38 +77,38 @@ above (y ∷ g) (b ∷ e) l k v u a = (a.0, a.1, set_other l k y.local v (λ e. 
 
 -- a name's value is in its local
 pub reads : (g : Scope) (e : Env) (l : List Word) (x : Name) (y : Entry) → entry_of g x ≡ Some y → Agrees g e l → (v : Value) → lookup e x ≡ Some v
-    → (slice_get l y.local ≡ low (lying_of y.of) v) × (lying_of y.of ≢ Absent)
+    → (slice_get l y.local ≡ low (representation_of y.of) v) × (representation_of y.of ≢ Absent)
 reads [] e l x y s a v q = cc
 reads (z ∷ g) [] l x y s a v q = absurd a
 reads (z ∷ g) (b ∷ e) l x y s a v q = pick (λ s q. reads g e l x y s a.3 v q) (bytes_eq x z.name) (bytes_eq x b.name) (ap (bytes_eq x) (sym a.0)) s q
   where
     Read : Type 0
-    Read = (slice_get l y.local ≡ low (lying_of y.of) v) × (lying_of y.of ≢ Absent)
+    Read = (slice_get l y.local ≡ low (representation_of y.of) v) × (representation_of y.of ≢ Absent)
 
     pick : (entry_of g x ≡ Some y → lookup e x ≡ Some v → Read) → (c d : Bool) → c ≡ d → (if c then Some z else entry_of g x) ≡ Some y → (if d then Some b.value else lookup e x) ≡ Some v → Read
     pick older true true r s q =
         let same : z ≡ y = cc in
         let value : b.value ≡ v = cc in
-        subst (λ (y : Entry). (slice_get l y.local ≡ low (lying_of y.of) v) × (lying_of y.of ≢ Absent)) same
-        (subst (λ v. (slice_get l z.local ≡ low (lying_of z.of) v) × (lying_of z.of ≢ Absent)) value (a.2, a.1))
+        subst (λ (y : Entry). (slice_get l y.local ≡ low (representation_of y.of) v) × (representation_of y.of ≢ Absent)) same
+        (subst (λ v. (slice_get l z.local ≡ low (representation_of z.of) v) × (representation_of z.of ≢ Absent)) value (a.2, a.1))
     pick older false false r s q = older s q
     pick older true false r s q = cc
     pick older false true r s q = cc
 
-agrees_write : (g : Scope) (e : Env) (l : List Word) (x : Name) (y : Entry) (v : Value) (w : Word) → entry_of g x ≡ Some y → low (lying_of y.of) v ≡ Some w → y.local < length l
+agrees_write : (g : Scope) (e : Env) (l : List Word) (x : Name) (y : Entry) (v : Value) (w : Word) → entry_of g x ≡ Some y → low (representation_of y.of) v ≡ Some w → y.local < length l
     → Falling g → Agrees g e l → Agrees g (assigned e x v) (slice_set l y.local w)
-agrees_write [] e l x y v w s lies h order a = cc
-agrees_write (z ∷ g) [] l x y v w s lies h order a = absurd a
-agrees_write (z ∷ g) (b ∷ e) l x y v w s lies h order a =
-    pick (λ s. agrees_write g e l x y v w s lies h order.1 a.3) (bytes_eq x z.name) (bytes_eq x b.name) (ap (bytes_eq x) (sym a.0)) s
+agrees_write [] e l x y v w s representation h order a = cc
+agrees_write (z ∷ g) [] l x y v w s representation h order a = absurd a
+agrees_write (z ∷ g) (b ∷ e) l x y v w s representation h order a =
+    pick (λ s. agrees_write g e l x y v w s representation h order.1 a.3) (bytes_eq x z.name) (bytes_eq x b.name) (ap (bytes_eq x) (sym a.0)) s
   where
     pick : (entry_of g x ≡ Some y → Agrees g (assigned e x v) (slice_set l y.local w)) → (c d : Bool) → c ≡ d → (if c then Some z else entry_of g x) ≡ Some y
         → Agrees (z ∷ g) (if d then (record { name = b.name; value = v } ∷ e) else (b ∷ assigned e x v)) (slice_set l y.local w)
     pick deeper true true q s =
         let same : y ≡ z = cc in
         let local : y.local ≡ z.local = ap (λ (t : Entry). t.local) same in
-        let here : slice_get (slice_set l y.local w) z.local ≡ low (lying_of z.of) v =
-        subst (λ n. slice_get (slice_set l y.local w) n ≡ low (lying_of z.of) v) local (set_same l y.local w h ∙ sym lies ∙ ap (λ (t : Entry). low (lying_of t.of) v) same) in
+        let here : slice_get (slice_set l y.local w) z.local ≡ low (representation_of z.of) v =
+        subst (λ n. slice_get (slice_set l y.local w) n ≡ low (representation_of z.of) v) local (set_same l y.local w h ∙ sym representation ∙ ap (λ (t : Entry). low (representation_of t.of) v) same) in
         (a.0, a.1, here, above g e l y.local w (subst (λ n. Under n g) (sym local) order.0) a.3)
     pick deeper false false q s =
         (a.0, a.1, set_other l y.local z.local w (λ e. absurd (omega (arith, entry_under z.local g x y s order.0, e))) ∙ a.2, deeper s)
@@ -116,10 +116,10 @@ agrees_write (z ∷ g) (b ∷ e) l x y v w s lies h order a =
     pick deeper false true q s = cc
 
 -- an assignment
-pub writes : (f : FunCode) (g : Scope) (e : Env) (l : List Word) (x : Name) (y : Entry) (v : Value) (w : Word) → entry_of g x ≡ Some y → low (lying_of y.of) v ≡ Some w
+pub writes : (f : FunCode) (g : Scope) (e : Env) (l : List Word) (x : Name) (y : Entry) (v : Value) (w : Word) → entry_of g x ≡ Some y → low (representation_of y.of) v ≡ Some w
     → Fits f g e l → Fits f g (assigned e x v) (slice_set l y.local w)
-writes f g e l x y v w s lies a = record {
-  names = agrees_write g e l x y v w s lies (entry_under (length l) g x y s a.within) a.order a.names;
+writes f g e l x y v w s representation a = record {
+  names = agrees_write g e l x y v w s representation (entry_under (length l) g x y s a.within) a.order a.names;
   size = set_size l y.local w ∙ a.size;
   order = a.order;
   within = subst (λ n. Under n g) (sym (set_size l y.local w)) a.within;
@@ -127,9 +127,9 @@ writes f g e l x y v w s lies a = record {
 
 -- a new name
 pub declares : (f : FunCode) (g : Scope) (e : Env) (l : List Word) (y : Entry) (v : Value) (w : Word) → y.local < length f.params + length f.locals → Under y.local g
-    → lying_of y.of ≢ Absent → low (lying_of y.of) v ≡ Some w → Fits f g e l → Fits f (y ∷ g) (record { name = y.name; value = v } ∷ e) (slice_set l y.local w)
-declares f g e l y v w has under some lies a = record {
-  names = (refl, some, set_same l y.local w (omega (arith, has, a.size)) ∙ sym lies, above g e l y.local w under a.names);
+    → representation_of y.of ≢ Absent → low (representation_of y.of) v ≡ Some w → Fits f g e l → Fits f (y ∷ g) (record { name = y.name; value = v } ∷ e) (slice_set l y.local w)
+declares f g e l y v w has under some representation a = record {
+  names = (refl, some, set_same l y.local w (omega (arith, has, a.size)) ∙ sym representation, above g e l y.local w under a.names);
   size = set_size l y.local w ∙ a.size;
   order = (under, a.order);
   within = (omega (arith, has, a.size, set_size l y.local w), subst (λ n. Under n g) (sym (set_size l y.local w)) a.within);

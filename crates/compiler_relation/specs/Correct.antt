@@ -12,14 +12,14 @@ use Rattle.source_meaning.specs.Meaning.{Env, Out, Done, Thrown, Over, More, Flo
 use Rattle.code_meaning.specs.declared.word.Word.{Word}
 use Rattle.code_meaning.specs.Machine.{Codes, Config, Next, Goes, Ends, after}
 use Rattle.code_meaning.specs.Machine.{start}
-use Rattle.compiler_relation.specs.Lying.{lying_of, low}
+use Rattle.compiler_relation.specs.Representation.{representation_of, low}
 use Rattle.compiler_relation.specs.Stands.{Compiled, AreCompiled}
 
 -- ---- how a program ends at a bound
 
 abbrev pub end_with : Ty → Option Value → World → Option (End (Option Word))
 end_with of None w = None
-end_with of (Some value) w = Some (Result (low (lying_of of) value) w)
+end_with of (Some value) w = Some (Result (low (representation_of of) value) w)
 
 abbrev pub end_of : Ty → Out Flow → Option (End (Option Word))
 end_of of (Done flow s e) = end_with of (returned of flow) s.world
@@ -36,7 +36,7 @@ abbrev pub source_of : Programs → Limits → ℕ → Option Fun → List Value
 source_of funs limits bound None args w = None
 source_of funs limits bound (Some main) args w = source_in funs limits bound main (entry main.params args []) w
 
--- How the main script's run on these arguments ends, with its result as it lies in code; nothing where that is More.
+-- How the main script's run on these arguments ends, with its result as code represents it; nothing where that is More.
 abbrev pub source : Programs → Limits → ℕ → List Value → World → Option (End (Option Word))
 source funs limits bound args w = source_of funs limits bound (slice_get funs.script 0) args w
 
@@ -45,7 +45,7 @@ source funs limits bound args w = source_of funs limits bound (slice_get funs.sc
 abbrev pub words_of : List Variable → List Value → List (Option Word)
 words_of [] values = []
 words_of (x ∷ xs) [] = []
-words_of (x ∷ xs) (value ∷ values) = low (lying_of x.of) value ∷ words_of xs values
+words_of (x ∷ xs) (value ∷ values) = low (representation_of x.of) value ∷ words_of xs values
 
 -- the words of arguments, where each has one
 pub record Words (xs : List Variable) (values : List Value) (words : List Word) : Type 0 where

@@ -1,4 +1,4 @@
-pub mod Lying
+pub mod Representation
 pub mod Parts
 pub mod Stands
 pub mod Placed

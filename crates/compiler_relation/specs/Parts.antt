@@ -31,7 +31,7 @@ use Rattle.pl_code.specs.declared.kinds.Quoting.TheVariants as quoting
 use Rattle.pl_code.specs.declared.kinds.Typed.TheVariants as typed
 use Rattle.pl_code.specs.declared.kinds.Way.{Way}
 use Rattle.pl_code.specs.declared.kinds.Way.TheVariants as way
-use Rattle.compiler_relation.specs.Lying.{Lying, Bare, Whole, Absent, lying_of}
+use Rattle.compiler_relation.specs.Representation.{Representation, Unboxed, Boxed, Absent, representation_of}
 
 abbrev pub text_code : List ℕ → Instruction
 text_code text = i.Quoted quoting.Constant text
@@ -107,18 +107,18 @@ operator_code operator.NotSame = i.Plain plain.Same ∷ turned_round
 operator_code operator.Concat = i.Plain plain.Concat ∷ []
 operator_code other = []
 
--- how the operands of an operator lie, and how what it gives does
-abbrev pub operator_takes : Operator → Lying
-operator_takes operator.Equal = Whole
-operator_takes operator.NotEqual = Whole
-operator_takes operator.Same = Whole
-operator_takes operator.NotSame = Whole
-operator_takes operator.Concat = Whole
-operator_takes other = Bare
+-- how the operands of an operator are represented, and how what it gives is
+abbrev pub operator_takes : Operator → Representation
+operator_takes operator.Equal = Boxed
+operator_takes operator.NotEqual = Boxed
+operator_takes operator.Same = Boxed
+operator_takes operator.NotSame = Boxed
+operator_takes operator.Concat = Boxed
+operator_takes other = Unboxed
 
-abbrev pub operator_gives : Operator → Lying
-operator_gives operator.Concat = Whole
-operator_gives other = Bare
+abbrev pub operator_gives : Operator → Representation
+operator_gives operator.Concat = Boxed
+operator_gives other = Unboxed
 
 -- ---- casts
 
@@ -173,28 +173,28 @@ cast_code cast.CharToText to = i.Boxing prim.Char ∷ i.Cast (full_text (t.Class
 cast_code cast.TextToChar to = i.Unboxing prim.Char way.Explicit ∷ []
 cast_code other to = []
 
--- how what a cast takes lies, and how what it gives to a type does; one that keeps the value leaves it as it lies
-abbrev pub cast_takes : Cast → Lying → Lying
-cast_takes (cast.Number _ _) lying = Bare
-cast_takes (cast.Wrap _ _) lying = Bare
-cast_takes cast.CharToText lying = Bare
-cast_takes cast.Implicit lying = Whole
-cast_takes cast.Explicit lying = Whole
-cast_takes cast.TextToChar lying = Whole
-cast_takes other lying = lying
+-- how what a cast takes is represented, and how what it gives to a type is; one that keeps the value leaves it as it is represented
+abbrev pub cast_takes : Cast → Representation → Representation
+cast_takes (cast.Number _ _) representation = Unboxed
+cast_takes (cast.Wrap _ _) representation = Unboxed
+cast_takes cast.CharToText representation = Unboxed
+cast_takes cast.Implicit representation = Boxed
+cast_takes cast.Explicit representation = Boxed
+cast_takes cast.TextToChar representation = Boxed
+cast_takes other representation = representation
 
-abbrev pub run_time_lies : Ty-F Ty → Lying
-run_time_lies (Ty-F.Prim p) = Bare
-run_time_lies other = Whole
+abbrev pub run_time_representation : Ty-F Ty → Representation
+run_time_representation (Ty-F.Prim p) = Unboxed
+run_time_representation other = Boxed
 
-abbrev pub cast_gives : Cast → Ty → Lying → Lying
-cast_gives (cast.Number _ _) to lying = Bare
-cast_gives (cast.Wrap _ _) to lying = Whole
-cast_gives cast.CharToText to lying = Whole
-cast_gives cast.Implicit to lying = run_time_lies (out-Ty to)
-cast_gives cast.Explicit to lying = run_time_lies (out-Ty to)
-cast_gives cast.TextToChar to lying = Bare
-cast_gives other to lying = lying
+abbrev pub cast_gives : Cast → Ty → Representation → Representation
+cast_gives (cast.Number _ _) to representation = Unboxed
+cast_gives (cast.Wrap _ _) to representation = Boxed
+cast_gives cast.CharToText to representation = Boxed
+cast_gives cast.Implicit to representation = run_time_representation (out-Ty to)
+cast_gives cast.Explicit to representation = run_time_representation (out-Ty to)
+cast_gives cast.TextToChar to representation = Unboxed
+cast_gives other to representation = representation
 
 -- ---- strict operations
 
@@ -207,9 +207,9 @@ member_code (operation.Field m) = i.Field m.text ∷ []
 member_code other = []
 
 -- .. which is dropped
-abbrev pub without_null : Lying → List Instruction
+abbrev pub without_null : Representation → List Instruction
 without_null Absent = i.Plain plain.Pop ∷ []
-without_null lying = []
+without_null representation = []
 
 -- an operation that gives a value of a type
 abbrev pub operation_code : Operation → Ty → List Instruction
@@ -217,16 +217,16 @@ operation_code (operation.Operator o) of = operator_code o
 operation_code (operation.Cast c) of = cast_code c of
 operation_code (operation.InstanceOf is) of = i.Typed typed.IsA (full_text is) ∷ []
 operation_code (operation.Function k) of = i.Numbered numbered.Call k ∷ []
-operation_code (operation.Instance m) of = i.Invoke m.text ∷ without_null (lying_of of)
-operation_code (operation.Static m) of = i.Invoke m.text ∷ without_null (lying_of of)
-operation_code (operation.Constructor m) of = i.New m.text ∷ without_null (lying_of of)
-operation_code (operation.Field m) of = i.Field m.text ∷ without_null (lying_of of)
+operation_code (operation.Instance m) of = i.Invoke m.text ∷ without_null (representation_of of)
+operation_code (operation.Static m) of = i.Invoke m.text ∷ without_null (representation_of of)
+operation_code (operation.Constructor m) of = i.New m.text ∷ without_null (representation_of of)
+operation_code (operation.Field m) of = i.Field m.text ∷ without_null (representation_of of)
 operation_code other of = []
 
 -- a value that is dropped
-abbrev pub pops : Lying → List Instruction
+abbrev pub pops : Representation → List Instruction
 pops Absent = []
-pops lying = i.Plain plain.Pop ∷ []
+pops representation = i.Plain plain.Pop ∷ []
 
 -- a value that is kept below a change of it, or behind it
 abbrev pub kept_before : Gives → List Instruction

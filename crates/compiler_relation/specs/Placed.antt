@@ -7,7 +7,7 @@ use Rattle.pl_code.specs.declared.kinds.Numbered.TheVariants as numbered
 use Rattle.pl_code.specs.declared.code.FunCode.{FunCode}
 use Rattle.pl_code.specs.declared.code.Instruction.TheVariants as i
 use Rattle.source_meaning.specs.Tree.{Stmt, Do, If, While, DoWhile, ForEach, Try, Block, Break, Continue, Return, Throw, Stmts, Finish, Then, Declare, Catches, NoCatch, Catch, Program, type_of}
-use Rattle.compiler_relation.specs.Lying.{Lying, Bare, Whole, Absent, lying_of}
+use Rattle.compiler_relation.specs.Representation.{Representation, Unboxed, Boxed, Absent, representation_of}
 use Rattle.compiler_relation.specs.Stands.{Scope, At, ExprAt, all_fall, goes_on, end_expr, end_skip, end_update, end_test, end_last, end_value, end_returned, end_stmt, end_stmts, end_tried, end_caught, next_stmt, next_stmts, jumps_over, Jumps, no_jumps, HasLocal, SkipAt, DroppedAt, UpdateAt, TestAt, LastAt, ValueAt, ReturnedAt, StmtsAt, EndAt, traps_stmts}
 
 -- code without its traps
@@ -15,11 +15,11 @@ abbrev pub untrapped : FunCode → FunCode
 untrapped f = record f { traps = [] }
 
 abbrev mutual
-  pub StmtIn : Program → FunCode → Lying → Scope → ℕ → Jumps → ℕ → Stmt → Type 0
+  pub StmtIn : Program → FunCode → Representation → Scope → ℕ → Jumps → ℕ → Stmt → Type 0
   StmtIn funs f k g n j p (Do a) = DroppedAt funs f [] g p a
   StmtIn funs f k g n j p (If c a b) =
       ExprAt funs f [] g p c
-      × (lying_of (type_of c) ≡ Bare)
+      × (representation_of (type_of c) ≡ Unboxed)
       × At f [] (end_expr p c) (i.Numbered numbered.IfZero (end_skip (all_fall a) (end_stmts (suc (end_expr p c)) a)))
       × StmtsIn funs f k g n j (suc (end_expr p c)) a
       × SkipAt f [] (all_fall a) (end_stmts (suc (end_expr p c)) a) (end_stmt p (If c a b))
@@ -45,20 +45,20 @@ abbrev mutual
   StmtIn funs f k g n j p Break = At f [] p (i.Numbered numbered.Goto j.out)
   StmtIn funs f k g n j p Continue = At f [] p (i.Numbered numbered.Goto j.on)
   StmtIn funs f k g n j p (Return value) = ReturnedAt funs f [] g k p value × At f [] (end_returned p value) (i.Plain plain.Ret)
-  StmtIn funs f k g n j p (Throw value) = ExprAt funs f [] g p value × (lying_of (type_of value) ≡ Whole) × At f [] (end_expr p value) (i.Plain plain.Throw)
+  StmtIn funs f k g n j p (Throw value) = ExprAt funs f [] g p value × (representation_of (type_of value) ≡ Boxed) × At f [] (end_expr p value) (i.Plain plain.Throw)
 
-  pub StmtsIn : Program → FunCode → Lying → Scope → ℕ → Jumps → ℕ → Stmts → Type 0
+  pub StmtsIn : Program → FunCode → Representation → Scope → ℕ → Jumps → ℕ → Stmts → Type 0
   StmtsIn funs f k g n j p Finish = Unit {0}
   StmtsIn funs f k g n j p (Then t rest) = StmtIn funs f k g n j p t × StmtsIn funs f k g (next_stmt n t) j (end_stmt p t) rest
   StmtsIn funs f k g n j p (Declare x of value rest) =
       ValueAt funs f [] g p value of
-      × (lying_of of ≢ Absent)
+      × (representation_of of ≢ Absent)
       × HasLocal f n of
       × At f [] (end_value p value of) (i.Numbered numbered.Store n)
       × StmtsIn funs f k (record { name = x; of = of; local = n } ∷ g) (suc n) j (suc (end_value p value of)) rest
 
   -- code names the class of each catch
-  pub CatchesIn : Program → FunCode → Lying → Scope → ℕ → Jumps → ℕ → ℕ → Catches → Type 0
+  pub CatchesIn : Program → FunCode → Representation → Scope → ℕ → Jumps → ℕ → ℕ → Catches → Type 0
   CatchesIn funs f k g n j to p NoCatch = Unit {0}
   CatchesIn funs f k g n j to p (Catch class x body rest) =
       (class < 57)
@@ -71,6 +71,6 @@ abbrev mutual
 -- Where the trap lines are those of a function's body too, what is thrown goes to the handlers of its part.
 abbrev pub CatchesCover : Type 0
 CatchesCover =
-    (funs : Program) (f : FunCode) (k : Lying) (g : Scope) (n : ℕ) (body : Stmts) (of : Ty) → f.traps ≡ traps_stmts 0 body
+    (funs : Program) (f : FunCode) (k : Representation) (g : Scope) (n : ℕ) (body : Stmts) (of : Ty) → f.traps ≡ traps_stmts 0 body
     → StmtsIn funs (untrapped f) k g n no_jumps 0 body → EndAt (untrapped f) (all_fall body) (end_stmts 0 body) of
     → StmtsAt funs f [] k g n no_jumps 0 body × EndAt f (all_fall body) (end_stmts 0 body) of

@@ -33,7 +33,7 @@ use Rattle.object_values.specs.declared.object.Owner.{Owner}
 use Rattle.object_values.specs.declared.object.Owner.TheVariants.{Script, Prelude}
 use Rattle.run_state.specs.World.{has_loop_limit}
 use Rattle.code_meaning.specs.Machine.{Codes, Handlers, traps_at}
-use Rattle.compiler_relation.specs.Lying.{Lying, Bare, Whole, Absent, lying_of, kind_of, result_of}
+use Rattle.compiler_relation.specs.Representation.{Representation, Unboxed, Boxed, Absent, representation_of, kind_of, result_of}
 use Rattle.pl_types.specs.declared.conversion.Cast.{Cast}
 use Rattle.pl_types.specs.declared.conversion.Cast.TheVariants as cast
 use Rattle.pl_types.specs.Texts.{is_known}
@@ -91,7 +91,7 @@ abbrev mutual
   end_expr p (Local at of x) = suc p
   end_expr p (Apply at of o parts) = end_all (end_exprs p parts) (operation_code o of)
   end_expr p (Guarded at of o None') = p
-  end_expr p (Guarded at of o (One a others)) = end_all (end_all (end_exprs (suc (suc (end_expr p a))) others) (member_code o)) (without_null (lying_of of))
+  end_expr p (Guarded at of o (One a others)) = end_all (end_all (end_exprs (suc (suc (end_expr p a))) others) (member_code o)) (without_null (representation_of of))
   end_expr p (Logic at of o left right) = suc (suc (end_expr (suc (end_expr p left)) right))
   end_expr p (Conditional at of c a b) = end_expr (suc (end_expr (suc (end_expr p c)) a)) b
   end_expr p (Elvis at of left right) = end_expr (elvis_right (end_expr p left)) right
@@ -107,14 +107,14 @@ abbrev mutual
 
 -- ---- expressions
 
-abbrev pub lyings : Exprs → List Lying
-lyings None' = []
-lyings (One a others) = lying_of (type_of a) ∷ lyings others
+abbrev pub representations : Exprs → List Representation
+representations None' = []
+representations (One a others) = representation_of (type_of a) ∷ representations others
 
--- all parts lie alike
-abbrev pub AllLie : Lying → List Lying → Type 0
-AllLie k [] = Unit {0}
-AllLie k (each ∷ ks) = (each ≡ k) × AllLie k ks
+-- all parts are represented alike
+abbrev pub AllRepresented : Representation → List Representation → Type 0
+AllRepresented k [] = Unit {0}
+AllRepresented k (each ∷ ks) = (each ≡ k) × AllRepresented k ks
 
 -- a type that a cast asks for when the script runs is one of the catalogue
 abbrev pub AsksKnown : Cast → Ty → Type 0
@@ -122,42 +122,42 @@ AsksKnown cast.Implicit to = is_known to ≡ true
 AsksKnown cast.Explicit to = is_known to ≡ true
 AsksKnown other to = Unit {0}
 
--- a cast to a type takes what lies so, and gives what lies so
-pub record CastFits (c : Cast) (to : Ty) (given gives : Lying) : Type 0 where
+-- a cast to a type takes what is represented so, and gives what is represented so
+pub record CastFits (c : Cast) (to : Ty) (given gives : Representation) : Type 0 where
   pub takes : given ≡ cast_takes c given
-  pub lies : gives ≡ cast_gives c to given
+  pub representation : gives ≡ cast_gives c to given
   pub asks : AsksKnown c to
 
--- how the receiver, where there is one, and the arguments of a member lie
-abbrev pub with_receiver : MemberKind → List Lying → List Lying
-with_receiver kind.Instance ks = Whole ∷ ks
+-- how the receiver, where there is one, and the arguments of a member are represented
+abbrev pub with_receiver : MemberKind → List Representation → List Representation
+with_receiver kind.Instance ks = Boxed ∷ ks
 with_receiver other ks = ks
 
--- A member that a call names: it is the catalogue's of this number and kind, the text is its own, and the parts and what it gives lie as its
+-- A member that a call names: it is the catalogue's of this number and kind, the text is its own, and the parts and what it gives are represented as its
 -- types say. (The type of a call is that of the member, or what it was cast to is another node.)
-pub record MemberFits (kind : MemberKind) (m : Member) (ks : List Lying) (of : Ty) : Type 0 where
+pub record MemberFits (kind : MemberKind) (m : Member) (ks : List Representation) (of : Ty) : Type 0 where
   pub member : MemberType
   pub is : slice_get catalogue m.number ≡ Some member
   pub sort : member.kind ≡ kind
   pub text : m.text ≡ text_of member
-  pub parts : ks ≡ with_receiver kind (map lying_of member.params)
-  pub gives : lying_of of ≡ lying_of member.result
+  pub parts : ks ≡ with_receiver kind (map representation_of member.params)
+  pub gives : representation_of of ≡ representation_of member.result
 
 -- of a call that a null receiver leaves out: the same, and it gives no number
-pub record GuardFits (o : Operation) (ks : List Lying) (of : Ty) : Type 0 where
+pub record GuardFits (o : Operation) (ks : List Representation) (of : Ty) : Type 0 where
   pub member : Member
   pub is : o ≡ operation.Instance member
   pub fits : MemberFits kind.Instance member ks of
-  pub whole : lying_of of ≢ Bare
+  pub whole : representation_of of ≢ Unboxed
 
--- how the parts of an operation lie, and what it gives, which is of a type
-abbrev pub Fitting : Program → Operation → List Lying → Ty → Type 0
-Fitting funs (operation.Operator o) ks of = AllLie (operator_takes o) ks × (lying_of of ≡ operator_gives o)
-Fitting funs (operation.Cast c) (given ∷ []) of = CastFits c of given (lying_of of)
+-- how the parts of an operation are represented, and what it gives, which is of a type
+abbrev pub Fitting : Program → Operation → List Representation → Ty → Type 0
+Fitting funs (operation.Operator o) ks of = AllRepresented (operator_takes o) ks × (representation_of of ≡ operator_gives o)
+Fitting funs (operation.Cast c) (given ∷ []) of = CastFits c of given (representation_of of)
 Fitting funs (operation.Cast c) other of = Unit {0}
-Fitting funs (operation.InstanceOf is) ks of = AllLie Whole ks × (lying_of of ≡ Bare) × (is_known is ≡ true)
+Fitting funs (operation.InstanceOf is) ks of = AllRepresented Boxed ks × (representation_of of ≡ Unboxed) × (is_known is ≡ true)
 Fitting funs (operation.Function number) ks of =
-    (f : Fun) → slice_get funs number ≡ Some f → (ks ≡ map (λ (x : Variable). lying_of x.of) f.params) × (lying_of of ≡ lying_of f.result)
+    (f : Fun) → slice_get funs number ≡ Some f → (ks ≡ map (λ (x : Variable). representation_of x.of) f.params) × (representation_of of ≡ representation_of f.result)
 Fitting funs (operation.Instance m) ks of = MemberFits kind.Instance m ks of
 Fitting funs (operation.Static m) ks of = MemberFits kind.Static m ks of
 Fitting funs (operation.Constructor m) ks of = MemberFits kind.Constructor m ks of
@@ -165,11 +165,11 @@ Fitting funs (operation.Field m) ks of = MemberFits kind.Field m ks of
 Fitting funs other ks of = Unit {0}
 
 -- A change of a variable of a type: its value is cast to what the operator takes, and what that gives back to what the variable holds.
-pub record ChangeFits (change : Change) (of : Ty) (operand : Lying) : Type 0 where
-  pub present : lying_of of ≢ Absent
-  pub before : CastFits change.before of (lying_of of) (operator_takes change.operator)
+pub record ChangeFits (change : Change) (of : Ty) (operand : Representation) : Type 0 where
+  pub present : representation_of of ≢ Absent
+  pub before : CastFits change.before of (representation_of of) (operator_takes change.operator)
   pub right : operand ≡ operator_takes change.operator
-  pub after : CastFits change.after of (operator_gives change.operator) (lying_of of)
+  pub after : CastFits change.after of (operator_gives change.operator) (representation_of of)
 
 -- the value of the left side that settles the whole, and the jump to it
 abbrev pub settled : Logical → Instruction
@@ -180,17 +180,17 @@ abbrev pub settles : Logical → ℕ → Instruction
 settles And to = i.Numbered numbered.IfZero to
 settles Or to = i.Numbered numbered.IfNotZero to
 
-abbrev pub literal_lies : Constant → Lying
-literal_lies constant.Null = Whole
-literal_lies c = Bare
+abbrev pub literal_representation : Constant → Representation
+literal_representation constant.Null = Boxed
+literal_representation c = Unboxed
 
 abbrev mutual
   pub ExprAt : Program → FunCode → Handlers → Scope → ℕ → Expr → Type 0
-  ExprAt funs f h g p (Literal at of c) = At f h p (constant_code c) × (lying_of of ≡ literal_lies c)
-  ExprAt funs f h g p (Quoted at of text) = At f h p (text_code text) × (lying_of of ≡ Whole)
-  ExprAt funs f h g p (Local at of x) = (y : Entry) × IsEntry g x y × (lying_of of ≡ lying_of y.of) × At f h p (i.Numbered numbered.Load y.local)
+  ExprAt funs f h g p (Literal at of c) = At f h p (constant_code c) × (representation_of of ≡ literal_representation c)
+  ExprAt funs f h g p (Quoted at of text) = At f h p (text_code text) × (representation_of of ≡ Boxed)
+  ExprAt funs f h g p (Local at of x) = (y : Entry) × IsEntry g x y × (representation_of of ≡ representation_of y.of) × At f h p (i.Numbered numbered.Load y.local)
   ExprAt funs f h g p (Apply at of o parts) =
-      ExprsAt funs f h g p parts × AllAt f h (end_exprs p parts) (operation_code o of) × Fitting funs o (lyings parts) of
+      ExprsAt funs f h g p parts × AllAt f h (end_exprs p parts) (operation_code o of) × Fitting funs o (representations parts) of
   ExprAt funs f h g p (Guarded at of o None') = Unit {0}
   ExprAt funs f h g p (Guarded at of o (One a others)) =
       ExprAt funs f h g p a
@@ -198,22 +198,22 @@ abbrev mutual
       × At f h (suc (end_expr p a)) (i.Numbered numbered.IfNull (end_all (end_exprs (suc (suc (end_expr p a))) others) (member_code o)))
       × ExprsAt funs f h g (suc (suc (end_expr p a))) others
       × AllAt f h (end_exprs (suc (suc (end_expr p a))) others) (member_code o)
-      × AllAt f h (end_all (end_exprs (suc (suc (end_expr p a))) others) (member_code o)) (without_null (lying_of of))
-      × GuardFits o (lying_of (type_of a) ∷ lyings others) of
+      × AllAt f h (end_all (end_exprs (suc (suc (end_expr p a))) others) (member_code o)) (without_null (representation_of of))
+      × GuardFits o (representation_of (type_of a) ∷ representations others) of
   ExprAt funs f h g p (Logic at of o left right) =
       ExprAt funs f h g p left
       × At f h (end_expr p left) (settles o (suc (end_expr (suc (end_expr p left)) right)))
       × ExprAt funs f h g (suc (end_expr p left)) right
       × At f h (end_expr (suc (end_expr p left)) right) (i.Numbered numbered.Goto (suc (suc (end_expr (suc (end_expr p left)) right))))
       × At f h (suc (end_expr (suc (end_expr p left)) right)) (settled o)
-      × (lying_of (type_of left) ≡ Bare) × (lying_of (type_of right) ≡ Bare) × (lying_of of ≡ Bare)
+      × (representation_of (type_of left) ≡ Unboxed) × (representation_of (type_of right) ≡ Unboxed) × (representation_of of ≡ Unboxed)
   ExprAt funs f h g p (Conditional at of c a b) =
       ExprAt funs f h g p c
       × At f h (end_expr p c) (i.Numbered numbered.IfZero (suc (end_expr (suc (end_expr p c)) a)))
       × ExprAt funs f h g (suc (end_expr p c)) a
       × At f h (end_expr (suc (end_expr p c)) a) (i.Numbered numbered.Goto (end_expr (suc (end_expr (suc (end_expr p c)) a)) b))
       × ExprAt funs f h g (suc (end_expr (suc (end_expr p c)) a)) b
-      × (lying_of (type_of c) ≡ Bare) × (lying_of (type_of a) ≡ lying_of of) × (lying_of (type_of b) ≡ lying_of of)
+      × (representation_of (type_of c) ≡ Unboxed) × (representation_of (type_of a) ≡ representation_of of) × (representation_of (type_of b) ≡ representation_of of)
   ExprAt funs f h g p (Elvis at of left right) =
       ExprAt funs f h g p left
       × At f h (end_expr p left) (i.Plain plain.Dup)
@@ -221,14 +221,14 @@ abbrev mutual
       × At f h (suc (suc (end_expr p left))) (i.Numbered numbered.Goto (end_expr (elvis_right (end_expr p left)) right))
       × At f h (suc (suc (suc (end_expr p left)))) (i.Plain plain.Pop)
       × ExprAt funs f h g (elvis_right (end_expr p left)) right
-      × (lying_of (type_of left) ≡ Whole) × (lying_of (type_of right) ≡ Whole) × (lying_of of ≡ Whole)
+      × (representation_of (type_of left) ≡ Boxed) × (representation_of (type_of right) ≡ Boxed) × (representation_of of ≡ Boxed)
   ExprAt funs f h g p (Assign at of (target.Local x) parts value) =
       ExprAt funs f h g p value
       × At f h (end_expr p value) (i.Plain plain.Dup)
-      × ((y : Entry) × IsEntry g x y × (lying_of (type_of value) ≡ lying_of y.of) × (lying_of of ≡ lying_of y.of) × At f h (suc (end_expr p value)) (i.Numbered numbered.Store y.local))
+      × ((y : Entry) × IsEntry g x y × (representation_of (type_of value) ≡ representation_of y.of) × (representation_of of ≡ representation_of y.of) × At f h (suc (end_expr p value)) (i.Numbered numbered.Store y.local))
   ExprAt funs f h g p (Assign at of other parts value) = Unit {0}
   ExprAt funs f h g p (Modify at of (target.Local x) parts change right gives) =
-      (y : Entry) × IsEntry g x y × (lying_of y.of ≡ lying_of of)
+      (y : Entry) × IsEntry g x y × (representation_of y.of ≡ representation_of of)
       × At f h p (i.Numbered numbered.Load y.local)
       × AllAt f h (suc p) (kept_before gives)
       × AllAt f h (end_all (suc p) (kept_before gives)) (cast_code change.before of)
@@ -237,7 +237,7 @@ abbrev mutual
       × AllAt f h (end_all (end_expr (change_first gives change of p) right) (operator_code change.operator)) (cast_code change.after of)
       × AllAt f h (end_all (end_all (end_expr (change_first gives change of p) right) (operator_code change.operator)) (cast_code change.after of)) (kept_behind gives)
       × At f h (change_last gives change of (end_expr (change_first gives change of p) right)) (i.Numbered numbered.Store y.local)
-      × ChangeFits change of (lying_of (type_of right))
+      × ChangeFits change of (representation_of (type_of right))
   ExprAt funs f h g p (Modify at of other parts change right gives) = Unit {0}
   ExprAt funs f h g p (Lambda at of interface function) = Unit {0}
   ExprAt funs f h g p (Reference at of interface class name) = Unit {0}
@@ -262,7 +262,7 @@ end_skip false p = p
 
 -- an expression whose value is dropped
 abbrev pub end_dropped : ℕ → Expr → ℕ
-end_dropped p a = end_all (end_expr p a) (pops (lying_of (type_of a)))
+end_dropped p a = end_all (end_expr p a) (pops (representation_of (type_of a)))
 
 -- behind a catch a jump over those that follow it, if any do, where it is reached
 abbrev pub jumps_over : Stmts → Catches → Bool
@@ -400,7 +400,7 @@ SkipAt f h true p to = At f h p (i.Numbered numbered.Goto to)
 SkipAt f h false p to = Unit {0}
 
 abbrev pub DroppedAt : Program → FunCode → Handlers → Scope → ℕ → Expr → Type 0
-DroppedAt funs f h g p a = ExprAt funs f h g p a × AllAt f h (end_expr p a) (pops (lying_of (type_of a)))
+DroppedAt funs f h g p a = ExprAt funs f h g p a × AllAt f h (end_expr p a) (pops (representation_of (type_of a)))
 
 abbrev pub UpdateAt : Program → FunCode → Handlers → Scope → Bool → ℕ → Maybe → Type 0
 UpdateAt funs f h g false p update = Unit {0}
@@ -409,29 +409,29 @@ UpdateAt funs f h g true p (Given a) = DroppedAt funs f h g p a
 
 abbrev pub TestAt : Program → FunCode → Handlers → Scope → ℕ → Maybe → Type 0
 TestAt funs f h g p Missing = At f h p (i.Int (pos 1))
-TestAt funs f h g p (Given a) = ExprAt funs f h g p a × (lying_of (type_of a) ≡ Bare)
+TestAt funs f h g p (Given a) = ExprAt funs f h g p a × (representation_of (type_of a) ≡ Unboxed)
 
 abbrev pub LastAt : Program → FunCode → Handlers → Scope → Bool → ℕ → Maybe → ℕ → Type 0
 LastAt funs f h g false p test to = Unit {0}
 LastAt funs f h g true p Missing to = Unit {0}
-LastAt funs f h g true p (Given a) to = ExprAt funs f h g p a × (lying_of (type_of a) ≡ Bare) × At f h (end_expr p a) (i.Numbered numbered.IfZero to)
+LastAt funs f h g true p (Given a) to = ExprAt funs f h g p a × (representation_of (type_of a) ≡ Unboxed) × At f h (end_expr p a) (i.Numbered numbered.IfZero to)
 
 -- a variable's first value
 abbrev pub ValueAt : Program → FunCode → Handlers → Scope → ℕ → Maybe → Ty → Type 0
 ValueAt funs f h g p Missing of = AllAt f h p (default_code of)
-ValueAt funs f h g p (Given a) of = ExprAt funs f h g p a × (lying_of (type_of a) ≡ lying_of of)
+ValueAt funs f h g p (Given a) of = ExprAt funs f h g p a × (representation_of (type_of a) ≡ representation_of of)
 
--- what is returned; k is how the function's result lies
-abbrev pub ReturnedAt : Program → FunCode → Handlers → Scope → Lying → ℕ → Maybe → Type 0
+-- what is returned; k is how the function's result is represented
+abbrev pub ReturnedAt : Program → FunCode → Handlers → Scope → Representation → ℕ → Maybe → Type 0
 ReturnedAt funs f h g k p Missing = k ≡ Absent
-ReturnedAt funs f h g k p (Given a) = ExprAt funs f h g p a × (lying_of (type_of a) ≡ k)
+ReturnedAt funs f h g k p (Given a) = ExprAt funs f h g p a × (representation_of (type_of a) ≡ k)
 
 abbrev mutual
-  pub StmtAt : Program → FunCode → Handlers → Lying → Scope → ℕ → Jumps → ℕ → Stmt → Type 0
+  pub StmtAt : Program → FunCode → Handlers → Representation → Scope → ℕ → Jumps → ℕ → Stmt → Type 0
   StmtAt funs f h k g n j p (Do a) = DroppedAt funs f h g p a
   StmtAt funs f h k g n j p (If c a b) =
       ExprAt funs f h g p c
-      × (lying_of (type_of c) ≡ Bare)
+      × (representation_of (type_of c) ≡ Unboxed)
       × At f h (end_expr p c) (i.Numbered numbered.IfZero (end_skip (all_fall a) (end_stmts (suc (end_expr p c)) a)))
       × StmtsAt funs f h k g n j (suc (end_expr p c)) a
       × SkipAt f h (all_fall a) (end_stmts (suc (end_expr p c)) a) (end_stmt p (If c a b))
@@ -457,20 +457,20 @@ abbrev mutual
   StmtAt funs f h k g n j p Break = At f h p (i.Numbered numbered.Goto j.out)
   StmtAt funs f h k g n j p Continue = At f h p (i.Numbered numbered.Goto j.on)
   StmtAt funs f h k g n j p (Return value) = ReturnedAt funs f h g k p value × At f h (end_returned p value) (i.Plain plain.Ret)
-  StmtAt funs f h k g n j p (Throw value) = ExprAt funs f h g p value × (lying_of (type_of value) ≡ Whole) × At f h (end_expr p value) (i.Plain plain.Throw)
+  StmtAt funs f h k g n j p (Throw value) = ExprAt funs f h g p value × (representation_of (type_of value) ≡ Boxed) × At f h (end_expr p value) (i.Plain plain.Throw)
 
-  pub StmtsAt : Program → FunCode → Handlers → Lying → Scope → ℕ → Jumps → ℕ → Stmts → Type 0
+  pub StmtsAt : Program → FunCode → Handlers → Representation → Scope → ℕ → Jumps → ℕ → Stmts → Type 0
   StmtsAt funs f h k g n j p Finish = Unit {0}
   StmtsAt funs f h k g n j p (Then t rest) = StmtAt funs f h k g n j p t × StmtsAt funs f h k g (next_stmt n t) j (end_stmt p t) rest
   StmtsAt funs f h k g n j p (Declare x of value rest) =
       ValueAt funs f h g p value of
-      × (lying_of of ≢ Absent)
+      × (representation_of of ≢ Absent)
       × HasLocal f n of
       × At f h (end_value p value of) (i.Numbered numbered.Store n)
       × StmtsAt funs f h k (record { name = x; of = of; local = n } ∷ g) (suc n) j (suc (end_value p value of)) rest
 
   -- each catch stores the exception in its variable; behind it control goes to a line
-  pub CatchesAt : Program → FunCode → Handlers → Lying → Scope → ℕ → Jumps → ℕ → ℕ → Catches → Type 0
+  pub CatchesAt : Program → FunCode → Handlers → Representation → Scope → ℕ → Jumps → ℕ → ℕ → Catches → Type 0
   CatchesAt funs f h k g n j to p NoCatch = Unit {0}
   CatchesAt funs f h k g n j to p (Catch class x body rest) =
       HasLocal f n (t.Class class)
@@ -490,12 +490,12 @@ abbrev pub no_jumps : Jumps
 no_jumps = record { out = 0; on = 0 }
 
 -- each variable has values
-abbrev pub ArePresent : List Lying → Type 0
+abbrev pub ArePresent : List Representation → Type 0
 ArePresent [] = Unit {0}
 ArePresent (k ∷ ks) = (k ≢ Absent) × ArePresent ks
 
-abbrev pub lyings_of : List Variable → List Lying
-lyings_of xs = map (λ (x : Variable). lying_of x.of) xs
+abbrev pub representations_of : List Variable → List Representation
+representations_of xs = map (λ (x : Variable). representation_of x.of) xs
 
 -- the kinds of variables, one after the other
 abbrev pub kinds_of : List Variable → List Slot
@@ -516,9 +516,9 @@ pub record FunAt (text : Owner) (funs : Program) (code : List FunCode) (number :
   pub is : slice_get code number ≡ Some body
   pub loops : body.loops ≡ has_loop_limit text
   pub params : body.params ≡ kinds_of fun.params
-  pub present : ArePresent (lyings_of fun.params)
+  pub present : ArePresent (representations_of fun.params)
   pub result : body.result ≡ result_of fun.result
-  pub stands : StmtsAt funs body [] (lying_of fun.result) (scope_of fun.params 0 []) (length fun.params) no_jumps 0 fun.body
+  pub stands : StmtsAt funs body [] (representation_of fun.result) (scope_of fun.params 0 []) (length fun.params) no_jumps 0 fun.body
   pub ends : EndAt body (all_fall fun.body) (end_stmts 0 fun.body) fun.result
   pub lines : length body.lines ≡ end_end (all_fall fun.body) (end_stmts 0 fun.body) fun.result
   pub traps : body.traps ≡ traps_stmts 0 fun.body

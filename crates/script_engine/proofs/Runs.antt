@@ -24,7 +24,7 @@ use Rattle.program_typing.specs.Types.{Has, HasLayer, HasPrimitive, HaveAll}
 use Rattle.program_typing.specs.Agreeing.{known, types_in, WellFormed}
 use Rattle.program_typing.specs.Enough.{enough, FlowOut, IsEnough}
 use Rattle.program_typing.proofs.Enough.{comes_to_an_end}
-use Rattle.compiler_relation.specs.Lying.{lying_of, lying_of_layer, low, kind_of, kind_of_layer, kind_of_primitive}
+use Rattle.compiler_relation.specs.Representation.{representation_of, representation_of_layer, low, kind_of, kind_of_layer, kind_of_primitive}
 use Rattle.compiler_relation.specs.Stands.{kinds_of}
 use Rattle.compiler_relation.specs.Correct as code
 use Rattle.compiler_relation.specs.Correct.{EndsAs}
@@ -81,7 +81,7 @@ read_primitive prim.Int value has = subst (λ x. value_by (Ty-F.Prim prim.Int) (
 read_primitive prim.Long value has = subst (λ x. value_by (Ty-F.Prim prim.Long) (Some (unboxed x)) ≡ given_layer (Ty-F.Prim prim.Long) x) (sym has.1) refl
 
 -- a value of a type that is read, by its word
-read_back : (l : Ty-F Ty) (value : Value) → HasLayer l value → value_by l (low (lying_of_layer l) value) ≡ given_layer l value
+read_back : (l : Ty-F Ty) (value : Value) → HasLayer l value → value_by l (low (representation_of_layer l) value) ≡ given_layer l value
 read_back Ty-F.Void value has = refl
 read_back Ty-F.Null value has = refl
 read_back Ty-F.Def value has = refl
@@ -122,9 +122,9 @@ with_value : (of : Ty) (value : Option Value) → ((x : Value) → value ≡ Som
     → code.end_with of value s ≡ Some (Result word w) → end_with of value s ≡ Some (Result (value_of of word) w)
 with_value of None has s w word is = cc
 with_value of (Some value) has s w word is =
-    let words : low (lying_of of) value ≡ word = cc in
+    let words : low (representation_of of) value ≡ word = cc in
     let worlds : s ≡ w = cc in
-    let back : value_of of (low (lying_of of) value) ≡ given of value = read_back (out-Ty of) value (has value refl) in
+    let back : value_of of (low (representation_of of) value) ≡ given of value = read_back (out-Ty of) value (has value refl) in
     result_at (given of value) (value_of of word) s w (sym back ∙ ap (value_of of) words) worlds
 
 value_end : (of : Ty) (o : Out Flow) → IsEnough of o → (word : Option Word) (w : World) → code.end_of of o ≡ Some (Result word w)
@@ -201,7 +201,7 @@ word_match_primitive prim.Char value word is = cc
 word_match_primitive prim.Int value word is = cc
 word_match_primitive prim.Long value word is = cc
 
-word_match : (l : Ty-F Ty) (value : Value) (word : Word) → Some word ≡ low (lying_of_layer l) value → word ≡ word_in (kind_of_layer l) value
+word_match : (l : Ty-F Ty) (value : Value) (word : Word) → Some word ≡ low (representation_of_layer l) value → word ≡ word_in (kind_of_layer l) value
 word_match Ty-F.Void value word is = cc
 word_match Ty-F.Null value word is = cc
 word_match Ty-F.Def value word is = cc
@@ -219,7 +219,7 @@ words_match (x ∷ params) [] [] are = refl
 words_match (x ∷ params) [] (word ∷ words) are = cc
 words_match (x ∷ params) (value ∷ args) [] are = cc
 words_match (x ∷ params) (value ∷ args) (word ∷ words) are =
-    let first : Some word ≡ low (lying_of x.of) value = cc in
+    let first : Some word ≡ low (representation_of x.of) value = cc in
     let rest : map Some words ≡ code.words_of params args = cc in
     one_more word (word_in (kind_of x.of) value) words (words_in (kinds_of params) args) (word_match (out-Ty x.of) value word first) (words_match params args words rest)
 

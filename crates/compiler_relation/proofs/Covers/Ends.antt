@@ -5,7 +5,7 @@ use Rattle.pl_code.specs.declared.code.Instruction.{Instruction}
 use Rattle.typed_tree.specs.declared.operation.Change.{Change}
 use Rattle.typed_tree.specs.declared.operation.Gives.{Gives}
 use Rattle.source_meaning.specs.Tree.{Expr, Literal, Quoted, Local, Apply, Guarded, Logic, Conditional, Elvis, Assign, Modify, Lambda, Reference, NewReference, Exprs, None', One, Maybe, Missing, Given, Stmt, Do, If, While, DoWhile, ForEach, Try, Block, Break, Continue, Return, Throw, Stmts, Finish, Then, Declare, Catches, NoCatch, Catch, type_of}
-use Rattle.compiler_relation.specs.Lying.{lying_of}
+use Rattle.compiler_relation.specs.Representation.{representation_of}
 use Rattle.compiler_relation.specs.Parts.{default_code, operator_code, cast_code, operation_code, member_code, without_null, pops, kept_before, kept_behind}
 use Rattle.compiler_relation.specs.Stands.{all_fall, goes_on, end_all, change_first, change_last, elvis_right, end_expr, end_exprs, end_skip, end_dropped, jumps_over, end_update, end_test, end_last, end_value, end_returned, end_stmt, end_stmts, end_catches, end_tried, end_caught}
 
@@ -28,7 +28,7 @@ mutual
   expr_grows p (Apply at of o parts) = omega (arith, exprs_grow p parts, all_grow (end_exprs p parts) (operation_code o of))
   expr_grows p (Guarded at of o None') = omega arith
   expr_grows p (Guarded at of o (One a others)) =
-      omega (arith, expr_grows p a, exprs_grow (suc (suc (end_expr p a))) others, all_grow (end_exprs (suc (suc (end_expr p a))) others) (member_code o), all_grow (end_all (end_exprs (suc (suc (end_expr p a))) others) (member_code o)) (without_null (lying_of of)))
+      omega (arith, expr_grows p a, exprs_grow (suc (suc (end_expr p a))) others, all_grow (end_exprs (suc (suc (end_expr p a))) others) (member_code o), all_grow (end_all (end_exprs (suc (suc (end_expr p a))) others) (member_code o)) (without_null (representation_of of)))
   expr_grows p (Logic at of o left right) = omega (arith, expr_grows p left, expr_grows (suc (end_expr p left)) right)
   expr_grows p (Conditional at of c a b) =
       omega (arith, expr_grows p c, expr_grows (suc (end_expr p c)) a, expr_grows (suc (end_expr (suc (end_expr p c)) a)) b)
@@ -49,7 +49,7 @@ skip_grows true p = omega arith
 skip_grows false p = omega arith
 
 pub dropped_grows : (p : ℕ) (a : Expr) → p ≤ end_dropped p a
-dropped_grows p a = omega (arith, expr_grows p a, all_grow (end_expr p a) (pops (lying_of (type_of a))))
+dropped_grows p a = omega (arith, expr_grows p a, all_grow (end_expr p a) (pops (representation_of (type_of a))))
 
 pub update_grows : (goes : Bool) (p : ℕ) (update : Maybe) → p ≤ end_update goes p update
 update_grows false p update = omega arith

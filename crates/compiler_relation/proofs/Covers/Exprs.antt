@@ -6,7 +6,7 @@ use Rattle.pl_code.specs.declared.code.Instruction.{Instruction}
 use Rattle.typed_tree.specs.declared.operation.Target.TheVariants as target
 use Rattle.source_meaning.specs.Tree.{Expr, Literal, Quoted, Local, Apply, Guarded, Logic, Conditional, Elvis, Assign, Modify, Lambda, Reference, NewReference, Exprs, None', One, Maybe, Missing, Given, Program, type_of}
 use Rattle.code_meaning.specs.Machine.{Handlers, traps_at}
-use Rattle.compiler_relation.specs.Lying.{Lying, lying_of}
+use Rattle.compiler_relation.specs.Representation.{Representation, representation_of}
 use Rattle.compiler_relation.specs.Parts.{default_code, operator_code, cast_code, operation_code, member_code, without_null, pops, kept_before, kept_behind}
 use Rattle.compiler_relation.specs.Stands.{Scope, At, AllAt, ExprAt, ExprsAt, end_all, change_first, change_last, elvis_right, end_expr, end_exprs, end_skip, end_dropped, end_update, end_test, end_last, end_value, end_returned, SkipAt, DroppedAt, UpdateAt, TestAt, LastAt, ValueAt, ReturnedAt}
 use Rattle.compiler_relation.specs.Placed.{untrapped}
@@ -35,13 +35,13 @@ module _ (funs : Program) (f : FunCode) (h : Handlers) (lo hi : ℕ) (over : (li
         let e = expr_grows p a in
         let d = exprs_grow (suc (suc (end_expr p a))) others in
         let c = all_grow (end_exprs (suc (suc (end_expr p a))) others) (member_code o) in
-        let b = all_grow (end_all (end_exprs (suc (suc (end_expr p a))) others) (member_code o)) (without_null (lying_of of)) in (
+        let b = all_grow (end_all (end_exprs (suc (suc (end_expr p a))) others) (member_code o)) (without_null (representation_of of)) in (
           expr_placed g p a low (omega arith) x.0,
           one_placed (end_expr p a) _ (omega arith) (omega arith) x.1,
           one_placed (suc (end_expr p a)) _ (omega arith) (omega arith) x.2,
           exprs_placed g (suc (suc (end_expr p a))) others (omega arith) (omega arith) x.3,
           all_placed (end_exprs (suc (suc (end_expr p a))) others) (member_code o) (omega arith) (omega arith) x.4,
-          all_placed (end_all (end_exprs (suc (suc (end_expr p a))) others) (member_code o)) (without_null (lying_of of)) (omega arith) (omega arith) x.5,
+          all_placed (end_all (end_exprs (suc (suc (end_expr p a))) others) (member_code o)) (without_null (representation_of of)) (omega arith) (omega arith) x.5,
           x.6,
         )
     expr_placed g p (Logic at of o left right) low high x =
@@ -134,8 +134,8 @@ module _ (funs : Program) (f : FunCode) (h : Handlers) (lo hi : ℕ) (over : (li
   pub dropped_placed : (g : Scope) (p : ℕ) (a : Expr) → lo ≤ p → end_dropped p a ≤ hi → DroppedAt funs (untrapped f) [] g p a → DroppedAt funs f h g p a
   dropped_placed g p a low high x =
       let e = expr_grows p a in
-      let d = all_grow (end_expr p a) (pops (lying_of (type_of a))) in
-      (expr_placed g p a low (omega arith) x.0, all_placed (end_expr p a) (pops (lying_of (type_of a))) (omega arith) high x.1)
+      let d = all_grow (end_expr p a) (pops (representation_of (type_of a))) in
+      (expr_placed g p a low (omega arith) x.0, all_placed (end_expr p a) (pops (representation_of (type_of a))) (omega arith) high x.1)
 
   pub update_placed : (g : Scope) (goes : Bool) (p : ℕ) (update : Maybe) → lo ≤ p → end_update goes p update ≤ hi → UpdateAt funs (untrapped f) [] g goes p update → UpdateAt funs f h g goes p update
   update_placed g false p update low high x = tt
@@ -157,6 +157,6 @@ module _ (funs : Program) (f : FunCode) (h : Handlers) (lo hi : ℕ) (over : (li
   value_placed g p Missing of low high x = all_placed p (default_code of) low high x
   value_placed g p (Given a) of low high x = (expr_placed g p a low high x.0, x.1)
 
-  pub returned_placed : (g : Scope) (k : Lying) (p : ℕ) (value : Maybe) → lo ≤ p → end_returned p value ≤ hi → ReturnedAt funs (untrapped f) [] g k p value → ReturnedAt funs f h g k p value
+  pub returned_placed : (g : Scope) (k : Representation) (p : ℕ) (value : Maybe) → lo ≤ p → end_returned p value ≤ hi → ReturnedAt funs (untrapped f) [] g k p value → ReturnedAt funs f h g k p value
   returned_placed g k p Missing low high x = x
   returned_placed g k p (Given a) low high x = (expr_placed g p a low high x.0, x.1)

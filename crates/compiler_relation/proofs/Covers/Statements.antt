@@ -8,7 +8,7 @@ use Rattle.pl_code.specs.declared.code.Trap.{Trap}
 use Rattle.pl_code.specs.declared.code.FunCode.{FunCode}
 use Rattle.source_meaning.specs.Tree.{Stmt, Do, If, While, DoWhile, ForEach, Try, Block, Break, Continue, Return, Throw, Stmts, Finish, Then, Declare, Catches, NoCatch, Catch, Program}
 use Rattle.code_meaning.specs.Machine.{Handlers, traps_at}
-use Rattle.compiler_relation.specs.Lying.{Lying}
+use Rattle.compiler_relation.specs.Representation.{Representation}
 use Rattle.compiler_relation.specs.Parts.{default_code}
 use Rattle.compiler_relation.specs.Stands.{Scope, all_fall, goes_on, end_all, end_expr, end_skip, end_dropped, jumps_over, end_update, end_test, end_last, end_value, end_returned, end_stmt, end_stmts, end_catches, end_tried, end_caught, next_stmt, next_stmts, handlers_of, traps_stmt, traps_stmts, traps_catches, Jumps, no_jumps, HasLocal, StmtAt, StmtsAt, CatchesAt, EndAt}
 use Rattle.compiler_relation.specs.Placed.{untrapped, StmtIn, StmtsIn, CatchesIn, CatchesCover}
@@ -33,11 +33,11 @@ joined_with f h xs ys hs line covered same =
 has_local : (f : FunCode) (n : ℕ) (of : Ty) → HasLocal (untrapped f) n of → HasLocal f n of
 has_local f n of x = record { is = x.is }
 
-known_classes : (funs : Program) (f : FunCode) (k : Lying) (g : Scope) (n : ℕ) (j : Jumps) (to p : ℕ) (cs : Catches) → CatchesIn funs f k g n j to p cs → AreKnown cs
+known_classes : (funs : Program) (f : FunCode) (k : Representation) (g : Scope) (n : ℕ) (j : Jumps) (to p : ℕ) (cs : Catches) → CatchesIn funs f k g n j to p cs → AreKnown cs
 known_classes funs f k g n j to p NoCatch x = tt
 known_classes funs f k g n j to p (Catch class name body rest) x = (x.0, known_classes funs f k g (next_stmts (suc n) body) j to (end_caught p body rest) rest x.5)
 
-module _ (named : (class : ℕ) → class < 57 → class_of_full (full_name class) ≡ Some class) (funs : Program) (f : FunCode) (k : Lying) where
+module _ (named : (class : ℕ) → class < 57 → class_of_full (full_name class) ≡ Some class) (funs : Program) (f : FunCode) (k : Representation) where
   mutual
     pub stmt_placed : (h : Handlers) (g : Scope) (n : ℕ) (j : Jumps) (p : ℕ) (t : Stmt) → Covers f h (traps_stmt p t) p (end_stmt p t)
         → StmtIn funs (untrapped f) k g n j p t → StmtAt funs f h k g n j p t

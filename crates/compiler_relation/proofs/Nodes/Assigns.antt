@@ -12,7 +12,7 @@ use Rattle.source_meaning.specs.Tree.{Name, Expr, Assign, Modify, Exprs, Program
 use Rattle.source_meaning.specs.Meaning.{State, Env, Done, Meaning, lookup, assigned, given_by, expr_of}
 use Rattle.code_meaning.specs.declared.word.Word.{Word}
 use Rattle.code_meaning.specs.Machine.{Codes, Handlers, pushed}
-use Rattle.compiler_relation.specs.Lying.{Lying, Absent, lying_of, low}
+use Rattle.compiler_relation.specs.Representation.{Representation, Absent, representation_of, low}
 use Rattle.compiler_relation.specs.Parts.{operator_takes, operator_gives}
 use Rattle.compiler_relation.specs.Stands.{Entry, Scope, entry_of, change_first, change_last, end_expr}
 use Rattle.compiler_relation.proofs.Locals.{Agrees, Fits, reads as entry_reads}
@@ -24,19 +24,19 @@ use Rattle.std.specs.Str.{bytes_eq}
 use Rattle.compiler_relation.proofs.Nodes.Casts.{ReadsBack, cast_runs}
 use Rattle.compiler_relation.proofs.Nodes.Exprs.{load_does, store_runs, double_runs, kept_old, kept_new, keeps_before, keeps_behind, old_and_new}
 
--- a name that is in sight has a value that lies somewhere
-entry_present : (g : Scope) (e : Env) (l : List Word) (x : Name) (y : Entry) → entry_of g x ≡ Some y → Agrees g e l → lying_of y.of ≢ Absent
+-- a name that is in sight has a value that is represented somehow
+entry_present : (g : Scope) (e : Env) (l : List Word) (x : Name) (y : Entry) → entry_of g x ≡ Some y → Agrees g e l → representation_of y.of ≢ Absent
 entry_present [] e l x y is a = cc
 entry_present (z ∷ g) [] l x y is a = absurd a
 entry_present (z ∷ g) (b ∷ e) l x y is a = pick (λ is. entry_present g e l x y is a.3) (bytes_eq x z.name) is
   where
-    pick : (entry_of g x ≡ Some y → lying_of y.of ≢ Absent) → (t : Bool) → (if t then Some z else entry_of g x) ≡ Some y → lying_of y.of ≢ Absent
-    pick older true is = let same : z ≡ y = cc in subst (λ (y : Entry). lying_of y.of ≢ Absent) same a.1
+    pick : (entry_of g x ≡ Some y → representation_of y.of ≢ Absent) → (t : Bool) → (if t then Some z else entry_of g x) ≡ Some y → representation_of y.of ≢ Absent
+    pick older true is = let same : z ≡ y = cc in subst (λ (y : Entry). representation_of y.of ≢ Absent) same a.1
     pick older false is = older is
 
 module _ (funs : Programs) (codes : Codes) (limits : Limits) (m : Meaning) (ih : Refines funs codes limits m) (reads : ReadsBack) where
-  -- a value that lies as it should
-  relies : (c : Ctx codes) (h : Handlers) (g : Scope) (k k' : Lying) (value : Value) (q : ℕ) (s : State) (e : Env) (l st : List Word) → k ≡ k' → Fits c.body g e l
+  -- a value that is represented as it should be
+  relies : (c : Ctx codes) (h : Handlers) (g : Scope) (k k' : Representation) (value : Value) (q : ℕ) (s : State) (e : Env) (l st : List Word) → k ≡ k' → Fits c.body g e l
       → Sim codes limits c h g (land_value funs codes limits c k' q st) Any (at codes limits c q l (pushed (low k value) st) s) (Done value s e)
   relies c h g k k' value q s e l st same f =
       subst (λ k. Sim codes limits c h g (land_value funs codes limits c k' q st) Any (at codes limits c q l (pushed (low k value) st) s) (Done value s e)) (sym same) (done codes limits f tt)
@@ -45,12 +45,12 @@ module _ (funs : Programs) (codes : Codes) (limits : Limits) (m : Meaning) (ih :
   assign_runs at' of (target.Local x) parts value c h g p s e l st stands f =
       let y = stands.2.0 in
       let is = stands.2.1.is in
-      let k = lying_of (type_of value) in
+      let k = representation_of (type_of value) in
       and_then codes limits (ih.expr value c h g p s e l st stands.0 f) (λ value s e l f _.
       let some : k ≢ Absent = λ absent. entry_present g e l x y is f.names (sym stands.2.2 ∙ absent) in
       double_runs funs codes limits c h g k value _ s l st some stands.1
       (store_runs funs codes limits c h g x y k value _ s e l (pushed (low k value) st) is stands.2.2 some stands.2.4 f (λ l f.
-      relies c h g k (lying_of of) value _ s _ l st (stands.2.2 ∙ sym stands.2.3) f)))
+      relies c h g k (representation_of of) value _ s _ l st (stands.2.2 ∙ sym stands.2.3) f)))
   assign_runs at' of target.Element parts value c h g p s e l st stands f = record { by = tt }
   assign_runs at' of (target.Members read write) parts value c h g p s e l st stands f = record { by = tt }
   assign_runs at' of target.DefIndex parts value c h g p s e l st stands f = record { by = tt }
@@ -61,14 +61,14 @@ module _ (funs : Programs) (codes : Codes) (limits : Limits) (m : Meaning) (ih :
   modify_runs at' of (target.Local x) parts change right given c h g p s e l st stands f =
       let y = stands.0 in
       let is = stands.1.is in
-      let k = lying_of of in
-      let kr = lying_of (type_of right) in
+      let k = representation_of of in
+      let kr = representation_of (type_of right) in
       let takes = operator_takes change.operator in
       let gives = operator_gives change.operator in
       let fits = stands.11 in
       let last = suc (change_last given change of (end_expr (change_first given change of p) right)) in
       step_to codes limits l st s stands.3
-      (and_then codes limits (load_does funs codes limits c h g k (lying_of y.of) (lookup e x) (slice_get l y.local) p s e l st st (sym stands.2) (entry_reads g e l x y is f.names) f) (λ old s e l f _.
+      (and_then codes limits (load_does funs codes limits c h g k (representation_of y.of) (lookup e x) (slice_get l y.local) p s e l st st (sym stands.2) (entry_reads g e l x y is f.names) f) (λ old s e l f _.
       keeps_before funs codes limits c h g given k old (suc p) s l st fits.present stands.4
       (and_then codes limits (cast_runs funs codes limits reads c h g change.before of k takes fits.before old _ s e l (kept_old k given old st) stands.5 f) (λ left s e l f _.
       and_then codes limits (ih.expr right c h g _ s e l (pushed (low takes left) (kept_old k given old st)) stands.6 f) (λ value s e l f _.

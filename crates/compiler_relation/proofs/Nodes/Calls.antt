@@ -22,40 +22,40 @@ use Rattle.code_meaning.specs.declared.word.Word.{Word}
 use Rattle.code_meaning.specs.declared.word.Word.TheVariants.{R}
 use Rattle.code_meaning.specs.Words.{unboxed, start_of}
 use Rattle.code_meaning.specs.Machine.{Codes, code_in, Handlers, Frame, Next, Goes, Ends, Stuck, on_local, on_top, on_int, on_words, on_call, on_enter, on_turn, returns, returns_of, unwind, gives_back, take_words, depth_of, pushed, act, to_line}
-use Rattle.compiler_relation.specs.Lying.{Lying, Bare, Whole, Absent, lying_of, lying_of_layer, low, kind_of, result_of_layer}
+use Rattle.compiler_relation.specs.Representation.{Representation, Unboxed, Boxed, Absent, representation_of, representation_of_layer, low, kind_of, result_of_layer}
 use Rattle.compiler_relation.specs.Parts.{constant_code, default_code, default_code_layer, operator_code, operation_code, cast_code, cast_takes, cast_gives, pops, kept_before, kept_behind}
-use Rattle.compiler_relation.specs.Stands.{Scope, At, AllAt, end_all, falls, all_fall, any_continues, end_stmts, scope_of, no_jumps, ArePresent, lyings_of, EndAt, FunAt, Compiled, AreCompiled}
+use Rattle.compiler_relation.specs.Stands.{Scope, At, AllAt, end_all, falls, all_fall, any_continues, end_stmts, scope_of, no_jumps, ArePresent, representations_of, EndAt, FunAt, Compiled, AreCompiled}
 use Rattle.compiler_relation.proofs.Locals.{Agrees, Under, Falling, Fits, under_more}
 use Rattle.compiler_relation.proofs.Follows.{Ctx, Leads, ended, frame, at, place, does_next, throws, Follows, Sim}
 use Rattle.compiler_relation.proofs.Refines.{push, Any, Good, land_value, land_flow, Refines}
 
 -- ---- words of arguments
 
--- the word of a value, wherever it lies
-abbrev pub word_at : Lying → Value → Word
-word_at Bare value = unboxed value
-word_at Whole value = R value
+-- the word of a value, however it is represented
+abbrev pub word_at : Representation → Value → Word
+word_at Unboxed value = unboxed value
+word_at Boxed value = R value
 word_at Absent value = R value
 
-abbrev pub words_at : List Lying → List Value → List Word
+abbrev pub words_at : List Representation → List Value → List Word
 words_at [] values = []
 words_at (k ∷ ks) [] = []
 words_at (k ∷ ks) (value ∷ values) = word_at k value ∷ words_at ks values
 
-pub low_is : (k : Lying) (value : Value) → k ≢ Absent → low k value ≡ Some (word_at k value)
-low_is Bare value some = refl
-low_is Whole value some = refl
+pub low_is : (k : Representation) (value : Value) → k ≢ Absent → low k value ≡ Some (word_at k value)
+low_is Unboxed value some = refl
+low_is Boxed value some = refl
 low_is Absent value some = absurd (some refl)
 
-abbrev more : List Lying → ℕ → ℕ
+abbrev more : List Representation → ℕ → ℕ
 more [] n = n
 more (k ∷ ks) n = more ks (suc n)
 
-more_is : (ks : List Lying) (n : ℕ) → more ks n ≡ length ks + n
+more_is : (ks : List Representation) (n : ℕ) → more ks n ≡ length ks + n
 more_is [] n = omega arith
 more_is (k ∷ ks) n = let e = more_is ks (suc n) in omega arith
 
-takes : (ks : List Lying) (values : List Value) (n : ℕ) (st taken : List Word) → ArePresent ks → length ks ≡ length values
+takes : (ks : List Representation) (values : List Value) (n : ℕ) (st taken : List Word) → ArePresent ks → length ks ≡ length values
     → take_words (more ks n) (push ks values st) taken ≡ take_words n st (words_at ks values ++ taken)
 takes [] values n st taken present same = refl
 takes (k ∷ ks) [] n st taken present same = absurd (omega arith)
@@ -64,12 +64,12 @@ takes (k ∷ ks) (value ∷ values) n st taken present same =
     ∙ takes ks values (suc n) (word_at k value ∷ st) taken present.1 (omega arith)
 
 -- arguments come off the stack again
-pub off : (n : ℕ) (ks : List Lying) (values : List Value) (st : List Word) → n ≡ length ks → ArePresent ks → length ks ≡ length values → take_words n (push ks values st) [] ≡ Some (words_at ks values, st)
+pub off : (n : ℕ) (ks : List Representation) (values : List Value) (st : List Word) → n ≡ length ks → ArePresent ks → length ks ≡ length values → take_words n (push ks values st) [] ≡ Some (words_at ks values, st)
 off n ks values st is present same =
     let counted : n ≡ more ks 0 = omega (arith, more_is ks 0) in
     ap (λ n. take_words n (push ks values st) []) counted ∙ takes ks values 0 st [] present same ∙ ap (λ words. Some (words, st)) (append-nil (words_at ks values))
 
-pub words_count : (ks : List Lying) (values : List Value) → length ks ≡ length values → length (words_at ks values) ≡ length ks
+pub words_count : (ks : List Representation) (values : List Value) → length ks ≡ length values → length (words_at ks values) ≡ length ks
 words_count [] values same = refl
 words_count (k ∷ ks) [] same = absurd (omega arith)
 words_count (k ∷ ks) (value ∷ values) same = ap suc (words_count ks values (omega arith))
@@ -86,16 +86,16 @@ entry_count [] (value ∷ values) e args q = cc
 entry_count (x ∷ xs) [] e args q = cc
 entry_count (x ∷ xs) (value ∷ values) e args q = ap suc (entry_count xs values _ args q)
 
-pub entry_agrees : (xs : List Variable) (values : List Value) (e args : Env) (g : Scope) (n : ℕ) (l pre rest : List Word) → entry xs values e ≡ Some args → ArePresent (lyings_of xs)
-    → l ≡ pre ++ (words_at (lyings_of xs) values ++ rest) → length pre ≡ n → Agrees g e l → Agrees (scope_of xs n g) args l
+pub entry_agrees : (xs : List Variable) (values : List Value) (e args : Env) (g : Scope) (n : ℕ) (l pre rest : List Word) → entry xs values e ≡ Some args → ArePresent (representations_of xs)
+    → l ≡ pre ++ (words_at (representations_of xs) values ++ rest) → length pre ≡ n → Agrees g e l → Agrees (scope_of xs n g) args l
 entry_agrees [] [] e args g n l pre rest q present is size a = let same : e ≡ args = cc in subst (λ e. Agrees g e l) same a
 entry_agrees [] (value ∷ values) e args g n l pre rest q present is size a = cc
 entry_agrees (x ∷ xs) [] e args g n l pre rest q present is size a = cc
 entry_agrees (x ∷ xs) (value ∷ values) e args g n l pre rest q present is size a =
-    let word = word_at (lying_of x.of) value in
-    let others = words_at (lyings_of xs) values ++ rest in
-    let here : slice_get l n ≡ low (lying_of x.of) value =
-    ap (slice_get l) (sym size) ∙ ap (λ l. slice_get l (length pre)) is ∙ at_seam pre word others ∙ sym (low_is (lying_of x.of) value present.0) in
+    let word = word_at (representation_of x.of) value in
+    let others = words_at (representations_of xs) values ++ rest in
+    let here : slice_get l n ≡ low (representation_of x.of) value =
+    ap (slice_get l) (sym size) ∙ ap (λ l. slice_get l (length pre)) is ∙ at_seam pre word others ∙ sym (low_is (representation_of x.of) value present.0) in
     let longer : length (pre ++ word ∷ []) ≡ suc n = omega (arith, length-append pre (word ∷ []), size) in
     entry_agrees xs values (record { name = x.name; value = value } ∷ e) args (record { name = x.name; of = x.of; local = n } ∷ g) (suc n) l (pre ++ word ∷ []) rest q present.1
     (is ∙ sym (append_assoc pre (word ∷ []) others)) longer (refl, present.0, here, a)
@@ -115,14 +115,14 @@ pub as_many : (text : Owner) (funs : Program) (code : List FunCode) (number : �
 as_many text funs code number fun fa = ap length fa.params ∙ length-map fun.params (λ (x : Variable). kind_of x.of)
 
 -- the locals of a call fit the callee's parameters
-pub starts_fitting : (body : FunCode) (f : Fun) (values : List Value) (args : Env) → entry f.params values [] ≡ Some args → ArePresent (lyings_of f.params) → length body.params ≡ length f.params
-    → Fits body (scope_of f.params 0 []) args (words_at (lyings_of f.params) values ++ map start_of body.locals)
+pub starts_fitting : (body : FunCode) (f : Fun) (values : List Value) (args : Env) → entry f.params values [] ≡ Some args → ArePresent (representations_of f.params) → length body.params ≡ length f.params
+    → Fits body (scope_of f.params 0 []) args (words_at (representations_of f.params) values ++ map start_of body.locals)
 starts_fitting body f values args q present params =
-    let words = words_at (lyings_of f.params) values in
+    let words = words_at (representations_of f.params) values in
     let rest = map start_of body.locals in
-    let count : length (lyings_of f.params) ≡ length values = length-map f.params (λ (x : Variable). lying_of x.of) ∙ entry_count f.params values [] args q in
+    let count : length (representations_of f.params) ≡ length values = length-map f.params (λ (x : Variable). representation_of x.of) ∙ entry_count f.params values [] args q in
     let size : length (words ++ rest) ≡ length body.params + length body.locals =
-    omega (arith, length-append words rest, words_count (lyings_of f.params) values count, length-map f.params (λ (x : Variable). lying_of x.of), length-map body.locals start_of, params) in
+    omega (arith, length-append words rest, words_count (representations_of f.params) values count, length-map f.params (λ (x : Variable). representation_of x.of), length-map body.locals start_of, params) in
     let order = scope_order f.params 0 [] tt tt in
     record {
       names = entry_agrees f.params values [] args [] 0 (words ++ rest) [] rest q present refl refl tt;
@@ -135,7 +135,7 @@ starts_fitting body f values args q present params =
 
 module _ (codes : Codes) (limits : Limits) where
   ret_layer : (y : Ty-F Ty) (value : Value) (result : Option Slot) (next : Option Word → Next) → result ≡ result_of_layer y
-      → returns_of codes limits result (pushed (low (lying_of_layer y) value) []) next ≡ next (low (lying_of_layer y) value)
+      → returns_of codes limits result (pushed (low (representation_of_layer y) value) []) next ≡ next (low (representation_of_layer y) value)
   ret_layer Ty-F.Void value result next is = ap (λ r. returns_of codes limits r [] next) is
   ret_layer Ty-F.Null value result next is = ap (λ r. returns_of codes limits r (R value ∷ []) next) is
   ret_layer Ty-F.Def value result next is = ap (λ r. returns_of codes limits r (R value ∷ []) next) is
@@ -143,14 +143,14 @@ module _ (codes : Codes) (limits : Limits) where
   ret_layer (Ty-F.Class class) value result next is = ap (λ r. returns_of codes limits r (R value ∷ []) next) is
   ret_layer (Ty-F.Array elem) value result next is = ap (λ r. returns_of codes limits r (R value ∷ []) next) is
 
-  -- a function returns what lies on its stack as its result does
+  -- a function returns what is represented on its stack as its result is
   pub returns_value : (c : Ctx codes) (h : Handlers) (q : ℕ) (value : Value) (l : List Word) (s : State) (r : End (Option Word)) → At c.body h q (i.Plain plain.Ret)
-      → Leads codes limits (gives_back codes limits c.below [] (low (lying_of c.result) value) s.world) r
-      → Leads codes limits (at codes limits c q l (pushed (low (lying_of c.result) value) []) s) r
+      → Leads codes limits (gives_back codes limits c.below [] (low (representation_of c.result) value) s.world) r
+      → Leads codes limits (at codes limits c q l (pushed (low (representation_of c.result) value) []) s) r
   returns_value c h q value l s r a d =
       let next = λ (result : Option Word). gives_back codes limits c.below [] result s.world in
-      let st = pushed (low (lying_of c.result) value) [] in
-      let same : returns codes limits (slice_get (code_in codes c.text) c.fun) st next ≡ next (low (lying_of c.result) value) =
+      let st = pushed (low (representation_of c.result) value) [] in
+      let same : returns codes limits (slice_get (code_in codes c.text) c.fun) st next ≡ next (low (representation_of c.result) value) =
       ap (λ o. returns codes limits o st next) c.is ∙ ret_layer (out-Ty c.result) value c.body.result next c.gives in
       does_next codes limits c h q (i.Plain plain.Ret) l st s r a (record { steps = d.steps; reaches = ap (Rattle.code_meaning.specs.Machine.after codes limits d.steps) same ∙ d.reaches })
 
@@ -164,7 +164,7 @@ module _ (codes : Codes) (limits : Limits) where
   default_primitive prim.Long c h q l st s r a d = does_next codes limits c h q _ l st s r a d
 
   default_layer : (y : Ty-F Ty) (c : Ctx codes) (h : Handlers) (q : ℕ) (l st : List Word) (s : State) (r : End (Option Word)) → AllAt c.body h q (default_code_layer y)
-      → Leads codes limits (at codes limits c (end_all q (default_code_layer y)) l (pushed (low (lying_of_layer y) (default_of_layer y)) st) s) r → Leads codes limits (at codes limits c q l st s) r
+      → Leads codes limits (at codes limits c (end_all q (default_code_layer y)) l (pushed (low (representation_of_layer y) (default_of_layer y)) st) s) r → Leads codes limits (at codes limits c q l st s) r
   default_layer Ty-F.Void c h q l st s r a d = d
   default_layer Ty-F.Null c h q l st s r a d = does_next codes limits c h q _ l st s r a.0 d
   default_layer Ty-F.Def c h q l st s r a d = does_next codes limits c h q _ l st s r a.0 d
@@ -174,12 +174,12 @@ module _ (codes : Codes) (limits : Limits) where
 
   -- a type's default
   pub default_runs : (of : Ty) (c : Ctx codes) (h : Handlers) (q : ℕ) (l st : List Word) (s : State) (r : End (Option Word)) → AllAt c.body h q (default_code of)
-      → Leads codes limits (at codes limits c (end_all q (default_code of)) l (pushed (low (lying_of of) (default_of of)) st) s) r → Leads codes limits (at codes limits c q l st s) r
+      → Leads codes limits (at codes limits c (end_all q (default_code of)) l (pushed (low (representation_of of) (default_of of)) st) s) r → Leads codes limits (at codes limits c q l st s) r
   default_runs of c h q l st s r a d = default_layer (out-Ty of) c h q l st s r a d
 
   -- the end of a function
   pub function_ends : (c : Ctx codes) (falling : Bool) (q : ℕ) (l : List Word) (s : State) (r : End (Option Word)) → EndAt c.body falling q c.result → falling ≡ true
-      → Leads codes limits (gives_back codes limits c.below [] (low (lying_of c.result) (default_of c.result)) s.world) r → Leads codes limits (at codes limits c q l [] s) r
+      → Leads codes limits (gives_back codes limits c.below [] (low (representation_of c.result) (default_of c.result)) s.world) r → Leads codes limits (at codes limits c q l [] s) r
   function_ends c true q l s r a falls d = default_runs c.result c [] q l [] s r a.0 (returns_value c [] (end_all q (default_code c.result)) (default_of c.result) l s r a.1 d)
   function_ends c false q l s r a falls d = cc
 
@@ -195,7 +195,7 @@ module _ (funs : Programs) (codes : Codes) (limits : Limits) (c : Ctx codes) (h 
 
   comes_back : At c.body h q call → Fits c.body g e l → (n : Next) (o : Out Flow)
       → Follows codes limits callee [] g' (land_flow funs codes limits callee no_jumps (end_stmts 0 fun.body)) (Good (all_fall fun.body) (any_continues fun.body)) n o
-      → Follows codes limits c h g (land_value funs codes limits c (lying_of fun.result) (suc q) st) Any n (back fun.result o s.turns e)
+      → Follows codes limits c h g (land_value funs codes limits c (representation_of fun.result) (suc q) st) Any n (back fun.result o s.turns e)
   comes_back a f n (Done Normal s' e') d = λ r j. d r (λ l' f' falls. function_ends codes limits callee (all_fall fun.body) (end_stmts 0 fun.body) l' s' r fa.ends falls (j l f tt))
   comes_back a f n (Done Broke s' e') d = tt
   comes_back a f n (Done Continued s' e') d = tt
@@ -208,11 +208,11 @@ module _ (funs : Programs) (codes : Codes) (limits : Limits) (m : Meaning) (ih :
   -- the tick, the depth and the body
   entered_runs : (c : Ctx codes) (h : Handlers) (g : Scope) (q number : ℕ) (call : Instruction) (s : State) (e : Env) (l st st' : List Word) (values : List Value) → At c.body h q call → Fits c.body g e l
       → (f : Fun) (fa : FunAt c.text (functions_in funs c.text) (code_in codes c.text) number f) (args : Env) → entry f.params values [] ≡ Some args → (t : Counted)
-      → Sim codes limits c h g (land_value funs codes limits c (lying_of f.result) (suc q) st) Any (on_enter codes limits t number fa.body [] (frame codes limits c q l st' s) c.below s.world (words_at (lyings_of f.params) values) st)
+      → Sim codes limits c h g (land_value funs codes limits c (representation_of f.result) (suc q) st) Any (on_enter codes limits t number fa.body [] (frame codes limits c q l st' s) c.below s.world (words_at (representations_of f.params) values) st)
       (entered funs limits m t (place codes limits c) s e f.result f.body (Some args))
   entered_runs c h g q number call s e l st st' values a x f fa args qe (Passes limit w') = record { by = ended codes limits _ }
   entered_runs c h g q number call s e l st st' values a x f fa args qe (Counts w) =
-      let locals = words_at (lyings_of f.params) values ++ map start_of fa.body.locals in
+      let locals = words_at (representations_of f.params) values ++ map start_of fa.body.locals in
       let scope = scope_of f.params 0 [] in
       let inner = callee funs codes limits c h g scope q number f fa s e l st call in
       let fits = starts_fitting fa.body f values args qe fa.present (as_many c.text (functions_in funs c.text) (code_in codes c.text) number f fa) in
@@ -220,9 +220,9 @@ module _ (funs : Programs) (codes : Codes) (limits : Limits) (m : Meaning) (ih :
       let body = ih.stmts f.body inner [] scope (length f.params) no_jumps 0 (record { world = w; turns = 0 }) args locals fa.stands under fits in
       record { by = comes_back funs codes limits c h g scope q number f fa s e l st call a x _ _ body.by }
 
-  pub called_runs : AreCompiled funs codes → (c : Ctx codes) (h : Handlers) (g : Scope) (q number : ℕ) (k : Lying) (ks : List Lying) (s : State) (e : Env) (l st : List Word) (values : List Value)
+  pub called_runs : AreCompiled funs codes → (c : Ctx codes) (h : Handlers) (g : Scope) (q number : ℕ) (k : Representation) (ks : List Representation) (s : State) (e : Env) (l st : List Word) (values : List Value)
       → At c.body h q (i.Numbered numbered.Call number) → Fits c.body g e l → length ks ≡ length values → (o : Option Fun) → slice_get (functions_in funs c.text) number ≡ o
-      → ((f : Fun) → o ≡ Some f → (ks ≡ lyings_of f.params) × (k ≡ lying_of f.result))
+      → ((f : Fun) → o ≡ Some f → (ks ≡ representations_of f.params) × (k ≡ representation_of f.result))
       → Sim codes limits c h g (land_value funs codes limits c k (suc q) st) Any (on_call codes limits (slice_get (code_in codes c.text) number) number (frame codes limits c q l (push ks values st) s) c.below s.world) (called funs limits m o (place codes limits c) s e values)
   called_runs made c h g q number k ks s e l st values a x count None qf fitting = record { by = tt }
   called_runs made c h g q number k ks s e l st values a x count (Some f) qf fitting = tried (entry f.params values []) refl
@@ -238,11 +238,11 @@ module _ (funs : Programs) (codes : Codes) (limits : Limits) (m : Meaning) (ih :
           let caller = frame codes limits c q l (push ks values st) s in
           let t = enter limits (depth_of c.below) s.world in
           let present : ArePresent ks = subst ArePresent (sym same.0) fa.present in
-          let n : length fa.body.params ≡ length ks = as_many c.text (functions_in funs c.text) (code_in codes c.text) number f fa ∙ sym (length-map f.params (λ (x : Variable). lying_of x.of)) ∙ ap length (sym same.0) in
-          let fetched : on_call codes limits (slice_get (code_in codes c.text) number) number caller c.below s.world ≡ on_enter codes limits t number fa.body [] caller c.below s.world (words_at (lyings_of f.params) values) st =
+          let n : length fa.body.params ≡ length ks = as_many c.text (functions_in funs c.text) (code_in codes c.text) number f fa ∙ sym (length-map f.params (λ (x : Variable). representation_of x.of)) ∙ ap length (sym same.0) in
+          let fetched : on_call codes limits (slice_get (code_in codes c.text) number) number caller c.below s.world ≡ on_enter codes limits t number fa.body [] caller c.below s.world (words_at (representations_of f.params) values) st =
           ap (λ o. on_call codes limits o number caller c.below s.world) fa.is
           ∙ ap (λ o. on_words o (λ args stack. on_enter codes limits t number fa.body [] caller c.below s.world args stack)) (off (length fa.body.params) ks values st n present count)
           ∙ ap (λ ks. on_enter codes limits t number fa.body [] caller c.below s.world (words_at ks values) st) same.0 in
           subst (λ n. Sim codes limits c h g (land_value funs codes limits c k (suc q) st) Any n (entered funs limits m t (place codes limits c) s e f.result f.body (Some args))) (sym fetched)
-          (subst (λ k. Sim codes limits c h g (land_value funs codes limits c k (suc q) st) Any (on_enter codes limits t number fa.body [] caller c.below s.world (words_at (lyings_of f.params) values) st) (entered funs limits m t (place codes limits c) s e f.result f.body (Some args)))
+          (subst (λ k. Sim codes limits c h g (land_value funs codes limits c k (suc q) st) Any (on_enter codes limits t number fa.body [] caller c.below s.world (words_at (representations_of f.params) values) st) (entered funs limits m t (place codes limits c) s e f.result f.body (Some args)))
           (sym same.1) (entered_runs c h g q number _ s e l st (push ks values st) values a x f fa args qe t))

@@ -29,14 +29,14 @@ use Rattle.code_meaning.specs.declared.word.Word.{Word}
 use Rattle.code_meaning.specs.declared.word.Word.TheVariants.{I, J, R}
 use Rattle.code_meaning.specs.Words.{unboxed, boxed, bit}
 use Rattle.code_meaning.specs.Machine.{Codes, Handlers, Next, on_value, on_type, is_written, pushed, to_line}
-use Rattle.compiler_relation.specs.Lying.{Lying, Bare, Whole, Absent, low}
-use Rattle.compiler_relation.specs.Parts.{number_code, from_int_code, from_long_code, from_byte_code, from_short_code, from_char_code, run_time_code_layer, run_time_lies, cast_code, cast_takes, cast_gives}
+use Rattle.compiler_relation.specs.Representation.{Representation, Unboxed, Boxed, Absent, low}
+use Rattle.compiler_relation.specs.Parts.{number_code, from_int_code, from_long_code, from_byte_code, from_short_code, from_char_code, run_time_code_layer, run_time_representation, cast_code, cast_takes, cast_gives}
 use Rattle.compiler_relation.specs.Stands.{Scope, AllAt, end_all, AsksKnown, CastFits}
 use Rattle.compiler_relation.proofs.Locals.{Fits}
 use Rattle.compiler_relation.proofs.Follows.{Ctx, Sim, at, frame, and_then, done, step_to}
 use Rattle.compiler_relation.proofs.Refines.{Any, land_value}
-use Rattle.compiler_relation.proofs.Nodes.Operands.{whole_bare, absent_bare, outcome_runs}
-use Rattle.compiler_relation.proofs.Nodes.References.{bare_whole, absent_whole}
+use Rattle.compiler_relation.proofs.Nodes.Operands.{boxed_unboxed, absent_unboxed, outcome_runs}
+use Rattle.compiler_relation.proofs.Nodes.References.{unboxed_boxed, absent_boxed}
 
 -- ---- types
 
@@ -68,7 +68,7 @@ end_both p (x ∷ xs) ys = end_both (suc p) xs ys
 
 module _ (funs : Programs) (codes : Codes) (limits : Limits) (c : Ctx codes) (h : Handlers) (g : Scope) where
   from_int : (to : Primitive) (a : ℤ) (q : ℕ) (s : State) (e : Env) (l st : List Word) → AllAt c.body h q (from_int_code to) → Fits c.body g e l
-      → Sim codes limits c h g (land_value funs codes limits c Bare (end_all q (from_int_code to)) st) Any (at codes limits c q l (I a ∷ st) s) (found (Rattle.source_meaning.specs.Operating.from_int_to to a) s e)
+      → Sim codes limits c h g (land_value funs codes limits c Unboxed (end_all q (from_int_code to)) st) Any (at codes limits c q l (I a ∷ st) s) (found (Rattle.source_meaning.specs.Operating.from_int_to to a) s e)
   from_int prim.Boolean a q s e l st x f = record { by = tt }
   from_int prim.Byte a q s e l st x f = step_to codes limits l (I a ∷ st) s x.0 (done codes limits f tt)
   from_int prim.Short a q s e l st x f = step_to codes limits l (I a ∷ st) s x.0 (done codes limits f tt)
@@ -77,7 +77,7 @@ module _ (funs : Programs) (codes : Codes) (limits : Limits) (c : Ctx codes) (h 
   from_int prim.Long a q s e l st x f = step_to codes limits l (I a ∷ st) s x.0 (done codes limits f tt)
 
   from_long : (to : Primitive) (a : ℤ) (q : ℕ) (s : State) (e : Env) (l st : List Word) → AllAt c.body h q (from_long_code to) → Fits c.body g e l
-      → Sim codes limits c h g (land_value funs codes limits c Bare (end_all q (from_long_code to)) st) Any (at codes limits c q l (J a ∷ st) s) (found (Rattle.source_meaning.specs.Operating.from_long_to to a) s e)
+      → Sim codes limits c h g (land_value funs codes limits c Unboxed (end_all q (from_long_code to)) st) Any (at codes limits c q l (J a ∷ st) s) (found (Rattle.source_meaning.specs.Operating.from_long_to to a) s e)
   from_long prim.Boolean a q s e l st x f = record { by = tt }
   from_long prim.Byte a q s e l st x f = step_to codes limits l (J a ∷ st) s x.0 (step_to codes limits l (I _ ∷ st) s x.1.0 (done codes limits f tt))
   from_long prim.Short a q s e l st x f = step_to codes limits l (J a ∷ st) s x.0 (step_to codes limits l (I _ ∷ st) s x.1.0 (done codes limits f tt))
@@ -86,7 +86,7 @@ module _ (funs : Programs) (codes : Codes) (limits : Limits) (c : Ctx codes) (h 
   from_long prim.Long a q s e l st x f = done codes limits f tt
 
   from_byte : (to : Primitive) (a : ℤ) (q : ℕ) (s : State) (e : Env) (l st : List Word) → AllAt c.body h q (from_byte_code to) → Fits c.body g e l
-      → Sim codes limits c h g (land_value funs codes limits c Bare (end_all q (from_byte_code to)) st) Any (at codes limits c q l (I a ∷ st) s) (found (Rattle.source_meaning.specs.Operating.from_byte_to to a) s e)
+      → Sim codes limits c h g (land_value funs codes limits c Unboxed (end_all q (from_byte_code to)) st) Any (at codes limits c q l (I a ∷ st) s) (found (Rattle.source_meaning.specs.Operating.from_byte_to to a) s e)
   from_byte prim.Boolean a q s e l st x f = record { by = tt }
   from_byte prim.Byte a q s e l st x f = done codes limits f tt
   from_byte prim.Short a q s e l st x f = done codes limits f tt
@@ -95,7 +95,7 @@ module _ (funs : Programs) (codes : Codes) (limits : Limits) (c : Ctx codes) (h 
   from_byte prim.Long a q s e l st x f = step_to codes limits l (I a ∷ st) s x.0 (done codes limits f tt)
 
   from_short : (to : Primitive) (a : ℤ) (q : ℕ) (s : State) (e : Env) (l st : List Word) → AllAt c.body h q (from_short_code to) → Fits c.body g e l
-      → Sim codes limits c h g (land_value funs codes limits c Bare (end_all q (from_short_code to)) st) Any (at codes limits c q l (I a ∷ st) s) (found (Rattle.source_meaning.specs.Operating.from_short_to to a) s e)
+      → Sim codes limits c h g (land_value funs codes limits c Unboxed (end_all q (from_short_code to)) st) Any (at codes limits c q l (I a ∷ st) s) (found (Rattle.source_meaning.specs.Operating.from_short_to to a) s e)
   from_short prim.Boolean a q s e l st x f = record { by = tt }
   from_short prim.Byte a q s e l st x f = step_to codes limits l (I a ∷ st) s x.0 (done codes limits f tt)
   from_short prim.Short a q s e l st x f = done codes limits f tt
@@ -104,7 +104,7 @@ module _ (funs : Programs) (codes : Codes) (limits : Limits) (c : Ctx codes) (h 
   from_short prim.Long a q s e l st x f = step_to codes limits l (I a ∷ st) s x.0 (done codes limits f tt)
 
   from_char : (to : Primitive) (a : ℕ) (q : ℕ) (s : State) (e : Env) (l st : List Word) → AllAt c.body h q (from_char_code to) → Fits c.body g e l
-      → Sim codes limits c h g (land_value funs codes limits c Bare (end_all q (from_char_code to)) st) Any (at codes limits c q l (I (pos a) ∷ st) s) (found (Rattle.source_meaning.specs.Operating.from_char_to to a) s e)
+      → Sim codes limits c h g (land_value funs codes limits c Unboxed (end_all q (from_char_code to)) st) Any (at codes limits c q l (I (pos a) ∷ st) s) (found (Rattle.source_meaning.specs.Operating.from_char_to to a) s e)
   from_char prim.Boolean a q s e l st x f = record { by = tt }
   from_char prim.Byte a q s e l st x f = step_to codes limits l (I (pos a) ∷ st) s x.0 (done codes limits f tt)
   from_char prim.Short a q s e l st x f = step_to codes limits l (I (pos a) ∷ st) s x.0 (done codes limits f tt)
@@ -113,7 +113,7 @@ module _ (funs : Programs) (codes : Codes) (limits : Limits) (c : Ctx codes) (h 
   from_char prim.Long a q s e l st x f = step_to codes limits l (I (pos a) ∷ st) s x.0 (done codes limits f tt)
 
   from_flag : (to : Primitive) (a : Bool) (q : ℕ) (s : State) (e : Env) (l st : List Word) → Fits c.body g e l
-      → Sim codes limits c h g (land_value funs codes limits c Bare q st) Any (at codes limits c q l (I (bit a) ∷ st) s) (found (Rattle.source_meaning.specs.Operating.from_flag_to to a) s e)
+      → Sim codes limits c h g (land_value funs codes limits c Unboxed q st) Any (at codes limits c q l (I (bit a) ∷ st) s) (found (Rattle.source_meaning.specs.Operating.from_flag_to to a) s e)
   from_flag prim.Boolean a q s e l st f = done codes limits f tt
   from_flag prim.Byte a q s e l st f = record { by = tt }
   from_flag prim.Short a q s e l st f = record { by = tt }
@@ -123,7 +123,7 @@ module _ (funs : Programs) (codes : Codes) (limits : Limits) (c : Ctx codes) (h 
 
   -- from one primitive to another
   number_runs : (from to : Primitive) (value : Value) (q : ℕ) (s : State) (e : Env) (l st : List Word) → AllAt c.body h q (number_code from to) → Fits c.body g e l
-      → Sim codes limits c h g (land_value funs codes limits c Bare (end_all q (number_code from to)) st) Any (at codes limits c q l (unboxed value ∷ st) s) (found (number_cast from to value) s e)
+      → Sim codes limits c h g (land_value funs codes limits c Unboxed (end_all q (number_code from to)) st) Any (at codes limits c q l (unboxed value ∷ st) s) (found (number_cast from to value) s e)
   number_runs prim.Boolean to v.Null q s e l st x f = record { by = tt }
   number_runs prim.Boolean to (v.Bool a) q s e l st x f = from_flag to a q s e l st f
   number_runs prim.Boolean to (v.Byte a) q s e l st x f = record { by = tt }
@@ -180,7 +180,7 @@ module _ (funs : Programs) (codes : Codes) (limits : Limits) (c : Ctx codes) (h 
   number_runs prim.Long to (v.Ref a) q s e l st x f = record { by = tt }
 
   box_runs : (p : Primitive) (value : Value) (q : ℕ) (s : State) (e : Env) (l st st' : List Word) → Fits c.body g e l
-      → Sim codes limits c h g (land_value funs codes limits c Whole (suc q) st) Any (on_value (boxed p (unboxed value)) (λ value. to_line (frame codes limits c q l st' s) c.below s.world (suc q) (R value ∷ st))) (found (in_box p value) s e)
+      → Sim codes limits c h g (land_value funs codes limits c Boxed (suc q) st) Any (on_value (boxed p (unboxed value)) (λ value. to_line (frame codes limits c q l st' s) c.below s.world (suc q) (R value ∷ st))) (found (in_box p value) s e)
   box_runs prim.Boolean v.Null q s e l st st' f = record { by = tt }
   box_runs prim.Boolean (v.Bool true) q s e l st st' f = done codes limits f tt
   box_runs prim.Boolean (v.Bool false) q s e l st st' f = done codes limits f tt
@@ -257,36 +257,36 @@ module _ (funs : Programs) (codes : Codes) (limits : Limits) (reads : ReadsBack)
   type_read of next known {land = land} {good = good} {o = o} d = subst (λ x. Sim codes limits c h g land good (on_type x next) o) (sym (reads of known)) d
 
   -- to any type but a primitive
-  whole_runs : (to : Ty) (w : Way) (value : Value) (q : ℕ) (s : State) (e : Env) (l st : List Word) → is_known to ≡ true → AllAt c.body h q (i.Cast (full_text to) w ∷ []) → Fits c.body g e l
-      → Sim codes limits c h g (land_value funs codes limits c Whole (suc q) st) Any (at codes limits c q l (R value ∷ st) s) (operated (Acts (effect s.world.store (cast_at_run_time s.world.store.objects value to (is_written w)))) s e)
-  whole_runs to w value q s e l st known x f =
+  boxed_runs : (to : Ty) (w : Way) (value : Value) (q : ℕ) (s : State) (e : Env) (l st : List Word) → is_known to ≡ true → AllAt c.body h q (i.Cast (full_text to) w ∷ []) → Fits c.body g e l
+      → Sim codes limits c h g (land_value funs codes limits c Boxed (suc q) st) Any (at codes limits c q l (R value ∷ st) s) (operated (Acts (effect s.world.store (cast_at_run_time s.world.store.objects value to (is_written w)))) s e)
+  boxed_runs to w value q s e l st known x f =
       step_to codes limits l (R value ∷ st) s x.0
       (type_read to _ known
-      (outcome_runs funs codes limits c h g q _ s e l st (R value ∷ st) Whole R (λ value. refl) x.0 f (acts_in s.world (effect s.world.store (cast_at_run_time s.world.store.objects value to (is_written w))))))
+      (outcome_runs funs codes limits c h g q _ s e l st (R value ∷ st) Boxed R (λ value. refl) x.0 f (acts_in s.world (effect s.world.store (cast_at_run_time s.world.store.objects value to (is_written w))))))
 
   -- to a primitive
   primitive_runs : (p : Primitive) (w : Way) (value : Value) (q : ℕ) (s : State) (e : Env) (l st : List Word) → AllAt c.body h q (i.Unboxing p w ∷ []) → Fits c.body g e l
-      → Sim codes limits c h g (land_value funs codes limits c Bare (suc q) st) Any (at codes limits c q l (R value ∷ st) s) (operated (Acts (effect s.world.store (cast_at_run_time s.world.store.objects value (t.Prim p) (is_written w)))) s e)
+      → Sim codes limits c h g (land_value funs codes limits c Unboxed (suc q) st) Any (at codes limits c q l (R value ∷ st) s) (operated (Acts (effect s.world.store (cast_at_run_time s.world.store.objects value (t.Prim p) (is_written w)))) s e)
   primitive_runs p w value q s e l st x f =
       step_to codes limits l (R value ∷ st) s x.0
-      (outcome_runs funs codes limits c h g q _ s e l st (R value ∷ st) Bare unboxed (λ value. refl) x.0 f (acts_in s.world (effect s.world.store (cast_at_run_time s.world.store.objects value (t.Prim p) (is_written w)))))
+      (outcome_runs funs codes limits c h g q _ s e l st (R value ∷ st) Unboxed unboxed (λ value. refl) x.0 f (acts_in s.world (effect s.world.store (cast_at_run_time s.world.store.objects value (t.Prim p) (is_written w)))))
 
   layer_runs : (y : Ty-F Ty) (to : Ty) (w : Way) (value : Value) (q : ℕ) (s : State) (e : Env) (l st : List Word) → out-Ty to ≡ y → is_known to ≡ true → AllAt c.body h q (run_time_code_layer y to w) → Fits c.body g e l
-      → Sim codes limits c h g (land_value funs codes limits c (run_time_lies y) (end_all q (run_time_code_layer y to w)) st) Any (at codes limits c q l (R value ∷ st) s)
+      → Sim codes limits c h g (land_value funs codes limits c (run_time_representation y) (end_all q (run_time_code_layer y to w)) st) Any (at codes limits c q l (R value ∷ st) s)
       (operated (Acts (effect s.world.store (cast_at_run_time s.world.store.objects value to (is_written w)))) s e)
   layer_runs (Ty-F.Prim p) to w value q s e l st is known x f =
-      subst (λ to. Sim codes limits c h g (land_value funs codes limits c Bare (suc q) st) Any (at codes limits c q l (R value ∷ st) s) (operated (Acts (effect s.world.store (cast_at_run_time s.world.store.objects value to (is_written w)))) s e))
+      subst (λ to. Sim codes limits c h g (land_value funs codes limits c Unboxed (suc q) st) Any (at codes limits c q l (R value ∷ st) s) (operated (Acts (effect s.world.store (cast_at_run_time s.world.store.objects value to (is_written w)))) s e))
       (sym (rolled_primitive p to is)) (primitive_runs p w value q s e l st x f)
-  layer_runs Ty-F.Void to w value q s e l st is known x f = whole_runs to w value q s e l st known x f
-  layer_runs Ty-F.Null to w value q s e l st is known x f = whole_runs to w value q s e l st known x f
-  layer_runs Ty-F.Def to w value q s e l st is known x f = whole_runs to w value q s e l st known x f
-  layer_runs (Ty-F.Class class) to w value q s e l st is known x f = whole_runs to w value q s e l st known x f
-  layer_runs (Ty-F.Array elem) to w value q s e l st is known x f = whole_runs to w value q s e l st known x f
+  layer_runs Ty-F.Void to w value q s e l st is known x f = boxed_runs to w value q s e l st known x f
+  layer_runs Ty-F.Null to w value q s e l st is known x f = boxed_runs to w value q s e l st known x f
+  layer_runs Ty-F.Def to w value q s e l st is known x f = boxed_runs to w value q s e l st known x f
+  layer_runs (Ty-F.Class class) to w value q s e l st is known x f = boxed_runs to w value q s e l st known x f
+  layer_runs (Ty-F.Array elem) to w value q s e l st is known x f = boxed_runs to w value q s e l st known x f
 
   -- a char as a text
   text_runs : (value : Value) (q : ℕ) (s : State) (e : Env) (l st : List Word) → AllAt c.body h q (i.Boxing prim.Char ∷ i.Cast (full_text (t.Class STRING)) way.Explicit ∷ []) → Fits c.body g e l
-      → Sim codes limits c h g (land_value funs codes limits c Whole (suc (suc q)) st) Any (at codes limits c q l (unboxed value ∷ st) s) (operated (text_if (in_box prim.Char value) s.world.store) s e)
-  text_runs (v.Char a) q s e l st x f = step_to codes limits l (unboxed (v.Char a) ∷ st) s x.0 (whole_runs (t.Class STRING) way.Explicit _ (suc q) s e l st string_is_known x.1 f)
+      → Sim codes limits c h g (land_value funs codes limits c Boxed (suc (suc q)) st) Any (at codes limits c q l (unboxed value ∷ st) s) (operated (text_if (in_box prim.Char value) s.world.store) s e)
+  text_runs (v.Char a) q s e l st x f = step_to codes limits l (unboxed (v.Char a) ∷ st) s x.0 (boxed_runs (t.Class STRING) way.Explicit _ (suc q) s e l st string_is_known x.1 f)
   text_runs v.Null q s e l st x f = record { by = tt }
   text_runs (v.Bool a) q s e l st x f = record { by = tt }
   text_runs (v.Byte a) q s e l st x f = record { by = tt }
@@ -296,40 +296,40 @@ module _ (funs : Programs) (codes : Codes) (limits : Limits) (reads : ReadsBack)
   text_runs (v.Str a) q s e l st x f = record { by = tt }
   text_runs (v.Ref a) q s e l st x f = record { by = tt }
 
-  cast_does : (x : Cast) (to : Ty) (value : Value) (k : Lying) (q : ℕ) (s : State) (e : Env) (l st : List Word) → k ≡ cast_takes x k → AsksKnown x to → AllAt c.body h q (cast_code x to) → Fits c.body g e l
+  cast_does : (x : Cast) (to : Ty) (value : Value) (k : Representation) (q : ℕ) (s : State) (e : Env) (l st : List Word) → k ≡ cast_takes x k → AsksKnown x to → AllAt c.body h q (cast_code x to) → Fits c.body g e l
       → Sim codes limits c h g (land_value funs codes limits c (cast_gives x to k) (end_all q (cast_code x to)) st) Any (at codes limits c q l (pushed (low k value) st) s) (operated (casts x to value s.world.store) s e)
   cast_does cast.Keep to value k q s e l st is asks x f = done codes limits f tt
-  cast_does (cast.Number from onto) to value Bare q s e l st is asks x f =
-      subst (λ o. Sim codes limits c h g (land_value funs codes limits c Bare (end_all q (number_code from onto)) st) Any (at codes limits c q l (unboxed value ∷ st) s) o) (found_gives funs codes limits c h g (number_cast from onto value) s e)
+  cast_does (cast.Number from onto) to value Unboxed q s e l st is asks x f =
+      subst (λ o. Sim codes limits c h g (land_value funs codes limits c Unboxed (end_all q (number_code from onto)) st) Any (at codes limits c q l (unboxed value ∷ st) s) o) (found_gives funs codes limits c h g (number_cast from onto value) s e)
       (number_runs funs codes limits c h g from onto value q s e l st x f)
-  cast_does (cast.Number from onto) to value Whole q s e l st is asks x f = absurd (whole_bare is)
-  cast_does (cast.Number from onto) to value Absent q s e l st is asks x f = absurd (absent_bare is)
-  cast_does (cast.Wrap from onto) to value Bare q s e l st is asks x f =
+  cast_does (cast.Number from onto) to value Boxed q s e l st is asks x f = absurd (boxed_unboxed is)
+  cast_does (cast.Number from onto) to value Absent q s e l st is asks x f = absurd (absent_unboxed is)
+  cast_does (cast.Wrap from onto) to value Unboxed q s e l st is asks x f =
       let first = all_first c.body h q (number_code from onto) (i.Boxing onto ∷ []) x in
       let second = all_second c.body h q (number_code from onto) (i.Boxing onto ∷ []) x in
-      subst (λ p. Sim codes limits c h g (land_value funs codes limits c Whole p st) Any (at codes limits c q l (unboxed value ∷ st) s) (operated (casts (cast.Wrap from onto) to value s.world.store) s e)) (sym (end_both q (number_code from onto) (i.Boxing onto ∷ [])))
-      (subst (λ o. Sim codes limits c h g (land_value funs codes limits c Whole (suc (end_all q (number_code from onto))) st) Any (at codes limits c q l (unboxed value ∷ st) s) o) (box_after funs codes limits c h g onto (number_cast from onto value) s e)
+      subst (λ p. Sim codes limits c h g (land_value funs codes limits c Boxed p st) Any (at codes limits c q l (unboxed value ∷ st) s) (operated (casts (cast.Wrap from onto) to value s.world.store) s e)) (sym (end_both q (number_code from onto) (i.Boxing onto ∷ [])))
+      (subst (λ o. Sim codes limits c h g (land_value funs codes limits c Boxed (suc (end_all q (number_code from onto))) st) Any (at codes limits c q l (unboxed value ∷ st) s) o) (box_after funs codes limits c h g onto (number_cast from onto value) s e)
       (and_then codes limits (number_runs funs codes limits c h g from onto value q s e l st first f) (λ value s e l f _.
       step_to codes limits l (unboxed value ∷ st) s second.0 (box_runs funs codes limits c h g onto value _ s e l st (unboxed value ∷ st) f))))
-  cast_does (cast.Wrap from onto) to value Whole q s e l st is asks x f = absurd (whole_bare is)
-  cast_does (cast.Wrap from onto) to value Absent q s e l st is asks x f = absurd (absent_bare is)
+  cast_does (cast.Wrap from onto) to value Boxed q s e l st is asks x f = absurd (boxed_unboxed is)
+  cast_does (cast.Wrap from onto) to value Absent q s e l st is asks x f = absurd (absent_unboxed is)
   cast_does (cast.Unwrap from onto) to value k q s e l st is asks x f = record { by = tt }
-  cast_does cast.Implicit to value Whole q s e l st is asks x f = layer_runs (out-Ty to) to way.Implicit value q s e l st refl asks x f
-  cast_does cast.Implicit to value Bare q s e l st is asks x f = absurd (bare_whole is)
-  cast_does cast.Implicit to value Absent q s e l st is asks x f = absurd (absent_whole is)
-  cast_does cast.Explicit to value Whole q s e l st is asks x f = layer_runs (out-Ty to) to way.Explicit value q s e l st refl asks x f
-  cast_does cast.Explicit to value Bare q s e l st is asks x f = absurd (bare_whole is)
-  cast_does cast.Explicit to value Absent q s e l st is asks x f = absurd (absent_whole is)
-  cast_does cast.CharToText to value Bare q s e l st is asks x f = text_runs value q s e l st x f
-  cast_does cast.CharToText to value Whole q s e l st is asks x f = absurd (whole_bare is)
-  cast_does cast.CharToText to value Absent q s e l st is asks x f = absurd (absent_bare is)
-  cast_does cast.TextToChar to value Whole q s e l st is asks x f = primitive_runs prim.Char way.Explicit value q s e l st x f
-  cast_does cast.TextToChar to value Bare q s e l st is asks x f = absurd (bare_whole is)
-  cast_does cast.TextToChar to value Absent q s e l st is asks x f = absurd (absent_whole is)
+  cast_does cast.Implicit to value Boxed q s e l st is asks x f = layer_runs (out-Ty to) to way.Implicit value q s e l st refl asks x f
+  cast_does cast.Implicit to value Unboxed q s e l st is asks x f = absurd (unboxed_boxed is)
+  cast_does cast.Implicit to value Absent q s e l st is asks x f = absurd (absent_boxed is)
+  cast_does cast.Explicit to value Boxed q s e l st is asks x f = layer_runs (out-Ty to) to way.Explicit value q s e l st refl asks x f
+  cast_does cast.Explicit to value Unboxed q s e l st is asks x f = absurd (unboxed_boxed is)
+  cast_does cast.Explicit to value Absent q s e l st is asks x f = absurd (absent_boxed is)
+  cast_does cast.CharToText to value Unboxed q s e l st is asks x f = text_runs value q s e l st x f
+  cast_does cast.CharToText to value Boxed q s e l st is asks x f = absurd (boxed_unboxed is)
+  cast_does cast.CharToText to value Absent q s e l st is asks x f = absurd (absent_unboxed is)
+  cast_does cast.TextToChar to value Boxed q s e l st is asks x f = primitive_runs prim.Char way.Explicit value q s e l st x f
+  cast_does cast.TextToChar to value Unboxed q s e l st is asks x f = absurd (unboxed_boxed is)
+  cast_does cast.TextToChar to value Absent q s e l st is asks x f = absurd (absent_boxed is)
 
-  -- each cast to a type, of what lies as it takes it
-  pub cast_runs : (x : Cast) (to : Ty) (given gives : Lying) → CastFits x to given gives → (value : Value) (q : ℕ) (s : State) (e : Env) (l st : List Word) → AllAt c.body h q (cast_code x to) → Fits c.body g e l
+  -- each cast to a type, of what is represented as it takes it
+  pub cast_runs : (x : Cast) (to : Ty) (given gives : Representation) → CastFits x to given gives → (value : Value) (q : ℕ) (s : State) (e : Env) (l st : List Word) → AllAt c.body h q (cast_code x to) → Fits c.body g e l
       → Sim codes limits c h g (land_value funs codes limits c gives (end_all q (cast_code x to)) st) Any (at codes limits c q l (pushed (low given value) st) s) (operated (casts x to value s.world.store) s e)
   cast_runs x to given gives fits value q s e l st a f =
-      subst (λ k. Sim codes limits c h g (land_value funs codes limits c k (end_all q (cast_code x to)) st) Any (at codes limits c q l (pushed (low given value) st) s) (operated (casts x to value s.world.store) s e)) (sym fits.lies)
+      subst (λ k. Sim codes limits c h g (land_value funs codes limits c k (end_all q (cast_code x to)) st) Any (at codes limits c q l (pushed (low given value) st) s) (operated (casts x to value s.world.store) s e)) (sym fits.representation)
       (cast_does x to value given q s e l st fits.takes fits.asks a f)

@@ -11,7 +11,7 @@ use Rattle.source_meaning.specs.Meaning.{State, Env, Place, Out, Done, Flow, Nor
 use Rattle.code_meaning.specs.declared.word.Word.{Word}
 use Rattle.code_meaning.specs.declared.word.Word.TheVariants.{I}
 use Rattle.code_meaning.specs.Machine.{Codes, Handlers, Next, on_int, on_loops, on_top, on_turn, pushed, unless_zero}
-use Rattle.compiler_relation.specs.Lying.{lying_of, low}
+use Rattle.compiler_relation.specs.Representation.{representation_of, low}
 use Rattle.compiler_relation.specs.Stands.{Scope, At, end_expr, all_fall, any_continues, goes_on, end_update, end_test, end_last, end_stmt, end_stmts, UpdateAt, TestAt, LastAt}
 use Rattle.compiler_relation.proofs.Locals.{Fits}
 use Rattle.compiler_relation.proofs.Follows.{Ctx, ended, frame, at, place, Sim, and_then, done, step_to, step_back, tested}
@@ -51,7 +51,7 @@ module _ (funs : Programs) (codes : Codes) (limits : Limits) (m : Meaning) (ih :
       → Sim codes limits c h g land good (at codes limits c q l [] s) (bind (value_if funs limits m update v.Null (place codes limits c) s e) next)
   update_runs true Missing c h g q s e l is stands f next = next v.Null s e l f
   update_runs true (Given a) c h g q s e l is stands f next =
-      and_then codes limits (ih.expr a c h g q s e l [] stands.0 f) (λ value s e l f _. pops_run funs codes limits c h g (lying_of (type_of a)) value _ s l [] stands.1 (next value s e l f))
+      and_then codes limits (ih.expr a c h g q s e l [] stands.0 f) (λ value s e l f _. pops_run funs codes limits c h g (representation_of (type_of a)) value _ s l [] stands.1 (next value s e l f))
   update_runs false update c h g q s e l is stands f next = cc
 
   -- a loop's test, and the jump behind it
@@ -64,7 +64,7 @@ module _ (funs : Programs) (codes : Codes) (limits : Limits) (m : Meaning) (ih :
       step_to codes limits l [] s stands (loop_to c h g (end_test q Missing) to l (I (pos 1) ∷ []) s a (first s e l (I (pos 1) ∷ []) f))
   test_runs (Given x) c h g q to s e l stands a f first second =
       and_then codes limits (ih.expr x c h g q s e l [] stands.0 f) (λ value s e l f _.
-      let k = lying_of (type_of x) in
+      let k = representation_of (type_of x) in
       let st' = pushed (low k value) [] in
       loop_to c h g (end_test q (Given x)) to l st' s a
       (tested codes limits value k [] (λ st. on_turn codes limits (take_turn limits (has_loop_limit c.text) s.turns s.world) to (frame codes limits c (end_expr q x) l st' s) c.below s.world st) (λ st. at codes limits c (suc (end_expr q x)) l st s) stands.1
@@ -135,8 +135,8 @@ module _ (funs : Programs) (codes : Codes) (limits : Limits) (m : Meaning) (ih :
       last true Missing q s e l is a f next = next s e l f
       last true (Given x) q s e l is a f next =
           and_then codes limits (ih.expr x c h g q s e l [] a.0 f) (λ value s e l f _.
-          step_to codes limits l (pushed (low (lying_of (type_of x)) value) []) s a.2
-          (tested codes limits value (lying_of (type_of x)) [] (λ st. at codes limits c (suc (end_expr q x)) l st s) (λ st. at codes limits c out l st s) a.1 (next s e l f) (done codes limits f refl)))
+          step_to codes limits l (pushed (low (representation_of (type_of x)) value) []) s a.2
+          (tested codes limits value (representation_of (type_of x)) [] (λ st. at codes limits c (suc (end_expr q x)) l st s) (λ st. at codes limits c out l st s) a.1 (next s e l f) (done codes limits f refl)))
       last false test' q s e l is a f next = cc
 
       once : (s : State) (e : Env) (l : List Word) → goes_on body ≡ true → Fits c.body g e l → Sim codes limits c h g land (Good true false) (at codes limits c at_test l [] s) (behind (place codes limits c) s e)

@@ -21,9 +21,9 @@ use Rattle.code_meaning.specs.declared.word.Word.{Word}
 use Rattle.code_meaning.specs.declared.word.Word.TheVariants.{I, J}
 use Rattle.code_meaning.specs.Words.{unboxed, Calculates, bit}
 use Rattle.code_meaning.specs.Machine.{Codes, Handlers, on_outcome, on_calculation, pushed}
-use Rattle.compiler_relation.specs.Lying.{Lying, Bare, Whole, Absent, low}
+use Rattle.compiler_relation.specs.Representation.{Representation, Unboxed, Boxed, Absent, low}
 use Rattle.compiler_relation.specs.Parts.{arithmetic_code, boolean_code}
-use Rattle.compiler_relation.specs.Stands.{Scope, At, AllAt, end_all, AllLie}
+use Rattle.compiler_relation.specs.Stands.{Scope, At, AllAt, end_all, AllRepresented}
 use Rattle.compiler_relation.proofs.Locals.{Fits}
 use Rattle.compiler_relation.proofs.Follows.{Ctx, Sim, at, frame, ended, done, step_to, throws}
 use Rattle.compiler_relation.proofs.Refines.{push, Any, land_value}
@@ -81,94 +81,94 @@ two_are (AFlag a) (AFlag b) w u st p q = two w u (I (bit a)) (I (bit b)) st p q
 two_are (AFlag a) NoOperand w u st p q = tt
 two_are NoOperand y w u st p q = tt
 
-pub whole_bare : Whole ≡ Bare → ⊥
-whole_bare e = cc
+pub boxed_unboxed : Boxed ≡ Unboxed → ⊥
+boxed_unboxed e = cc
 
-pub absent_bare : Absent ≡ Bare → ⊥
-absent_bare e = cc
+pub absent_unboxed : Absent ≡ Unboxed → ⊥
+absent_unboxed e = cc
 
-pub stack_is : (ks : List Lying) (values : List Value) (st : List Word) → AllLie Bare ks → length ks ≡ length values → StackIs (operands_of values) (push ks values st) st
-stack_is ks [] st bare same = tt
-stack_is [] (x ∷ []) st bare same = absurd (omega arith)
-stack_is (Bare ∷ []) (x ∷ []) st bare same = one_is (operand_of x) (unboxed x) st (kind_is x)
-stack_is (Whole ∷ []) (x ∷ []) st bare same = absurd (whole_bare bare.0)
-stack_is (Absent ∷ []) (x ∷ []) st bare same = absurd (absent_bare bare.0)
-stack_is (k ∷ k' ∷ ks) (x ∷ []) st bare same = absurd (omega arith)
-stack_is [] (x ∷ y ∷ []) st bare same = absurd (omega arith)
-stack_is (k ∷ []) (x ∷ y ∷ []) st bare same = absurd (omega arith)
-stack_is (Bare ∷ Bare ∷ []) (x ∷ y ∷ []) st bare same = two_are (operand_of x) (operand_of y) (unboxed x) (unboxed y) st (kind_is x) (kind_is y)
-stack_is (Whole ∷ k ∷ []) (x ∷ y ∷ []) st bare same = absurd (whole_bare bare.0)
-stack_is (Absent ∷ k ∷ []) (x ∷ y ∷ []) st bare same = absurd (absent_bare bare.0)
-stack_is (Bare ∷ Whole ∷ []) (x ∷ y ∷ []) st bare same = absurd (whole_bare bare.1.0)
-stack_is (Bare ∷ Absent ∷ []) (x ∷ y ∷ []) st bare same = absurd (absent_bare bare.1.0)
-stack_is (k ∷ k' ∷ k'' ∷ ks) (x ∷ y ∷ []) st bare same = absurd (omega arith)
-stack_is ks (x ∷ y ∷ z ∷ values) st bare same = tt
+pub stack_is : (ks : List Representation) (values : List Value) (st : List Word) → AllRepresented Unboxed ks → length ks ≡ length values → StackIs (operands_of values) (push ks values st) st
+stack_is ks [] st are_unboxed same = tt
+stack_is [] (x ∷ []) st are_unboxed same = absurd (omega arith)
+stack_is (Unboxed ∷ []) (x ∷ []) st are_unboxed same = one_is (operand_of x) (unboxed x) st (kind_is x)
+stack_is (Boxed ∷ []) (x ∷ []) st are_unboxed same = absurd (boxed_unboxed are_unboxed.0)
+stack_is (Absent ∷ []) (x ∷ []) st are_unboxed same = absurd (absent_unboxed are_unboxed.0)
+stack_is (k ∷ k' ∷ ks) (x ∷ []) st are_unboxed same = absurd (omega arith)
+stack_is [] (x ∷ y ∷ []) st are_unboxed same = absurd (omega arith)
+stack_is (k ∷ []) (x ∷ y ∷ []) st are_unboxed same = absurd (omega arith)
+stack_is (Unboxed ∷ Unboxed ∷ []) (x ∷ y ∷ []) st are_unboxed same = two_are (operand_of x) (operand_of y) (unboxed x) (unboxed y) st (kind_is x) (kind_is y)
+stack_is (Boxed ∷ k ∷ []) (x ∷ y ∷ []) st are_unboxed same = absurd (boxed_unboxed are_unboxed.0)
+stack_is (Absent ∷ k ∷ []) (x ∷ y ∷ []) st are_unboxed same = absurd (absent_unboxed are_unboxed.0)
+stack_is (Unboxed ∷ Boxed ∷ []) (x ∷ y ∷ []) st are_unboxed same = absurd (boxed_unboxed are_unboxed.1.0)
+stack_is (Unboxed ∷ Absent ∷ []) (x ∷ y ∷ []) st are_unboxed same = absurd (absent_unboxed are_unboxed.1.0)
+stack_is (k ∷ k' ∷ k'' ∷ ks) (x ∷ y ∷ []) st are_unboxed same = absurd (omega arith)
+stack_is ks (x ∷ y ∷ z ∷ values) st are_unboxed same = tt
 
 module _ (funs : Programs) (codes : Codes) (limits : Limits) (c : Ctx codes) (h : Handlers) (g : Scope) where
-  -- an effect on the store, whose value lies as a reference or is taken out of a box
-  pub outcome_runs : (q : ℕ) (i' : Rattle.pl_code.specs.declared.code.Instruction.Instruction) (s : State) (e : Env) (l st st' : List Word) (k : Lying) (word : Value → Word)
+  -- an effect on the store, whose value is a reference or is taken out of a box
+  pub outcome_runs : (q : ℕ) (i' : Rattle.pl_code.specs.declared.code.Instruction.Instruction) (s : State) (e : Env) (l st st' : List Word) (k : Representation) (word : Value → Word)
       → ((value : Value) → Some (word value) ≡ low k value) → At c.body h q i' → Fits c.body g e l → (x : Outcome Value)
       → Sim codes limits c h g (land_value funs codes limits c k (suc q) st) Any (on_outcome codes limits x word (frame codes limits c q l st' s) c.below s.world st) (meaning.effect x s e)
-  outcome_runs q i' s e l st st' k word lies a f (Given value w) =
+  outcome_runs q i' s e l st st' k word representation a f (Given value w) =
       subst (λ o. Sim codes limits c h g (land_value funs codes limits c k (suc q) st) Any (at codes limits c (suc q) l (pushed o st) (record { world = w; turns = s.turns })) (meaning.Done value (record { world = w; turns = s.turns }) e))
-      (sym (lies value)) (done codes limits f tt)
-  outcome_runs q i' s e l st st' k word lies a f (Raised id w) = record { by = λ r d. throws codes limits c h q i' l st' id (record { world = w; turns = s.turns }) r a (d l f) }
-  outcome_runs q i' s e l st st' k word lies a f Full = record { by = ended codes limits _ }
+      (sym (representation value)) (done codes limits f tt)
+  outcome_runs q i' s e l st st' k word representation a f (Raised id w) = record { by = λ r d. throws codes limits c h q i' l st' id (record { world = w; turns = s.turns }) r a (d l f) }
+  outcome_runs q i' s e l st st' k word representation a f Full = record { by = ended codes limits _ }
 
   -- a quotient or a remainder, or a zero divisor
   div_int : (q : ℕ) (i' : Rattle.pl_code.specs.declared.code.Instruction.Instruction) (s : State) (e : Env) (l st st' : List Word) → At c.body h q i' → Fits c.body g e l → (r : Option ℤ)
-      → Sim codes limits c h g (land_value funs codes limits c Bare (suc q) st) Any (on_calculation codes limits (Calculates (some_of n.Int r) st) (frame codes limits c q l st' s) c.below s.world) (operated (number_given op.Div (some_of n.Int r) s.world.store) s e)
-  div_int q i' s e l st st' a f None = outcome_runs q i' s e l st st' Bare unboxed (λ value. refl) a f (acts_in s.world (effect s.world.store zero_divisor))
+      → Sim codes limits c h g (land_value funs codes limits c Unboxed (suc q) st) Any (on_calculation codes limits (Calculates (some_of n.Int r) st) (frame codes limits c q l st' s) c.below s.world) (operated (number_given op.Div (some_of n.Int r) s.world.store) s e)
+  div_int q i' s e l st st' a f None = outcome_runs q i' s e l st st' Unboxed unboxed (λ value. refl) a f (acts_in s.world (effect s.world.store zero_divisor))
   div_int q i' s e l st st' a f (Some x) = done codes limits f tt
 
   rem_int : (q : ℕ) (i' : Rattle.pl_code.specs.declared.code.Instruction.Instruction) (s : State) (e : Env) (l st st' : List Word) → At c.body h q i' → Fits c.body g e l → (r : Option ℤ)
-      → Sim codes limits c h g (land_value funs codes limits c Bare (suc q) st) Any (on_calculation codes limits (Calculates (some_of n.Int r) st) (frame codes limits c q l st' s) c.below s.world) (operated (number_given op.Rem (some_of n.Int r) s.world.store) s e)
-  rem_int q i' s e l st st' a f None = outcome_runs q i' s e l st st' Bare unboxed (λ value. refl) a f (acts_in s.world (effect s.world.store zero_divisor))
+      → Sim codes limits c h g (land_value funs codes limits c Unboxed (suc q) st) Any (on_calculation codes limits (Calculates (some_of n.Int r) st) (frame codes limits c q l st' s) c.below s.world) (operated (number_given op.Rem (some_of n.Int r) s.world.store) s e)
+  rem_int q i' s e l st st' a f None = outcome_runs q i' s e l st st' Unboxed unboxed (λ value. refl) a f (acts_in s.world (effect s.world.store zero_divisor))
   rem_int q i' s e l st st' a f (Some x) = done codes limits f tt
 
   div_long : (q : ℕ) (i' : Rattle.pl_code.specs.declared.code.Instruction.Instruction) (s : State) (e : Env) (l st st' : List Word) → At c.body h q i' → Fits c.body g e l → (r : Option ℤ)
-      → Sim codes limits c h g (land_value funs codes limits c Bare (suc q) st) Any (on_calculation codes limits (Calculates (some_of n.Long r) st) (frame codes limits c q l st' s) c.below s.world) (operated (number_given op.Div (some_of n.Long r) s.world.store) s e)
-  div_long q i' s e l st st' a f None = outcome_runs q i' s e l st st' Bare unboxed (λ value. refl) a f (acts_in s.world (effect s.world.store zero_divisor))
+      → Sim codes limits c h g (land_value funs codes limits c Unboxed (suc q) st) Any (on_calculation codes limits (Calculates (some_of n.Long r) st) (frame codes limits c q l st' s) c.below s.world) (operated (number_given op.Div (some_of n.Long r) s.world.store) s e)
+  div_long q i' s e l st st' a f None = outcome_runs q i' s e l st st' Unboxed unboxed (λ value. refl) a f (acts_in s.world (effect s.world.store zero_divisor))
   div_long q i' s e l st st' a f (Some x) = done codes limits f tt
 
   rem_long : (q : ℕ) (i' : Rattle.pl_code.specs.declared.code.Instruction.Instruction) (s : State) (e : Env) (l st st' : List Word) → At c.body h q i' → Fits c.body g e l → (r : Option ℤ)
-      → Sim codes limits c h g (land_value funs codes limits c Bare (suc q) st) Any (on_calculation codes limits (Calculates (some_of n.Long r) st) (frame codes limits c q l st' s) c.below s.world) (operated (number_given op.Rem (some_of n.Long r) s.world.store) s e)
-  rem_long q i' s e l st st' a f None = outcome_runs q i' s e l st st' Bare unboxed (λ value. refl) a f (acts_in s.world (effect s.world.store zero_divisor))
+      → Sim codes limits c h g (land_value funs codes limits c Unboxed (suc q) st) Any (on_calculation codes limits (Calculates (some_of n.Long r) st) (frame codes limits c q l st' s) c.below s.world) (operated (number_given op.Rem (some_of n.Long r) s.world.store) s e)
+  rem_long q i' s e l st st' a f None = outcome_runs q i' s e l st st' Unboxed unboxed (λ value. refl) a f (acts_in s.world (effect s.world.store zero_divisor))
   rem_long q i' s e l st st' a f (Some x) = done codes limits f tt
 
   -- a comparison
   lt_true : (q : ℕ) (s : State) (e : Env) (l st st' : List Word) → Fits c.body g e l → (t : Bool)
-      → Sim codes limits c h g (land_value funs codes limits c Bare (suc q) st) Any (on_calculation codes limits (Calculates (Some (truth t)) st) (frame codes limits c q l st' s) c.below s.world) (operated (number_given op.Lt (Some (truth t)) s.world.store) s e)
+      → Sim codes limits c h g (land_value funs codes limits c Unboxed (suc q) st) Any (on_calculation codes limits (Calculates (Some (truth t)) st) (frame codes limits c q l st' s) c.below s.world) (operated (number_given op.Lt (Some (truth t)) s.world.store) s e)
   lt_true q s e l st st' f true = done codes limits f tt
   lt_true q s e l st st' f false = done codes limits f tt
 
   le_true : (q : ℕ) (s : State) (e : Env) (l st st' : List Word) → Fits c.body g e l → (t : Bool)
-      → Sim codes limits c h g (land_value funs codes limits c Bare (suc q) st) Any (on_calculation codes limits (Calculates (Some (truth t)) st) (frame codes limits c q l st' s) c.below s.world) (operated (number_given op.Le (Some (truth t)) s.world.store) s e)
+      → Sim codes limits c h g (land_value funs codes limits c Unboxed (suc q) st) Any (on_calculation codes limits (Calculates (Some (truth t)) st) (frame codes limits c q l st' s) c.below s.world) (operated (number_given op.Le (Some (truth t)) s.world.store) s e)
   le_true q s e l st st' f true = done codes limits f tt
   le_true q s e l st st' f false = done codes limits f tt
 
   gt_true : (q : ℕ) (s : State) (e : Env) (l st st' : List Word) → Fits c.body g e l → (t : Bool)
-      → Sim codes limits c h g (land_value funs codes limits c Bare (suc q) st) Any (on_calculation codes limits (Calculates (Some (truth t)) st) (frame codes limits c q l st' s) c.below s.world) (operated (number_given op.Gt (Some (truth t)) s.world.store) s e)
+      → Sim codes limits c h g (land_value funs codes limits c Unboxed (suc q) st) Any (on_calculation codes limits (Calculates (Some (truth t)) st) (frame codes limits c q l st' s) c.below s.world) (operated (number_given op.Gt (Some (truth t)) s.world.store) s e)
   gt_true q s e l st st' f true = done codes limits f tt
   gt_true q s e l st st' f false = done codes limits f tt
 
   ge_true : (q : ℕ) (s : State) (e : Env) (l st st' : List Word) → Fits c.body g e l → (t : Bool)
-      → Sim codes limits c h g (land_value funs codes limits c Bare (suc q) st) Any (on_calculation codes limits (Calculates (Some (truth t)) st) (frame codes limits c q l st' s) c.below s.world) (operated (number_given op.Ge (Some (truth t)) s.world.store) s e)
+      → Sim codes limits c h g (land_value funs codes limits c Unboxed (suc q) st) Any (on_calculation codes limits (Calculates (Some (truth t)) st) (frame codes limits c q l st' s) c.below s.world) (operated (number_given op.Ge (Some (truth t)) s.world.store) s e)
   ge_true q s e l st st' f true = done codes limits f tt
   ge_true q s e l st st' f false = done codes limits f tt
 
   eq_true : (q : ℕ) (s : State) (e : Env) (l st st' : List Word) → Fits c.body g e l → (t : Bool)
-      → Sim codes limits c h g (land_value funs codes limits c Bare (suc q) st) Any (on_calculation codes limits (Calculates (Some (truth t)) st) (frame codes limits c q l st' s) c.below s.world) (operated (number_given op.Eq (Some (truth t)) s.world.store) s e)
+      → Sim codes limits c h g (land_value funs codes limits c Unboxed (suc q) st) Any (on_calculation codes limits (Calculates (Some (truth t)) st) (frame codes limits c q l st' s) c.below s.world) (operated (number_given op.Eq (Some (truth t)) s.world.store) s e)
   eq_true q s e l st st' f true = done codes limits f tt
   eq_true q s e l st st' f false = done codes limits f tt
 
   ne_true : (q : ℕ) (s : State) (e : Env) (l st st' : List Word) → Fits c.body g e l → (t : Bool)
-      → Sim codes limits c h g (land_value funs codes limits c Bare (suc q) st) Any (on_calculation codes limits (Calculates (Some (truth t)) st) (frame codes limits c q l st' s) c.below s.world) (operated (number_given op.Ne (Some (truth t)) s.world.store) s e)
+      → Sim codes limits c h g (land_value funs codes limits c Unboxed (suc q) st) Any (on_calculation codes limits (Calculates (Some (truth t)) st) (frame codes limits c q l st' s) c.below s.world) (operated (number_given op.Ne (Some (truth t)) s.world.store) s e)
   ne_true q s e l st st' f true = done codes limits f tt
   ne_true q s e l st st' f false = done codes limits f tt
 
   one_int : (o : Op) (a : ℤ) (q : ℕ) (s : State) (e : Env) (l st : List Word) → AllAt c.body h q (arithmetic_code o width.Int) → Fits c.body g e l
-      → Sim codes limits c h g (land_value funs codes limits c Bare (end_all q (arithmetic_code o width.Int)) st) Any (at codes limits c q l (I a ∷ st) s) (operated (number_operated o (of_ints o (OneInt a)) s.world.store) s e)
+      → Sim codes limits c h g (land_value funs codes limits c Unboxed (end_all q (arithmetic_code o width.Int)) st) Any (at codes limits c q l (I a ∷ st) s) (operated (number_operated o (of_ints o (OneInt a)) s.world.store) s e)
   one_int op.Add a q s e l st x f = record { by = tt }
   one_int op.Sub a q s e l st x f = record { by = tt }
   one_int op.Mul a q s e l st x f = record { by = tt }
@@ -191,7 +191,7 @@ module _ (funs : Programs) (codes : Codes) (limits : Limits) (c : Ctx codes) (h 
   one_int op.Ne a q s e l st x f = record { by = tt }
 
   two_ints : (o : Op) (a b : ℤ) (q : ℕ) (s : State) (e : Env) (l st : List Word) → AllAt c.body h q (arithmetic_code o width.Int) → Fits c.body g e l
-      → Sim codes limits c h g (land_value funs codes limits c Bare (end_all q (arithmetic_code o width.Int)) st) Any (at codes limits c q l (I b ∷ I a ∷ st) s) (operated (number_operated o (of_ints o (TwoInts a b)) s.world.store) s e)
+      → Sim codes limits c h g (land_value funs codes limits c Unboxed (end_all q (arithmetic_code o width.Int)) st) Any (at codes limits c q l (I b ∷ I a ∷ st) s) (operated (number_operated o (of_ints o (TwoInts a b)) s.world.store) s e)
   two_ints op.Add a b q s e l st x f = step_to codes limits l (I b ∷ I a ∷ st) s x.0 (done codes limits f tt)
   two_ints op.Sub a b q s e l st x f = step_to codes limits l (I b ∷ I a ∷ st) s x.0 (done codes limits f tt)
   two_ints op.Mul a b q s e l st x f = step_to codes limits l (I b ∷ I a ∷ st) s x.0 (done codes limits f tt)
@@ -214,7 +214,7 @@ module _ (funs : Programs) (codes : Codes) (limits : Limits) (c : Ctx codes) (h 
   two_ints op.Ne a b q s e l st x f = step_to codes limits l (I b ∷ I a ∷ st) s x.0 (ne_true q s e l st (I b ∷ I a ∷ st) f (not (int_eq a b)))
 
   one_long : (o : Op) (a : ℤ) (q : ℕ) (s : State) (e : Env) (l st : List Word) → AllAt c.body h q (arithmetic_code o width.Long) → Fits c.body g e l
-      → Sim codes limits c h g (land_value funs codes limits c Bare (end_all q (arithmetic_code o width.Long)) st) Any (at codes limits c q l (J a ∷ st) s) (operated (number_operated o (of_longs o (OneLong a)) s.world.store) s e)
+      → Sim codes limits c h g (land_value funs codes limits c Unboxed (end_all q (arithmetic_code o width.Long)) st) Any (at codes limits c q l (J a ∷ st) s) (operated (number_operated o (of_longs o (OneLong a)) s.world.store) s e)
   one_long op.Add a q s e l st x f = record { by = tt }
   one_long op.Sub a q s e l st x f = record { by = tt }
   one_long op.Mul a q s e l st x f = record { by = tt }
@@ -237,7 +237,7 @@ module _ (funs : Programs) (codes : Codes) (limits : Limits) (c : Ctx codes) (h 
   one_long op.Ne a q s e l st x f = record { by = tt }
 
   two_longs : (o : Op) (a b : ℤ) (q : ℕ) (s : State) (e : Env) (l st : List Word) → AllAt c.body h q (arithmetic_code o width.Long) → Fits c.body g e l
-      → Sim codes limits c h g (land_value funs codes limits c Bare (end_all q (arithmetic_code o width.Long)) st) Any (at codes limits c q l (J b ∷ J a ∷ st) s) (operated (number_operated o (of_longs o (TwoLongs a b)) s.world.store) s e)
+      → Sim codes limits c h g (land_value funs codes limits c Unboxed (end_all q (arithmetic_code o width.Long)) st) Any (at codes limits c q l (J b ∷ J a ∷ st) s) (operated (number_operated o (of_longs o (TwoLongs a b)) s.world.store) s e)
   two_longs op.Add a b q s e l st x f = step_to codes limits l (J b ∷ J a ∷ st) s x.0 (done codes limits f tt)
   two_longs op.Sub a b q s e l st x f = step_to codes limits l (J b ∷ J a ∷ st) s x.0 (done codes limits f tt)
   two_longs op.Mul a b q s e l st x f = step_to codes limits l (J b ∷ J a ∷ st) s x.0 (done codes limits f tt)
@@ -260,7 +260,7 @@ module _ (funs : Programs) (codes : Codes) (limits : Limits) (c : Ctx codes) (h 
   two_longs op.Ne a b q s e l st x f = step_to codes limits l (J b ∷ J a ∷ st) s x.0 (ne_true q s e l st (J b ∷ J a ∷ st) f (not (int_eq a b)))
 
   shifted_longs : (o : Op) (a b : ℤ) (q : ℕ) (s : State) (e : Env) (l st : List Word) → AllAt c.body h q (arithmetic_code o width.Long) → Fits c.body g e l
-      → Sim codes limits c h g (land_value funs codes limits c Bare (end_all q (arithmetic_code o width.Long)) st) Any (at codes limits c q l (I b ∷ J a ∷ st) s) (operated (number_operated o (of_longs o (LongAndInt a b)) s.world.store) s e)
+      → Sim codes limits c h g (land_value funs codes limits c Unboxed (end_all q (arithmetic_code o width.Long)) st) Any (at codes limits c q l (I b ∷ J a ∷ st) s) (operated (number_operated o (of_longs o (LongAndInt a b)) s.world.store) s e)
   shifted_longs op.Add a b q s e l st x f = record { by = tt }
   shifted_longs op.Sub a b q s e l st x f = record { by = tt }
   shifted_longs op.Mul a b q s e l st x f = record { by = tt }
@@ -283,7 +283,7 @@ module _ (funs : Programs) (codes : Codes) (limits : Limits) (c : Ctx codes) (h 
   shifted_longs op.Ne a b q s e l st x f = record { by = tt }
 
   one_flag : (o : Op) (a : Bool) (q : ℕ) (s : State) (e : Env) (l st : List Word) → AllAt c.body h q (boolean_code o) → Fits c.body g e l
-      → Sim codes limits c h g (land_value funs codes limits c Bare (end_all q (boolean_code o)) st) Any (at codes limits c q l (I (bit a) ∷ st) s) (operated (flag_operated (of_flags o (OneFlag a))) s e)
+      → Sim codes limits c h g (land_value funs codes limits c Unboxed (end_all q (boolean_code o)) st) Any (at codes limits c q l (I (bit a) ∷ st) s) (operated (flag_operated (of_flags o (OneFlag a))) s e)
   one_flag op.Add a q s e l st x f = record { by = tt }
   one_flag op.Sub a q s e l st x f = record { by = tt }
   one_flag op.Mul a q s e l st x f = record { by = tt }
@@ -307,7 +307,7 @@ module _ (funs : Programs) (codes : Codes) (limits : Limits) (c : Ctx codes) (h 
   one_flag op.Ne a q s e l st x f = record { by = tt }
 
   two_flags : (o : Op) (a b : Bool) (q : ℕ) (s : State) (e : Env) (l st : List Word) → AllAt c.body h q (boolean_code o) → Fits c.body g e l
-      → Sim codes limits c h g (land_value funs codes limits c Bare (end_all q (boolean_code o)) st) Any (at codes limits c q l (I (bit b) ∷ I (bit a) ∷ st) s) (operated (flag_operated (of_flags o (TwoFlags a b))) s e)
+      → Sim codes limits c h g (land_value funs codes limits c Unboxed (end_all q (boolean_code o)) st) Any (at codes limits c q l (I (bit b) ∷ I (bit a) ∷ st) s) (operated (flag_operated (of_flags o (TwoFlags a b))) s e)
   two_flags op.Add a b q s e l st x f = record { by = tt }
   two_flags op.Sub a b q s e l st x f = record { by = tt }
   two_flags op.Mul a b q s e l st x f = record { by = tt }
@@ -345,9 +345,9 @@ module _ (funs : Programs) (codes : Codes) (limits : Limits) (c : Ctx codes) (h 
   two_flags op.Ne false false q s e l st x f = step_to codes limits l (I (bit false) ∷ I (bit false) ∷ st) s x.0 (done codes limits f tt)
 
   pub ints_run : (o : Op) (x : Operands) (q : ℕ) (s : State) (e : Env) (l st' st : List Word) → AllAt c.body h q (arithmetic_code o width.Int) → StackIs x st' st → Fits c.body g e l
-      → Sim codes limits c h g (land_value funs codes limits c Bare (end_all q (arithmetic_code o width.Int)) st) Any (at codes limits c q l st' s) (operated (number_operated o (of_ints o x) s.world.store) s e)
-  ints_run o (OneInt a) q s e l st' st at' is f = subst (λ st'. Sim codes limits c h g (land_value funs codes limits c Bare (end_all q (arithmetic_code o width.Int)) st) Any (at codes limits c q l st' s) (operated (number_operated o (of_ints o (OneInt a)) s.world.store) s e)) (sym is) (one_int o a q s e l st at' f)
-  ints_run o (TwoInts a b) q s e l st' st at' is f = subst (λ st'. Sim codes limits c h g (land_value funs codes limits c Bare (end_all q (arithmetic_code o width.Int)) st) Any (at codes limits c q l st' s) (operated (number_operated o (of_ints o (TwoInts a b)) s.world.store) s e)) (sym is) (two_ints o a b q s e l st at' f)
+      → Sim codes limits c h g (land_value funs codes limits c Unboxed (end_all q (arithmetic_code o width.Int)) st) Any (at codes limits c q l st' s) (operated (number_operated o (of_ints o x) s.world.store) s e)
+  ints_run o (OneInt a) q s e l st' st at' is f = subst (λ st'. Sim codes limits c h g (land_value funs codes limits c Unboxed (end_all q (arithmetic_code o width.Int)) st) Any (at codes limits c q l st' s) (operated (number_operated o (of_ints o (OneInt a)) s.world.store) s e)) (sym is) (one_int o a q s e l st at' f)
+  ints_run o (TwoInts a b) q s e l st' st at' is f = subst (λ st'. Sim codes limits c h g (land_value funs codes limits c Unboxed (end_all q (arithmetic_code o width.Int)) st) Any (at codes limits c q l st' s) (operated (number_operated o (of_ints o (TwoInts a b)) s.world.store) s e)) (sym is) (two_ints o a b q s e l st at' f)
   ints_run o (OneLong a) q s e l st' st at' is f = record { by = tt }
   ints_run o (TwoLongs a b) q s e l st' st at' is f = record { by = tt }
   ints_run o (LongAndInt a b) q s e l st' st at' is f = record { by = tt }
@@ -356,23 +356,23 @@ module _ (funs : Programs) (codes : Codes) (limits : Limits) (c : Ctx codes) (h 
   ints_run o NoOperands q s e l st' st at' is f = record { by = tt }
 
   pub longs_run : (o : Op) (x : Operands) (q : ℕ) (s : State) (e : Env) (l st' st : List Word) → AllAt c.body h q (arithmetic_code o width.Long) → StackIs x st' st → Fits c.body g e l
-      → Sim codes limits c h g (land_value funs codes limits c Bare (end_all q (arithmetic_code o width.Long)) st) Any (at codes limits c q l st' s) (operated (number_operated o (of_longs o x) s.world.store) s e)
+      → Sim codes limits c h g (land_value funs codes limits c Unboxed (end_all q (arithmetic_code o width.Long)) st) Any (at codes limits c q l st' s) (operated (number_operated o (of_longs o x) s.world.store) s e)
   longs_run o (OneInt a) q s e l st' st at' is f = record { by = tt }
   longs_run o (TwoInts a b) q s e l st' st at' is f = record { by = tt }
-  longs_run o (OneLong a) q s e l st' st at' is f = subst (λ st'. Sim codes limits c h g (land_value funs codes limits c Bare (end_all q (arithmetic_code o width.Long)) st) Any (at codes limits c q l st' s) (operated (number_operated o (of_longs o (OneLong a)) s.world.store) s e)) (sym is) (one_long o a q s e l st at' f)
-  longs_run o (TwoLongs a b) q s e l st' st at' is f = subst (λ st'. Sim codes limits c h g (land_value funs codes limits c Bare (end_all q (arithmetic_code o width.Long)) st) Any (at codes limits c q l st' s) (operated (number_operated o (of_longs o (TwoLongs a b)) s.world.store) s e)) (sym is) (two_longs o a b q s e l st at' f)
-  longs_run o (LongAndInt a b) q s e l st' st at' is f = subst (λ st'. Sim codes limits c h g (land_value funs codes limits c Bare (end_all q (arithmetic_code o width.Long)) st) Any (at codes limits c q l st' s) (operated (number_operated o (of_longs o (LongAndInt a b)) s.world.store) s e)) (sym is) (shifted_longs o a b q s e l st at' f)
+  longs_run o (OneLong a) q s e l st' st at' is f = subst (λ st'. Sim codes limits c h g (land_value funs codes limits c Unboxed (end_all q (arithmetic_code o width.Long)) st) Any (at codes limits c q l st' s) (operated (number_operated o (of_longs o (OneLong a)) s.world.store) s e)) (sym is) (one_long o a q s e l st at' f)
+  longs_run o (TwoLongs a b) q s e l st' st at' is f = subst (λ st'. Sim codes limits c h g (land_value funs codes limits c Unboxed (end_all q (arithmetic_code o width.Long)) st) Any (at codes limits c q l st' s) (operated (number_operated o (of_longs o (TwoLongs a b)) s.world.store) s e)) (sym is) (two_longs o a b q s e l st at' f)
+  longs_run o (LongAndInt a b) q s e l st' st at' is f = subst (λ st'. Sim codes limits c h g (land_value funs codes limits c Unboxed (end_all q (arithmetic_code o width.Long)) st) Any (at codes limits c q l st' s) (operated (number_operated o (of_longs o (LongAndInt a b)) s.world.store) s e)) (sym is) (shifted_longs o a b q s e l st at' f)
   longs_run o (OneFlag a) q s e l st' st at' is f = record { by = tt }
   longs_run o (TwoFlags a b) q s e l st' st at' is f = record { by = tt }
   longs_run o NoOperands q s e l st' st at' is f = record { by = tt }
 
   pub flags_run : (o : Op) (x : Operands) (q : ℕ) (s : State) (e : Env) (l st' st : List Word) → AllAt c.body h q (boolean_code o) → StackIs x st' st → Fits c.body g e l
-      → Sim codes limits c h g (land_value funs codes limits c Bare (end_all q (boolean_code o)) st) Any (at codes limits c q l st' s) (operated (flag_operated (of_flags o x)) s e)
+      → Sim codes limits c h g (land_value funs codes limits c Unboxed (end_all q (boolean_code o)) st) Any (at codes limits c q l st' s) (operated (flag_operated (of_flags o x)) s e)
   flags_run o (OneInt a) q s e l st' st at' is f = record { by = tt }
   flags_run o (TwoInts a b) q s e l st' st at' is f = record { by = tt }
   flags_run o (OneLong a) q s e l st' st at' is f = record { by = tt }
   flags_run o (TwoLongs a b) q s e l st' st at' is f = record { by = tt }
   flags_run o (LongAndInt a b) q s e l st' st at' is f = record { by = tt }
-  flags_run o (OneFlag a) q s e l st' st at' is f = subst (λ st'. Sim codes limits c h g (land_value funs codes limits c Bare (end_all q (boolean_code o)) st) Any (at codes limits c q l st' s) (operated (flag_operated (of_flags o (OneFlag a))) s e)) (sym is) (one_flag o a q s e l st at' f)
-  flags_run o (TwoFlags a b) q s e l st' st at' is f = subst (λ st'. Sim codes limits c h g (land_value funs codes limits c Bare (end_all q (boolean_code o)) st) Any (at codes limits c q l st' s) (operated (flag_operated (of_flags o (TwoFlags a b))) s e)) (sym is) (two_flags o a b q s e l st at' f)
+  flags_run o (OneFlag a) q s e l st' st at' is f = subst (λ st'. Sim codes limits c h g (land_value funs codes limits c Unboxed (end_all q (boolean_code o)) st) Any (at codes limits c q l st' s) (operated (flag_operated (of_flags o (OneFlag a))) s e)) (sym is) (one_flag o a q s e l st at' f)
+  flags_run o (TwoFlags a b) q s e l st' st at' is f = subst (λ st'. Sim codes limits c h g (land_value funs codes limits c Unboxed (end_all q (boolean_code o)) st) Any (at codes limits c q l st' s) (operated (flag_operated (of_flags o (TwoFlags a b))) s e)) (sym is) (two_flags o a b q s e l st at' f)
   flags_run o NoOperands q s e l st' st at' is f = record { by = tt }

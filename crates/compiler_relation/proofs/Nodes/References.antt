@@ -30,19 +30,19 @@ use Rattle.code_meaning.specs.declared.word.Word.{Word}
 use Rattle.code_meaning.specs.declared.word.Word.TheVariants.{I, R}
 use Rattle.code_meaning.specs.Words.{unboxed, bit}
 use Rattle.code_meaning.specs.Machine.{Codes, Handlers, Next, on_outcome, on_thrown}
-use Rattle.compiler_relation.specs.Lying.{Lying, Bare, Whole, Absent}
+use Rattle.compiler_relation.specs.Representation.{Representation, Unboxed, Boxed, Absent}
 use Rattle.compiler_relation.specs.Parts.{operator_code, operator_takes, operator_gives, turned_round}
-use Rattle.compiler_relation.specs.Stands.{Scope, At, AllAt, end_all, AllLie}
+use Rattle.compiler_relation.specs.Stands.{Scope, At, AllAt, end_all, AllRepresented}
 use Rattle.compiler_relation.proofs.Locals.{Fits}
 use Rattle.compiler_relation.proofs.Follows.{Ctx, Sim, at, frame, ended, done, step_to, throws}
 use Rattle.compiler_relation.proofs.Refines.{push, Any, land_value}
 use Rattle.compiler_relation.proofs.Nodes.Operands.{stack_is, outcome_runs, ints_run, longs_run, flags_run}
 
-pub bare_whole : Bare ≡ Whole → ⊥
-bare_whole e = cc
+pub unboxed_boxed : Unboxed ≡ Boxed → ⊥
+unboxed_boxed e = cc
 
-pub absent_whole : Absent ≡ Whole → ⊥
-absent_whole e = cc
+pub absent_boxed : Absent ≡ Boxed → ⊥
+absent_boxed e = cc
 
 -- ---- what `==` and `throw` come to
 
@@ -123,20 +123,20 @@ module _ (funs : Programs) (codes : Codes) (limits : Limits) (c : Ctx codes) (h 
 
   -- a truth value is turned round
   turned_runs : (flag : Bool) (q : ℕ) (s : State) (e : Env) (l st : List Word) → AllAt c.body h q turned_round → Fits c.body g e l
-      → Sim codes limits c h g (land_value funs codes limits c Bare (suc (suc q)) st) Any (at codes limits c q l (I (bit flag) ∷ st) s) (Done (v.Bool (not flag)) s e)
+      → Sim codes limits c h g (land_value funs codes limits c Unboxed (suc (suc q)) st) Any (at codes limits c q l (I (bit flag) ∷ st) s) (Done (v.Bool (not flag)) s e)
   turned_runs true q s e l st x f = step_to codes limits l (I (bit true) ∷ st) s x.0 (step_to codes limits l (I (pos 0) ∷ I (bit true) ∷ st) s x.1.0 (done codes limits f tt))
   turned_runs false q s e l st x f = step_to codes limits l (I (bit false) ∷ st) s x.0 (step_to codes limits l (I (pos 0) ∷ I (bit false) ∷ st) s x.1.0 (done codes limits f tt))
 
   not_equal_does : (q : ℕ) (i' : Instruction) (s : State) (e : Env) (l st st' : List Word) → At c.body h q i' → AllAt c.body h (suc q) turned_round → Fits c.body g e l → (x : Outcome) → IsFlag x
-      → Sim codes limits c h g (land_value funs codes limits c Bare (suc (suc (suc q))) st) Any
+      → Sim codes limits c h g (land_value funs codes limits c Unboxed (suc (suc (suc q))) st) Any
       (on_outcome codes limits (acts_in s.world (effect s.world.store x)) unboxed (frame codes limits c q l st' s) c.below s.world st) (meaning.effect (acts_in s.world (effect s.world.store (negated x))) s e)
   unfolding acts_in
   not_equal_does q i' s e l st st' a turns f (outcome.Gives value) is =
-      subst (λ value. Sim codes limits c h g (land_value funs codes limits c Bare (suc (suc (suc q))) st) Any
+      subst (λ value. Sim codes limits c h g (land_value funs codes limits c Unboxed (suc (suc (suc q))) st) Any
       (on_outcome codes limits (acts_in s.world (effect s.world.store (outcome.Gives value))) unboxed (frame codes limits c q l st' s) c.below s.world st) (meaning.effect (acts_in s.world (effect s.world.store (negated (outcome.Gives value)))) s e))
       (sym is.1) (flags is.0)
     where
-      flags : (flag : Bool) → Sim codes limits c h g (land_value funs codes limits c Bare (suc (suc (suc q))) st) Any
+      flags : (flag : Bool) → Sim codes limits c h g (land_value funs codes limits c Unboxed (suc (suc (suc q))) st) Any
           (on_outcome codes limits (acts_in s.world (effect s.world.store (outcome.Gives (v.Bool flag)))) unboxed (frame codes limits c q l st' s) c.below s.world st)
           (meaning.effect (acts_in s.world (effect s.world.store (negated (outcome.Gives (v.Bool flag))))) s e)
       flags flag = turned_runs flag (suc q) _ e l st turns f
@@ -145,19 +145,19 @@ module _ (funs : Programs) (codes : Codes) (limits : Limits) (c : Ctx codes) (h 
   not_equal_does q i' s e l st st' a turns f outcome.NoMemory is = absurd is
 
   -- two references off the stack
-  references_run : (o : Operator) (k : Lying) (q : ℕ) (s : State) (e : Env) (l st : List Word)
+  references_run : (o : Operator) (k : Representation) (q : ℕ) (s : State) (e : Env) (l st : List Word)
       → ((a b : Value) → Sim codes limits c h g (land_value funs codes limits c k (end_all q (operator_code o)) st) Any (at codes limits c q l (R b ∷ R a ∷ st) s) (operated (of_references o a b s.world.store) s e))
-      → (ks : List Lying) (values : List Value) → AllLie Whole ks → length ks ≡ length values
+      → (ks : List Representation) (values : List Value) → AllRepresented Boxed ks → length ks ≡ length values
       → Sim codes limits c h g (land_value funs codes limits c k (end_all q (operator_code o)) st) Any (at codes limits c q l (push ks values st) s) (operated (reference_operated o values s.world.store) s e)
   references_run o k q s e l st next ks [] lie same = record { by = tt }
   references_run o k q s e l st next ks (a ∷ []) lie same = record { by = tt }
   references_run o k q s e l st next [] (a ∷ b ∷ []) lie same = absurd (omega arith)
   references_run o k q s e l st next (x ∷ []) (a ∷ b ∷ []) lie same = absurd (omega arith)
-  references_run o k q s e l st next (Whole ∷ Whole ∷ []) (a ∷ b ∷ []) lie same = next a b
-  references_run o k q s e l st next (Bare ∷ x ∷ []) (a ∷ b ∷ []) lie same = absurd (bare_whole lie.0)
-  references_run o k q s e l st next (Absent ∷ x ∷ []) (a ∷ b ∷ []) lie same = absurd (absent_whole lie.0)
-  references_run o k q s e l st next (Whole ∷ Bare ∷ []) (a ∷ b ∷ []) lie same = absurd (bare_whole lie.1.0)
-  references_run o k q s e l st next (Whole ∷ Absent ∷ []) (a ∷ b ∷ []) lie same = absurd (absent_whole lie.1.0)
+  references_run o k q s e l st next (Boxed ∷ Boxed ∷ []) (a ∷ b ∷ []) lie same = next a b
+  references_run o k q s e l st next (Unboxed ∷ x ∷ []) (a ∷ b ∷ []) lie same = absurd (unboxed_boxed lie.0)
+  references_run o k q s e l st next (Absent ∷ x ∷ []) (a ∷ b ∷ []) lie same = absurd (absent_boxed lie.0)
+  references_run o k q s e l st next (Boxed ∷ Unboxed ∷ []) (a ∷ b ∷ []) lie same = absurd (unboxed_boxed lie.1.0)
+  references_run o k q s e l st next (Boxed ∷ Absent ∷ []) (a ∷ b ∷ []) lie same = absurd (absent_boxed lie.1.0)
   references_run o k q s e l st next (x ∷ y ∷ z ∷ ks) (a ∷ b ∷ []) lie same = absurd (omega arith)
   references_run o k q s e l st next ks (a ∷ b ∷ x ∷ values) lie same = record { by = tt }
 
@@ -167,40 +167,40 @@ module _ (funs : Programs) (codes : Codes) (limits : Limits) (c : Ctx codes) (h 
   nothing_runs o values {land = land} {n = n} s e is = subst (λ x. Sim codes limits c h g land Any n (operated x s e)) (sym (nothing o s.world.store is values)) (record { by = tt })
 
   equal_runs : (a b : Value) (q : ℕ) (s : State) (e : Env) (l st : List Word) → AllAt c.body h q (operator_code operator.Equal) → Fits c.body g e l
-      → Sim codes limits c h g (land_value funs codes limits c Bare (suc q) st) Any (at codes limits c q l (R b ∷ R a ∷ st) s) (operated (of_references operator.Equal a b s.world.store) s e)
+      → Sim codes limits c h g (land_value funs codes limits c Unboxed (suc q) st) Any (at codes limits c q l (R b ∷ R a ∷ st) s) (operated (of_references operator.Equal a b s.world.store) s e)
   equal_runs a b q s e l st x f =
       step_to codes limits l (R b ∷ R a ∷ st) s x.0
-      (outcome_runs funs codes limits c h g q _ s e l st (R b ∷ R a ∷ st) Bare unboxed (λ value. refl) x.0 f (acts_in s.world (effect s.world.store (equal s.world.store.objects a b))))
+      (outcome_runs funs codes limits c h g q _ s e l st (R b ∷ R a ∷ st) Unboxed unboxed (λ value. refl) x.0 f (acts_in s.world (effect s.world.store (equal s.world.store.objects a b))))
 
   not_equal_runs : (a b : Value) (q : ℕ) (s : State) (e : Env) (l st : List Word) → AllAt c.body h q (operator_code operator.NotEqual) → Fits c.body g e l
-      → Sim codes limits c h g (land_value funs codes limits c Bare (suc (suc (suc q))) st) Any (at codes limits c q l (R b ∷ R a ∷ st) s) (operated (of_references operator.NotEqual a b s.world.store) s e)
+      → Sim codes limits c h g (land_value funs codes limits c Unboxed (suc (suc (suc q))) st) Any (at codes limits c q l (R b ∷ R a ∷ st) s) (operated (of_references operator.NotEqual a b s.world.store) s e)
   not_equal_runs a b q s e l st x f =
       step_to codes limits l (R b ∷ R a ∷ st) s x.0
       (not_equal_does q _ s e l st (R b ∷ R a ∷ st) x.0 x.1 f (equal s.world.store.objects a b) (equal_is_flag s.world.store.objects a b))
 
   concat_runs : (a b : Value) (q : ℕ) (s : State) (e : Env) (l st : List Word) → AllAt c.body h q (operator_code operator.Concat) → Fits c.body g e l
-      → Sim codes limits c h g (land_value funs codes limits c Whole (suc q) st) Any (at codes limits c q l (R b ∷ R a ∷ st) s) (operated (of_references operator.Concat a b s.world.store) s e)
+      → Sim codes limits c h g (land_value funs codes limits c Boxed (suc q) st) Any (at codes limits c q l (R b ∷ R a ∷ st) s) (operated (of_references operator.Concat a b s.world.store) s e)
   concat_runs a b q s e l st x f =
       step_to codes limits l (R b ∷ R a ∷ st) s x.0
-      (outcome_runs funs codes limits c h g q _ s e l st (R b ∷ R a ∷ st) Whole R (λ value. refl) x.0 f (acts_in s.world (effect s.world.store (concatenated s.world.store.objects a b))))
+      (outcome_runs funs codes limits c h g q _ s e l st (R b ∷ R a ∷ st) Boxed R (λ value. refl) x.0 f (acts_in s.world (effect s.world.store (concatenated s.world.store.objects a b))))
 
-  -- an operator, whose operands lie as it takes them, and what it gives as it gives it
+  -- an operator, whose operands are represented as it takes them, and what it gives as it gives it
   abbrev OperatorRuns : Operator → Type 0
   OperatorRuns o =
-      (ks : List Lying) (values : List Value) (q : ℕ) (s : State) (e : Env) (l st : List Word) → AllAt c.body h q (operator_code o) → AllLie (operator_takes o) ks → length ks ≡ length values → Fits c.body g e l
+      (ks : List Representation) (values : List Value) (q : ℕ) (s : State) (e : Env) (l st : List Word) → AllAt c.body h q (operator_code o) → AllRepresented (operator_takes o) ks → length ks ≡ length values → Fits c.body g e l
       → Sim codes limits c h g (land_value funs codes limits c (operator_gives o) (end_all q (operator_code o)) st) Any (at codes limits c q l (push ks values st) s) (operated (operates o values s.world.store) s e)
 
   operator_does : (o : Operator) → OperatorRuns o
   operator_does (operator.Int o) ks values q s e l st x lie same f = ints_run funs codes limits c h g o (operands_of values) q s e l (push ks values st) st x (stack_is ks values st lie same) f
   operator_does (operator.Long o) ks values q s e l st x lie same f = longs_run funs codes limits c h g o (operands_of values) q s e l (push ks values st) st x (stack_is ks values st lie same) f
   operator_does (operator.Boolean o) ks values q s e l st x lie same f = flags_run funs codes limits c h g o (operands_of values) q s e l (push ks values st) st x (stack_is ks values st lie same) f
-  operator_does operator.Equal ks values q s e l st x lie same f = references_run operator.Equal Bare q s e l st (λ a b. equal_runs a b q s e l st x f) ks values lie same
-  operator_does operator.NotEqual ks values q s e l st x lie same f = references_run operator.NotEqual Bare q s e l st (λ a b. not_equal_runs a b q s e l st x f) ks values lie same
+  operator_does operator.Equal ks values q s e l st x lie same f = references_run operator.Equal Unboxed q s e l st (λ a b. equal_runs a b q s e l st x f) ks values lie same
+  operator_does operator.NotEqual ks values q s e l st x lie same f = references_run operator.NotEqual Unboxed q s e l st (λ a b. not_equal_runs a b q s e l st x f) ks values lie same
   operator_does operator.Same ks values q s e l st x lie same f =
-      references_run operator.Same Bare q s e l st (λ a b. step_to codes limits l (R b ∷ R a ∷ st) s x.0 (done codes limits f tt)) ks values lie same
+      references_run operator.Same Unboxed q s e l st (λ a b. step_to codes limits l (R b ∷ R a ∷ st) s x.0 (done codes limits f tt)) ks values lie same
   operator_does operator.NotSame ks values q s e l st x lie same f =
-      references_run operator.NotSame Bare q s e l st (λ a b. step_to codes limits l (R b ∷ R a ∷ st) s x.0 (turned_runs (is_same a b) (suc q) s e l st x.1 f)) ks values lie same
-  operator_does operator.Concat ks values q s e l st x lie same f = references_run operator.Concat Whole q s e l st (λ a b. concat_runs a b q s e l st x f) ks values lie same
+      references_run operator.NotSame Unboxed q s e l st (λ a b. step_to codes limits l (R b ∷ R a ∷ st) s x.0 (turned_runs (is_same a b) (suc q) s e l st x.1 f)) ks values lie same
+  operator_does operator.Concat ks values q s e l st x lie same f = references_run operator.Concat Boxed q s e l st (λ a b. concat_runs a b q s e l st x f) ks values lie same
   operator_does (operator.Def o) ks values q s e l st x lie same f = nothing_runs (operator.Def o) values s e (λ a b. refl)
   operator_does operator.List ks values q s e l st x lie same f = nothing_runs operator.List values s e (λ a b. refl)
   operator_does operator.Map ks values q s e l st x lie same f = nothing_runs operator.Map values s e (λ a b. refl)
@@ -209,8 +209,8 @@ module _ (funs : Programs) (codes : Codes) (limits : Limits) (c : Ctx codes) (h 
   operator_does operator.Element ks values q s e l st x lie same f = nothing_runs operator.Element values s e (λ a b. refl)
   operator_does operator.Length ks values q s e l st x lie same f = nothing_runs operator.Length values s e (λ a b. refl)
 
-  -- each operator, whose operands lie as it takes them
-  pub operator_runs : (o : Operator) (ks : List Lying) (values : List Value) (k : Lying) (q : ℕ) (s : State) (e : Env) (l st : List Word) → AllAt c.body h q (operator_code o) → AllLie (operator_takes o) ks → length ks ≡ length values → k ≡ operator_gives o → Fits c.body g e l
+  -- each operator, whose operands are represented as it takes them
+  pub operator_runs : (o : Operator) (ks : List Representation) (values : List Value) (k : Representation) (q : ℕ) (s : State) (e : Env) (l st : List Word) → AllAt c.body h q (operator_code o) → AllRepresented (operator_takes o) ks → length ks ≡ length values → k ≡ operator_gives o → Fits c.body g e l
       → Sim codes limits c h g (land_value funs codes limits c k (end_all q (operator_code o)) st) Any (at codes limits c q l (push ks values st) s) (operated (operates o values s.world.store) s e)
   operator_runs o ks values k q s e l st x lie same is f =
       subst (λ k. Sim codes limits c h g (land_value funs codes limits c k (end_all q (operator_code o)) st) Any (at codes limits c q l (push ks values st) s) (operated (operates o values s.world.store) s e)) (sym is)

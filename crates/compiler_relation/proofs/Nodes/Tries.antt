@@ -13,7 +13,7 @@ use Rattle.source_meaning.specs.Meaning.{State, Env, Out, Done, Thrown, Over, Mo
 use Rattle.code_meaning.specs.declared.word.Word.{Word}
 use Rattle.code_meaning.specs.declared.word.Word.TheVariants.{R}
 use Rattle.code_meaning.specs.Machine.{Codes, Handlers, Next, exception_is, is_instance}
-use Rattle.compiler_relation.specs.Lying.{Whole, Absent, lying_of}
+use Rattle.compiler_relation.specs.Representation.{Boxed, Absent, representation_of}
 use Rattle.compiler_relation.specs.Stands.{Entry, Scope, all_fall, any_continues, jumps_over, end_skip, end_stmt, end_stmts, end_catches, end_tried, end_caught, next_stmts, handlers_of, Jumps, SkipAt, CatchesAt}
 use Rattle.compiler_relation.proofs.Locals.{Under, Fits, under_more}
 use Rattle.compiler_relation.proofs.Follows.{Ctx, Leads, at, place, thrown, Follows, through, Sim, lands_on, leaving}
@@ -44,12 +44,12 @@ asked class id w = refl
 taken_alike : (class id : ℕ) (w : World) → is_of_class class (slice_get w.store.objects id) ≡ is_instance (Some class) id w
 taken_alike class id w = alike class (slice_get w.store.objects id) ∙ sym (asked class id w)
 
-exceptions_are_whole : (class : ℕ) → Whole ≡ lying_of (t.Class class)
+exceptions_are_boxed : (class : ℕ) → Boxed ≡ representation_of (t.Class class)
 unfolding ty.out-Ty denote.Hole.Carrier.out
-exceptions_are_whole class = refl
+exceptions_are_boxed class = refl
 
-whole_some : Whole ≢ Absent
-whole_some e = cc
+boxed_some : Boxed ≢ Absent
+boxed_some e = cc
 
 module _ (funs : Programs) (codes : Codes) (limits : Limits) (m : Meaning) (ih : Refines funs codes limits m) where
   -- what is thrown in a block goes to its catches
@@ -72,7 +72,7 @@ module _ (funs : Programs) (codes : Codes) (limits : Limits) (m : Meaning) (ih :
 
   -- an exception at the catches
   caught_runs : (catches : Catches) (c : Ctx codes) (h : Handlers) (g : Scope) (n : ℕ) (j : Jumps) (to p id : ℕ) (s : State) (e : Env) (l : List Word)
-      → CatchesAt (functions_in funs c.text) c.body h (lying_of c.result) g n j to p catches → to ≡ end_catches p catches → Under n g → Fits c.body g e l
+      → CatchesAt (functions_in funs c.text) c.body h (representation_of c.result) g n j to p catches → to ≡ end_catches p catches → Under n g → Fits c.body g e l
       → Sim codes limits c h g (land_flow funs codes limits c j to) (Good (any_falls catches) (catches_continue catches)) (thrown codes limits c (handlers_of p catches ++ h) id s l)
       (caught funs limits m (place codes limits c) catches id s e)
   caught_runs NoCatch c h g n j to p id s e l stands same under f = record { by = λ r k. k l f }
@@ -89,7 +89,7 @@ module _ (funs : Programs) (codes : Codes) (limits : Limits) (m : Meaning) (ih :
           (if taken' then at codes limits c p l (R (v.Ref id) ∷ []) s else further)
           (if taken then leave (m.stmts (place codes limits c) s (record { name = x; value = v.Ref id } ∷ e) body) else others)
       pick true true is d =
-          store_new funs codes limits m ih x (t.Class class) n Whole (v.Ref id) c h g p s e l (exceptions_are_whole class) whole_some stands.0 under stands.1 f (λ l f.
+          store_new funs codes limits m ih x (t.Class class) n Boxed (v.Ref id) c h g p s e l (exceptions_are_boxed class) boxed_some stands.0 under stands.1 f (λ l f.
           leaving codes limits y
           (lands_on codes limits (behind c h j (end_stmts (suc p) body) to body rest stands.3 same) (good_left (all_fall body) (any_falls rest) (any_continues body) (catches_continue rest))
           (ih.stmts body c h (y ∷ g) (suc n) j (suc p) s (record { name = x; value = v.Ref id } ∷ e) l stands.2 (omega arith, under_more n (suc n) g (omega arith) under) f)))

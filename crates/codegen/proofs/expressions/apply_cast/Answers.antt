@@ -1,7 +1,7 @@
 use Rattle.std.proofs.Common.{Some, sym, ap, ◌∙◌, refl}
 use Rattle.source_meaning.specs.Programs.{program_of}
 use Rattle.program_typing.specs.Agreeing.{known}
-use Rattle.codegen.specs.Jobs.{jobs, Any}
+use Rattle.codegen.specs.Worklist.{items_of, Any}
 use Rattle.codegen.proofs.Plans.{cast_plan}
 use Rattle.codegen.proofs.Parts.{cast_fits, cast_there, cast_alone, well_cast_fits, well_cast_names}
 use Rattle.codegen.proofs.Steps.{instead, never}
@@ -10,9 +10,9 @@ use Rattle.codegen.proofs.expressions.apply_cast.Goals as goal
 pub returns-clause-back : goal.returns-clause-back
 returns-clause-back c =
     rw c.in_ok-push_two.ensures (
-    (cast_plan _ (jobs c.args.tasks.now) c.args.config.now c.args.at c.args.of.now c.args.cast _ Any
+    (cast_plan _ (items_of c.args.worklist.now) c.args.config.now c.args.at c.args.of.now c.args.cast _ Any
     (λ h. cast_fits (program_of c.args.program.now) c.args.cast c.args.parts.now c.get-2.result.now c.args.of.now _ _ (sym c.in-Some.ensures.value ∙ ap (λ x. Some x) (sym c.get-2.ensures))
-    (sym c.len.ensures ∙ c.if-len-ne1.false) c.lies_in.ensures c.lies_of.ensures c.in_ok-cast_fits.ensures)))
+    (sym c.len.ensures ∙ c.if-len-ne1.false) c.representation_in.ensures c.representation_of.ensures c.in_ok-cast_fits.ensures)))
 
 pub returns-clause-sound : goal.returns-clause-sound
 returns-clause-sound c = rw c.in_ok-push_two.ensures ((instead _ _ _ _
@@ -26,4 +26,4 @@ returns-then-len-ne1-clause-sound c = never _ _ _ _ _ _ (λ allow of s. cast_alo
 
 pub returns-in_err-cast_fits-clause-sound : goal.returns-in_err-cast_fits-clause-sound
 returns-in_err-cast_fits-clause-sound c = never _ _ _ _ _ _
-    (λ allow of s. c.in_err-cast_fits.ensures (well_cast_fits (known allow (program_of c.args.program.now)) c.args.cast c.args.parts.now c.get-2.result.now _ _ _ (sym c.in-Some.ensures.value ∙ ap (λ x. Some x) (sym c.get-2.ensures)) c.lies_in.ensures c.lies_of.ensures s.0.1))
+    (λ allow of s. c.in_err-cast_fits.ensures (well_cast_fits (known allow (program_of c.args.program.now)) c.args.cast c.args.parts.now c.get-2.result.now _ _ _ (sym c.in-Some.ensures.value ∙ ap (λ x. Some x) (sym c.get-2.ensures)) c.representation_in.ensures c.representation_of.ensures s.0.1))

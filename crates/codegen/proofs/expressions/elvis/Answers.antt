@@ -1,28 +1,28 @@
 use Rattle.std.proofs.Common.{◌∙◌, refl, sym, ap}
-use Rattle.codegen.specs.Jobs.{jobs}
+use Rattle.codegen.specs.Worklist.{items_of}
 use Rattle.codegen.proofs.Back.{with_labels}
 use Rattle.codegen.proofs.Plans.{elvis_plan}
 use Rattle.codegen.proofs.Steps.{with_two, never}
-use Rattle.compiler_relation.specs.Lying.{lying_of}
-use Rattle.codegen.proofs.Fitting.{is_whole}
+use Rattle.compiler_relation.specs.Representation.{representation_of}
+use Rattle.codegen.proofs.Fitting.{is_boxed}
 use Rattle.codegen.proofs.expressions.elvis.Goals as goal
 
 pub returns-clause-back : goal.returns-clause-back
 returns-clause-back c =
     rw c.in_ok-push_three-2.ensures (rw c.in_ok-push_two.ensures (rw c.in_ok-push_three.ensures
     (with_labels _ _ c.args.config.now _ c.fresh.new.self c.fresh-2.new.self c.in_ok-end.ensures.labels c.in_ok-other.ensures.labels
-    (elvis_plan _ (jobs c.args.tasks.now) c.args.config.now c.args.at c.args.of.now _ _ c.in_ok-other.other c.in_ok-end.end
-    c.in_ok-lies_as.ensures c.in_ok-lies_as-2.ensures (sym c.lies_of.ensures ∙ c.in_ok-alike.ensures)))))
+    (elvis_plan _ (items_of c.args.worklist.now) c.args.config.now c.args.at c.args.of.now _ _ c.in_ok-other.other c.in_ok-end.end
+    c.in_ok-represented_as.ensures c.in_ok-represented_as-2.ensures (sym c.representation_of.ensures ∙ c.in_ok-alike.ensures)))))
 
 pub returns-clause-sound : goal.returns-clause-sound
 returns-clause-sound c = rw c.in_ok-push_three-2.ensures (rw c.in_ok-push_two.ensures (rw c.in_ok-push_three.ensures
     (with_two _ _ _ c.args.config.now c.fresh.new.self c.fresh-2.new.self c.in_ok-end.end c.in_ok-other.other c.in_ok-end.ensures.label c.in_ok-end.ensures.labels c.in_ok-other.ensures.label c.in_ok-other.ensures.labels (λ allow of s. (s.0.0, (s.0.1, s.1))) refl)))
 
-pub returns-in_err-lies_as-clause-sound : goal.returns-in_err-lies_as-clause-sound
-returns-in_err-lies_as-clause-sound c = never _ _ _ _ _ _ (λ allow of s. c.in_err-lies_as.ensures (ap lying_of s.0.2 ∙ is_whole _ s.0.4))
+pub returns-in_err-represented_as-clause-sound : goal.returns-in_err-represented_as-clause-sound
+returns-in_err-represented_as-clause-sound c = never _ _ _ _ _ _ (λ allow of s. c.in_err-represented_as.ensures (ap representation_of s.0.2 ∙ is_boxed _ s.0.4))
 
-pub returns-in_err-lies_as-2-clause-sound : goal.returns-in_err-lies_as-2-clause-sound
-returns-in_err-lies_as-2-clause-sound c = never _ _ _ _ _ _ (λ allow of s. c.in_err-lies_as-2.ensures (ap lying_of s.0.3 ∙ is_whole _ s.0.4))
+pub returns-in_err-represented_as-2-clause-sound : goal.returns-in_err-represented_as-2-clause-sound
+returns-in_err-represented_as-2-clause-sound c = never _ _ _ _ _ _ (λ allow of s. c.in_err-represented_as-2.ensures (ap representation_of s.0.3 ∙ is_boxed _ s.0.4))
 
 pub returns-in_err-alike-clause-sound : goal.returns-in_err-alike-clause-sound
-returns-in_err-alike-clause-sound c = never _ _ _ _ _ _ (λ allow of s. c.in_err-alike.ensures (c.lies_of.ensures ∙ is_whole _ s.0.4))
+returns-in_err-alike-clause-sound c = never _ _ _ _ _ _ (λ allow of s. c.in_err-alike.ensures (c.representation_of.ensures ∙ is_boxed _ s.0.4))

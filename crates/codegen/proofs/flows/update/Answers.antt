@@ -1,13 +1,13 @@
 use Rattle.std.proofs.Common.{sym, ◌∙◌}
-use Rattle.codegen.specs.Jobs.{jobs}
+use Rattle.codegen.specs.Worklist.{items_of}
 use Rattle.codegen.proofs.Flowing.{update_goes, update_stays, update_none}
 use Rattle.codegen.proofs.flows.update.Goals as goal
 
 pub returns-then-turns_on-clause-back : goal.returns-then-turns_on-clause-back
-returns-then-turns_on-clause-back c = rw c.in_ok-push_two.ensures (rw c.in-Some.is (update_goes _ (jobs c.args.tasks.now) c.args.config.now c.in_ok-flow.flow c.top.new.flows c.in_ok-flow.ensures.top c.in_ok-flow.ensures.same _ _ c.lies_in-lies.ensures (sym c.turns_on.ensures ∙ c.if-turns_on.true)))
+returns-then-turns_on-clause-back c = rw c.in_ok-push_two.ensures (rw c.in-Some.is (update_goes _ (items_of c.args.worklist.now) c.args.config.now c.in_ok-flow.flow c.top.new.flows c.in_ok-flow.ensures.top c.in_ok-flow.ensures.same _ _ c.representation_in-representation.ensures (sym c.turns_on.ensures ∙ c.if-turns_on.true)))
 
 pub returns-clause-back : goal.returns-clause-back
-returns-clause-back c = rw c.in-Some.is (update_stays _ (jobs c.args.tasks.now) c.args.config.now c.in_ok-flow.flow c.top.new.flows c.in_ok-flow.ensures.top c.in_ok-flow.ensures.same _ (sym c.turns_on.ensures ∙ c.if-turns_on.false))
+returns-clause-back c = rw c.in-Some.is (update_stays _ (items_of c.args.worklist.now) c.args.config.now c.in_ok-flow.flow c.top.new.flows c.in_ok-flow.ensures.top c.in_ok-flow.ensures.same _ (sym c.turns_on.ensures ∙ c.if-turns_on.false))
 
 pub returns-in_default-clause-back : goal.returns-in_default-clause-back
-returns-in_default-clause-back c = rw c.in_default.is (update_none _ (jobs c.args.tasks.now) c.args.config.now c.in_ok-flow.flow c.top.new.flows c.in_ok-flow.ensures.top c.in_ok-flow.ensures.same)
+returns-in_default-clause-back c = rw c.in_default.is (update_none _ (items_of c.args.worklist.now) c.args.config.now c.in_ok-flow.flow c.top.new.flows c.in_ok-flow.ensures.top c.in_ok-flow.ensures.same)

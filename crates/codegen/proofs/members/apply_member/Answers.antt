@@ -3,7 +3,7 @@ use Rattle.std.proofs.lemmas.Result.{err_from_is_err_and}
 use Rattle.source_meaning.specs.Programs.{program_of, expr_of, exprs_of}
 use Rattle.program_typing.specs.Agreeing.{known}
 use Rattle.std.specs.Prelude.{map}
-use Rattle.codegen.specs.Jobs.{jobs, As, member_takes}
+use Rattle.codegen.specs.Worklist.{items_of, As, member_takes}
 use Rattle.codegen.proofs.Called.{member_fits, forms, agrees_called, agrees_lie, agrees_member}
 use Rattle.codegen.proofs.Plans.{member_plan}
 use Rattle.codegen.proofs.Steps.{instead}
@@ -12,7 +12,7 @@ use Rattle.codegen.proofs.members.apply_member.Goals as goal
 pub returns-clause-back : goal.returns-clause-back
 returns-clause-back c =
     rw c.in_ok-push_three.ensures
-    (member_plan _ (jobs c.args.tasks.now) c.args.config.now c.args.at c.args.of.now c.args.kind c.args.named.now _ (As (member_takes c.args.kind c.in_ok-member.member.now.params)) _ c.lies_of.ensures
+    (member_plan _ (items_of c.args.worklist.now) c.args.config.now c.args.at c.args.of.now c.args.kind c.args.named.now _ (As (member_takes c.args.kind c.in_ok-member.member.now.params)) _ c.representation_of.ensures
     (λ h. member_fits c.args.kind c.args.named.now _ c.args.of.now c.in_ok-member.member.now c.in_ok-member.ensures.found h))
 
 pub returns-clause-sound : goal.returns-clause-sound

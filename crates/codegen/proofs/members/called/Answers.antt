@@ -13,5 +13,5 @@ returns-clause-found c = record {
   is = c.member_type-member.ensures;
   sort = c.in_ok-same_kind.ensures;
   text = named_so c.args.named.now.number c.member_type-member.result.now _ _ c.member_type-member.ensures c.in_ok-text.ensures c.in_ok-same_text.ensures;
-  gives = sym c.lies_of.ensures ∙ c.in_ok-alike.ensures ∙ c.lies_of-2.ensures;
+  gives = sym c.representation_of.ensures ∙ c.in_ok-alike.ensures ∙ c.representation_of-2.ensures;
 }

@@ -1,16 +1,16 @@
 use Rattle.std.proofs.Common.{sym}
-use Rattle.codegen.specs.Jobs.{jobs}
-use Rattle.codegen.specs.Jobs.{tail_of}
+use Rattle.codegen.specs.Worklist.{items_of}
+use Rattle.codegen.specs.Worklist.{tail_of}
 use Rattle.codegen.proofs.Rows.{variables_go, variables_end}
 use Rattle.codegen.proofs.Agreeing.{keeps_variables, keeps_variables_end, keeps_first}
 use Rattle.codegen.proofs.scopes.variables.Goals as goal
 
 pub returns-clause-back : goal.returns-clause-back
 returns-clause-back c = rw c.in_ok-push_three.ensures
-    (variables_go _ (jobs c.args.tasks.now) c.args.config.now c.args.exits c.args.all.now c.args.at c.in-Some.variable.now (tail_of c.args.tail) _ (sym c.in-Some.ensures.value) c.in_ok-first.ensures)
+    (variables_go _ (items_of c.args.worklist.now) c.args.config.now c.args.exits c.args.all.now c.args.at c.in-Some.variable.now (tail_of c.args.tail) _ (sym c.in-Some.ensures.value) c.in_ok-first.ensures)
 
 pub returns-in_default-clause-back : goal.returns-in_default-clause-back
-returns-in_default-clause-back c = rw c.in_ok-push.ensures (variables_end _ (jobs c.args.tasks.now) c.args.config.now c.args.exits c.args.all.now c.args.at (tail_of c.args.tail) (sym c.in_default.ensures.value))
+returns-in_default-clause-back c = rw c.in_ok-push.ensures (variables_end _ (items_of c.args.worklist.now) c.args.config.now c.args.exits c.args.all.now c.args.at (tail_of c.args.tail) (sym c.in_default.ensures.value))
 
 pub returns-clause-sound : goal.returns-clause-sound
 returns-clause-sound c = rw c.in_ok-push_three.ensures (keeps_variables _ _ c.args.config.now c.args.exits c.args.all.now c.args.at c.in-Some.variable.now (tail_of c.args.tail) _ (sym c.in-Some.ensures.value) c.in_ok-first.ensures)

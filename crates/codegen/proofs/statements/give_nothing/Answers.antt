@@ -1,10 +1,10 @@
 use Rattle.std.proofs.Common.{refl, ◌∙◌}
 use Rattle.codegen.proofs.Steps.{instead}
-use Rattle.codegen.proofs.Fitting.{nothing_lies}
+use Rattle.codegen.proofs.Fitting.{nothing_representation}
 use Rattle.codegen.proofs.statements.give_nothing.Goals as goal
 
 pub returns-in_err-alike-clause-sound : goal.returns-in_err-alike-clause-sound
-returns-in_err-alike-clause-sound c = record { by = λ allow s. absurd (c.in_err-alike.ensures (s.lies ∙ nothing_lies _ s.agree.0)) }
+returns-in_err-alike-clause-sound c = record { by = λ allow s. absurd (c.in_err-alike.ensures (s.representation ∙ nothing_representation _ s.agree.0)) }
 
 pub returns-clause-sound : goal.returns-clause-sound
 returns-clause-sound c = rw c.in_ok-push_two.ensures (instead _ _ _ _ (λ allow of s. s.1) refl)

@@ -1,11 +1,11 @@
-use Rattle.codegen.specs.Jobs.{jobs}
+use Rattle.codegen.specs.Worklist.{items_of}
 use Rattle.codegen.proofs.Back.{load_back}
 use Rattle.std.proofs.Common.{refl}
 use Rattle.codegen.proofs.Steps.{lined, never}
 use Rattle.codegen.proofs.step.load.Goals as goal
 
 pub returns-clause-back : goal.returns-clause-back
-returns-clause-back c = load_back _ (jobs c.args.tasks.now) c.args.config.now c.args.name.now _ c.in_ok-local.local _ c.in_ok-local.ensures c.in_ok-push.ensures.ok
+returns-clause-back c = load_back _ (items_of c.args.worklist.now) c.args.config.now c.args.name.now _ c.in_ok-local.local _ c.in_ok-local.ensures c.in_ok-push.ensures.ok
 
 pub returns-in_err-local-clause-sound : goal.returns-in_err-local-clause-sound
 returns-in_err-local-clause-sound c = never _ _ _ _ _ _ (λ allow of s. c.in_err-local.ensures s.0)

@@ -1,5 +1,5 @@
 use Rattle.std.proofs.Common.{refl}
-use Rattle.codegen.specs.Jobs.{jobs}
+use Rattle.codegen.specs.Worklist.{items_of}
 use Rattle.codegen.proofs.Back.{with_label}
 use Rattle.codegen.proofs.Handled.{try_plan}
 use Rattle.codegen.proofs.Steps.{with_one}
@@ -9,9 +9,9 @@ use Rattle.codegen.proofs.tries.attempt.Goals as goal
 pub returns-clause-back : goal.returns-clause-back
 returns-clause-back c = rw c.in_ok-push_three-2.ensures (rw c.in_ok-push_three.ensures
     (with_label _ _ c.args.config.now _ c.fresh.new.self c.in_ok-end.ensures.labels
-    (try_plan _ (jobs c.args.tasks.now) c.args.config.now c.args.exits _ _ c.len-height.result c.in_ok-from.from c.in_ok-end.end c.len-height.ensures c.in_ok-from.ensures.number)))
+    (try_plan _ (items_of c.args.worklist.now) c.args.config.now c.args.exits _ _ c.len-height.result c.in_ok-from.from c.in_ok-end.end c.len-height.ensures c.in_ok-from.ensures.number)))
 
 pub returns-clause-sound : goal.returns-clause-sound
 returns-clause-sound c = rw c.in_ok-push_three-2.ensures (rw c.in_ok-push_three.ensures
     (with_one _ _ _ c.args.config.now c.fresh.new.self c.in_ok-end.end c.in_ok-end.ensures.label c.in_ok-end.ensures.labels
-    (λ allow of s. try_agrees _ of (jobs c.args.tasks.now) c.args.config.now c.args.exits _ _ c.len-height.result c.in_ok-from.from c.in_ok-end.end c.len-height.ensures s) refl))
+    (λ allow of s. try_agrees _ of (items_of c.args.worklist.now) c.args.config.now c.args.exits _ _ c.len-height.result c.in_ok-from.from c.in_ok-end.end c.len-height.ensures s) refl))

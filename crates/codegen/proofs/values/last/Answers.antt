@@ -1,5 +1,5 @@
 use Rattle.std.proofs.Common.{sym}
-use Rattle.codegen.specs.Jobs.{member_takes}
+use Rattle.codegen.specs.Worklist.{member_takes}
 use Rattle.codegen.proofs.Called.{last_at, some_at}
 use Rattle.codegen.proofs.Parts.{last_param, some_param}
 use Rattle.codegen.proofs.values.last.Goals as goal

@@ -1,15 +1,15 @@
 use Rattle.std.proofs.Common.{Some, sym, ap, ◌∙◌}
-use Rattle.codegen.specs.Jobs.{jobs}
+use Rattle.codegen.specs.Worklist.{items_of}
 use Rattle.codegen.proofs.Parts.{values_go, values_stop, keeps_part, keeps_no_part, keeps_unfit, keeps_unended}
 use Rattle.codegen.proofs.values.values.Goals as goal
 
 pub returns-clause-back : goal.returns-clause-back
 returns-clause-back c =
     rw c.in_ok-push_two.ensures
-    (values_go _ (jobs c.args.tasks.now) c.args.config.now c.args.parts.now c.args.at c.get-part.result.now _ _ (sym c.in-Some.ensures.value ∙ ap (λ x. Some x) (sym c.get-part.ensures)) c.in_ok-fits.ensures)
+    (values_go _ (items_of c.args.worklist.now) c.args.config.now c.args.parts.now c.args.at c.get-part.result.now _ _ (sym c.in-Some.ensures.value ∙ ap (λ x. Some x) (sym c.get-part.ensures)) c.in_ok-fits.ensures)
 
 pub returns-in_default-clause-back : goal.returns-in_default-clause-back
-returns-in_default-clause-back c = values_stop _ (jobs c.args.tasks.now) c.args.config.now c.args.parts.now c.args.at _ (sym c.in_default.ensures.value) c.in_ok-last.ensures
+returns-in_default-clause-back c = values_stop _ (items_of c.args.worklist.now) c.args.config.now c.args.parts.now c.args.at _ (sym c.in_default.ensures.value) c.in_ok-last.ensures
 
 pub returns-clause-sound : goal.returns-clause-sound
 returns-clause-sound c = rw c.in_ok-push_two.ensures (keeps_part _ _ c.args.config.now c.args.parts.now c.args.at c.get-part.result.now c.args.kind (sym c.in-Some.ensures.value ∙ ap (λ x. Some x) (sym c.get-part.ensures)))

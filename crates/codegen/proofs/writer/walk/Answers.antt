@@ -1,20 +1,20 @@
 use Rattle.std.proofs.Common.{rules, ◌∷◌, List, subst}
 use Rattle.source_meaning.specs.Programs.{program_of}
-use Rattle.codegen.specs.Jobs.{Back, job, jobs}
+use Rattle.codegen.specs.Worklist.{Back, item_of, items_of}
 use Rattle.program_typing.specs.Agreeing.{known}
 use Rattle.codegen.specs.Sound.{Sound}
-use Rattle.codegen.specs.declared.task.Task.{Task}
+use Rattle.codegen.specs.declared.work_item.WorkItem.{WorkItem}
 use Rattle.codegen.proofs.Back.{back_all}
 use Rattle.codegen.proofs.writer.walk.Goals as goal
 
 pub loop-preserved : goal.loop-preserved
 loop-preserved c = record {
   back =
-      back_all (program_of c.args.program.now) (jobs c.args.tasks.now) (job c.in-Some.task ∷ jobs c.pop.new.self) (jobs c.step.new.tasks) c.args.config.now c.loop.config c.step.new.config
-      (subst (λ (ts : List Task). Back (program_of c.args.program.now) (jobs c.args.tasks.now) c.args.config.now (jobs ts) c.loop.config) c.in-Some.ensures c.loop.invariant.back) c.in_ok-step.ensures.back;
-  sound = λ allow s. c.in_ok-step.ensures.sound.by allow (subst (λ (ts : List Task). Sound (known allow (program_of c.args.program.now)) (jobs ts) c.loop.config) c.in-Some.ensures (c.loop.invariant.sound allow s));
+      back_all (program_of c.args.program.now) (items_of c.args.worklist.now) (item_of c.in-Some.item ∷ items_of c.pop.new.self) (items_of c.step.new.worklist) c.args.config.now c.loop.config c.step.new.config
+      (subst (λ (ts : List WorkItem). Back (program_of c.args.program.now) (items_of c.args.worklist.now) c.args.config.now (items_of ts) c.loop.config) c.in-Some.ensures c.loop.invariant.back) c.in_ok-step.ensures.back;
+  sound = λ allow s. c.in_ok-step.ensures.sound.by allow (subst (λ (ts : List WorkItem). Sound (known allow (program_of c.args.program.now)) (items_of ts) c.loop.config) c.in-Some.ensures (c.loop.invariant.sound allow s));
 }
 
 pub returns-in_err-step-clause-total : goal.returns-in_err-step-clause-total
 returns-in_err-step-clause-total c = λ allow s.
-    let m = c.in_err-step.ensures.sound.by allow (subst (λ (ts : List Task). Sound (known allow (program_of c.args.program.now)) (jobs ts) c.loop.config) c.in-Some.ensures (c.loop.invariant.sound allow s)) in search rules
+    let m = c.in_err-step.ensures.sound.by allow (subst (λ (ts : List WorkItem). Sound (known allow (program_of c.args.program.now)) (items_of ts) c.loop.config) c.in-Some.ensures (c.loop.invariant.sound allow s)) in search rules

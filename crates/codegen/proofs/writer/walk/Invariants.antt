@@ -1,5 +1,5 @@
 use Rattle.source_meaning.specs.Programs.{program_of}
-use Rattle.codegen.specs.Jobs.{Back, jobs}
+use Rattle.codegen.specs.Worklist.{Back, items_of}
 use Rattle.allowlist.specs.Allow.{AllowList}
 use Rattle.program_typing.specs.Agreeing.{known}
 use Rattle.codegen.specs.Sound.{Sound}
@@ -7,6 +7,6 @@ use Rattle.codegen.proofs.writer.walk.Given as goal
 
 abbrev pub invariant-loop : goal.invariant-loop
 invariant-loop l = record {
-  back : Back (program_of l.fn.program) (jobs l.fn.tasks) l.fn.config (jobs l.tasks) l.config;
-  sound : (allow : AllowList) → Sound (known allow (program_of l.fn.program)) (jobs l.fn.tasks) l.fn.config → Sound (known allow (program_of l.fn.program)) (jobs l.tasks) l.config;
+  back : Back (program_of l.fn.program) (items_of l.fn.worklist) l.fn.config (items_of l.worklist) l.config;
+  sound : (allow : AllowList) → Sound (known allow (program_of l.fn.program)) (items_of l.fn.worklist) l.fn.config → Sound (known allow (program_of l.fn.program)) (items_of l.worklist) l.config;
 }

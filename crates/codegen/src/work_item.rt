@@ -1,20 +1,20 @@
 //! What is still to be written.
 
 use crate::config::Flow;
-use crate::lying::Lies;
 use crate::pieces::Piece;
+use crate::representation::Representation;
 use allowlist::MemberKind;
 use pl_code::Numbered;
 use pl_types::{Cast, Ty};
 use plain_data::{Items, Subtree, Text};
 use typed_tree::{Named, Typed, TypedCatch, TypedStatement, TypedVariable};
 
-/// How parts have to lie.
+/// How parts have to be represented.
 #[derive(Clone, Copy)]
 pub enum Wanted<'a> {
     Any,
     /// All so.
-    All(Lies),
+    All(Representation),
     /// As parameters do.
     As(&'a Items<Named>),
     /// As the receiver, where there is one, and the arguments of a member with these parameters do.
@@ -25,9 +25,9 @@ pub enum Wanted<'a> {
 #[derive(Clone, Copy)]
 pub struct Exits {
     /// The label of `break`.
-    pub out: u32,
+    pub out: usize,
     /// The label of `continue`.
-    pub on: u32,
+    pub on: usize,
 }
 
 /// What stands behind a statement in its scope.
@@ -42,7 +42,7 @@ pub enum Tail<'a> {
 
 /// A part that is still to be written.
 #[derive(Clone, Copy)]
-pub enum Task<'a> {
+pub enum WorkItem<'a> {
     Value(&'a Typed),
     /// Some parts, from one on.
     Values(&'a Items<Subtree<Typed>>, usize, Wanted<'a>),
@@ -54,13 +54,13 @@ pub enum Task<'a> {
     /// A member of a text is called, made or read.
     Call(MemberKind, &'a Text),
     /// A jump to a label.
-    Jump(Numbered, u32),
+    Jump(Numbered, usize),
     /// A label is here.
-    Bind(u32),
-    /// Loads a name whose values lie so.
-    Load(&'a Text, Lies),
-    /// Stores to a name whose values lie so.
-    Store(&'a Text, Lies),
+    Bind(usize),
+    /// Loads a name whose values are represented so.
+    Load(&'a Text, Representation),
+    /// Stores to a name whose values are represented so.
+    Store(&'a Text, Representation),
     /// A statement that declares nothing, without what is done before a loop.
     One(&'a TypedStatement, Option<Exits>),
     /// A statement, and what stands behind it.
@@ -80,23 +80,23 @@ pub enum Task<'a> {
     /// Two ways go on as one.
     Either,
     /// A jump over what follows, where it is reached.
-    Skip(u32),
+    Skip(usize),
     /// What is done behind a turn, where that is reached.
     Update(Option<&'a Typed>),
     /// The test before a turn.
     Test(Option<&'a Typed>),
     /// The test behind a turn, where that is reached, and the jump out of the loop.
-    Last(Option<&'a Typed>, u32),
+    Last(Option<&'a Typed>, usize),
     /// A loop is left.
     Turned,
     /// The name of a catch is in scope from here on.
     Named(&'a TypedCatch),
     /// The catches of a block that begins at a line and ends here, and a label behind them.
-    Tried(&'a Items<TypedCatch>, u32, u32, Option<Exits>),
+    Tried(&'a Items<TypedCatch>, u32, usize, Option<Exits>),
     /// The catches, from one on, of the lines from one on and before another, and a label behind them.
-    Caught(&'a Items<TypedCatch>, usize, u32, u32, u32, Option<Exits>),
+    Caught(&'a Items<TypedCatch>, usize, u32, u32, usize, Option<Exits>),
     /// A jump over the catches from one on, if there are any, where it is reached.
-    Over(&'a Items<TypedCatch>, usize, u32),
+    Over(&'a Items<TypedCatch>, usize, usize),
     /// The end of a function with this result.
     End(&'a Ty),
 }

@@ -1,4 +1,4 @@
--- How values lie on the operand stack and in locals, by their types.
+-- How values are represented on the operand stack and in locals, by their types.
 use Rattle.std.specs.Prelude.{Option, Some, None}
 use Rattle.pl_types.specs.declared.primitive.Primitive.{Primitive}
 use Rattle.pl_types.specs.declared.primitive.Primitive.TheVariants as prim
@@ -11,21 +11,21 @@ use Rattle.code_meaning.specs.declared.word.Word.{Word}
 use Rattle.code_meaning.specs.declared.word.Word.TheVariants.{R}
 use Rattle.code_meaning.specs.Words.{unboxed}
 
--- a primitive as a number, every other value as it is, and nothing of void
-pub data Lying : Type 0 where
-  Bare Whole Absent : Lying
+-- a primitive as a number, every other value as it is, a primitive of a reference's type in its box, and nothing of void
+pub data Representation : Type 0 where
+  Unboxed Boxed Absent : Representation
 
-abbrev pub lying_of_layer : Ty-F Ty → Lying
-lying_of_layer Ty-F.Void = Absent
-lying_of_layer (Ty-F.Prim p) = Bare
-lying_of_layer other = Whole
+abbrev pub representation_of_layer : Ty-F Ty → Representation
+representation_of_layer Ty-F.Void = Absent
+representation_of_layer (Ty-F.Prim p) = Unboxed
+representation_of_layer other = Boxed
 
-abbrev pub lying_of : Ty → Lying
-lying_of of = lying_of_layer (out-Ty of)
+abbrev pub representation_of : Ty → Representation
+representation_of of = representation_of_layer (out-Ty of)
 
-abbrev pub low : Lying → Value → Option Word
-low Bare value = Some (unboxed value)
-low Whole value = Some (R value)
+abbrev pub low : Representation → Value → Option Word
+low Unboxed value = Some (unboxed value)
+low Boxed value = Some (R value)
 low Absent value = None
 
 -- ---- kinds of locals, parameters and results
