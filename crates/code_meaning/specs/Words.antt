@@ -103,6 +103,12 @@ calculation o width.Long stack = longs_of o stack
 -- ---- values and words
 
 -- The value that a word stands for in a box of a primitive: of an int the low bits, and as a boolean whether it is not 0.
+-- the value of a word that is of no primitive type
+abbrev pub plain_value : Word → Value
+plain_value (I a) = v.Int a
+plain_value (J a) = v.Long a
+plain_value (R value) = value
+
 abbrev pub boxed_int : Primitive → ℤ → Option Value
 boxed_int prim.Boolean a = Some (v.Bool (not (int_eq a (pos 0))))
 boxed_int prim.Byte a = Some (v.Byte (wrapped w8 a))

@@ -1,5 +1,6 @@
 //! Words.
 ghost use Rattle.std.specs.Prelude.{◌≡◌, IfOk};
+ghost use Rattle.code_meaning.specs.Words.{plain_value};
 
 use object_values::Value;
 use std::alloc::AllocError;
@@ -33,6 +34,17 @@ impl Word {
             Word::I(number) => Ok(Word::I(*number)),
             Word::J(number) => Ok(Word::J(*number)),
             Word::R(value) => Ok(Word::R(value.share()?)),
+        }
+    }
+
+    /// The value of a word, where a number is an Integer or a Long. No text is copied.
+    pub fn into_value(self) -> Value
+        ensures { result ≡ plain_value self }
+    {
+        match self {
+            Word::I(number) => Value::Int(number),
+            Word::J(number) => Value::Long(number),
+            Word::R(value) => value,
         }
     }
 }

@@ -72,6 +72,11 @@ end_in step.Goes = None
 end_in (step.Ends end) = Some end
 end_in step.NoMemory = None
 
+-- the word that a run gives, if it gives one
+abbrev pub given_word : held_end.End → Option Word
+given_word (end.Result word) = word
+given_word other = None
+
 -- what comes of a step is what the machine says, unless there was no memory
 abbrev pub Comes : Next → Step → Configuration → Type 0
 Comes next step.Goes c = next ≡ Goes (configuration_of c)

@@ -1,7 +1,7 @@
 //! Where a run stands.
 ghost use Rattle.std.specs.Prelude.{◌≡◌, ◌<◌, ◌^◌, suc, ◌∷◌};
 ghost use Rattle.code_meaning.specs.Machine.{to_line};
-ghost use Rattle.machine.specs.Seen.{Comes, end_in, goes, room_of, world_of};
+ghost use Rattle.machine.specs.Seen.{Comes, end_in, given_word, goes, room_of, world_of};
 ghost use Rattle.machine.specs.Memory.{HasMemory};
 
 use crate::frames::Frames;
@@ -63,6 +63,20 @@ impl Drop for End {
             End::Thrown(_id) => {}
             End::Limit(_which) => {}
             End::Stuck => {}
+        }
+    }
+}
+
+impl End {
+    /// The word that a run gives, if it gives one.
+    pub fn into_word(self) -> Option<Word>
+        ensures { result ≡ given_word self }
+    {
+        match self {
+            End::Result(word) => word,
+            End::Thrown(_id) => None,
+            End::Limit(_which) => None,
+            End::Stuck => None,
         }
     }
 }

@@ -1,6 +1,7 @@
 //! From a script's bytes to what they come to.
 
-ghost use Rattle.std.specs.Prelude.{◌≡◌, ◌≤◌, ℕ, IfOk, List, Result, length};
+ghost use Rattle.std.specs.Prelude.{◌≡◌, ◌≤◌, ℕ, IfOk, List, [], Result, length};
+ghost use Rattle.verifier_soundness.specs.Rows.{HaveRows};
 ghost use Rattle.pl_types.specs.Answers.{Answers};
 ghost use Rattle.pl_types.specs.declared.refusal.Refusal.{Refusal};
 ghost use Rattle.allowlist.specs.Allow.{full_list};
@@ -9,6 +10,7 @@ ghost use Rattle.run_state.specs.World.{End};
 ghost use Rattle.typed_tree.specs.declared.program.Program.{Program};
 ghost use Rattle.script_engine.specs.Programs.{IsProgramOf};
 ghost use Rattle.script_engine.specs.Compiling.{Compiles};
+ghost use Rattle.script_engine.specs.Running.{TakesArguments};
 ghost use Rattle.painless_cli.specs.Script.{Decodes, Means, MeansText, eval_types};
 ghost use Rattle.painless_cli.specs.Outcomes.{Comes, RunsAsEval};
 ghost use Rattle.painless_cli.specs.Whole.{file_limit};
@@ -52,6 +54,8 @@ fn compiled(alloc: Global, text: &str, allow: &Allow) -> Result<Script, Fail>
     requires full { allow.now ≡ full_list }
     ensures exact { Compiles full_list eval_types (IsProgramOf full_list eval_types text.now) result }
     ensures only { (reading : Result Program Refusal) → IsProgramOf full_list eval_types text.now reading → Compiles full_list eval_types (λ a. a ≡ reading) result }
+    ensures rows { IfOk result (λ script. HaveRows script.executable.allow script.executable.code.functions) }
+    ensures takes { IfOk result (λ script. TakesArguments script []) }
 {
     let context = context(alloc);
     compile(alloc, text, allow, &context)
@@ -59,6 +63,8 @@ fn compiled(alloc: Global, text: &str, allow: &Allow) -> Result<Script, Fail>
 
 /// Runs a script with the default limits.
 fn run(alloc: Global, script: &Script) -> Result<Outcome, AllocError>
+    requires rows { HaveRows script.now.executable.allow script.now.executable.code.functions }
+    requires takes { TakesArguments script.now [] }
     ensures { IfOk result (RunsAsEval script.now) }
 {
     let heap = Heap::new(alloc, 16_000_000);

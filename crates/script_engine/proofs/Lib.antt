@@ -3,6 +3,7 @@ pub mod Stages
 pub mod Placed
 pub mod Compiled
 pub mod Ends
+pub mod Left
 pub mod Runs
 pub mod Words
 pub mod Texts

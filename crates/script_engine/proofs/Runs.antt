@@ -1,7 +1,7 @@
 -- A run of a script is that of its program.
 use Rattle.std.specs.Prelude.{pos, slice_get}
 use Rattle.std.specs.Ordering.{int_eq}
-use Rattle.std.proofs.Common.{◌≡◌, ℕ, ◌-◌, ◌≤◌, ◌<◌, Bool, true, false, not, List, [], ◌∷◌, map, Option, Some, None, option_map, IsTrue, inl, inr, ◌⊎◌, refl, sym, subst, ap, ◌∙◌, arith}
+use Rattle.std.proofs.Common.{◌≡◌, ℕ, ◌+◌, ◌-◌, ◌≤◌, ◌<◌, Bool, true, false, not, List, [], ◌∷◌, map, Option, Some, None, option_map, IsTrue, inl, inr, ◌⊎◌, refl, sym, subst, ap, ◌∙◌, arith}
 use Rattle.std.proofs.lemmas.Bool.{cases_order}
 use Rattle.pl_types.specs.declared.ty.Ty.{Ty, out-Ty}
 use Rattle.pl_types.specs.declared.primitive.Primitive.{Primitive}
@@ -37,13 +37,28 @@ use Rattle.machine.specs.declared.configuration.Limits.{Limits}
 use Rattle.machine.specs.declared.configuration.End as run_end
 use Rattle.machine.specs.declared.configuration.End.TheVariants as r
 use Rattle.machine.specs.Seen.{codes_of, limits_of, limit_of, ended}
-use Rattle.task_core.specs.declared.task.Turn.TheVariants as turn
-use Rattle.machine.specs.Activations.{Activation, later, is_over, Turned}
+use Rattle.machine.specs.Activations.{Activation, later, is_over, counted}
 use Rattle.machine.proofs.Turning.{comes_to_its_end}
 use Rattle.script_engine.specs.declared.compiling.Script.{Script}
 use Rattle.script_engine.specs.Ends.{alone, end_of, end_in, end_with, given, given_layer}
 use Rattle.script_engine.proofs.Alone.{no_prelude_code, with_no_prelude}
-use Rattle.script_engine.specs.Running.{value_by, value_of, word_in, words_in, params_of, end_left, end_seen, world_left, world_at, LeftBy, IsOutcome, RunsAsItsProgram}
+use Rattle.script_engine.specs.Running.{value_by, value_of, word_in, words_in, params_of, end_left, end_seen, world_left, world_at, begun, Comes, IsOutcome, RunsAsItsProgram, TakesTyped}
+use Rattle.script_engine.specs.Compiling.{IsScriptOf}
+use Rattle.script_engine.proofs.Left.{comes_with}
+use Rattle.verified_machine.specs.Tasks.{ending, most_left, rest_from}
+use Rattle.verifier_soundness.specs.Fits.{main_params}
+use Rattle.verifier_soundness.specs.Fits.{kind_of as word_kind, kinds_of as word_kinds}
+use Rattle.pl_code.specs.declared.code.FunCode.{FunCode}
+use Rattle.typing_rules.specs.declared.header.ContextTypes.{ContextTypes}
+use Rattle.allowlist.specs.Allow.{AllowList}
+
+-- an activation of code that gives this type left this
+record LeftBy (of : Ty) (a : Activation) (o : Outcome) : Type 0 where
+  left : ℕ
+  end : run_end.End
+  read : end_left of end ≡ Some o.end
+  stands : a.now ≡ Some (ended end (world_left o left))
+  ticks : o.ticks ≡ a.limits.ticks - left
 
 -- ---- where a run of code stands that has ended
 
@@ -228,7 +243,7 @@ words_match (x ∷ params) (value ∷ args) (word ∷ words) are =
 same_env : (o : Option Env) (e e' : Env) → o ≡ Some e → o ≡ Some e' → e ≡ e'
 same_env o e e' is is' = cc
 
-pub runs_as_its_program : CodeEndsAsPrograms → (script : Script) (store : Store) (args : List Value) (limits : Limits) (a : Activation) (q : ℕ) (o : Outcome)
+runs_as_its_program : CodeEndsAsPrograms → (script : Script) (store : Store) (args : List Value) (limits : Limits) (a : Activation) (q : ℕ) (o : Outcome)
     → a ≡ record { code = script.executable.code.functions; limits = limits; allow = script.executable.allow; frame = script.executable.frame; now = Some (start (codes_of script.executable.code.functions) (words_in (params_of (slice_get script.executable.code.functions 0)) args) (world_at store limits)); steps = 0 }
     → IsTrue (is_over (later q a).now) → LeftBy script.result (later q a) o → RunsAsItsProgram script store args limits o
 runs_as_its_program outcomes script store args limits a q o begun over by allow context p is have =
@@ -264,9 +279,56 @@ runs_as_its_program outcomes script store args limits a q o begun over by allow 
       ticks = by.ticks ∙ ap (λ x. (later q x).limits.ticks - by.left) begun;
     })
 
--- .. and so does what a turn that came to the end has left
-pub turned_runs : CodeEndsAsPrograms → (script : Script) (store : Store) (args : List Value) (limits : Limits) (a new : Activation) (q : ℕ) (o : Outcome)
-    → a ≡ record { code = script.executable.code.functions; limits = limits; allow = script.executable.allow; frame = script.executable.frame; now = Some (start (codes_of script.executable.code.functions) (words_in (params_of (slice_get script.executable.code.functions 0)) args) (world_at store limits)); steps = 0 }
-    → Turned q a new turn.Done → LeftBy script.result new o → RunsAsItsProgram script store args limits o
-turned_runs outcomes script store args limits a new q o begun turned by =
-    runs_as_its_program outcomes script store args limits a q o begun (subst (λ x. IsTrue (is_over x.now)) turned.0 turned.1) (subst (λ x. LeftBy script.result x o) turned.0 by)
+-- .. and so does what it comes to
+pub ending_runs : CodeEndsAsPrograms → (script : Script) (store : Store) (args : List Value) (limits : Limits) (o : Outcome)
+    → Comes script.result (ending (begun script store args limits)) o → RunsAsItsProgram script store args limits o
+ending_runs outcomes script store args limits o comes =
+    let a = begun script store args limits in
+    let from = start (codes_of script.executable.code.functions) (words_in (params_of (slice_get script.executable.code.functions 0)) args) (world_at store limits) in
+    let kept = limits_of limits script.executable.allow in
+    let k = most_left script.executable.code.functions kept from in
+    let n = after (codes_of script.executable.code.functions) kept k from in
+    let ends = comes_with script.result limits.ticks (counted (0 + rest_from script.executable.code.functions kept (Some from))) o n comes in
+    runs_as_its_program outcomes script store args limits a k o refl ends.over (record { left = ends.left; end = ends.end; read = ends.read; stands = ap (λ x. Some x) ends.stands; ticks = ends.ticks })
+
+-- ---- arguments
+
+primitive_kind : (p : Primitive) (value : Value) → HasPrimitive p value → word_kind (word_in (kind_of_primitive p) value) ≡ kind_of_primitive p
+primitive_kind prim.Boolean value has = ap (λ x. word_kind (unboxed x)) has.1
+primitive_kind prim.Byte value has = ap (λ x. word_kind (unboxed x)) has.1
+primitive_kind prim.Short value has = ap (λ x. word_kind (unboxed x)) has.1
+primitive_kind prim.Char value has = ap (λ x. word_kind (unboxed x)) has.1
+primitive_kind prim.Int value has = ap (λ x. word_kind (unboxed x)) has.1
+primitive_kind prim.Long value has = ap (λ x. word_kind (unboxed x)) has.1
+
+layer_kind : (l : Ty-F Ty) (value : Value) → HasLayer l value → word_kind (word_in (kind_of_layer l) value) ≡ kind_of_layer l
+layer_kind Ty-F.Void value has = refl
+layer_kind Ty-F.Null value has = refl
+layer_kind Ty-F.Def value has = refl
+layer_kind (Ty-F.Prim p) value has = primitive_kind p value has
+layer_kind (Ty-F.Class class) value has = refl
+layer_kind (Ty-F.Array of) value has = refl
+
+-- the words of arguments of the parameters' types are of the parameters' kinds
+arguments_fit : (params : List Variable) (args : List Value) → HaveAll (types_in params) args → word_kinds (words_in (kinds_of params) args) ≡ kinds_of params
+arguments_fit [] [] have = refl
+arguments_fit [] (value ∷ args) have = absurd have
+arguments_fit (x ∷ params) [] have = absurd have
+arguments_fit (x ∷ params) (value ∷ args) have =
+    ap (λ k. k ∷ word_kinds (words_in (kinds_of params) args)) (layer_kind (out-Ty x.of) value have.0)
+    ∙ ap (λ ks. kind_of x.of ∷ ks) (arguments_fit params args have.1)
+
+first_params : (code : List FunCode) (f : FunCode) → slice_get code 0 ≡ Some f → main_params code ≡ f.params
+first_params [] f is = cc
+first_params (g ∷ code) f is = cc
+
+pub takes_typed : (allow : AllowList) (context : ContextTypes) (p : Program) (script : Script) → IsScriptOf allow context p script → TakesTyped context script
+takes_typed allow context p script is args have =
+    let main = fun_of p.main in
+    let functions = script.executable.code.functions in
+    let first = is.code.each 0 main refl in
+    let have' : HaveAll (types_in main.params) args = subst (λ ps. HaveAll (types_in ps) args) (sym is.variables) have in
+    let kinds : params_of (slice_get functions 0) ≡ kinds_of main.params = ap params_of first.is ∙ first.params in
+    ap (λ ks. word_kinds (words_in ks args)) kinds
+    ∙ arguments_fit main.params args have'
+    ∙ sym (first_params functions first.body first.is ∙ first.params)

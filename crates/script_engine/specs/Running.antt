@@ -1,5 +1,5 @@
 -- What a run of a script leaves.
-use Rattle.std.specs.Prelude.{◌≡◌, ℕ, ◌-◌, List, [], ◌∷◌, map, Option, Some, None, unwrap_or}
+use Rattle.std.specs.Prelude.{◌≡◌, ℕ, ◌-◌, List, [], ◌∷◌, map, Option, Some, None, unwrap_or, slice_get}
 use Rattle.object_values.specs.declared.value.Value.{Value}
 use Rattle.object_values.specs.declared.value.Value.TheVariants as v
 use Rattle.object_heap.specs.Store.{Store}
@@ -18,13 +18,17 @@ use Rattle.pl_code.specs.declared.code.FunCode.{FunCode}
 use Rattle.source_meaning.specs.Programs.{variable_of}
 use Rattle.program_typing.specs.Types.{HaveAll}
 use Rattle.program_typing.specs.Agreeing.{types_in}
-use Rattle.code_meaning.specs.Words.{boxed, unboxed}
+use Rattle.code_meaning.specs.Words.{boxed, unboxed, plain_value}
 use Rattle.code_meaning.specs.declared.word.Word.{Word}
-use Rattle.code_meaning.specs.declared.word.Word.TheVariants.{I, J, R}
+use Rattle.code_meaning.specs.declared.word.Word.TheVariants.{R}
 use Rattle.machine.specs.declared.configuration.End as run_end
 use Rattle.machine.specs.declared.configuration.End.TheVariants as r
 use Rattle.machine.specs.declared.configuration.Limits.{Limits}
-use Rattle.machine.specs.Seen.{limits_of, limit_of, ended}
+use Rattle.machine.specs.declared.activation.Outcome as run_outcome
+use Rattle.machine.specs.Seen.{limits_of, limit_of, codes_of}
+use Rattle.code_meaning.specs.Machine.{start}
+use Rattle.verifier_soundness.specs.Fits.{kinds_of, main_params}
+use Rattle.verified_machine.specs.Tasks.{OnlySpares}
 use Rattle.machine.specs.Activations.{Activation}
 use Rattle.script_engine.specs.declared.compiling.Script.{Script}
 use Rattle.script_engine.specs.Compiling.{IsScriptOf}
@@ -48,12 +52,6 @@ params_of None = []
 params_of (Some f) = f.params
 
 -- ---- results
-
--- the value of a word that is of no primitive type
-abbrev pub plain_value : Word → Value
-plain_value (I a) = v.Int a
-plain_value (J a) = v.Long a
-plain_value (R value) = value
 
 -- a number is read by the primitive type that is wanted
 abbrev pub value_by : Ty-F Ty → Option Word → Value
@@ -81,17 +79,52 @@ end_seen (l.Limit which) w = Limited (limit_of which) w
 abbrev pub world_left : Outcome → ℕ → World
 world_left o left = record { store = o.heap; ticks = left; reached = o.reached }
 
--- an activation of code that gives this type left this
-pub record LeftBy (of : Ty) (a : Activation) (o : Outcome) : Type 0 where
-  pub left : ℕ
-  pub end : run_end.End
-  pub read : end_left of end ≡ Some o.end
-  pub stands : a.now ≡ Some (ended end (world_left o left))
-  pub ticks : o.ticks ≡ a.limits.ticks - left
+-- an end, and not stuck
+abbrev pub IsEnd : run_end.End → Type 0
+IsEnd (r.Result word) = Unit {0}
+IsEnd (r.Thrown id) = Unit {0}
+IsEnd (r.Limit which) = Unit {0}
+IsEnd r.Stuck = ⊥
+
+-- what a run of code that gives this type leaves, with the value read
+pub record LeftOf (of : Ty) (ran : run_outcome.Outcome) (o : Outcome) : Type 0 where
+  pub end : end_left of ran.end ≡ Some o.end
+  pub heap : o.heap ≡ ran.heap
+  pub ticks : o.ticks ≡ ran.ticks
+  pub steps : o.steps ≡ ran.steps
+  pub reached : o.reached ≡ ran.reached
+
+-- a run that comes to this leaves it
+abbrev pub Comes : Ty → Option run_outcome.Outcome → Outcome → Type 0
+Comes of None o = ⊥
+Comes of (Some ran) o = LeftOf of ran o
+
+-- no instruction of a run takes memory
+abbrev pub SparesAll : Activation → Type 0
+SparesAll a = (q : ℕ) → OnlySpares q a
 
 -- the world in which a run begins
 abbrev pub world_at : Store → Limits → World
 world_at store limits = record { store = store; ticks = limits.ticks; reached = [] }
+
+-- arguments are as many as the parameters, and their words of the same kinds
+abbrev pub TakesArguments : Script → List Value → Type 0
+TakesArguments script args = kinds_of (words_in (params_of (slice_get script.executable.code.functions 0)) args) ≡ main_params script.executable.code.functions
+
+-- values of the types of a context's variables are such arguments
+abbrev pub TakesTyped : ContextTypes → Script → Type 0
+TakesTyped context script = (args : List Value) → HaveAll (types_in (map variable_of context.variables)) args → TakesArguments script args
+
+-- where a run of a script begins
+abbrev pub begun : Script → Store → List Value → Limits → Activation
+begun script store args limits = record {
+  code = script.executable.code.functions;
+  limits = limits;
+  allow = script.executable.allow;
+  frame = script.executable.frame;
+  now = Some (start (codes_of script.executable.code.functions) (words_in (params_of (slice_get script.executable.code.functions 0)) args) (world_at store limits));
+  steps = 0;
+}
 
 -- The outcome is that of the program under a list on these arguments: how its run ends, in which world, and how many ticks it paid.
 pub record IsOutcome (allow : AllowList) (p : Program) (store : Store) (args : List Value) (limits : Limits) (o : Outcome) : Type 0 where

@@ -3,7 +3,10 @@
 ghost use Rattle.std.specs.Prelude.{◌≡◌, ◌≤◌, IfOk, None, Result, length, string_bytes};
 ghost use Rattle.pl_code.specs.Listing.{written};
 ghost use Rattle.verifier.specs.Faults.{shape_fault};
-ghost use Rattle.verifier.specs.Verified.{FrameWords};
+ghost use Rattle.verifier.specs.Verified.{FrameWords, Refuses};
+ghost use Rattle.verifier_soundness.specs.Rows.{HaveRows};
+ghost use Rattle.codegen.specs.declared.error.CodeError.TheVariants as code_errors;
+ghost use Rattle.pl_types.specs.declared.refusal.Fail.TheVariants as fails;
 ghost use Rattle.pl_types.specs.Answers.{Answers};
 ghost use Rattle.pl_types.specs.declared.refusal.Refusal.{Refusal};
 ghost use Rattle.pl_grammar.specs.Lexeme.{AllLieIn};
@@ -11,11 +14,12 @@ ghost use Rattle.typed_tree.specs.declared.program.Program as typed;
 ghost use Rattle.typing_soundness.specs.Laws.{IsContext};
 ghost use Rattle.script_engine.specs.Programs.{TypesTree, TypesTokens, IsProgramOf};
 ghost use Rattle.script_engine.specs.Compiling.{Compiles};
+ghost use Rattle.script_engine.specs.Running.{TakesTyped};
 
 use allowlist::Allow;
-use codegen::generate;
+use codegen::{CodeError, generate};
+use compiled_runs::programs_run;
 use compiled_shapes::code_is_well_shaped;
-use machine::Executable;
 use pl_code::{Code, listing};
 use pl_lexer::{Token, lex};
 use pl_parser::parse;
@@ -24,11 +28,12 @@ use pl_types::{Fail, Ty};
 use static_types::{ContextTypes, elaborate};
 use std::alloc::{AllocError, Global};
 use typed_tree::Program;
-use verifier::verify;
+use verified_machine::VerifiedExecutable;
+use verifier::{VerifyErr, verify};
 
 /// A script that was compiled: verified code with the list of what it may use.
 pub struct Script {
-    pub(crate) executable: Executable,
+    pub(crate) executable: VerifiedExecutable,
     /// The type of what it gives.
     pub(crate) result: Ty,
 }
@@ -112,8 +117,12 @@ pub fn compile(
     // The verifier finds no fault in the code, and no frame of a run has more words than there is memory for.
     ensures sound { IfOk result (λ script. shape_fault allow.now script.executable.code ≡ None) }
     ensures frames { IfOk result (λ script. FrameWords script.executable.frame (record { code = script.executable.code; allow = script.executable.allow })) }
+    // Each of its instructions has a row, and it takes arguments of the types of the context's variables.
+    ensures rows { IfOk result (λ script. HaveRows script.executable.allow script.executable.code.functions) }
+    ensures takes { IfOk result (λ script. TakesTyped context.now script) }
 {
     code_is_well_shaped();
+    programs_run();
     let program = program_of(alloc, allow, context, text)?;
     let result = context.result.share(alloc)?;
     match generate(alloc, allow, &program) {
@@ -121,22 +130,43 @@ pub fn compile(
             let executable = executable_of(alloc, allow, code)?;
             Ok(Script { executable, result })
         }
-        Err(_) => Err(Fail::NoMemory),
+        Err(error) => Err(memory_alone(error)),
+    }
+}
+
+/// Why a program that typing made has no code: for want of memory alone.
+fn memory_alone(error: CodeError) -> Fail
+    requires { error ≡ code_errors.NoMemory }
+    ensures { result ≡ fails.NoMemory }
+{
+    match error {
+        CodeError::NoMemory => Fail::NoMemory,
+        CodeError::Malformed => unreachable!(),
+        CodeError::Unbuilt => unreachable!(),
     }
 }
 
 /// Code that breaks nowhere, made ready to run. The verifier tells how many words a frame of it has.
-fn executable_of(alloc: Global, allow: &Allow, code: Code) -> Result<Executable, AllocError>
+fn executable_of(alloc: Global, allow: &Allow, code: Code) -> Result<VerifiedExecutable, AllocError>
     requires { shape_fault allow.now code ≡ None }
     ensures code { IfOk result (λ e. (e.code ≡ code) × (e.allow ≡ allow.now)) }
     ensures frames { IfOk result (λ e. FrameWords e.frame (record { code = e.code; allow = e.allow })) }
 {
     match verify(alloc, allow, code) {
-        Ok(verified) => {
-            let frame = verified.frame_words();
-            let (code, allow) = verified.into_parts();
-            Executable::new(alloc, code, allow, frame)
-        }
-        Err(_) => Err(AllocError),
+        Ok(verified) => VerifiedExecutable::new(alloc, verified),
+        Err((_code, error)) => Err(no_fault(error)),
+    }
+}
+
+/// Why code that breaks nowhere is not verified: for want of memory alone.
+fn no_fault(error: VerifyErr) -> AllocError
+    requires { Refuses error None }
+{
+    match error {
+        VerifyErr::NoMemory => AllocError,
+        VerifyErr::BadShape(_) => unreachable!(),
+        VerifyErr::BadTarget(_) => unreachable!(),
+        VerifyErr::BadMember(_) => unreachable!(),
+        VerifyErr::BackJump(_) => unreachable!(),
     }
 }

@@ -1,18 +1,22 @@
 //! Runs of scripts.
 
-ghost use Rattle.std.specs.Prelude.{◌≡◌, IfOk, slice_get};
-ghost use Rattle.script_engine.specs.Running.{RunsAsItsProgram, LeftBy, plain_value, value_of, word_in, words_in, end_left, params_of};
+ghost use Rattle.std.specs.Prelude.{◌≡◌, IfOk, IsOk, IsSome, IsTrue, Some, slice_get};
+ghost use Rattle.machine.specs.Activations.{is_over};
+ghost use Rattle.verifier_soundness.specs.Rows.{HaveRows};
+ghost use Rattle.verified_machine.specs.Tasks.{ending, rest};
+ghost use Rattle.script_engine.specs.Running.{RunsAsItsProgram, LeftOf, Comes, IsEnd, SparesAll, TakesArguments, begun, value_of, word_in, words_in, end_left, params_of};
 
 use crate::compiling::Script;
 use code_meaning::Word;
 use compiled_outcome::programs_end;
-use machine::{Activation, Limits, boxed, unboxed};
+use machine::{Limits, boxed, unboxed};
 use object_heap::{End, Heap, Outcome};
 use object_values::{Elements, Value};
 use pl_code::{Code, Slot};
 use pl_types::Ty;
 use std::alloc::{AllocError, Global};
 use task_core::Turn;
+use verified_machine::VerifiedActivation;
 
 /// The word of an argument in a local of a kind.
 fn word_in(kind: Slot, value: Value) -> Word
@@ -54,47 +58,35 @@ fn params_of(code: &Code) -> &[Slot]
     }
 }
 
-/// The value of a word that is of no primitive type. It takes memory for a text alone.
-fn plain_value(word: &Word) -> Result<Value, AllocError>
-    ensures { IfOk result (λ value. value ≡ plain_value word.now) }
-{
-    match word {
-        Word::I(number) => Ok(Value::Int(*number)),
-        Word::J(number) => Ok(Value::Long(*number)),
-        Word::R(value) => value.share(),
-    }
-}
-
-/// The value of a word that code of this result type gives. It takes memory for a text alone.
-fn value_of(of: &Ty, word: &Option<Word>) -> Result<Value, AllocError>
-    ensures { IfOk result (λ value. value ≡ value_of of.now word.now) }
+/// The value of a word that code of this result type gives.
+fn value_of(of: &Ty, word: Option<Word>) -> Value
+    ensures { result ≡ value_of of.now word }
 {
     match (word, of) {
-        (None, _) => Ok(Value::Null),
-        (Some(word), Ty::Prim(primitive)) => Ok(boxed(*primitive, word).unwrap_or(Value::Null)),
-        (Some(word), _) => plain_value(word),
+        (None, _) => Value::Null,
+        (Some(word), Ty::Prim(primitive)) => boxed(*primitive, &word).unwrap_or(Value::Null),
+        (Some(word), _) => word.into_value(),
     }
 }
 
-/// The end of a run, with its value.
-fn end_left(of: &Ty, end: &machine::End) -> Result<Option<End>, AllocError>
-    ensures { IfOk result (λ left. left ≡ end_left of.now end.now) }
+/// The end of a run that is not stuck, with its value.
+fn end_left(of: &Ty, end: machine::End) -> End
+    requires { IsEnd end }
+    ensures { end_left of.now end ≡ Some result }
 {
-    match end {
-        machine::End::Result(word) => Ok(Some(End::Value(value_of(of, word)?))),
-        machine::End::Thrown(id) => Ok(Some(End::Thrown(*id))),
-        machine::End::Limit(which) => Ok(Some(End::Limit(*which))),
-        machine::End::Stuck => Ok(None),
+    match &end {
+        machine::End::Thrown(id) => End::Thrown(*id),
+        machine::End::Limit(which) => End::Limit(*which),
+        machine::End::Result(_) => End::Value(value_of(of, end.into_word())),
+        machine::End::Stuck => unreachable!(),
     }
 }
 
-/// What an activation of code of this result type leaves that has ended.
-fn left(of: &Ty, activation: Activation<'_>) -> Result<Outcome, AllocError>
-    ensures { IfOk result (LeftBy of.now activation.entry) }
+/// What a run of code of this result type leaves.
+fn outcome_left(of: &Ty, ran: machine::Outcome) -> Outcome
+    requires { IsEnd ran.end }
+    ensures { LeftOf of.now ran result }
 {
-    let Some(ran) = activation.outcome() else {
-        return Err(AllocError);
-    };
     let machine::Outcome {
         end,
         heap,
@@ -102,33 +94,85 @@ fn left(of: &Ty, activation: Activation<'_>) -> Result<Outcome, AllocError>
         steps,
         reached,
     } = ran;
-    match end_left(of, &end)? {
-        Some(end) => Ok(Outcome {
-            end,
-            heap,
-            ticks,
-            steps,
-            reached,
-        }),
-        None => Err(AllocError),
+    Outcome {
+        end: end_left(of, end),
+        heap,
+        ticks,
+        steps,
+        reached,
+    }
+}
+
+/// What a run of code of this result type leaves that has ended.
+#[tactic(auto, using(crate::proofs::Left::fitting_end, crate::proofs::Left::not_over, crate::proofs::Left::comes_from))]
+fn left(of: &Ty, activation: VerifiedActivation<'_>) -> Outcome
+    requires over { IsTrue (is_over activation.run.now) }
+    requires none { rest activation.run ≡ 0 }
+    ensures { Comes of.now (ending activation.entry.run) result }
+{
+    match activation.outcome() {
+        Some(ran) => outcome_left(of, ran),
+        None => unreachable!(),
     }
 }
 
 impl Script {
-    /// Runs the script over a heap, whose room is what the run may take of it, on arguments, within limits. The arguments are the
+    /// A run of the script over a heap, whose room is what the run may take of it, on arguments, within limits. The arguments are the
     /// values of the context's variables, in their order.
+    ///
+    /// Memory is taken here for the frames of the run.
+    ///
+    /// # Errors
+    ///
+    /// Want of memory.
+    pub fn start(
+        &self,
+        heap: Heap,
+        args: Vec<Value>,
+        limits: Limits,
+    ) -> Result<VerifiedActivation<'_>, AllocError>
+        requires rows { HaveRows self.now.executable.allow self.now.executable.code.functions }
+        requires args { TakesArguments self.now args.items }
+        ensures { IfOk result (λ a. a.run ≡ begun self.now heap args.items limits) }
+    {
+        let words = words_in(heap.alloc(), params_of(self.executable.code()), args)?;
+        VerifiedActivation::start(&self.executable, heap, words, limits)
+    }
+
+    /// Runs what [`Script::start`] began to its end.
+    ///
+    /// # Errors
+    ///
+    /// Want of memory; none where no instruction of the run takes any.
+    pub fn finish(&self, mut activation: VerifiedActivation<'_>) -> Result<Outcome, AllocError>
+        requires begun { IsSome activation.run.now }
+        ensures comes { IfOk result (Comes self.now.result (ending activation.entry.run)) }
+        ensures memory { SparesAll activation.entry.run → IsOk result }
+    {
+        loop {
+            match activation.advance(u64::MAX) {
+                Turn::More => {}
+                Turn::Done => return Ok(left(&self.result, activation)),
+                Turn::NoMemory => return Err(AllocError),
+            }
+        }
+    }
+
+    /// Runs the script: [`Script::start`], and then [`Script::finish`].
     ///
     /// The outcome is that of the script's program: how its run ends, what it leaves of the heap, and how many ticks it has paid. The
     /// value of a script without a result is null.
+    ///
+    /// # Errors
+    ///
+    /// Want of memory.
     pub fn run(&self, heap: Heap, args: Vec<Value>, limits: Limits) -> Result<Outcome, AllocError>
+        requires rows { HaveRows self.now.executable.allow self.now.executable.code.functions }
+        requires args { TakesArguments self.now args.items }
         ensures { IfOk result (RunsAsItsProgram self.now heap args.items limits) }
     {
         programs_end();
-        let words = words_in(heap.alloc(), params_of(self.executable.code()), args)?;
-        let mut activation = Activation::start(&self.executable, heap, words, limits)?;
-        match activation.turn(u64::MAX) {
-            Turn::Done => left(&self.result, activation),
-            _ => Err(AllocError),
-        }
+        let activation = self.start(heap, args, limits)?;
+        self.finish(activation)
     }
 }

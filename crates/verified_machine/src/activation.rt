@@ -3,6 +3,7 @@ ghost use Rattle.std.specs.Prelude.{◌≡◌, ◌≤◌, [], Some, IfOk, IfSome
 ghost use Rattle.code_meaning.specs.Machine.{start};
 ghost use Rattle.machine.specs.Seen.{limits_of, codes_of};
 ghost use Rattle.machine.specs.Activations.{HasTurned, Leaves, Turned};
+ghost use Rattle.verifier.specs.Verified.{FrameWords};
 ghost use Rattle.verifier_soundness.specs.Rows.{HaveRows};
 ghost use Rattle.verifier_soundness.specs.Fits.{kinds_of, main_params};
 ghost use Rattle.verifier_soundness.specs.Bounds.{most_steps};
@@ -47,7 +48,9 @@ impl VerifiedExecutable {
     ///
     /// Want of memory.
     pub fn new(alloc: Global, verified: Verified) -> Result<VerifiedExecutable, AllocError>
-        ensures { IfOk result (λ e. code_under e ≡ verified) }
+        ensures same { IfOk result (λ e. code_under e ≡ verified) }
+        // There is memory in each frame of a run for as many words as one has at most.
+        ensures frames { IfOk result (λ e. FrameWords e.frame (code_under e)) }
     {
         let frame = verified.frame_words();
         let (code, allow) = verified.into_parts();

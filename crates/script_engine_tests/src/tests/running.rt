@@ -1,5 +1,10 @@
 //! How the tests compile scripts and run them.
 
+ghost use Rattle.std.specs.Prelude.{◌≡◌, IfOk, []};
+ghost use Rattle.pl_types.specs.declared.ty.Ty.TheVariants as def;
+ghost use Rattle.verifier_soundness.specs.Rows.{HaveRows};
+ghost use Rattle.script_engine.specs.Running.{TakesArguments};
+
 use allowlist::{Allow, Catalogue};
 use machine::Limits;
 use object_heap::{End, Heap, Outcome, Which};
@@ -43,16 +48,29 @@ impl Compiler {
         Ok(Compiler { alloc, allow })
     }
 
-    fn compiled(&self, script: &str) -> Result<Script, Fail> {
-        let context = ContextTypes {
-            variables: Items::new(self.alloc),
-            result: Ty::Def,
-        };
+    fn compiled(&self, script: &str) -> Result<Script, Fail>
+        ensures rows { IfOk result (λ script. HaveRows script.executable.allow script.executable.code.functions) }
+        ensures takes { IfOk result (λ script. TakesArguments script []) }
+    {
+        let context = context(self.alloc);
         compile(self.alloc, script, &self.allow, &context)
     }
 }
 
-fn run(alloc: Global, script: &Script, bounds: Bounds) -> Result<Outcome, AllocError> {
+/// A context without variables, and with any result.
+fn context(alloc: Global) -> ContextTypes
+    ensures { result ≡ record { variables = []; result = def.Def } }
+{
+    ContextTypes {
+        variables: Items::new(alloc),
+        result: Ty::Def,
+    }
+}
+
+fn run(alloc: Global, script: &Script, bounds: Bounds) -> Result<Outcome, AllocError>
+    requires rows { HaveRows script.now.executable.allow script.now.executable.code.functions }
+    requires takes { TakesArguments script.now [] }
+{
     let args = Vec::new(alloc);
     let heap = Heap::new(alloc, bounds.room);
     let limits = Limits {

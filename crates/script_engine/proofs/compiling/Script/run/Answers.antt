@@ -1,9 +1,13 @@
--- A turn that came to the end leaves the outcome of the program.
+-- What the run comes to is the outcome of the program.
+use Rattle.std.proofs.Common.{subst}
 use Rattle.std.proofs.lemmas.Result.{IfOk-weaker}
-use Rattle.script_engine.proofs.Runs.{turned_runs}
+use Rattle.machine.specs.Activations.{Activation}
+use Rattle.verified_machine.specs.Tasks.{ending}
+use Rattle.script_engine.specs.Running.{Comes}
+use Rattle.script_engine.proofs.Runs.{ending_runs}
 use Rattle.script_engine.proofs.compiling.Script.run.Goals as goal
 
-pub returns-in-Done : goal.returns-in-Done
-returns-in-Done c =
-    IfOk-weaker c.left.result _ _ (λ o by. turned_runs c.programs_end.ensures.ends c.args.self.now c.args.heap c.args.args.items c.args.limits c.in_ok-activation.activation c.turn.new.self 18446744073709551615 o (rw (c.in_ok-words.ensures, c.params_of.ensures, c.code.ensures) at c.in_ok-activation.ensures)
-    (rw c.in-Done.is at c.turn.ensures.exact) by) c.left.ensures
+pub returns : goal.returns
+returns c =
+    IfOk-weaker c.finish.result _ _ (λ o comes. ending_runs c.programs_end.ensures.ends c.args.self.now c.args.heap c.args.args.items c.args.limits o
+    (subst (λ (a : Activation). Comes c.args.self.now.result (ending a) o) c.in_ok-activation.ensures comes)) c.finish.ensures.comes
