@@ -115,6 +115,7 @@ impl Configuration {
         ensures exact { Comes (to_line self.old.frames.top self.old.frames.below (world_of self.old.world) (suc self.old.frames.top.line) self.old.frames.top.stack) result self.new }
         ensures memory { suc self.old.frames.top.line < 2 ^ 64 → HasMemory result }
         ensures room { room_of self.new ≡ room_of self.old }
+        ensures heap { self.new.world.heap ≡ self.old.world.heap }
     {
         match self.frames.line().checked_add(1) {
             Some(line) => {
@@ -130,6 +131,7 @@ impl Configuration {
         ensures exact { Comes (to_line self.old.frames.top self.old.frames.below (world_of self.old.world) (suc self.old.frames.top.line) (word ∷ self.old.frames.top.stack)) result self.new }
         ensures memory { self.old.frames.count < self.old.frames.words → suc self.old.frames.top.line < 2 ^ 64 → HasMemory result }
         ensures room { room_of self.new ≡ room_of self.old }
+        ensures heap { self.new.world.heap ≡ self.old.world.heap }
     {
         match self.frames.push(word) {
             Ok(()) => self.goes_on(),

@@ -9,7 +9,7 @@ ghost use Rattle.number_ops.specs.Outcomes.{effect, null_error};
 ghost use Rattle.run_state.specs.World.{acts_in, pay_member};
 ghost use Rattle.code_meaning.specs.Members.{Receives, count_of, given_as, received};
 ghost use Rattle.allowlist.specs.Index.{member_at};
-ghost use Rattle.machine.specs.Memory.{HasMemory, HasSpace};
+ghost use Rattle.machine.specs.Memory.{HasMemory, HasSpace, OnlyToMake};
 ghost use Rattle.code_meaning.specs.Machine as spec;
 ghost use Rattle.machine.specs.Seen.{Comes, room_of, with_stack, world_of, codes_of, limits_in};
 ghost use Rattle.machine.specs.Rows.{beside};
@@ -166,8 +166,11 @@ fn call_on(
     }
 }
 
+// Throws the exception of a receiver that is null. It wants memory for the exception alone.
+#[tactic(auto, using(crate::proofs::Spared::only_to_make))]
 fn on_null(run: &mut Configuration, code: &Code, limits: &Rules<'_>, called: &MemberType) -> Step
     ensures exact { (stack : List Word) → Comes (spec.on_outcome (codes_of code.now.functions) (limits_in limits.now) (acts_in (world_of run.old.world) (effect run.old.world.heap null_error)) (given_as called.now.result) (with_stack run.old.frames.top stack) run.old.frames.below (world_of run.old.world) run.old.frames.top.stack) result run.new }
+    ensures memory { run.old.frames.count < run.old.frames.words → suc run.old.frames.top.line < 2 ^ 64 → OnlyToMake run.old.world.heap run.new.world.heap result }
     ensures room { room_of run.new ≡ room_of run.old }
 {
     let answer = throw(&mut run.world.heap, NULL_POINTER_EXCEPTION, None);

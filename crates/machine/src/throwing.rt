@@ -15,7 +15,7 @@ ghost use Rattle.code_meaning.specs.Machine.{Next, on_outcome, on_reference, on_
 ghost use Rattle.machine.specs.Seen.{Comes, room_of, with_stack, world_of, codes_of, limits_in};
 ghost use Rattle.number_ops.specs.Relations.{is_exception};
 ghost use Rattle.machine.specs.Sparing.{OnReference, OnValue};
-ghost use Rattle.machine.specs.Memory.{HasMemory, IsAnswered};
+ghost use Rattle.machine.specs.Memory.{HasMemory, IsAnswered, OnlyToMake};
 ghost use Rattle.machine.specs.Rows.{bare, catches, landing, landed, line_of};
 
 use crate::configuration::{Configuration, End, Step, World};
@@ -35,6 +35,7 @@ pub fn answered(run: &mut Configuration, code: &Code, limits: &Rules<'_>, answer
     ensures exact { (effect : Effect) (old : Store) (stack : List Word) → Answers effect old run.old.world.heap answer → Comes (on_outcome (codes_of code.now.functions) (limits_in limits.now) (acts_in (with_store (world_of run.old.world) old) effect) words.unboxed (with_stack run.old.frames.top stack) run.old.frames.below (with_store (world_of run.old.world) old) run.old.frames.top.stack) result run.new }
     ensures memory { IsAnswered answer → run.old.frames.count < run.old.frames.words → suc run.old.frames.top.line < 2 ^ 64 → HasMemory result }
     ensures room { room_of run.new ≡ room_of run.old }
+    ensures heap { run.new.world.heap ≡ run.old.world.heap }
 {
     match answer {
         Answer::Value(value) => run.push(unboxed(value)),
@@ -74,6 +75,7 @@ pub fn answered_as(
     ensures exact { (effect : Effect) (old : Store) (stack : List Word) → Answers effect old run.old.world.heap answer → Comes (on_outcome (codes_of code.now.functions) (limits_in limits.now) (acts_in (with_store (world_of run.old.world) old) effect) (given_as of.now) (with_stack run.old.frames.top stack) run.old.frames.below (with_store (world_of run.old.world) old) run.old.frames.top.stack) result run.new }
     ensures memory { IsAnswered answer → run.old.frames.count < run.old.frames.words → suc run.old.frames.top.line < 2 ^ 64 → HasMemory result }
     ensures room { room_of run.new ≡ room_of run.old }
+    ensures heap { run.new.world.heap ≡ run.old.world.heap }
 {
     match answer {
         Answer::Value(value) => run.push(given_as(of, value)),
@@ -122,10 +124,11 @@ fn bare(value: &Value) -> Option<Word>
     }
 }
 
-/// Throws the exception of a zero divisor.
-#[tactic(auto, unfolding(number_ops::specs::Outcomes::says))]
+/// Throws the exception of a zero divisor. It wants memory for the exception alone.
+#[tactic(auto, unfolding(number_ops::specs::Outcomes::says), using(crate::proofs::Spared::only_to_make, crate::proofs::Spared::nothing_made))]
 pub fn throw_zero_divisor(run: &mut Configuration, code: &Code, limits: &Rules<'_>) -> Step
     ensures exact { Comes (on_outcome (codes_of code.now.functions) (limits_in limits.now) (acts_in (world_of run.old.world) (effect run.old.world.heap zero_divisor)) words.unboxed run.old.frames.top run.old.frames.below (world_of run.old.world) run.old.frames.top.stack) result run.new }
+    ensures memory { run.old.frames.count < run.old.frames.words → suc run.old.frames.top.line < 2 ^ 64 → OnlyToMake run.old.world.heap run.new.world.heap result }
     ensures room { room_of run.new ≡ room_of run.old }
 {
     match UText::from_utf8(run.world.heap.alloc(), "/ by zero") {
@@ -183,6 +186,7 @@ fn unwind(run: &mut Configuration, code: &Code, id: u32) -> Step
     ensures exact { Comes (spec.unwind (codes_of code.now.functions) (run.old.frames.top ∷ run.old.frames.below) id (world_of run.old.world)) result run.new }
     ensures memory { run.old.frames.count < run.old.frames.words → HasMemory result }
     ensures room { room_of run.new ≡ room_of run.old }
+    ensures heap { run.new.world.heap ≡ run.old.world.heap }
 {
     'frames: loop {
         match landing(code, &run.frames, id, &run.world) {
@@ -201,6 +205,7 @@ fn land(run: &mut Configuration, line: u32, id: u32) -> Step
     ensures exact { (further : Next) → Comes (landed (Some line) run.old.frames.top run.old.frames.below id (world_of run.old.world) further) result run.new }
     ensures memory { run.old.frames.count < run.old.frames.words → HasMemory result }
     ensures room { room_of run.new ≡ room_of run.old }
+    ensures heap { run.new.world.heap ≡ run.old.world.heap }
 {
     run.frames.clear();
     match run.frames.push(Word::R(Value::Ref(id))) {
