@@ -15,6 +15,7 @@ ghost use Rattle.machine.specs.Sparing.{CastSpares, OnReference, OnValue};
 ghost use Rattle.machine.specs.Memory.{HasMemory};
 
 use crate::configuration::{Configuration, End, Step};
+use crate::linked_code::LinkedCode;
 use crate::rules::Rules;
 use crate::throwing::answered;
 use arithmetic::casts::{low_byte, low_char, low_short};
@@ -22,7 +23,7 @@ use code_meaning::Word;
 use number_ops::to_type;
 use object_heap::{Answer, Heap};
 use object_values::Value;
-use pl_code::{Code, Way};
+use pl_code::Way;
 use pl_types::{Primitive, Ty};
 
 /// Makes a value of the number on the stack.
@@ -76,7 +77,7 @@ fn boxed_long(primitive: Primitive, a: i64) -> Option<Value>
 /// Makes a number of a primitive of the value on the stack.
 pub fn unbox(
     run: &mut Configuration,
-    code: &Code,
+    code: &LinkedCode,
     limits: &Rules<'_>,
     primitive: Primitive,
     way: Way,
@@ -94,7 +95,7 @@ pub fn unbox(
 // The same of a word that was taken off the stack.
 fn unbox_word(
     run: &mut Configuration,
-    code: &Code,
+    code: &LinkedCode,
     limits: &Rules<'_>,
     word: &Word,
     primitive: Primitive,

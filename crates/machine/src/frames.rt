@@ -1,19 +1,22 @@
 //! Frames that lie one on the other in one vector of words, for which memory is taken once.
-ghost use Rattle.std.specs.Prelude.{◌+◌, ◌^◌, ◌++◌, map, nat_le, ◌≡◌, ◌≤◌, ◌<◌, ◌↔◌, true, suc, [], ◌∷◌, length, slice_get, slice_set, IsTrue, MatchOption, OnOk, OnErr, IsOk, IfOk};
+ghost use Rattle.std.specs.Prelude.{◌+◌, ◌^◌, ◌++◌, map, nat_le, ◌≡◌, ◌≤◌, ◌<◌, ◌↔◌, true, suc, [], ◌∷◌, length, option_map, slice_get, slice_set, IsTrue, MatchOption, OnOk, OnErr, IsOk, IfOk};
 ghost use Rattle.std.specs.Option.{option_copied};
 ghost use Rattle.std.specs.Vec.{vec_capacity};
-ghost use Rattle.code_meaning.specs.Machine.{depth_of, take_words, code_in};
+ghost use Rattle.code_meaning.specs.Machine.{depth_of, take_words, code_in, function_of};
 ghost use Rattle.code_meaning.specs.Words.{start_of};
 ghost use Rattle.code_meaning.specs.Sizes.{words_in};
 ghost use Rattle.machine.specs.Frames.{Enters, Leaves, at_line, with_turns};
 ghost use Rattle.machine.specs.Frames.{with_stack, with_words};
 ghost use Rattle.object_values.specs.declared.object.Owner.TheVariants.{Script};
+ghost use Rattle.machine.specs.Handlers.{linked_traps};
 ghost use Rattle.machine.specs.Seen.{codes_of};
 
 use crate::calls::start_of;
+use crate::handlers::Handlers;
+use crate::linked_code::LinkedCode;
 use code_meaning::Word;
 use object_values::{Elements, Owner};
-use pl_code::{Code, FunCode, Slot};
+use pl_code::{FunCode, Slot};
 use std::alloc::{AllocError, Global};
 use std::marker::Model;
 
@@ -206,11 +209,22 @@ impl Frames {
     }
 
     /// The function of this number, in the code of the newest frame's text. The prelude has no code yet.
-    pub fn function_at<'c>(&self, code: &'c Code, number: u32) -> Option<&'c FunCode>
+    pub fn function_at<'c>(&self, code: &'c LinkedCode, number: u32) -> Option<&'c FunCode>
         ensures { option_copied result ≡ slice_get (code_in (codes_of code.now.functions) self.now.top.text) number }
     {
         match self.top.text {
-            Owner::Script => code.functions.get(number as usize),
+            Owner::Script => code.function(number),
+            Owner::Prelude => None,
+        }
+    }
+
+    /// The handlers of the newest frame's function.
+    #[tactic(auto, using(crate::proofs::Handling::none_there))]
+    pub fn handlers<'c>(&self, code: &'c LinkedCode) -> Option<&'c Handlers>
+        ensures { option_copied result ≡ option_map linked_traps (function_of (codes_of code.now.functions) self.now.top) }
+    {
+        match self.top.text {
+            Owner::Script => code.handlers(self.top.fun),
             Owner::Prelude => None,
         }
     }

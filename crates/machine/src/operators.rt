@@ -12,12 +12,13 @@ ghost use Rattle.machine.specs.Memory.{HasMemory, HasRoom};
 
 use crate::configuration::{Configuration, End, Step};
 use crate::frames::Frames;
+use crate::linked_code::LinkedCode;
 use crate::rules::Rules;
 use crate::stacks::{pop_int, pop_long};
 use crate::throwing::throw_zero_divisor;
 use arithmetic::{Num, Op, arith};
 use code_meaning::Word;
-use pl_code::{ArithmeticOp, Code, Width};
+use pl_code::{ArithmeticOp, Width};
 
 /// What an operator comes to.
 #[derive(Clone, Copy, PartialEq, Eq)]
@@ -31,7 +32,7 @@ pub enum Operated {
 /// An operator on numbers of a width.
 pub fn arithmetic(
     run: &mut Configuration,
-    code: &Code,
+    code: &LinkedCode,
     limits: &Rules<'_>,
     op: ArithmeticOp,
     width: Width,

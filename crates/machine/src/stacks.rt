@@ -13,17 +13,18 @@ use crate::calls::ret;
 use crate::configuration::{Configuration, End, Step};
 use crate::copies::copy_of;
 use crate::frames::Frames;
+use crate::linked_code::LinkedCode;
 use crate::references::{Pairing, pair};
 use crate::rules::Rules;
 use crate::throwing::throw_top;
 use arithmetic::casts::{low_byte, low_char, low_int, low_short};
 use code_meaning::Word;
 use object_values::Value;
-use pl_code::{Code, Plain};
+use pl_code::Plain;
 
 /// An instruction without operands.
 #[tactic(auto, using(crate::proofs::Rows::no_int, crate::proofs::Rows::no_long))]
-pub fn plain(run: &mut Configuration, code: &Code, limits: &Rules<'_>, kind: Plain) -> Step
+pub fn plain(run: &mut Configuration, code: &LinkedCode, limits: &Rules<'_>, kind: Plain) -> Step
     ensures exact { Comes (plain_act (codes_of code.now.functions) (limits_in limits.now) kind run.old.frames.top run.old.frames.below (world_of run.old.world)) result run.new }
     ensures memory { PlainSpares kind run.old.frames.top.stack run.old.world.heap.objects → run.old.frames.count + 2 ≤ run.old.frames.words → suc run.old.frames.top.line < 2 ^ 64 → HasMemory result }
     ensures room { room_of run.new ≡ room_of run.old }
