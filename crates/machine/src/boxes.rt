@@ -1,5 +1,5 @@
 //! Boxes: a primitive as a value, and a value as a primitive.
-ghost use Rattle.std.specs.Prelude.{◌≡◌, ◌<◌, ◌^◌, List, ◌∷◌, suc};
+ghost use Rattle.std.specs.Prelude.{◌≡◌, ◌≤◌, ◌<◌, ◌^◌, List, ◌∷◌, suc};
 ghost use Rattle.pl_types.specs.declared.ty.Ty.TheVariants as ty;
 ghost use Rattle.object_heap.specs.Effects.{Answers};
 ghost use Rattle.number_ops.specs.Outcomes.{effect};
@@ -29,7 +29,7 @@ use pl_types::{Primitive, Ty};
 /// Makes a value of the number on the stack.
 pub fn box_number(run: &mut Configuration, primitive: Primitive) -> Step
     ensures exact { Comes (on_top run.old.frames.top.stack (λ word stack. on_value (words.boxed primitive word) (λ value. to_line run.old.frames.top run.old.frames.below (world_of run.old.world) (suc run.old.frames.top.line) (R value ∷ stack)))) result run.new }
-    ensures memory { suc run.old.frames.top.line < 2 ^ 64 → HasMemory result }
+    ensures memory { run.old.frames.count ≤ run.old.frames.words → suc run.old.frames.top.line < 2 ^ 64 → HasMemory result }
     ensures room { room_of run.new ≡ room_of run.old }
 {
     match run.frames.pop() {
@@ -83,7 +83,7 @@ pub fn unbox(
     way: Way,
 ) -> Step
     ensures exact { Comes (on_top run.old.frames.top.stack (λ word stack. on_reference word (λ value. on_outcome (codes_of code.now.functions) (limits_in limits.now) (acts_in (world_of run.old.world) (effect run.old.world.heap (cast_at_run_time run.old.world.heap.objects value (ty.Prim primitive) (is_written way)))) words.unboxed run.old.frames.top run.old.frames.below (world_of run.old.world) stack))) result run.new }
-    ensures memory { OnValue run.old.frames.top.stack (CastSpares run.old.world.heap.objects (ty.Prim primitive) (is_written way)) → suc run.old.frames.top.line < 2 ^ 64 → HasMemory result }
+    ensures memory { OnValue run.old.frames.top.stack (CastSpares run.old.world.heap.objects (ty.Prim primitive) (is_written way)) → run.old.frames.count ≤ run.old.frames.words → suc run.old.frames.top.line < 2 ^ 64 → HasMemory result }
     ensures room { room_of run.new ≡ room_of run.old }
 {
     match run.frames.pop() {

@@ -97,7 +97,7 @@ fn push_frame(run: &mut Configuration, number: u32, function: &FunCode) -> Step
 /// Returns.
 pub fn ret(run: &mut Configuration, code: &LinkedCode, limits: &Rules<'_>) -> Step
     ensures exact { Comes (spec.returns (codes_of code.now.functions) (limits_in limits.now) (function_of (codes_of code.now.functions) run.old.frames.top) run.old.frames.top.stack (λ result. spec.gives_back (codes_of code.now.functions) (limits_in limits.now) run.old.frames.below run.old.frames.top.due result (world_of run.old.world))) result run.new }
-    ensures memory { HasMemory result }
+    ensures memory { run.old.frames.count ≤ run.old.frames.words → HasMemory result }
     ensures room { room_of run.new ≡ room_of run.old }
 {
     match run.frames.function_at(code, run.frames.fun()) {

@@ -16,7 +16,7 @@ use object_heap::{Heap, Which};
 pub struct Limits {
     /// Turns of one frame.
     pub loops: u64,
-    /// Frames on top of one another, the first left out. Memory for so many is taken at the start of a run.
+    /// Frames on top of one another, the first left out. Memory for so many is taken at the start of a run, up to a bound.
     pub depth: u32,
     /// Calls and turns that are paid.
     pub ticks: u64,

@@ -103,7 +103,7 @@ impl Model for Executable {
 
 impl Executable {
     /// Code that may call the members of this list. A run takes memory at its start for so many words in each frame, locals and
-    /// operands. Of verified code the verifier tells this number; a run that needs more finds no memory.
+    /// operands, up to a bound. Of verified code the verifier tells this number; what a run needs beyond it is taken as it comes.
     ///
     /// # Errors
     ///

@@ -1,5 +1,5 @@
 //! Texts, and what is asked of references: whether two are equal or one, their texts joined, and whether one is null.
-ghost use Rattle.std.specs.Prelude.{◌≡◌, ◌<◌, ◌^◌, List, ◌∷◌, suc};
+ghost use Rattle.std.specs.Prelude.{◌≡◌, ◌≤◌, ◌<◌, ◌^◌, List, ◌∷◌, suc};
 ghost use Rattle.code_meaning.specs.declared.word.Word.{Word};
 ghost use Rattle.code_meaning.specs.Machine.{quoted_act, on_reference, on_top, if_null, to_line};
 ghost use Rattle.machine.specs.Seen.{Comes, room_of, with_stack, world_of, codes_of, limits_in};
@@ -59,7 +59,7 @@ pub enum Pairing {
 /// An instruction on two references, which are taken off the stack.
 pub fn pair(run: &mut Configuration, code: &LinkedCode, limits: &Rules<'_>, kind: Pairing) -> Step
     ensures exact { Comes (on_pair run.old.frames.top.stack (λ a b stack. paired (codes_of code.now.functions) (limits_in limits.now) kind a b run.old.frames.top run.old.frames.below (world_of run.old.world) stack)) result run.new }
-    ensures memory { OnValues run.old.frames.top.stack (PairSpares kind run.old.world.heap.objects) → suc run.old.frames.top.line < 2 ^ 64 → HasMemory result }
+    ensures memory { OnValues run.old.frames.top.stack (PairSpares kind run.old.world.heap.objects) → run.old.frames.count ≤ run.old.frames.words → suc run.old.frames.top.line < 2 ^ 64 → HasMemory result }
     ensures room { room_of run.new ≡ room_of run.old }
 {
     match run.frames.pop() {

@@ -63,7 +63,7 @@ pub fn plain(run: &mut Configuration, code: &LinkedCode, limits: &Rules<'_>, kin
 /// Takes an int off a stack. What is left where there is none is of no account.
 pub fn pop_int(frames: &mut Frames) -> Option<i32>
     ensures stack { MatchOption result (int_of frames.old.top.stack ≡ None) (λ a. frames.old.top.stack ≡ I a ∷ frames.new.top.stack) }
-    ensures room { MatchOption result (Unit {0}) (λ a. frames.new.count < frames.new.words) }
+    ensures room { frames.old.count ≤ frames.old.words → MatchOption result (Unit {0}) (λ a. frames.new.count < frames.new.words) }
     ensures top { frames.new.top ≡ with_stack frames.old.top frames.new.top.stack }
     ensures below { frames.new.below ≡ frames.old.below }
     ensures kept { (frames.new.words ≡ frames.old.words) × (frames.new.depth ≡ frames.old.depth) }
@@ -77,7 +77,7 @@ pub fn pop_int(frames: &mut Frames) -> Option<i32>
 /// Takes a long off a stack. What is left where there is none is of no account.
 pub fn pop_long(frames: &mut Frames) -> Option<i64>
     ensures stack { MatchOption result (long_of frames.old.top.stack ≡ None) (λ a. frames.old.top.stack ≡ J a ∷ frames.new.top.stack) }
-    ensures room { MatchOption result (Unit {0}) (λ a. frames.new.count < frames.new.words) }
+    ensures room { frames.old.count ≤ frames.old.words → MatchOption result (Unit {0}) (λ a. frames.new.count < frames.new.words) }
     ensures top { frames.new.top ≡ with_stack frames.old.top frames.new.top.stack }
     ensures below { frames.new.below ≡ frames.old.below }
     ensures kept { (frames.new.words ≡ frames.old.words) × (frames.new.depth ≡ frames.old.depth) }

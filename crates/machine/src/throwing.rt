@@ -1,5 +1,5 @@
 //! What comes of operations on the heap: their values, and exceptions, each of which goes on at the trap that catches it.
-ghost use Rattle.std.specs.Prelude.{◌≡◌, ◌<◌, ◌^◌, suc, true, List, ◌∷◌, Some, None};
+ghost use Rattle.std.specs.Prelude.{◌≡◌, ◌≤◌, ◌<◌, ◌^◌, suc, true, List, ◌∷◌, Some, None};
 ghost use Rattle.object_heap.specs.Effects.{Effect, Answers};
 ghost use Rattle.object_heap.specs.Store.{Store};
 ghost use Rattle.number_ops.specs.Outcomes.{effect, zero_divisor};
@@ -147,7 +147,7 @@ pub fn throw_zero_divisor(run: &mut Configuration, code: &LinkedCode, limits: &R
 /// Throws the reference on the stack.
 pub fn throw_top(run: &mut Configuration, code: &LinkedCode, limits: &Rules<'_>) -> Step
     ensures exact { Comes (on_top run.old.frames.top.stack (λ word stack. on_reference word (λ value. on_thrown (codes_of code.now.functions) (limits_in limits.now) (acts_in (world_of run.old.world) (thrown run.old.world.heap value)) run.old.frames.top run.old.frames.below (world_of run.old.world)))) result run.new }
-    ensures memory { OnValue run.old.frames.top.stack (λ value. is_exception run.old.world.heap.objects value ≡ true) → HasMemory result }
+    ensures memory { OnValue run.old.frames.top.stack (λ value. is_exception run.old.world.heap.objects value ≡ true) → run.old.frames.count ≤ run.old.frames.words → HasMemory result }
     ensures room { room_of run.new ≡ room_of run.old }
 {
     match run.frames.pop() {

@@ -1,5 +1,5 @@
 //! Casts of references to types, and instances of types.
-ghost use Rattle.std.specs.Prelude.{◌≡◌, ◌<◌, ◌^◌, List, ◌∷◌, suc};
+ghost use Rattle.std.specs.Prelude.{◌≡◌, ◌≤◌, ◌<◌, ◌^◌, List, ◌∷◌, suc};
 ghost use Rattle.number_ops.specs.Outcomes.{effect};
 ghost use Rattle.number_ops.specs.Casts.{cast_at_run_time};
 ghost use Rattle.number_ops.specs.Relations as relations;
@@ -27,7 +27,7 @@ use pl_types::Ty;
 /// Casts the reference on the stack to the type that the instruction names.
 pub fn cast(run: &mut Configuration, executable: &Executable, limits: &Rules<'_>, way: Way) -> Step
     ensures exact { Comes (on_type (type_in (link_at executable.now run.old.frames.top)) (λ to. cast_act (codes_of executable.now.code.functions) (limits_in limits.now) to (is_written way) run.old.frames.top run.old.frames.below (world_of run.old.world))) result run.new }
-    ensures memory { OnType (type_in (link_at executable.now run.old.frames.top)) (λ to. OnValue run.old.frames.top.stack (CastSpares run.old.world.heap.objects to (is_written way))) → suc run.old.frames.top.line < 2 ^ 64 → HasMemory result }
+    ensures memory { OnType (type_in (link_at executable.now run.old.frames.top)) (λ to. OnValue run.old.frames.top.stack (CastSpares run.old.world.heap.objects to (is_written way))) → run.old.frames.count ≤ run.old.frames.words → suc run.old.frames.top.line < 2 ^ 64 → HasMemory result }
     ensures room { room_of run.new ≡ room_of run.old }
 {
     match executable.link(&run.frames) {
@@ -44,7 +44,7 @@ fn cast_top(
     way: Way,
 ) -> Step
     ensures exact { Comes (cast_act (codes_of code.now.functions) (limits_in limits.now) to.now (is_written way) run.old.frames.top run.old.frames.below (world_of run.old.world)) result run.new }
-    ensures memory { OnValue run.old.frames.top.stack (CastSpares run.old.world.heap.objects to.now (is_written way)) → suc run.old.frames.top.line < 2 ^ 64 → HasMemory result }
+    ensures memory { OnValue run.old.frames.top.stack (CastSpares run.old.world.heap.objects to.now (is_written way)) → run.old.frames.count ≤ run.old.frames.words → suc run.old.frames.top.line < 2 ^ 64 → HasMemory result }
     ensures room { room_of run.new ≡ room_of run.old }
 {
     match run.frames.pop() {
@@ -84,7 +84,7 @@ pub fn typed(
     kind: Typed,
 ) -> Step
     ensures exact { Comes (on_type (type_in (link_at executable.now run.old.frames.top)) (λ of. typed_act (codes_of executable.now.code.functions) (limits_in limits.now) kind of run.old.frames.top run.old.frames.below (world_of run.old.world))) result run.new }
-    ensures memory { suc run.old.frames.top.line < 2 ^ 64 → HasMemory result }
+    ensures memory { run.old.frames.count ≤ run.old.frames.words → suc run.old.frames.top.line < 2 ^ 64 → HasMemory result }
     ensures room { room_of run.new ≡ room_of run.old }
 {
     match executable.link(&run.frames) {
@@ -101,7 +101,7 @@ fn typed_by(
     of: &Ty,
 ) -> Step
     ensures exact { Comes (typed_act (codes_of code.now.functions) (limits_in limits.now) kind of.now run.old.frames.top run.old.frames.below (world_of run.old.world)) result run.new }
-    ensures memory { suc run.old.frames.top.line < 2 ^ 64 → HasMemory result }
+    ensures memory { run.old.frames.count ≤ run.old.frames.words → suc run.old.frames.top.line < 2 ^ 64 → HasMemory result }
     ensures room { room_of run.new ≡ room_of run.old }
 {
     match kind {
@@ -113,7 +113,7 @@ fn typed_by(
 // Whether the reference on the stack is an instance of a type.
 fn instance(run: &mut Configuration, of: &Ty) -> Step
     ensures exact { Comes (on_top run.old.frames.top.stack (λ word stack. on_reference word (λ value. to_line run.old.frames.top run.old.frames.below (world_of run.old.world) (suc run.old.frames.top.line) (I (words.bit (relations.is_instance run.old.world.heap.objects value of.now)) ∷ stack)))) result run.new }
-    ensures memory { suc run.old.frames.top.line < 2 ^ 64 → HasMemory result }
+    ensures memory { run.old.frames.count ≤ run.old.frames.words → suc run.old.frames.top.line < 2 ^ 64 → HasMemory result }
     ensures room { room_of run.new ≡ room_of run.old }
 {
     match run.frames.pop() {

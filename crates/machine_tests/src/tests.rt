@@ -243,3 +243,22 @@ fn the_first_trap_that_fits_catches(rt: HostRuntime) -> Result<(), Fail> {
     assert!(rt; left.as_str() == CAUGHT.left);
     Ok(())
 }
+
+// int f(int n) with 15 locals more, 80,000 frames deep: more words than are taken at the start. The limit of depth is the greatest: memory
+// for as many frames is not there.
+const DEEP: Row = Row {
+    listing: "painless 1\nfun 0 loop R - -\ni 80000\ncall 1\nbox int\nret\nend\nfun 1 loop I I IIIIIIIIIIIIIII\nload 0\ni 0\neq.i\nifz 6\ni 0\nret\nload 0\ni 1\nsub.i\ncall 1\ni 1\nadd.i\nret\nend\n",
+    loops: 0,
+    depth: 4_294_967_295,
+    ticks: 100_000,
+    room: 1000,
+    left: "int 80000; steps 880010; ticks 80001",
+};
+
+#[test]
+fn frames_are_taken_as_they_come(rt: HostRuntime) -> Result<(), Fail> {
+    let allow = Catalogue::full(rt.alloc())?;
+    let ends = leaves(rt.alloc(), &allow, &DEEP, 1000)?;
+    assert!(rt; ends);
+    Ok(())
+}
