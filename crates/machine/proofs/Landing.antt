@@ -1,11 +1,13 @@
 -- Where exceptions go on.
-use Rattle.std.proofs.Common.{◌≡◌, ℕ, ◌&&◌, Bool, true, false, cond, find, List, [], ◌∷◌, Option, Some, None, nat_le, nat_lt, slice_get, if◌then◌else◌, refl, sym, ap, ◌∙◌}
+use Rattle.std.proofs.Common.{◌≡◌, ℕ, ◌&&◌, Bool, true, false, cond, find, map, List, [], ◌∷◌, Option, Some, None, nat_le, nat_lt, slice_get, if◌then◌else◌, refl, sym, ap, ◌∙◌}
 use Rattle.pl_types.specs.Names.{class_of_full}
 use Rattle.pl_code.specs.declared.code.Trap.{Trap}
 use Rattle.pl_code.specs.declared.code.FunCode.{FunCode}
 use Rattle.run_state.specs.World.{World}
 use Rattle.code_meaning.specs.Machine.{Frame, Next, Handlers, traps_at, traps_of, is_instance, lands, unwind, Codes, function_of}
-use Rattle.machine.specs.Rows.{catches, line_of, landing, landed}
+use Rattle.machine.specs.declared.handlers.LinkedTrap.{LinkedTrap}
+use Rattle.machine.specs.Handlers.{catches, line_of, linked}
+use Rattle.machine.specs.Rows.{landing, landed}
 
 abbrev lands_in : Handlers → Frame → List Frame → ℕ → World → Next → Next
 lands_in hs f below id w further = lands hs f.text f.fun f.locals f.turns f.due below id w further
@@ -14,20 +16,20 @@ module _ (line : ℕ) (f : Frame) (below : List Frame) (id : ℕ) (w : World) (f
   abbrev goes_at : ℕ → Next
   goes_at at = landed (Some at) f below id w further
 
-  is_tried : (is : Bool) (t : Trap) (ts : List Trap) (hs : Handlers)
-      → lands_in hs f below id w further ≡ landed (line_of (find (catches line id w) ts)) f below id w further
-      → (if is then goes_at t.at else lands_in hs f below id w further) ≡ landed (line_of (cond is (Some t) (find (catches line id w) ts))) f below id w further
+  is_tried : (is : Bool) (t : LinkedTrap) (ts : List Trap) (hs : Handlers)
+      → lands_in hs f below id w further ≡ landed (line_of (find (catches line id w) (map linked ts))) f below id w further
+      → (if is then goes_at t.at else lands_in hs f below id w further) ≡ landed (line_of (cond is (Some t) (find (catches line id w) (map linked ts)))) f below id w further
   is_tried true t ts hs e = refl
   is_tried false t ts hs e = e
 
   is_within : (within : Bool) (t : Trap) (ts : List Trap)
-      → lands_in (traps_at ts line) f below id w further ≡ landed (line_of (find (catches line id w) ts)) f below id w further
+      → lands_in (traps_at ts line) f below id w further ≡ landed (line_of (find (catches line id w) (map linked ts))) f below id w further
       → lands_in (if within then record { class = class_of_full t.class; at = t.at } ∷ traps_at ts line else traps_at ts line) f below id w further
-      ≡ landed (line_of (cond (within && is_instance (class_of_full t.class) id w) (Some t) (find (catches line id w) ts))) f below id w further
-  is_within true t ts e = is_tried (is_instance (class_of_full t.class) id w) t ts (traps_at ts line) e
+      ≡ landed (line_of (cond (within && is_instance (class_of_full t.class) id w) (Some (linked t)) (find (catches line id w) (map linked ts)))) f below id w further
+  is_within true t ts e = is_tried (is_instance (class_of_full t.class) id w) (linked t) ts (traps_at ts line) e
   is_within false t ts e = e
 
-  pub lands_at : (ts : List Trap) → lands_in (traps_at ts line) f below id w further ≡ landed (line_of (find (catches line id w) ts)) f below id w further
+  pub lands_at : (ts : List Trap) → lands_in (traps_at ts line) f below id w further ≡ landed (line_of (find (catches line id w) (map linked ts))) f below id w further
   lands_at [] = refl
   lands_at (t ∷ ts) = is_within (nat_le t.from line && nat_lt line t.to) t ts (lands_at ts)
 

@@ -7,6 +7,7 @@ pub mod Numbers
 pub mod Rows
 pub mod Reaching
 pub mod Given
+pub mod Handling
 pub mod Landing
 pub mod Linked
 pub mod Taking

@@ -1,13 +1,17 @@
 -- There is room for the next instruction where frames are within what was taken at the start.
 use Rattle.std.proofs.Common.{◌≡◌, ◌≤◌, ◌<◌, ℕ, suc, ◌+◌, ◌*◌, length, List, [], ◌∷◌, Option, Some, None, slice_get, refl, sym, ap, subst, ◌∙◌, arith}
 use Rattle.std.proofs.Math.Nat.{mul-le-mul_right}
+use Rattle.std.specs.Prelude.{min}
+use Rattle.allowlist.specs.Index.{member_at}
+use Rattle.allowlist.specs.declared.table.TheConstants.{MEMBER_COUNT}
+use Rattle.code_meaning.specs.Members.{count_of}
 use Rattle.pl_code.specs.declared.code.FunCode.{FunCode}
 use Rattle.run_state.specs.World.{Limits}
 use Rattle.code_meaning.specs.Machine.{Frame, Goes, depth_of, after, Codes, code_in}
 use Rattle.code_meaning.specs.Sizes.{words_in, AreWithin, IsWithin}
 use Rattle.machine.specs.declared.configuration.Configuration.{Configuration}
 use Rattle.machine.specs.Memory.{CallFinds, HasSpace, RunSpares}
-use Rattle.machine.specs.Rooms.{IsEnough}
+use Rattle.machine.specs.Rooms.{FitsAtStart, IsEnough, Room, most_at_start}
 use Rattle.machine.specs.Seen.{configuration_of, room_of}
 use Rattle.machine.specs.Sparing.{Spares}
 use Rattle.machine.proofs.Reaching.{Reached}
@@ -49,6 +53,18 @@ module _ (codes : Codes) (frame depth : ℕ) (c : Configuration) (enough : IsEno
     values = enough.values;
     reached = enough.reached;
   }
+
+-- what is taken at the start is enough where all fits
+pub enough_at_start : (frame depth words : ℕ) (room : Room) → words ≡ min (suc depth * frame + 2) most_at_start → words ≤ room.words → min depth most_at_start ≤ room.frames
+    → ((number : ℕ) → number < MEMBER_COUNT → count_of (member_at number) ≤ room.taken) → ((number : ℕ) → number < MEMBER_COUNT → count_of (member_at number) ≤ room.values) → MEMBER_COUNT ≤ room.reached
+    → FitsAtStart frame depth → IsEnough frame depth room
+enough_at_start frame depth words room is all frames taken values reached fits = record {
+  words = omega (arith, is, all, fits.words);
+  frames = omega (arith, frames, fits.frames);
+  taken = taken;
+  values = values;
+  reached = reached;
+}
 
 add_zero : (n : ℕ) → n + 0 ≡ n
 add_zero n = omega arith

@@ -4,6 +4,7 @@ use Rattle.allowlist.specs.Allow.{AllowList}
 use Rattle.pl_code.specs.declared.code.FunCode.{FunCode}
 use Rattle.code_meaning.specs.Machine.{Config, Next, Goes, Ends, Stuck, after}
 use Rattle.code_meaning.specs.Sizes.{IsWithin}
+use Rattle.machine.specs.Rooms.{FitsAtStart}
 use Rattle.machine.specs.Sparing.{Spares}
 use Rattle.task_core.specs.declared.task.Turn.{Turn}
 use Rattle.task_core.specs.declared.task.Turn.TheVariants as turn
@@ -61,10 +62,12 @@ Turned q old new turn.More = (new ≡ later q old) × IsTrue (goes new.now)
 Turned q old new turn.Done = (new ≡ later q old) × IsTrue (is_over new.now)
 Turned q old new turn.NoMemory = IsNone new.now
 
--- The next instructions, so many at most, take no memory, in frames that are within what was taken at the start.
+-- The next instructions, so many at most, take no memory, in frames that are within what was taken at the start. All that the limit of depth
+-- allows was taken then.
 pub record SparesFor (q : ℕ) (a : Activation) : Type 0 where
   pub next : Next
   pub stands : a.now ≡ Some next
+  pub fits : FitsAtStart a.frame a.limits.depth
   pub spares : (k : ℕ) (c : Config) → k < q → after (codes_of a.code) (limits_of a.limits a.allow) k next ≡ Goes c → Spares (codes_of a.code) a.allow c × IsWithin a.frame a.limits.depth (codes_of a.code) c
 
 -- a turn found memory

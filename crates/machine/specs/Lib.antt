@@ -1,6 +1,7 @@
 pub mod Frames
 pub mod Rooms
 pub mod Seen
+pub mod Handlers
 pub mod Rows
 pub mod Memory
 pub mod Members

@@ -1,6 +1,7 @@
 -- When a step takes no memory: what it does takes none, and there is room where words and frames lie.
 use Rattle.std.specs.Prelude.{◌≡◌, ◌≤◌, ◌<◌, ◌+◌, ℕ, length, List, Option, Some, None, slice_get}
 use Rattle.allowlist.specs.Index.{member_at}
+use Rattle.object_heap.specs.Store.{Store}
 use Rattle.object_values.specs.declared.object.Object.{Object}
 use Rattle.object_values.specs.declared.value.Value.{Value}
 pub use Rattle.number_ops.specs.Outcomes.{IsAnswered}
@@ -31,6 +32,11 @@ abbrev pub HasMemory : Step → Type 0
 HasMemory step.Goes = Unit {0}
 HasMemory (step.Ends end) = Unit {0}
 HasMemory step.NoMemory = ⊥
+
+-- A step was given up for want of memory only where nothing was made: what was thrown once goes on.
+abbrev pub OnlyToMake : Store → Store → Step → Type 0
+OnlyToMake old new step.NoMemory = new ≡ old
+OnlyToMake old new other = Unit {0}
 
 -- nor was the copy
 abbrev pub IsCopied : Copying → Type 0

@@ -1,4 +1,4 @@
--- What memory is taken at the start of a run. It is neither more nor less later on.
+-- What memory is taken at the start of a run.
 use Rattle.std.specs.Prelude.{◌≡◌, ◌≤◌, ◌<◌, ◌+◌, ◌*◌, ◌==◌, ℕ, suc, Bool, true, List, nat_lt}
 use Rattle.std.specs.List.{IsDistinct, list_all, list_any}
 use Rattle.allowlist.specs.Index.{member_at}
@@ -37,6 +37,15 @@ pub record Room : Type 0 where
   pub taken : ℕ
   pub values : ℕ
   pub reached : ℕ
+
+-- For how many words, and for how many frames, memory is taken at the start at most. What goes past it is taken as it comes.
+abbrev pub most_at_start : ℕ
+most_at_start = 1000000
+
+-- Calls so deep with so many words in each frame are within that: two words more serve an instruction until it takes others off.
+pub record FitsAtStart (frame depth : ℕ) : Type 0 where
+  pub words : suc depth * frame + 2 ≤ most_at_start
+  pub frames : depth ≤ most_at_start
 
 -- It is enough for frames of so many words each and calls so deep: two words more serve an instruction until it takes others off. And it
 -- is enough for a call of each member.

@@ -1,11 +1,9 @@
 -- What parts of an instruction come to.
-use Rattle.std.specs.Prelude.{◌≡◌, ℕ, suc, ◌&&◌, Bool, true, false, List, [], ◌∷◌, ◌++◌, map, Option, Some, None, find, nat_le, nat_lt, pos}
+use Rattle.std.specs.Prelude.{◌≡◌, ℕ, suc, Bool, true, false, List, [], ◌∷◌, ◌++◌, map, Option, Some, None, option_map, find, pos}
 use Rattle.arithmetic.specs.declared.operator.Num.{Num}
-use Rattle.pl_types.specs.Names.{class_of_full}
 use Rattle.object_values.specs.declared.value.Value.{Value}
 use Rattle.object_values.specs.declared.value.Value.TheVariants as v
 use Rattle.object_heap.specs.declared.outcome.Which.{Which}
-use Rattle.pl_code.specs.declared.code.Trap.{Trap}
 use Rattle.pl_code.specs.declared.kinds.Slot.{Slot}
 use Rattle.pl_code.specs.declared.code.FunCode.{FunCode}
 use Rattle.number_ops.specs.Operators.{concatenated}
@@ -16,13 +14,15 @@ use Rattle.run_state.specs.World.{World, Limits, Counted, Counts, Passes, acts_i
 use Rattle.code_meaning.specs.declared.word.Word.{Word}
 use Rattle.code_meaning.specs.declared.word.Word.TheVariants.{I, J, R}
 use Rattle.code_meaning.specs.Words.{bit, start_of, unboxed, Calculation, NoRow, Calculates}
-use Rattle.code_meaning.specs.Machine.{Frame, Next, Goes, on_outcome, on_reference, on_top, to_line, is_instance, Codes}
+use Rattle.code_meaning.specs.Machine.{Frame, Next, Goes, on_outcome, on_reference, on_top, to_line, Codes}
 use Rattle.machine.specs.declared.references.Pairing.{Pairing}
 use Rattle.machine.specs.declared.references.Pairing.TheVariants as pairing
 use Rattle.machine.specs.declared.operators.Operated.{Operated}
 use Rattle.machine.specs.declared.operators.Operated.TheVariants as c
 use Rattle.machine.specs.declared.stacks.Copying.{Copying}
 use Rattle.machine.specs.declared.stacks.Copying.TheVariants as copying
+use Rattle.machine.specs.Handlers.{catches, line_of, linked_traps}
+use Rattle.machine.specs.declared.handlers.LinkedTrap.{LinkedTrap}
 use Rattle.machine.specs.Seen.{limit_of}
 
 -- a copy leaves this stack, unless there was no memory
@@ -94,21 +94,14 @@ paired codes limits pairing.Same a b f below w stack = to_line f below w (suc f.
 
 -- ---- where an exception goes on
 
--- a trap catches an exception at a line
-abbrev pub catches : ℕ → ℕ → World → Trap → Bool
-catches line id w t = (nat_le t.from line && nat_lt line t.to) && is_instance (class_of_full t.class) id w
-
-abbrev pub line_of : Option Trap → Option ℕ
-line_of None = None
-line_of (Some t) = Some t.at
-
-abbrev pub traps_in : Option FunCode → List Trap
+-- the traps of a function, if there is one
+abbrev pub traps_in : Option (List LinkedTrap) → List LinkedTrap
 traps_in None = []
-traps_in (Some f) = f.traps
+traps_in (Some traps) = traps
 
 -- where an exception goes on in a function, if it is caught at this line
 abbrev pub landing : Option FunCode → ℕ → ℕ → World → Option ℕ
-landing f line id w = line_of (find (catches line id w) (traps_in f))
+landing f line id w = line_of (find (catches line id w) (traps_in (option_map linked_traps f)))
 
 -- it goes on in the frame, or beyond it
 abbrev pub landed : Option ℕ → Frame → List Frame → ℕ → World → Next → Next

@@ -1,5 +1,6 @@
 //! A run of code that stops between any two instructions and goes on.
-ghost use Rattle.std.specs.Prelude.{◌≡◌, ◌≤◌, ◌++◌, [], map, Some, IfOk};
+ghost use Rattle.std.specs.Prelude.{◌≡◌, ◌≤◌, ◌++◌, [], map, min, Some, IfOk};
+ghost use Rattle.machine.specs.Rooms.{most_at_start};
 ghost use Rattle.object_values.specs.declared.object.Owner.TheVariants.{Script};
 ghost use Rattle.code_meaning.specs.Machine.{start};
 ghost use Rattle.code_meaning.specs.Words.{start_of};
@@ -10,7 +11,7 @@ use crate::configuration::{Configuration, End, Limits, Step, World};
 use crate::executable::Executable;
 use crate::frames::Frames;
 use crate::reached::Reached;
-use crate::reserve::words_for;
+use crate::reserve::{frames_at_start, words_at_start};
 use crate::rules::Rules;
 use crate::running::{Ran, run_on};
 use crate::stack::Stack;
@@ -49,7 +50,7 @@ pub struct Outcome {
 
 impl<'c> Model for Activation<'c> {
     ghost use Rattle.machine.specs.Activations.{Activation, now_of};
-    ghost use Rattle.machine.specs.Rooms.{IsEnough};
+    ghost use Rattle.machine.specs.Rooms.{FitsAtStart, IsEnough};
     ghost use Rattle.machine.specs.Runs.{CountsFit};
     ghost use Rattle.machine.specs.Seen.{configuration_of, goes, room_of};
     ghost use Rattle.pl_types.specs.contracts.ty.Ty as ty;
@@ -62,18 +63,20 @@ impl<'c> Model for Activation<'c> {
 
     ghost view = { λ a. record { code = a.executable.now.code.functions; limits = a.limits; allow = a.executable.now.allow; frame = a.executable.now.frame; now = now_of a.last a.run; steps = a.steps } };
 
-    ghost invariant = { λ a. (a.steps < 2 ^ 64) × IsEnough a.executable.now.frame a.limits.depth (room_of a.run) × (goes a.last ≡ true → CountsFit (configuration_of a.run)) };
+    ghost invariant = { λ a. (a.steps < 2 ^ 64) × (FitsAtStart a.executable.now.frame a.limits.depth → IsEnough a.executable.now.frame a.limits.depth (room_of a.run)) × (goes a.last ≡ true → CountsFit (configuration_of a.run)) };
 }
 
 impl<'c> Activation<'c> {
     /// A run of function 0 on these arguments. Where there is no such function the run is stuck.
     ///
     /// Memory is taken here for frames of calls as deep as the limit, each of as many words as the executable tells, for a call of a
-    /// member, and for the list of members that were called. What goes past it finds no memory.
+    /// member, and for the list of members that were called. For frames it is memory for a million words and a million frames at most:
+    /// what goes past it is taken as it comes.
     ///
     /// # Errors
     ///
     /// Want of memory.
+    #[tactic(auto, using(crate::proofs::Spaces::enough_at_start))]
     pub fn start(
         executable: &'c Executable,
         heap: Heap,
@@ -86,9 +89,7 @@ impl<'c> Activation<'c> {
             Some(main) => (main.locals.as_slice(), Step::Goes),
             None => (&[] as &[Slot], Step::Ends(End::Stuck)),
         };
-        let Some(words) = words_for(executable.frame(), limits.depth) else {
-            return Err(AllocError);
-        };
+        let words = words_at_start(executable.frame(), limits.depth);
         let run = configuration(executable.arguments(), heap, args, slots, limits, words)?;
         Ok(Activation {
             executable,
@@ -105,7 +106,8 @@ impl<'c> Activation<'c> {
     /// turn.
     pub fn turn(&mut self, q: u64) -> Turn
         ensures exact { Turned q self.old self.new result }
-        // No memory is taken where each instruction makes no object and lets none grow, and neither makes nor copies a text.
+        // No memory is taken where each instruction makes no object and lets none grow, and neither makes nor copies a text, and the
+        // frames that the limit of depth allows were taken at the start.
         ensures memory { SparesFor q self.old → HasTurned result }
     {
         if self.last.goes() {
@@ -164,11 +166,12 @@ fn configuration(
     words: usize,
 ) -> Result<Configuration, AllocError>
     ensures stands { IfOk result (λ c. configuration_of c ≡ record { top = record { text = Script; fun = 0; line = 0; locals = args ++ map start_of slots.now; stack = []; turns = 0; due = [] }; below = []; world = record { store = heap; ticks = limits.ticks; reached = [] } }) }
-    ensures frames { IfOk result (λ c. (words ≤ c.frames.words) × (limits.depth ≤ c.frames.depth)) }
+    ensures frames { IfOk result (λ c. (words ≤ c.frames.words) × (min limits.depth most_at_start ≤ c.frames.depth)) }
     ensures calls { IfOk result (λ c. (c.words.room ≡ arguments) × (c.values.room ≡ arguments) × (c.world.reached.room ≡ MEMBER_COUNT)) }
 {
     let alloc = heap.alloc();
-    let frames = Frames::start(alloc, args, slots, limits.depth as usize, words)?;
+    let depth = frames_at_start(limits.depth);
+    let frames = Frames::start(alloc, args, slots, depth, words)?;
     let words = Stack::with_room(alloc, arguments)?;
     let values = Values::with_room(alloc, arguments)?;
     let reached = Reached::with_room(alloc, MEMBER_COUNT as usize)?;

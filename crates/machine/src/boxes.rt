@@ -1,5 +1,5 @@
 //! Boxes: a primitive as a value, and a value as a primitive.
-ghost use Rattle.std.specs.Prelude.{◌≡◌, ◌<◌, ◌^◌, List, ◌∷◌, suc};
+ghost use Rattle.std.specs.Prelude.{◌≡◌, ◌≤◌, ◌<◌, ◌^◌, List, ◌∷◌, suc};
 ghost use Rattle.pl_types.specs.declared.ty.Ty.TheVariants as ty;
 ghost use Rattle.object_heap.specs.Effects.{Answers};
 ghost use Rattle.number_ops.specs.Outcomes.{effect};
@@ -15,6 +15,7 @@ ghost use Rattle.machine.specs.Sparing.{CastSpares, OnReference, OnValue};
 ghost use Rattle.machine.specs.Memory.{HasMemory};
 
 use crate::configuration::{Configuration, End, Step};
+use crate::linked_code::LinkedCode;
 use crate::rules::Rules;
 use crate::throwing::answered;
 use arithmetic::casts::{low_byte, low_char, low_short};
@@ -22,13 +23,13 @@ use code_meaning::Word;
 use number_ops::to_type;
 use object_heap::{Answer, Heap};
 use object_values::Value;
-use pl_code::{Code, Way};
+use pl_code::Way;
 use pl_types::{Primitive, Ty};
 
 /// Makes a value of the number on the stack.
 pub fn box_number(run: &mut Configuration, primitive: Primitive) -> Step
     ensures exact { Comes (on_top run.old.frames.top.stack (λ word stack. on_value (words.boxed primitive word) (λ value. to_line run.old.frames.top run.old.frames.below (world_of run.old.world) (suc run.old.frames.top.line) (R value ∷ stack)))) result run.new }
-    ensures memory { suc run.old.frames.top.line < 2 ^ 64 → HasMemory result }
+    ensures memory { run.old.frames.count ≤ run.old.frames.words → suc run.old.frames.top.line < 2 ^ 64 → HasMemory result }
     ensures room { room_of run.new ≡ room_of run.old }
 {
     match run.frames.pop() {
@@ -76,13 +77,13 @@ fn boxed_long(primitive: Primitive, a: i64) -> Option<Value>
 /// Makes a number of a primitive of the value on the stack.
 pub fn unbox(
     run: &mut Configuration,
-    code: &Code,
+    code: &LinkedCode,
     limits: &Rules<'_>,
     primitive: Primitive,
     way: Way,
 ) -> Step
     ensures exact { Comes (on_top run.old.frames.top.stack (λ word stack. on_reference word (λ value. on_outcome (codes_of code.now.functions) (limits_in limits.now) (acts_in (world_of run.old.world) (effect run.old.world.heap (cast_at_run_time run.old.world.heap.objects value (ty.Prim primitive) (is_written way)))) words.unboxed run.old.frames.top run.old.frames.below (world_of run.old.world) stack))) result run.new }
-    ensures memory { OnValue run.old.frames.top.stack (CastSpares run.old.world.heap.objects (ty.Prim primitive) (is_written way)) → suc run.old.frames.top.line < 2 ^ 64 → HasMemory result }
+    ensures memory { OnValue run.old.frames.top.stack (CastSpares run.old.world.heap.objects (ty.Prim primitive) (is_written way)) → run.old.frames.count ≤ run.old.frames.words → suc run.old.frames.top.line < 2 ^ 64 → HasMemory result }
     ensures room { room_of run.new ≡ room_of run.old }
 {
     match run.frames.pop() {
@@ -94,7 +95,7 @@ pub fn unbox(
 // The same of a word that was taken off the stack.
 fn unbox_word(
     run: &mut Configuration,
-    code: &Code,
+    code: &LinkedCode,
     limits: &Rules<'_>,
     word: &Word,
     primitive: Primitive,

@@ -11,14 +11,15 @@ ghost use Rattle.machine.specs.Rows.{CountsTo};
 ghost use Rattle.machine.specs.Memory.{CallFinds, HasMemory, RoomFor};
 
 use crate::configuration::{Configuration, End, Step, World};
+use crate::linked_code::LinkedCode;
 use crate::rules::Rules;
 use code_meaning::Word;
 use object_heap::Which;
 use object_values::Value;
-use pl_code::{Code, FunCode, Slot};
+use pl_code::{FunCode, Slot};
 
 /// Calls the function of this number.
-pub fn call(run: &mut Configuration, code: &Code, limits: &Rules<'_>, number: u32) -> Step
+pub fn call(run: &mut Configuration, code: &LinkedCode, limits: &Rules<'_>, number: u32) -> Step
     ensures exact { Comes (spec.on_call (codes_of code.now.functions) (limits_in limits.now) (slice_get (code_in (codes_of code.now.functions) run.old.frames.top.text) number) number run.old.frames.top run.old.frames.below (world_of run.old.world)) result run.new }
     ensures memory { CallFinds limits.now.depth (slice_get (code_in (codes_of code.now.functions) run.old.frames.top.text) number) run.old.frames → suc run.old.frames.top.line < 2 ^ 64 → HasMemory result }
     ensures room { room_of run.new ≡ room_of run.old }
@@ -32,7 +33,7 @@ pub fn call(run: &mut Configuration, code: &Code, limits: &Rules<'_>, number: u3
 #[tactic(auto, using(crate::proofs::Entering::too_few))]
 fn call_function(
     run: &mut Configuration,
-    code: &Code,
+    code: &LinkedCode,
     limits: &Rules<'_>,
     function: &FunCode,
     number: u32,
@@ -94,9 +95,9 @@ fn push_frame(run: &mut Configuration, number: u32, function: &FunCode) -> Step
 }
 
 /// Returns.
-pub fn ret(run: &mut Configuration, code: &Code, limits: &Rules<'_>) -> Step
+pub fn ret(run: &mut Configuration, code: &LinkedCode, limits: &Rules<'_>) -> Step
     ensures exact { Comes (spec.returns (codes_of code.now.functions) (limits_in limits.now) (function_of (codes_of code.now.functions) run.old.frames.top) run.old.frames.top.stack (λ result. spec.gives_back (codes_of code.now.functions) (limits_in limits.now) run.old.frames.below run.old.frames.top.due result (world_of run.old.world))) result run.new }
-    ensures memory { HasMemory result }
+    ensures memory { run.old.frames.count ≤ run.old.frames.words → HasMemory result }
     ensures room { room_of run.new ≡ room_of run.old }
 {
     match run.frames.function_at(code, run.frames.fun()) {
@@ -111,7 +112,12 @@ pub fn ret(run: &mut Configuration, code: &Code, limits: &Rules<'_>) -> Step
     }
 }
 
-fn give_back(run: &mut Configuration, code: &Code, limits: &Rules<'_>, word: Option<Word>) -> Step
+fn give_back(
+    run: &mut Configuration,
+    code: &LinkedCode,
+    limits: &Rules<'_>,
+    word: Option<Word>,
+) -> Step
     ensures exact { Comes (spec.gives_back (codes_of code.now.functions) (limits_in limits.now) run.old.frames.below run.old.frames.top.due word (world_of run.old.world)) result run.new }
     ensures memory { RoomFor word run.old.frames → HasMemory result }
     ensures room { room_of run.new ≡ room_of run.old }

@@ -16,7 +16,7 @@ use object_heap::{Heap, Which};
 pub struct Limits {
     /// Turns of one frame.
     pub loops: u64,
-    /// Frames on top of one another, the first left out. Memory for so many is taken at the start of a run.
+    /// Frames on top of one another, the first left out. Memory for so many is taken at the start of a run, up to a bound.
     pub depth: u32,
     /// Calls and turns that are paid.
     pub ticks: u64,
@@ -129,6 +129,7 @@ impl Configuration {
         ensures exact { Comes (to_line self.old.frames.top self.old.frames.below (world_of self.old.world) (suc self.old.frames.top.line) self.old.frames.top.stack) result self.new }
         ensures memory { suc self.old.frames.top.line < 2 ^ 64 → HasMemory result }
         ensures room { room_of self.new ≡ room_of self.old }
+        ensures heap { self.new.world.heap ≡ self.old.world.heap }
     {
         match self.frames.line().checked_add(1) {
             Some(line) => {
@@ -144,6 +145,7 @@ impl Configuration {
         ensures exact { Comes (to_line self.old.frames.top self.old.frames.below (world_of self.old.world) (suc self.old.frames.top.line) (word ∷ self.old.frames.top.stack)) result self.new }
         ensures memory { self.old.frames.count < self.old.frames.words → suc self.old.frames.top.line < 2 ^ 64 → HasMemory result }
         ensures room { room_of self.new ≡ room_of self.old }
+        ensures heap { self.new.world.heap ≡ self.old.world.heap }
     {
         match self.frames.push(word) {
             Ok(()) => self.goes_on(),

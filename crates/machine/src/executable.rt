@@ -7,6 +7,7 @@ ghost use Rattle.machine.specs.Links.{instruction_at, link_at, link_of, links_of
 ghost use Rattle.pl_types.specs.Texts.{type_of_full};
 
 use crate::frames::Frames;
+use crate::linked_code::LinkedCode;
 use crate::members::count_of;
 use allowlist::{Allow, MEMBER_COUNT};
 use instruction_types::{constructor_of, field_of, method_of};
@@ -72,7 +73,7 @@ impl Drop for Link {
 /// Code with the list of the members that it may call. What its instructions name is found once, when it is made.
 #[derive(Drop)]
 pub struct Executable {
-    code: Code,
+    code: LinkedCode,
     allow: Allow,
     /// For how many words there is memory in each frame of a run.
     frame: usize,
@@ -102,7 +103,7 @@ impl Model for Executable {
 
 impl Executable {
     /// Code that may call the members of this list. A run takes memory at its start for so many words in each frame, locals and
-    /// operands. Of verified code the verifier tells this number; a run that needs more finds no memory.
+    /// operands, up to a bound. Of verified code the verifier tells this number; what a run needs beyond it is taken as it comes.
     ///
     /// # Errors
     ///
@@ -118,7 +119,7 @@ impl Executable {
         let links = links_in(alloc, &allow, code.functions.as_slice())?;
         let arguments = most_arguments(&allow);
         Ok(Executable {
-            code,
+            code: LinkedCode::new(alloc, code)?,
             allow,
             frame,
             links,
@@ -128,6 +129,13 @@ impl Executable {
 
     /// The code.
     pub fn code(&self) -> &Code
+        ensures { result.now ≡ self.now.code }
+    {
+        self.code.code()
+    }
+
+    /// The code, with the handlers of its functions.
+    pub(crate) fn linked(&self) -> &LinkedCode
         ensures { result.now ≡ self.now.code }
     {
         &self.code

@@ -1,19 +1,22 @@
-//! Frames that lie one on the other in one vector of words, for which memory is taken once.
-ghost use Rattle.std.specs.Prelude.{◌+◌, ◌^◌, ◌++◌, map, nat_le, ◌≡◌, ◌≤◌, ◌<◌, ◌↔◌, true, suc, [], ◌∷◌, length, slice_get, slice_set, IsTrue, MatchOption, OnOk, OnErr, IsOk, IfOk};
+//! Frames that lie one on the other in one vector of words.
+ghost use Rattle.std.specs.Prelude.{◌+◌, ◌^◌, ◌++◌, map, nat_le, ◌≡◌, ◌≤◌, ◌<◌, ◌↔◌, true, suc, [], ◌∷◌, length, option_map, slice_get, slice_set, IsTrue, MatchOption, OnOk, OnErr, IsOk, IfOk};
 ghost use Rattle.std.specs.Option.{option_copied};
 ghost use Rattle.std.specs.Vec.{vec_capacity};
-ghost use Rattle.code_meaning.specs.Machine.{depth_of, take_words, code_in};
+ghost use Rattle.code_meaning.specs.Machine.{depth_of, take_words, code_in, function_of};
 ghost use Rattle.code_meaning.specs.Words.{start_of};
 ghost use Rattle.code_meaning.specs.Sizes.{words_in};
 ghost use Rattle.machine.specs.Frames.{Enters, Leaves, at_line, with_turns};
 ghost use Rattle.machine.specs.Frames.{with_stack, with_words};
 ghost use Rattle.object_values.specs.declared.object.Owner.TheVariants.{Script};
+ghost use Rattle.machine.specs.Handlers.{linked_traps};
 ghost use Rattle.machine.specs.Seen.{codes_of};
 
 use crate::calls::start_of;
+use crate::handlers::Handlers;
+use crate::linked_code::LinkedCode;
 use code_meaning::Word;
 use object_values::{Elements, Owner};
-use pl_code::{Code, FunCode, Slot};
+use pl_code::{FunCode, Slot};
 use std::alloc::{AllocError, Global};
 use std::marker::Model;
 
@@ -30,16 +33,16 @@ pub struct Held {
     pub locals: usize,
 }
 
-/// The frames of a run. What they may take is fixed where they begin: memory for so many words and so many frames.
+/// The frames of a run. Memory for so many words and so many frames is there from the start; what goes past it is taken as it comes.
 #[derive(Drop)]
 pub struct Frames {
     top: Held,
     below: Vec<Held>,
     words: Vec<Word>,
-    /// How many frames there may be below the newest one.
-    most_frames: usize,
-    /// How many words there may be.
-    most_words: usize,
+    /// For how many frames below the newest one there was memory at the start.
+    room_frames: usize,
+    /// For how many words.
+    room_words: usize,
 }
 
 impl Model for Frames {
@@ -53,9 +56,9 @@ impl Model for Frames {
 
     ghost coded = { Prim.hlevel (codes, ty.the_row.coded) };
 
-    ghost view = { λ s. record { top = own s.top s.words.items; below = lie (reverse s.below.items) (take s.top.base s.words.items); count = length s.words.items; words = s.most_words; depth = s.most_frames } };
+    ghost view = { λ s. record { top = own s.top s.words.items; below = lie (reverse s.below.items) (take s.top.base s.words.items); count = length s.words.items; words = s.room_words; depth = s.room_frames } };
 
-    ghost invariant = { λ s. Within (s.top ∷ reverse s.below.items) (length s.words.items) × Wait (reverse s.below.items) × (length s.words.items ≤ s.most_words) × (s.most_words ≤ vec_capacity s.words) × (s.most_frames ≤ vec_capacity s.below) };
+    ghost invariant = { λ s. Within (s.top ∷ reverse s.below.items) (length s.words.items) × Wait (reverse s.below.items) × (s.room_words ≤ vec_capacity s.words) × (s.room_frames ≤ vec_capacity s.below) };
 }
 
 impl Frames {
@@ -74,9 +77,9 @@ impl Frames {
         ensures words { IfOk result (λ frames. words ≤ frames.words) }
         ensures depth { IfOk result (λ frames. depth ≤ frames.depth) }
     {
-        let most_words = words;
+        let room_words = words;
         let mut words = args.into_vec();
-        words.reserve(most_words)?;
+        words.reserve(room_words)?;
         push_starts(&mut words, slots)?;
         let locals = words.len();
         let top = Held {
@@ -91,12 +94,12 @@ impl Frames {
             top,
             below: Vec::with_capacity(alloc, depth)?,
             words,
-            most_frames: depth,
-            most_words: most_words.max(locals),
+            room_frames: depth,
+            room_words,
         })
     }
 
-    /// Puts an operand on the newest frame's, if there is room for it.
+    /// Puts an operand on the newest frame's.
     #[tactic(auto)]
     pub fn push(&mut self, word: Word) -> Result<(), AllocError>
         ensures stack { OnOk result (self.new.top.stack ≡ word ∷ self.old.top.stack) }
@@ -107,9 +110,6 @@ impl Frames {
         ensures depth { self.new.depth ≡ self.old.depth }
         ensures full { OnErr result (self.old.words ≤ self.old.count) }
     {
-        if self.words.len() >= self.most_words {
-            return Err(AllocError);
-        }
         match self.words.push(word) {
             Ok(()) => Ok(()),
             Err(_) => Err(AllocError),
@@ -122,7 +122,7 @@ impl Frames {
         ensures top { self.new.top ≡ with_stack self.old.top self.new.top.stack }
         ensures below { self.new.below ≡ self.old.below }
         ensures count { MatchOption result (self.new.count ≡ self.old.count) (λ word. self.old.count ≡ suc self.new.count) }
-        ensures room { MatchOption result (Unit {0}) (λ word. self.new.count < self.new.words) }
+        ensures room { self.old.count ≤ self.old.words → MatchOption result (Unit {0}) (λ word. self.new.count < self.new.words) }
         ensures words { self.new.words ≡ self.old.words }
         ensures depth { self.new.depth ≡ self.old.depth }
     {
@@ -206,11 +206,22 @@ impl Frames {
     }
 
     /// The function of this number, in the code of the newest frame's text. The prelude has no code yet.
-    pub fn function_at<'c>(&self, code: &'c Code, number: u32) -> Option<&'c FunCode>
+    pub fn function_at<'c>(&self, code: &'c LinkedCode, number: u32) -> Option<&'c FunCode>
         ensures { option_copied result ≡ slice_get (code_in (codes_of code.now.functions) self.now.top.text) number }
     {
         match self.top.text {
-            Owner::Script => code.functions.get(number as usize),
+            Owner::Script => code.function(number),
+            Owner::Prelude => None,
+        }
+    }
+
+    /// The handlers of the newest frame's function.
+    #[tactic(auto, using(crate::proofs::Handling::none_there))]
+    pub fn handlers<'c>(&self, code: &'c LinkedCode) -> Option<&'c Handlers>
+        ensures { option_copied result ≡ option_map linked_traps (function_of (codes_of code.now.functions) self.now.top) }
+    {
+        match self.top.text {
+            Owner::Script => code.handlers(self.top.fun),
             Owner::Prelude => None,
         }
     }
@@ -282,7 +293,7 @@ impl Frames {
         ensures depth { self.new.depth ≡ self.old.depth }
         ensures memory { self.old.count + length slots.now ≤ self.old.words → depth_of self.old.below < self.old.depth → suc self.old.top.line < 2 ^ 64 → IsOk result }
     {
-        if !self.has_room(slots.len()) {
+        if self.top.line == usize::MAX {
             return Err(AllocError);
         }
         let base = self.words.len() - params;
@@ -297,18 +308,6 @@ impl Frames {
             locals: params + slots.len(),
         };
         Ok(())
-    }
-}
-
-impl Frames {
-    // Whether there is room for one more frame and so many words, and a number for the line behind the newest frame's.
-    #[tactic(auto, using(crate::proofs::Places::frames_below))]
-    fn has_room(&self, words: usize) -> bool
-        ensures { IsTrue result ↔ ((self.now.count + words ≤ self.now.words) × (depth_of self.now.below < self.now.depth) × (suc self.now.top.line < 2 ^ 64)) }
-    {
-        self.most_words - self.words.len() >= words
-            && self.below.len() < self.most_frames
-            && self.top.line < usize::MAX
     }
 }
 

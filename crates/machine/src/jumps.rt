@@ -9,17 +9,18 @@ ghost use Rattle.machine.specs.Memory.{CallFinds, HasMemory};
 use crate::calls::call;
 use crate::configuration::{Configuration, End, Step};
 use crate::copies::copy_of;
+use crate::linked_code::LinkedCode;
 use crate::references::jump_if_null;
 use crate::rules::Rules;
 use crate::stacks::pop_int;
 use object_heap::Which;
-use pl_code::{Code, Numbered};
+use pl_code::Numbered;
 
 /// An instruction with a number.
 #[tactic(auto, using(crate::proofs::Rows::no_int))]
 pub fn numbered(
     run: &mut Configuration,
-    code: &Code,
+    code: &LinkedCode,
     limits: &Rules<'_>,
     kind: Numbered,
     number: u32,
@@ -85,7 +86,7 @@ fn store(run: &mut Configuration, number: u32) -> Step
 // A turn of a loop where the number on the stack is not 0.
 fn repeat(
     run: &mut Configuration,
-    code: &Code,
+    code: &LinkedCode,
     limits: &Rules<'_>,
     limited: bool,
     line: u32,
@@ -104,7 +105,13 @@ fn repeat(
 
 // A turn of a loop, which goes back to a line. Where the function has a limit of turns, it is tried before the ticks.
 #[tactic(auto, unfolding(run_state::specs::World::take_turn, run_state::specs::World::pay_tick))]
-fn turn(run: &mut Configuration, code: &Code, limits: &Rules<'_>, limited: bool, line: u32) -> Step
+fn turn(
+    run: &mut Configuration,
+    code: &LinkedCode,
+    limits: &Rules<'_>,
+    limited: bool,
+    line: u32,
+) -> Step
     requires { run.old.frames.top.turns + run.old.world.ticks < 2 ^ 64 }
     ensures exact { Comes (on_turn (codes_of code.now.functions) (limits_in limits.now) (take_turn (limits_in limits.now) limited run.old.frames.top.turns (world_of run.old.world)) line run.old.frames.top run.old.frames.below (world_of run.old.world) run.old.frames.top.stack) result run.new }
     ensures memory { HasMemory result }

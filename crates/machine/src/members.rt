@@ -9,7 +9,7 @@ ghost use Rattle.number_ops.specs.Outcomes.{effect, null_error};
 ghost use Rattle.run_state.specs.World.{acts_in, pay_member};
 ghost use Rattle.code_meaning.specs.Members.{Receives, count_of, given_as, received};
 ghost use Rattle.allowlist.specs.Index.{member_at};
-ghost use Rattle.machine.specs.Memory.{HasMemory, HasSpace};
+ghost use Rattle.machine.specs.Memory.{HasMemory, HasSpace, OnlyToMake};
 ghost use Rattle.code_meaning.specs.Machine as spec;
 ghost use Rattle.machine.specs.Seen.{Comes, room_of, with_stack, world_of, codes_of, limits_in};
 ghost use Rattle.machine.specs.Rows.{beside};
@@ -19,6 +19,7 @@ ghost use Rattle.pl_types.specs.Host.{no_host};
 use crate::configuration::{Configuration, End, Step};
 use crate::executable::{Executable, Link};
 use crate::frames::Frames;
+use crate::linked_code::LinkedCode;
 use crate::paying::pay_member;
 use crate::receiving::{Receiving, received};
 use crate::rules::Rules;
@@ -27,7 +28,6 @@ use crate::throwing::answered_as;
 use allowlist::{MEMBER_COUNT, MemberKind, MemberType};
 use code_meaning::Word;
 use object_heap::throw;
-use pl_code::Code;
 use pl_types::classes::NULL_POINTER_EXCEPTION;
 use std::alloc::AllocError;
 
@@ -40,7 +40,7 @@ pub fn named(run: &mut Configuration, executable: &Executable, limits: &Rules<'_
     match executable.link(&run.frames) {
         Some(Link::Member(member)) => call_numbered(
             run,
-            executable.code(),
+            executable.linked(),
             limits,
             member.number(),
         ),
@@ -49,7 +49,12 @@ pub fn named(run: &mut Configuration, executable: &Executable, limits: &Rules<'_
 }
 
 // The member of this number.
-fn call_numbered(run: &mut Configuration, code: &Code, limits: &Rules<'_>, number: u32) -> Step
+fn call_numbered(
+    run: &mut Configuration,
+    code: &LinkedCode,
+    limits: &Rules<'_>,
+    number: u32,
+) -> Step
     requires { number < MEMBER_COUNT }
     ensures exact { Comes (spec.member_act (codes_of code.now.functions) (limits_in limits.now) (Some number) run.old.frames.top run.old.frames.below (world_of run.old.world)) result run.new }
     ensures memory { CallSpares (spec.take_words (count_of (member_at number)) run.old.frames.top.stack []) (member_at number) number run.old.world.heap.objects → HasSpace (codes_of code.now.functions) limits.now.depth run.old → suc run.old.frames.top.line < 2 ^ 64 → HasMemory result }
@@ -61,7 +66,7 @@ fn call_numbered(run: &mut Configuration, code: &Code, limits: &Rules<'_>, numbe
 
 fn call_member(
     run: &mut Configuration,
-    code: &Code,
+    code: &LinkedCode,
     limits: &Rules<'_>,
     number: u32,
     called: &MemberType,
@@ -125,7 +130,7 @@ pub fn count_of(called: &MemberType) -> usize
 // A call with words that were taken off the stack.
 fn call_with(
     run: &mut Configuration,
-    code: &Code,
+    code: &LinkedCode,
     limits: &Rules<'_>,
     number: u32,
     called: &MemberType,
@@ -144,7 +149,7 @@ fn call_with(
 // A receiver that is null throws before the call is paid; a field is read without a tick.
 fn call_on(
     run: &mut Configuration,
-    code: &Code,
+    code: &LinkedCode,
     limits: &Rules<'_>,
     number: u32,
     called: &MemberType,
@@ -166,8 +171,16 @@ fn call_on(
     }
 }
 
-fn on_null(run: &mut Configuration, code: &Code, limits: &Rules<'_>, called: &MemberType) -> Step
+// Throws the exception of a receiver that is null. It wants memory for the exception alone.
+#[tactic(auto, using(crate::proofs::Spared::only_to_make))]
+fn on_null(
+    run: &mut Configuration,
+    code: &LinkedCode,
+    limits: &Rules<'_>,
+    called: &MemberType,
+) -> Step
     ensures exact { (stack : List Word) → Comes (spec.on_outcome (codes_of code.now.functions) (limits_in limits.now) (acts_in (world_of run.old.world) (effect run.old.world.heap null_error)) (given_as called.now.result) (with_stack run.old.frames.top stack) run.old.frames.below (world_of run.old.world) run.old.frames.top.stack) result run.new }
+    ensures memory { run.old.frames.count < run.old.frames.words → suc run.old.frames.top.line < 2 ^ 64 → OnlyToMake run.old.world.heap run.new.world.heap result }
     ensures room { room_of run.new ≡ room_of run.old }
 {
     let answer = throw(&mut run.world.heap, NULL_POINTER_EXCEPTION, None);
@@ -176,7 +189,7 @@ fn on_null(run: &mut Configuration, code: &Code, limits: &Rules<'_>, called: &Me
 
 fn pay_and_act(
     run: &mut Configuration,
-    code: &Code,
+    code: &LinkedCode,
     limits: &Rules<'_>,
     number: u32,
     called: &MemberType,
@@ -197,7 +210,7 @@ fn pay_and_act(
 #[tactic(auto, using(crate::proofs::Spared::is_answered))]
 fn act(
     run: &mut Configuration,
-    code: &Code,
+    code: &LinkedCode,
     limits: &Rules<'_>,
     number: u32,
     called: &MemberType,

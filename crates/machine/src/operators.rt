@@ -1,5 +1,5 @@
 //! Operators on numbers.
-ghost use Rattle.std.specs.Prelude.{◌≡◌, ◌<◌, ◌^◌, suc};
+ghost use Rattle.std.specs.Prelude.{◌≡◌, ◌≤◌, ◌<◌, ◌^◌, suc};
 ghost use Rattle.std.specs.Int.{w32, w64};
 ghost use Rattle.arithmetic.specs.Operators.{of_type, as_long};
 ghost use Rattle.arithmetic.specs.declared.operator.Num.TheVariants as n;
@@ -12,12 +12,13 @@ ghost use Rattle.machine.specs.Memory.{HasMemory, HasRoom};
 
 use crate::configuration::{Configuration, End, Step};
 use crate::frames::Frames;
+use crate::linked_code::LinkedCode;
 use crate::rules::Rules;
 use crate::stacks::{pop_int, pop_long};
 use crate::throwing::throw_zero_divisor;
 use arithmetic::{Num, Op, arith};
 use code_meaning::Word;
-use pl_code::{ArithmeticOp, Code, Width};
+use pl_code::{ArithmeticOp, Width};
 
 /// What an operator comes to.
 #[derive(Clone, Copy, PartialEq, Eq)]
@@ -31,13 +32,13 @@ pub enum Operated {
 /// An operator on numbers of a width.
 pub fn arithmetic(
     run: &mut Configuration,
-    code: &Code,
+    code: &LinkedCode,
     limits: &Rules<'_>,
     op: ArithmeticOp,
     width: Width,
 ) -> Step
     ensures exact { Comes (on_calculation (codes_of code.now.functions) (limits_in limits.now) (words.calculation op width run.old.frames.top.stack) run.old.frames.top run.old.frames.below (world_of run.old.world)) result run.new }
-    ensures memory { NoZero (words.calculation op width run.old.frames.top.stack) → suc run.old.frames.top.line < 2 ^ 64 → HasMemory result }
+    ensures memory { NoZero (words.calculation op width run.old.frames.top.stack) → run.old.frames.count ≤ run.old.frames.words → suc run.old.frames.top.line < 2 ^ 64 → HasMemory result }
     ensures room { room_of run.new ≡ room_of run.old }
 {
     match calculated(&mut run.frames, op, width) {
@@ -58,7 +59,7 @@ fn word_of(number: Num) -> Word
 
 fn calculated(frames: &mut Frames, op: ArithmeticOp, width: Width) -> Operated
     ensures stack { CalculatesTo (words.calculation op width frames.old.top.stack) frames.new.top.stack result }
-    ensures room { HasRoom result frames.new }
+    ensures room { frames.old.count ≤ frames.old.words → HasRoom result frames.new }
     ensures top { frames.new.top ≡ with_stack frames.old.top frames.new.top.stack }
     ensures below { frames.new.below ≡ frames.old.below }
     ensures kept { (frames.new.words ≡ frames.old.words) × (frames.new.depth ≡ frames.old.depth) }
@@ -71,7 +72,7 @@ fn calculated(frames: &mut Frames, op: ArithmeticOp, width: Width) -> Operated
 
 fn ints(frames: &mut Frames, op: ArithmeticOp) -> Operated
     ensures stack { CalculatesTo (words.ints_of op frames.old.top.stack) frames.new.top.stack result }
-    ensures room { HasRoom result frames.new }
+    ensures room { frames.old.count ≤ frames.old.words → HasRoom result frames.new }
     ensures top { frames.new.top ≡ with_stack frames.old.top frames.new.top.stack }
     ensures below { frames.new.below ≡ frames.old.below }
     ensures kept { (frames.new.words ≡ frames.old.words) × (frames.new.depth ≡ frames.old.depth) }
@@ -85,7 +86,7 @@ fn ints(frames: &mut Frames, op: ArithmeticOp) -> Operated
 
 fn longs(frames: &mut Frames, op: ArithmeticOp) -> Operated
     ensures stack { CalculatesTo (words.longs_of op frames.old.top.stack) frames.new.top.stack result }
-    ensures room { HasRoom result frames.new }
+    ensures room { frames.old.count ≤ frames.old.words → HasRoom result frames.new }
     ensures top { frames.new.top ≡ with_stack frames.old.top frames.new.top.stack }
     ensures below { frames.new.below ≡ frames.old.below }
     ensures kept { (frames.new.words ≡ frames.old.words) × (frames.new.depth ≡ frames.old.depth) }
@@ -117,7 +118,7 @@ fn is_shift(op: ArithmeticOp) -> bool
 #[tactic(auto, using(crate::proofs::Rows::not_one_int))]
 fn one_int(frames: &mut Frames, op: Op) -> Operated
     ensures stack { CalculatesTo (words.one_int op frames.old.top.stack) frames.new.top.stack result }
-    ensures room { HasRoom result frames.new }
+    ensures room { frames.old.count ≤ frames.old.words → HasRoom result frames.new }
     ensures top { frames.new.top ≡ with_stack frames.old.top frames.new.top.stack }
     ensures below { frames.new.below ≡ frames.old.below }
     ensures kept { (frames.new.words ≡ frames.old.words) × (frames.new.depth ≡ frames.old.depth) }
@@ -131,7 +132,7 @@ fn one_int(frames: &mut Frames, op: Op) -> Operated
 #[tactic(auto, using(crate::proofs::Rows::not_two_ints, crate::proofs::Rows::one_of_two_ints))]
 fn two_ints(frames: &mut Frames, op: Op) -> Operated
     ensures stack { CalculatesTo (words.two_ints op frames.old.top.stack) frames.new.top.stack result }
-    ensures room { HasRoom result frames.new }
+    ensures room { frames.old.count ≤ frames.old.words → HasRoom result frames.new }
     ensures top { frames.new.top ≡ with_stack frames.old.top frames.new.top.stack }
     ensures below { frames.new.below ≡ frames.old.below }
     ensures kept { (frames.new.words ≡ frames.old.words) × (frames.new.depth ≡ frames.old.depth) }
@@ -148,7 +149,7 @@ fn two_ints(frames: &mut Frames, op: Op) -> Operated
 #[tactic(auto, using(crate::proofs::Rows::not_one_long))]
 fn one_long(frames: &mut Frames, op: Op) -> Operated
     ensures stack { CalculatesTo (words.one_long op frames.old.top.stack) frames.new.top.stack result }
-    ensures room { HasRoom result frames.new }
+    ensures room { frames.old.count ≤ frames.old.words → HasRoom result frames.new }
     ensures top { frames.new.top ≡ with_stack frames.old.top frames.new.top.stack }
     ensures below { frames.new.below ≡ frames.old.below }
     ensures kept { (frames.new.words ≡ frames.old.words) × (frames.new.depth ≡ frames.old.depth) }
@@ -162,7 +163,7 @@ fn one_long(frames: &mut Frames, op: Op) -> Operated
 #[tactic(auto, using(crate::proofs::Rows::no_shift, crate::proofs::Rows::half_shift))]
 fn long_and_int(frames: &mut Frames, op: Op) -> Operated
     ensures stack { CalculatesTo (words.long_and_int op frames.old.top.stack) frames.new.top.stack result }
-    ensures room { HasRoom result frames.new }
+    ensures room { frames.old.count ≤ frames.old.words → HasRoom result frames.new }
     ensures top { frames.new.top ≡ with_stack frames.old.top frames.new.top.stack }
     ensures below { frames.new.below ≡ frames.old.below }
     ensures kept { (frames.new.words ≡ frames.old.words) × (frames.new.depth ≡ frames.old.depth) }
@@ -179,7 +180,7 @@ fn long_and_int(frames: &mut Frames, op: Op) -> Operated
 #[tactic(auto, using(crate::proofs::Rows::not_two_longs, crate::proofs::Rows::one_of_two_longs))]
 fn two_longs(frames: &mut Frames, op: Op) -> Operated
     ensures stack { CalculatesTo (words.two_longs op frames.old.top.stack) frames.new.top.stack result }
-    ensures room { HasRoom result frames.new }
+    ensures room { frames.old.count ≤ frames.old.words → HasRoom result frames.new }
     ensures top { frames.new.top ≡ with_stack frames.old.top frames.new.top.stack }
     ensures below { frames.new.below ≡ frames.old.below }
     ensures kept { (frames.new.words ≡ frames.old.words) × (frames.new.depth ≡ frames.old.depth) }

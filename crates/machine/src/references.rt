@@ -1,5 +1,5 @@
 //! Texts, and what is asked of references: whether two are equal or one, their texts joined, and whether one is null.
-ghost use Rattle.std.specs.Prelude.{◌≡◌, ◌<◌, ◌^◌, List, ◌∷◌, suc};
+ghost use Rattle.std.specs.Prelude.{◌≡◌, ◌≤◌, ◌<◌, ◌^◌, List, ◌∷◌, suc};
 ghost use Rattle.code_meaning.specs.declared.word.Word.{Word};
 ghost use Rattle.code_meaning.specs.Machine.{quoted_act, on_reference, on_top, if_null, to_line};
 ghost use Rattle.machine.specs.Seen.{Comes, room_of, with_stack, world_of, codes_of, limits_in};
@@ -8,19 +8,20 @@ ghost use Rattle.machine.specs.Memory.{HasMemory, PairSpares};
 ghost use Rattle.machine.specs.Rows.{null_in, on_pair, on_references, paired, text_act};
 
 use crate::configuration::{Configuration, End, Step};
+use crate::linked_code::LinkedCode;
 use crate::rules::Rules;
 use crate::throwing::{answered, answered_whole};
 use code_meaning::Word;
 use number_ops::{concatenate, equal, is_same};
 use object_values::Value;
-use pl_code::{Code, Quoting};
+use pl_code::Quoting;
 use pl_units::UText;
 use plain_data::Text;
 
 /// An instruction with a text.
 pub fn quoted(
     run: &mut Configuration,
-    code: &Code,
+    code: &LinkedCode,
     limits: &Rules<'_>,
     kind: Quoting,
     text: &Text,
@@ -56,9 +57,9 @@ pub enum Pairing {
 }
 
 /// An instruction on two references, which are taken off the stack.
-pub fn pair(run: &mut Configuration, code: &Code, limits: &Rules<'_>, kind: Pairing) -> Step
+pub fn pair(run: &mut Configuration, code: &LinkedCode, limits: &Rules<'_>, kind: Pairing) -> Step
     ensures exact { Comes (on_pair run.old.frames.top.stack (λ a b stack. paired (codes_of code.now.functions) (limits_in limits.now) kind a b run.old.frames.top run.old.frames.below (world_of run.old.world) stack)) result run.new }
-    ensures memory { OnValues run.old.frames.top.stack (PairSpares kind run.old.world.heap.objects) → suc run.old.frames.top.line < 2 ^ 64 → HasMemory result }
+    ensures memory { OnValues run.old.frames.top.stack (PairSpares kind run.old.world.heap.objects) → run.old.frames.count ≤ run.old.frames.words → suc run.old.frames.top.line < 2 ^ 64 → HasMemory result }
     ensures room { room_of run.new ≡ room_of run.old }
 {
     match run.frames.pop() {
@@ -73,7 +74,7 @@ pub fn pair(run: &mut Configuration, code: &Code, limits: &Rules<'_>, kind: Pair
 // The same of words that were taken off the stack.
 fn pair_words(
     run: &mut Configuration,
-    code: &Code,
+    code: &LinkedCode,
     limits: &Rules<'_>,
     kind: Pairing,
     lower: &Word,
@@ -94,7 +95,7 @@ fn pair_words(
 
 fn pair_values(
     run: &mut Configuration,
-    code: &Code,
+    code: &LinkedCode,
     limits: &Rules<'_>,
     kind: Pairing,
     a: &Value,

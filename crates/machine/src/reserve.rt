@@ -1,13 +1,24 @@
 //! How much memory a run takes at its start.
-ghost use Rattle.std.specs.Prelude.{◌≡◌, ◌≤◌, ◌+◌, ◌*◌, ℕ, suc, IfSome};
+ghost use Rattle.std.specs.Prelude.{◌≡◌, ◌+◌, ◌*◌, suc, min};
+ghost use Rattle.machine.specs.Rooms.{most_at_start};
 
-/// How many words there are in so many frames on the first one, of so many words each, and two more: an instruction may put two
-/// words on before others come off. `None` where there is no number for them.
-pub fn words_for(frame: usize, depth: u32) -> Option<usize>
-    ensures { IfSome result (λ words. words ≡ suc depth * frame + 2) }
+/// For how many words, and for how many frames, a run takes memory at its start at most.
+const MOST_AT_START: usize = 1_000_000;
+
+/// For how many words a run takes memory at its start: those of so many frames on the first one, of so many words each, and two more,
+/// since an instruction may put two words on before others come off. Above the bound it is the bound.
+pub fn words_at_start(frame: usize, depth: u32) -> usize
+    ensures { result ≡ min (suc depth * frame + 2) most_at_start }
 {
-    (depth as usize)
-        .checked_add(1)?
-        .checked_mul(frame)?
-        .checked_add(2)
+    (depth as usize + 1)
+        .saturating_mul(frame)
+        .saturating_add(2)
+        .min(MOST_AT_START)
+}
+
+/// For how many frames on the first one it takes memory: as many as the depth, and above the bound the bound.
+pub fn frames_at_start(depth: u32) -> usize
+    ensures { result ≡ min depth most_at_start }
+{
+    (depth as usize).min(MOST_AT_START)
 }

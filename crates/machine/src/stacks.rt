@@ -13,17 +13,18 @@ use crate::calls::ret;
 use crate::configuration::{Configuration, End, Step};
 use crate::copies::copy_of;
 use crate::frames::Frames;
+use crate::linked_code::LinkedCode;
 use crate::references::{Pairing, pair};
 use crate::rules::Rules;
 use crate::throwing::throw_top;
 use arithmetic::casts::{low_byte, low_char, low_int, low_short};
 use code_meaning::Word;
 use object_values::Value;
-use pl_code::{Code, Plain};
+use pl_code::Plain;
 
 /// An instruction without operands.
 #[tactic(auto, using(crate::proofs::Rows::no_int, crate::proofs::Rows::no_long))]
-pub fn plain(run: &mut Configuration, code: &Code, limits: &Rules<'_>, kind: Plain) -> Step
+pub fn plain(run: &mut Configuration, code: &LinkedCode, limits: &Rules<'_>, kind: Plain) -> Step
     ensures exact { Comes (plain_act (codes_of code.now.functions) (limits_in limits.now) kind run.old.frames.top run.old.frames.below (world_of run.old.world)) result run.new }
     ensures memory { PlainSpares kind run.old.frames.top.stack run.old.world.heap.objects → run.old.frames.count + 2 ≤ run.old.frames.words → suc run.old.frames.top.line < 2 ^ 64 → HasMemory result }
     ensures room { room_of run.new ≡ room_of run.old }
@@ -62,7 +63,7 @@ pub fn plain(run: &mut Configuration, code: &Code, limits: &Rules<'_>, kind: Pla
 /// Takes an int off a stack. What is left where there is none is of no account.
 pub fn pop_int(frames: &mut Frames) -> Option<i32>
     ensures stack { MatchOption result (int_of frames.old.top.stack ≡ None) (λ a. frames.old.top.stack ≡ I a ∷ frames.new.top.stack) }
-    ensures room { MatchOption result (Unit {0}) (λ a. frames.new.count < frames.new.words) }
+    ensures room { frames.old.count ≤ frames.old.words → MatchOption result (Unit {0}) (λ a. frames.new.count < frames.new.words) }
     ensures top { frames.new.top ≡ with_stack frames.old.top frames.new.top.stack }
     ensures below { frames.new.below ≡ frames.old.below }
     ensures kept { (frames.new.words ≡ frames.old.words) × (frames.new.depth ≡ frames.old.depth) }
@@ -76,7 +77,7 @@ pub fn pop_int(frames: &mut Frames) -> Option<i32>
 /// Takes a long off a stack. What is left where there is none is of no account.
 pub fn pop_long(frames: &mut Frames) -> Option<i64>
     ensures stack { MatchOption result (long_of frames.old.top.stack ≡ None) (λ a. frames.old.top.stack ≡ J a ∷ frames.new.top.stack) }
-    ensures room { MatchOption result (Unit {0}) (λ a. frames.new.count < frames.new.words) }
+    ensures room { frames.old.count ≤ frames.old.words → MatchOption result (Unit {0}) (λ a. frames.new.count < frames.new.words) }
     ensures top { frames.new.top ≡ with_stack frames.old.top frames.new.top.stack }
     ensures below { frames.new.below ≡ frames.old.below }
     ensures kept { (frames.new.words ≡ frames.old.words) × (frames.new.depth ≡ frames.old.depth) }

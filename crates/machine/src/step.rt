@@ -47,7 +47,7 @@ fn execute(
     ensures memory { InstructionSpares limits.now.allowed instruction.now run.old.frames.top run.old.world.heap.objects → HasSpace (codes_of executable.now.code.functions) limits.now.depth run.old → suc run.old.frames.top.line < 2 ^ 64 → HasMemory result }
     ensures room { room_of run.new ≡ room_of run.old }
 {
-    let code = executable.code();
+    let code = executable.linked();
     match instruction {
         Instruction::Plain(kind) => plain(run, code, limits, *kind),
         Instruction::Arithmetic(op, width) => arithmetic(run, code, limits, *op, *width),

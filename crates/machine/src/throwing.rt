@@ -1,6 +1,5 @@
 //! What comes of operations on the heap: their values, and exceptions, each of which goes on at the trap that catches it.
-ghost use Rattle.std.specs.Prelude.{◌≡◌, ◌<◌, ◌^◌, suc, true, List, ◌∷◌, Some, None, find, slice_get};
-ghost use Rattle.std.specs.Option.{option_copied};
+ghost use Rattle.std.specs.Prelude.{◌≡◌, ◌≤◌, ◌<◌, ◌^◌, suc, true, List, ◌∷◌, Some, None};
 ghost use Rattle.object_heap.specs.Effects.{Effect, Answers};
 ghost use Rattle.object_heap.specs.Store.{Store};
 ghost use Rattle.number_ops.specs.Outcomes.{effect, zero_divisor};
@@ -15,26 +14,32 @@ ghost use Rattle.code_meaning.specs.Machine.{Next, on_outcome, on_reference, on_
 ghost use Rattle.machine.specs.Seen.{Comes, room_of, with_stack, world_of, codes_of, limits_in};
 ghost use Rattle.number_ops.specs.Relations.{is_exception};
 ghost use Rattle.machine.specs.Sparing.{OnReference, OnValue};
-ghost use Rattle.machine.specs.Memory.{HasMemory, IsAnswered};
-ghost use Rattle.machine.specs.Rows.{bare, catches, landing, landed, line_of};
+ghost use Rattle.machine.specs.Memory.{HasMemory, IsAnswered, OnlyToMake};
+ghost use Rattle.machine.specs.Rows.{bare, landing, landed};
 
 use crate::configuration::{Configuration, End, Step, World};
 use crate::frames::Frames;
+use crate::linked_code::LinkedCode;
 use crate::rules::Rules;
 use code_meaning::Word;
 use number_ops::throw_value;
 use object_heap::{Answer, Which, throw};
-use object_values::{Object, Value};
-use pl_code::{Code, Trap};
+use object_values::Value;
+use pl_types::Ty;
 use pl_types::classes::ARITHMETIC_EXCEPTION;
-use pl_types::{Ty, class_below, class_of_full_name};
 use pl_units::UText;
 
 /// What an operation on the heap gives goes on the stack. The operands have been taken off it.
-pub fn answered(run: &mut Configuration, code: &Code, limits: &Rules<'_>, answer: Answer) -> Step
+pub fn answered(
+    run: &mut Configuration,
+    code: &LinkedCode,
+    limits: &Rules<'_>,
+    answer: Answer,
+) -> Step
     ensures exact { (effect : Effect) (old : Store) (stack : List Word) → Answers effect old run.old.world.heap answer → Comes (on_outcome (codes_of code.now.functions) (limits_in limits.now) (acts_in (with_store (world_of run.old.world) old) effect) words.unboxed (with_stack run.old.frames.top stack) run.old.frames.below (with_store (world_of run.old.world) old) run.old.frames.top.stack) result run.new }
     ensures memory { IsAnswered answer → run.old.frames.count < run.old.frames.words → suc run.old.frames.top.line < 2 ^ 64 → HasMemory result }
     ensures room { room_of run.new ≡ room_of run.old }
+    ensures heap { run.new.world.heap ≡ run.old.world.heap }
 {
     match answer {
         Answer::Value(value) => run.push(unboxed(value)),
@@ -47,7 +52,7 @@ pub fn answered(run: &mut Configuration, code: &Code, limits: &Rules<'_>, answer
 /// The same of an operation whose value stays a reference.
 pub fn answered_whole(
     run: &mut Configuration,
-    code: &Code,
+    code: &LinkedCode,
     limits: &Rules<'_>,
     answer: Answer,
 ) -> Step
@@ -66,7 +71,7 @@ pub fn answered_whole(
 /// The same of an operation whose value is of a type: a primitive goes as a number, and everything else as it is.
 pub fn answered_as(
     run: &mut Configuration,
-    code: &Code,
+    code: &LinkedCode,
     limits: &Rules<'_>,
     of: &Ty,
     answer: Answer,
@@ -74,6 +79,7 @@ pub fn answered_as(
     ensures exact { (effect : Effect) (old : Store) (stack : List Word) → Answers effect old run.old.world.heap answer → Comes (on_outcome (codes_of code.now.functions) (limits_in limits.now) (acts_in (with_store (world_of run.old.world) old) effect) (given_as of.now) (with_stack run.old.frames.top stack) run.old.frames.below (with_store (world_of run.old.world) old) run.old.frames.top.stack) result run.new }
     ensures memory { IsAnswered answer → run.old.frames.count < run.old.frames.words → suc run.old.frames.top.line < 2 ^ 64 → HasMemory result }
     ensures room { room_of run.new ≡ room_of run.old }
+    ensures heap { run.new.world.heap ≡ run.old.world.heap }
 {
     match answer {
         Answer::Value(value) => run.push(given_as(of, value)),
@@ -122,10 +128,11 @@ fn bare(value: &Value) -> Option<Word>
     }
 }
 
-/// Throws the exception of a zero divisor.
-#[tactic(auto, unfolding(number_ops::specs::Outcomes::says))]
-pub fn throw_zero_divisor(run: &mut Configuration, code: &Code, limits: &Rules<'_>) -> Step
+/// Throws the exception of a zero divisor. It wants memory for the exception alone.
+#[tactic(auto, unfolding(number_ops::specs::Outcomes::says), using(crate::proofs::Spared::only_to_make, crate::proofs::Spared::nothing_made))]
+pub fn throw_zero_divisor(run: &mut Configuration, code: &LinkedCode, limits: &Rules<'_>) -> Step
     ensures exact { Comes (on_outcome (codes_of code.now.functions) (limits_in limits.now) (acts_in (world_of run.old.world) (effect run.old.world.heap zero_divisor)) words.unboxed run.old.frames.top run.old.frames.below (world_of run.old.world) run.old.frames.top.stack) result run.new }
+    ensures memory { run.old.frames.count < run.old.frames.words → suc run.old.frames.top.line < 2 ^ 64 → OnlyToMake run.old.world.heap run.new.world.heap result }
     ensures room { room_of run.new ≡ room_of run.old }
 {
     match UText::from_utf8(run.world.heap.alloc(), "/ by zero") {
@@ -138,9 +145,9 @@ pub fn throw_zero_divisor(run: &mut Configuration, code: &Code, limits: &Rules<'
 }
 
 /// Throws the reference on the stack.
-pub fn throw_top(run: &mut Configuration, code: &Code, limits: &Rules<'_>) -> Step
+pub fn throw_top(run: &mut Configuration, code: &LinkedCode, limits: &Rules<'_>) -> Step
     ensures exact { Comes (on_top run.old.frames.top.stack (λ word stack. on_reference word (λ value. on_thrown (codes_of code.now.functions) (limits_in limits.now) (acts_in (world_of run.old.world) (thrown run.old.world.heap value)) run.old.frames.top run.old.frames.below (world_of run.old.world)))) result run.new }
-    ensures memory { OnValue run.old.frames.top.stack (λ value. is_exception run.old.world.heap.objects value ≡ true) → HasMemory result }
+    ensures memory { OnValue run.old.frames.top.stack (λ value. is_exception run.old.world.heap.objects value ≡ true) → run.old.frames.count ≤ run.old.frames.words → HasMemory result }
     ensures room { room_of run.new ≡ room_of run.old }
 {
     match run.frames.pop() {
@@ -150,7 +157,7 @@ pub fn throw_top(run: &mut Configuration, code: &Code, limits: &Rules<'_>) -> St
 }
 
 // The same of a word that was taken off the stack.
-fn throw_word(run: &mut Configuration, code: &Code, limits: &Rules<'_>, word: &Word) -> Step
+fn throw_word(run: &mut Configuration, code: &LinkedCode, limits: &Rules<'_>, word: &Word) -> Step
     ensures exact { (stack : List Word) → Comes (on_reference word.now (λ value. on_thrown (codes_of code.now.functions) (limits_in limits.now) (acts_in (world_of run.old.world) (thrown run.old.world.heap value)) (with_stack run.old.frames.top stack) run.old.frames.below (world_of run.old.world))) result run.new }
     ensures memory { OnReference word.now (λ value. is_exception run.old.world.heap.objects value ≡ true) → run.old.frames.count < run.old.frames.words → HasMemory result }
     ensures room { room_of run.new ≡ room_of run.old }
@@ -165,7 +172,12 @@ fn throw_word(run: &mut Configuration, code: &Code, limits: &Rules<'_>, word: &W
 }
 
 // What is thrown goes on at the trap that catches it. What gives a value throws nothing.
-fn answered_throw(run: &mut Configuration, code: &Code, limits: &Rules<'_>, answer: Answer) -> Step
+fn answered_throw(
+    run: &mut Configuration,
+    code: &LinkedCode,
+    limits: &Rules<'_>,
+    answer: Answer,
+) -> Step
     ensures exact { (effect : Effect) (old : Store) (stack : List Word) → Answers effect old run.old.world.heap answer → Comes (on_thrown (codes_of code.now.functions) (limits_in limits.now) (acts_in (with_store (world_of run.old.world) old) effect) (with_stack run.old.frames.top stack) run.old.frames.below (with_store (world_of run.old.world) old)) result run.new }
     ensures memory { IsAnswered answer → run.old.frames.count < run.old.frames.words → HasMemory result }
     ensures room { room_of run.new ≡ room_of run.old }
@@ -179,10 +191,11 @@ fn answered_throw(run: &mut Configuration, code: &Code, limits: &Rules<'_>, answ
 }
 
 /// An exception, from the newest frame on down.
-fn unwind(run: &mut Configuration, code: &Code, id: u32) -> Step
+fn unwind(run: &mut Configuration, code: &LinkedCode, id: u32) -> Step
     ensures exact { Comes (spec.unwind (codes_of code.now.functions) (run.old.frames.top ∷ run.old.frames.below) id (world_of run.old.world)) result run.new }
     ensures memory { run.old.frames.count < run.old.frames.words → HasMemory result }
     ensures room { room_of run.new ≡ room_of run.old }
+    ensures heap { run.new.world.heap ≡ run.old.world.heap }
 {
     'frames: loop {
         match landing(code, &run.frames, id, &run.world) {
@@ -201,6 +214,7 @@ fn land(run: &mut Configuration, line: u32, id: u32) -> Step
     ensures exact { (further : Next) → Comes (landed (Some line) run.old.frames.top run.old.frames.below id (world_of run.old.world) further) result run.new }
     ensures memory { run.old.frames.count < run.old.frames.words → HasMemory result }
     ensures room { room_of run.new ≡ room_of run.old }
+    ensures heap { run.new.world.heap ≡ run.old.world.heap }
 {
     run.frames.clear();
     match run.frames.push(Word::R(Value::Ref(id))) {
@@ -213,57 +227,11 @@ fn land(run: &mut Configuration, line: u32, id: u32) -> Step
 }
 
 // Where an exception goes on in a frame, if it is caught at its line.
-fn landing(code: &Code, frames: &Frames, id: u32, world: &World) -> Option<u32>
+fn landing(code: &LinkedCode, frames: &Frames, id: u32, world: &World) -> Option<u32>
     ensures { result ≡ landing (function_of (codes_of code.now.functions) frames.now.top) frames.now.top.line id (world_of world.now) }
 {
-    match frames.function_at(code, frames.fun()) {
-        Some(function) => line_of(first_that_catches(
-            function.traps.as_slice(),
-            frames.line(),
-            id,
-            world,
-        )),
+    match frames.handlers(code) {
+        Some(handlers) => handlers.landing(frames.line(), id, world),
         None => None,
-    }
-}
-
-fn line_of(trap: Option<&Trap>) -> Option<u32>
-    ensures { result ≡ line_of (option_copied trap.entry) }
-{
-    match trap {
-        Some(trap) => Some(trap.at),
-        None => None,
-    }
-}
-
-fn first_that_catches<'t>(
-    traps: &'t [Trap],
-    line: usize,
-    id: u32,
-    world: &World,
-) -> Option<&'t Trap>
-    ensures { option_copied result ≡ find (catches line id (world_of world.now)) traps.now }
-{
-    traps.iter().find(|trap| catches(trap, line, id, world))
-}
-
-fn catches(trap: &Trap, line: usize, id: u32, world: &World) -> bool
-    ensures { result ≡ catches line id (world_of world.now) trap.now }
-{
-    trap.from as usize <= line
-        && line < trap.to as usize
-        && is_instance(class_of_full_name(trap.class.as_str()), id, world)
-}
-
-#[tactic(auto, unfolding(code_meaning::specs::Machine::is_instance, code_meaning::specs::Machine::exception_is))]
-fn is_instance(class: Option<u32>, id: u32, world: &World) -> bool
-    ensures { result ≡ spec.is_instance class id (world_of world.now) }
-{
-    match class {
-        Some(class) => match world.heap.get(id) {
-            Some(Object::Exc { class: raised, .. }) => class_below(*raised, class),
-            _ => false,
-        },
-        None => false,
     }
 }

@@ -1,5 +1,5 @@
 //! Casts of references to types, and instances of types.
-ghost use Rattle.std.specs.Prelude.{◌≡◌, ◌<◌, ◌^◌, List, ◌∷◌, suc};
+ghost use Rattle.std.specs.Prelude.{◌≡◌, ◌≤◌, ◌<◌, ◌^◌, List, ◌∷◌, suc};
 ghost use Rattle.number_ops.specs.Outcomes.{effect};
 ghost use Rattle.number_ops.specs.Casts.{cast_at_run_time};
 ghost use Rattle.number_ops.specs.Relations as relations;
@@ -16,28 +16,35 @@ ghost use Rattle.machine.specs.Seen.{Comes, room_of, with_stack, world_of, codes
 use crate::boxes::is_written;
 use crate::configuration::{Configuration, End, Step};
 use crate::executable::{Executable, Link};
+use crate::linked_code::LinkedCode;
 use crate::rules::Rules;
 use crate::throwing::answered_whole;
 use code_meaning::Word;
 use number_ops::{is_instance, to_type};
-use pl_code::{Code, Typed, Way};
+use pl_code::{Typed, Way};
 use pl_types::Ty;
 
 /// Casts the reference on the stack to the type that the instruction names.
 pub fn cast(run: &mut Configuration, executable: &Executable, limits: &Rules<'_>, way: Way) -> Step
     ensures exact { Comes (on_type (type_in (link_at executable.now run.old.frames.top)) (λ to. cast_act (codes_of executable.now.code.functions) (limits_in limits.now) to (is_written way) run.old.frames.top run.old.frames.below (world_of run.old.world))) result run.new }
-    ensures memory { OnType (type_in (link_at executable.now run.old.frames.top)) (λ to. OnValue run.old.frames.top.stack (CastSpares run.old.world.heap.objects to (is_written way))) → suc run.old.frames.top.line < 2 ^ 64 → HasMemory result }
+    ensures memory { OnType (type_in (link_at executable.now run.old.frames.top)) (λ to. OnValue run.old.frames.top.stack (CastSpares run.old.world.heap.objects to (is_written way))) → run.old.frames.count ≤ run.old.frames.words → suc run.old.frames.top.line < 2 ^ 64 → HasMemory result }
     ensures room { room_of run.new ≡ room_of run.old }
 {
     match executable.link(&run.frames) {
-        Some(Link::Type(to)) => cast_top(run, executable.code(), limits, to, way),
+        Some(Link::Type(to)) => cast_top(run, executable.linked(), limits, to, way),
         _ => Step::Ends(End::Stuck),
     }
 }
 
-fn cast_top(run: &mut Configuration, code: &Code, limits: &Rules<'_>, to: &Ty, way: Way) -> Step
+fn cast_top(
+    run: &mut Configuration,
+    code: &LinkedCode,
+    limits: &Rules<'_>,
+    to: &Ty,
+    way: Way,
+) -> Step
     ensures exact { Comes (cast_act (codes_of code.now.functions) (limits_in limits.now) to.now (is_written way) run.old.frames.top run.old.frames.below (world_of run.old.world)) result run.new }
-    ensures memory { OnValue run.old.frames.top.stack (CastSpares run.old.world.heap.objects to.now (is_written way)) → suc run.old.frames.top.line < 2 ^ 64 → HasMemory result }
+    ensures memory { OnValue run.old.frames.top.stack (CastSpares run.old.world.heap.objects to.now (is_written way)) → run.old.frames.count ≤ run.old.frames.words → suc run.old.frames.top.line < 2 ^ 64 → HasMemory result }
     ensures room { room_of run.new ≡ room_of run.old }
 {
     match run.frames.pop() {
@@ -50,7 +57,7 @@ fn cast_top(run: &mut Configuration, code: &Code, limits: &Rules<'_>, to: &Ty, w
 #[tactic(auto, using(crate::proofs::Spared::is_answered))]
 fn cast_word(
     run: &mut Configuration,
-    code: &Code,
+    code: &LinkedCode,
     limits: &Rules<'_>,
     word: &Word,
     to: &Ty,
@@ -77,18 +84,24 @@ pub fn typed(
     kind: Typed,
 ) -> Step
     ensures exact { Comes (on_type (type_in (link_at executable.now run.old.frames.top)) (λ of. typed_act (codes_of executable.now.code.functions) (limits_in limits.now) kind of run.old.frames.top run.old.frames.below (world_of run.old.world))) result run.new }
-    ensures memory { suc run.old.frames.top.line < 2 ^ 64 → HasMemory result }
+    ensures memory { run.old.frames.count ≤ run.old.frames.words → suc run.old.frames.top.line < 2 ^ 64 → HasMemory result }
     ensures room { room_of run.new ≡ room_of run.old }
 {
     match executable.link(&run.frames) {
-        Some(Link::Type(of)) => typed_by(run, executable.code(), limits, kind, of),
+        Some(Link::Type(of)) => typed_by(run, executable.linked(), limits, kind, of),
         _ => Step::Ends(End::Stuck),
     }
 }
 
-fn typed_by(run: &mut Configuration, code: &Code, limits: &Rules<'_>, kind: Typed, of: &Ty) -> Step
+fn typed_by(
+    run: &mut Configuration,
+    code: &LinkedCode,
+    limits: &Rules<'_>,
+    kind: Typed,
+    of: &Ty,
+) -> Step
     ensures exact { Comes (typed_act (codes_of code.now.functions) (limits_in limits.now) kind of.now run.old.frames.top run.old.frames.below (world_of run.old.world)) result run.new }
-    ensures memory { suc run.old.frames.top.line < 2 ^ 64 → HasMemory result }
+    ensures memory { run.old.frames.count ≤ run.old.frames.words → suc run.old.frames.top.line < 2 ^ 64 → HasMemory result }
     ensures room { room_of run.new ≡ room_of run.old }
 {
     match kind {
@@ -100,7 +113,7 @@ fn typed_by(run: &mut Configuration, code: &Code, limits: &Rules<'_>, kind: Type
 // Whether the reference on the stack is an instance of a type.
 fn instance(run: &mut Configuration, of: &Ty) -> Step
     ensures exact { Comes (on_top run.old.frames.top.stack (λ word stack. on_reference word (λ value. to_line run.old.frames.top run.old.frames.below (world_of run.old.world) (suc run.old.frames.top.line) (I (words.bit (relations.is_instance run.old.world.heap.objects value of.now)) ∷ stack)))) result run.new }
-    ensures memory { suc run.old.frames.top.line < 2 ^ 64 → HasMemory result }
+    ensures memory { run.old.frames.count ≤ run.old.frames.words → suc run.old.frames.top.line < 2 ^ 64 → HasMemory result }
     ensures room { room_of run.new ≡ room_of run.old }
 {
     match run.frames.pop() {

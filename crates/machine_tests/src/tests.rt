@@ -208,3 +208,57 @@ fn a_loop_that_makes_nothing_ends(rt: HostRuntime) -> Result<(), Fail> {
     assert!(rt; ends);
     Ok(())
 }
+
+// Each of 1,000 turns throws. 2,000 traps are over the line and catch another class, 2,000 are over other lines; then comes the one that
+// catches, and behind it one of any class.
+const OTHER_CLASS: &str = "trap 3 6 17 java.lang.NullPointerException\n";
+
+const OTHER_LINES: &str = "trap 13 16 17 java.lang.Exception\n";
+
+const THROWS: &str =
+    "trap 3 6 8 java.lang.ArithmeticException\ntrap 0 19 17 java.lang.Exception\ni 0\nstore 0\ngoto 13\ni 1\ni 0\ndiv.i\npop\ngoto 9\npop\nload 0\ni 1\nadd.i\nstore 0\nload 0\ni 1000\nlt.i\nloop 3\nload 0\nret\nend\n";
+
+const CAUGHT: Row = Row {
+    listing: "",
+    loops: 1000,
+    depth: 0,
+    ticks: 1000,
+    room: 1_000_000,
+    left: "i 1000; steps 12009; ticks 1000",
+};
+
+#[test]
+fn the_first_trap_that_fits_catches(rt: HostRuntime) -> Result<(), Fail> {
+    let alloc = rt.alloc();
+    let classes = OTHER_CLASS.repeat(alloc, 2000)?;
+    let lines = OTHER_LINES.repeat(alloc, 2000)?;
+    let classes = classes.as_str();
+    let lines = lines.as_str();
+    let listing = format!(in alloc; "painless 1\nfun 0 loop I - I\n{classes}{lines}{THROWS}")?;
+    let Ok(code) = read_listing(alloc, listing.as_str().as_bytes()) else {
+        return Err("no code")?;
+    };
+    let executable = Executable::new(alloc, code, Catalogue::full(alloc)?, FRAME)?;
+    let left = run_in_turns(alloc, &executable, &CAUGHT, 1000)?;
+    assert!(rt; left.as_str() == CAUGHT.left);
+    Ok(())
+}
+
+// int f(int n) with 15 locals more, 80,000 frames deep: more words than are taken at the start. The limit of depth is the greatest: memory
+// for as many frames is not there.
+const DEEP: Row = Row {
+    listing: "painless 1\nfun 0 loop R - -\ni 80000\ncall 1\nbox int\nret\nend\nfun 1 loop I I IIIIIIIIIIIIIII\nload 0\ni 0\neq.i\nifz 6\ni 0\nret\nload 0\ni 1\nsub.i\ncall 1\ni 1\nadd.i\nret\nend\n",
+    loops: 0,
+    depth: 4_294_967_295,
+    ticks: 100_000,
+    room: 1000,
+    left: "int 80000; steps 880010; ticks 80001",
+};
+
+#[test]
+fn frames_are_taken_as_they_come(rt: HostRuntime) -> Result<(), Fail> {
+    let allow = Catalogue::full(rt.alloc())?;
+    let ends = leaves(rt.alloc(), &allow, &DEEP, 1000)?;
+    assert!(rt; ends);
+    Ok(())
+}

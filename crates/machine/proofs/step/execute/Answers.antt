@@ -1,3 +1,4 @@
+use Rattle.std.proofs.Common.{arith}
 use Rattle.machine.specs.Seen.{world_of, limits_in}
 use Rattle.machine.proofs.Calling.{as_well}
 use Rattle.machine.proofs.Linked.{typed_acts, cast_acts, cast_spares, method_acts, method_spares, constructor_acts, constructor_spares, field_acts, field_spares}
@@ -13,7 +14,7 @@ returns-in-Cast-clause-exact c =
 
 pub returns-in-Cast-clause-memory : goal.returns-in-Cast-clause-memory
 returns-in-Cast-clause-memory c = λ spares space next.
-    c.cast.ensures.memory (cast_spares c.args.executable.now (limits_in c.args.limits.now) c.args.instruction.now c.args.run.now.frames.top c.requires.allowed c.requires.instruction c.args.run.now.world.heap.objects _ c.in-Cast.way c.in-Cast.is spares) next
+    c.cast.ensures.memory (cast_spares c.args.executable.now (limits_in c.args.limits.now) c.args.instruction.now c.args.run.now.frames.top c.requires.allowed c.requires.instruction c.args.run.now.world.heap.objects _ c.in-Cast.way c.in-Cast.is spares) (omega (arith, space.words)) next
 
 pub returns-in-Invoke-clause-exact : goal.returns-in-Invoke-clause-exact
 returns-in-Invoke-clause-exact c =

@@ -19,6 +19,7 @@ frames-preserved c = (
       (subst (Leaves c.frames.run.frames.top c.frames.run.frames.below c.leave.new.self.top c.leave.new.self.below) c.if-not-leave.false c.leave.ensures.frames),
   search rules,
   search rules,
+  search rules,
 )
 
 pub returns-then-not-leave-clause-exact : goal.returns-then-not-leave-clause-exact

@@ -9,6 +9,7 @@ invariant-frames l =
     (unwind (codes_of l.fn.code.functions) (l.initial.run.frames.top ∷ l.initial.run.frames.below) l.id (world_of l.initial.run.world)
     ≡ unwind (codes_of l.fn.code.functions) (l.run.frames.top ∷ l.run.frames.below) l.id (world_of l.run.world))
     × (l.run.frames.count ≤ l.initial.run.frames.count) × (room_of l.run ≡ room_of l.initial.run)
+    × (l.run.world.heap ≡ l.initial.run.world.heap)
 
 abbrev pub decreases-frames : goal.decreases-frames
 decreases-frames l = depth_of l.run.frames.below
