@@ -12,11 +12,11 @@ use Rattle.verifier_table.specs.Shapes.{Table, Nowhere}
 use Rattle.verifier.specs.declared.fault.FaultKind.TheVariants.{BadShape}
 use Rattle.verifier.specs.Meets.{goes_to, left_at, led_to, passed, met_if}
 use Rattle.verifier.specs.Faults.{fault_of, falls, has_shape, instruction_fault}
-use Rattle.verifier.specs.Acts.{Does, LeadsOn, PassesOn, at_line}
+use Rattle.verifier.specs.Acts.{Does, MergesInto, PassesOn, at_line}
 
 module _ (allow : AllowList) (functions : List FunCode) (f : FunCode) (line : ℕ) (i : Instruction) where
   -- what the instruction leaves leads on
-  pub passes_on : (old mid new : Table) → Does old mid true (left_at allow functions f i (at_line old line)) → LeadsOn mid new (goes_to (flow_of i) line) → PassesOn allow functions f line (Some i) old new
+  pub passes_on : (old mid new : Table) → Does old mid true (left_at allow functions f i (at_line old line)) → MergesInto mid new (goes_to (flow_of i) line) → PassesOn allow functions f line (Some i) old new
   unfolding passed
   passes_on old mid new d l =
       record {

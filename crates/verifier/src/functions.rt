@@ -61,7 +61,7 @@ fn function_fault(
     functions: &[FunCode],
     function: &FunCode,
     first: u32,
-    most: &mut usize,
+    most: &mut u128,
 ) -> Result<Option<(u32, FaultKind)>, AllocError>
     ensures rises { most.old ≤ most.new }
     ensures words { IfOk result (λ found. found ≡ None → LineWords allow.now functions.now function.now (length function.now.lines) most.new) }
@@ -101,7 +101,7 @@ pub(crate) fn code_fault(
     alloc: Global,
     allow: &Allow,
     functions: &[FunCode],
-    most: &mut usize,
+    most: &mut u128,
 ) -> Result<Option<(u32, FaultKind)>, AllocError>
     ensures words { IfOk result (λ found. found ≡ None → FunctionWords allow.now functions.now (length functions.now) most.new) }
     ensures least { IfOk result (λ found. found ≡ None → LeastFunctions allow.now functions.now (length functions.now) most.old most.new) }

@@ -5,9 +5,9 @@ mod act;
 mod fault;
 mod functions;
 mod laws;
-mod lead;
 mod line;
 mod pass;
+mod successors;
 mod take;
 mod verified;
 

@@ -7,7 +7,7 @@ ghost use Rattle.verifier.specs.Faults.{falls, instruction_fault};
 
 use crate::act::act;
 use crate::fault::FaultKind;
-use crate::lead::lead;
+use crate::successors::merge_into_successors;
 use allowlist::Allow;
 use instruction_types::{Flow, action_of, flow_of, is_bad_jump, is_bad_member, is_bad_target};
 use pl_code::{FunCode, Instruction};
@@ -79,7 +79,7 @@ pub(crate) fn instruction_fault(
     if is_last(line, count, flow) {
         return Ok(Some(FaultKind::BadShape));
     }
-    lead(table, flow, line);
+    merge_into_successors(table, flow, line);
     Ok(None)
 }
 
