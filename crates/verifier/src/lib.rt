@@ -2,11 +2,13 @@
 #![tactic(auto)]
 
 mod act;
+mod call;
 mod fault;
 mod functions;
 mod laws;
 mod line;
 mod pass;
+mod signatures;
 mod successors;
 mod take;
 mod verified;

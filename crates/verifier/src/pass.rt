@@ -5,10 +5,12 @@ ghost use Rattle.pl_code.specs.declared.kinds.Slot.{Slot as SlotData};
 ghost use Rattle.verifier_table.specs.Shapes.{Known};
 ghost use Rattle.verifier.specs.Acts.{at_line, Caught, Turned, Begins};
 ghost use Rattle.verifier.specs.Faults.{lines_fault};
+ghost use Rattle.verifier.specs.Signed.{AreOf};
 ghost use Rattle.verifier.specs.Words.{LineWords, LeastLines};
 
 use crate::fault::FaultKind;
 use crate::line::instruction_fault;
+use crate::signatures::Signatures;
 use crate::successors::{merge_into, merge_into_loop_head};
 use allowlist::Allow;
 use instruction_types::flow_of;
@@ -84,9 +86,11 @@ pub(crate) fn lines_fault(
     alloc: Global,
     allow: &Allow,
     functions: &[FunCode],
+    signatures: &Signatures,
     function: &FunCode,
     most: &mut u128,
 ) -> Result<Option<(usize, FaultKind)>, AllocError>
+    requires { AreOf functions.now signatures.now }
     ensures rises { most.old ≤ most.new }
     ensures words { IfOk result (λ found. found ≡ None → LineWords allow.now functions.now function.now (length function.now.lines) most.new) }
     ensures least { IfOk result (λ found. found ≡ None → LeastLines allow.now functions.now function.now (length function.now.lines) most.old most.new) }
@@ -97,7 +101,15 @@ pub(crate) fn lines_fault(
     let lines = function.lines.as_slice();
     for line in 0..lines.len() {
         count_words(&mut table, locals, line, most);
-        let found = instruction_fault(&mut table, allow, functions, function, line, &lines[line])?;
+        let found = instruction_fault(
+            &mut table,
+            allow,
+            functions,
+            signatures,
+            function,
+            line,
+            &lines[line],
+        )?;
         match found {
             None => {}
             Some(kind) => return Ok(Some((line, kind))),

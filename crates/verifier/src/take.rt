@@ -79,7 +79,7 @@ fn copies(table: &mut ShapeTable, number: u64, kind: Slot) -> bool
     few_copies(table, number % 32, kind)
 }
 
-fn params(table: &mut ShapeTable, params: &[Slot]) -> bool
+pub(crate) fn params(table: &mut ShapeTable, params: &[Slot]) -> bool
     ensures stack { (if result then Some table.new.stack else None) ≡ taken (reverse params.now) table.old.stack }
     ensures lines { table.new.lines ≡ table.old.lines }
 {

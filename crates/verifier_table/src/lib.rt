@@ -9,4 +9,4 @@ mod windows;
 
 pub use slots::is_same_slot;
 pub use table::ShapeTable;
-pub use windows::{WINDOW, digit, window_of_copies};
+pub use windows::{window_of_copies, window_with};

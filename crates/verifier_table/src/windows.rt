@@ -8,13 +8,13 @@ ghost use Rattle.verifier_table.specs.Windows.{digit, numeral_of};
 use pl_code::Slot;
 
 /// How many kinds a window has.
-pub const WINDOW: usize = 32;
+pub(crate) const WINDOW: usize = 32;
 
 /// The number from which on a window has 32 kinds: 4^31.
 const FULL: u64 = 4_611_686_018_427_387_904;
 
 /// The digit of a kind.
-pub fn digit(kind: Slot) -> u64
+fn digit(kind: Slot) -> u64
     ensures digit { result ≡ digit kind }
     ensures small { result ≤ 3 }
 {
@@ -26,7 +26,7 @@ pub fn digit(kind: Slot) -> u64
 }
 
 /// The number of the top 32 kinds when one more is put on kinds whose top 32 have this number.
-pub(crate) fn window_with(window: u64, kind: Slot) -> u64
+pub fn window_with(window: u64, kind: Slot) -> u64
     ensures { (kinds : List SlotData) → window ≡ numeral_of (take 32 kinds) → result ≡ numeral_of (take 32 (kind ∷ kinds)) }
 {
     4 * (window % FULL) + digit(kind)
