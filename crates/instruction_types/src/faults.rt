@@ -1,6 +1,6 @@
 //! What can be wrong with a line whatever lies on the stack.
 
-ghost use Rattle.std.specs.Prelude.{◌≡◌, ◌+◌, ◌<◌, not, is_some, length, nat_le};
+ghost use Rattle.std.specs.Prelude.{◌≡◌, ◌+◌, ◌<◌, not, is_some, length, map, nat_le, option_map};
 ghost use Rattle.std.specs.List.{list_all};
 ghost use Rattle.std.specs.Option.{option_copied, ForSome};
 ghost use Rattle.instruction_types.specs.Types.{is_known_type, catalogue_class};
@@ -26,15 +26,15 @@ fn gives_reference(gives: Option<Slot>) -> bool
     matches!(gives, Some(Slot::R))
 }
 
-/// Whether a function may be a value: all that it takes and gives are references.
 fn are_references(kinds: &[Slot]) -> bool
     ensures { result ≡ list_all is_reference kinds.now }
 {
     kinds.iter().all(|kind| is_reference(*kind))
 }
 
+/// Whether a function may be a value: all that it takes and gives are references.
 #[tactic(auto, unfolding(crate::specs::Faults::is_value_function))]
-fn is_value_function(function: &FunCode) -> bool
+pub fn is_value_function(function: &FunCode) -> bool
     ensures { result ≡ is_value_function function.now }
 {
     are_references(function.params.as_slice()) && gives_reference(function.result)
@@ -70,7 +70,9 @@ fn is_bad_lambda(
     interface: &Option<ClassName>,
     given: u32,
     function: Option<&FunCode>,
+    is_value: Option<bool>,
 ) -> bool
+    requires { is_value ≡ option_map is_value_function (option_copied function) }
     ensures { result ≡ is_bad_lambda interface.now given (option_copied function.entry) }
 {
     match function {
@@ -78,7 +80,7 @@ fn is_bad_lambda(
         Some(function) => {
             let params = function.params.len();
             let given = given as usize;
-            !is_value_function(function)
+            !is_value.unwrap_or(false)
                 || params < given
                 || breaks_interface(allow, params.saturating_sub(given), interface)
         }
@@ -122,14 +124,16 @@ fn sized_out(sized: Sized, ty: &TypeName, number: u32) -> bool
 
 /// Whether an instruction of a function has a number out of range: of a local, a line, a function, or how many sizes of an
 /// array are given; or is a `lambda` of a function that is none, takes or gives other than references, or does not take as
-/// many as it has to.
+/// many as it has to. `values` has of each function whether it may be a value, so that no line walks over parameters.
 #[tactic(auto, unfolding(crate::specs::Faults::is_bad_target))]
 pub fn is_bad_target(
     allow: &Allow,
     functions: &[FunCode],
+    values: &[bool],
     function: &FunCode,
     instruction: &Instruction,
 ) -> bool
+    requires { values.now ≡ map is_value_function functions.now }
     ensures { result ≡ is_bad_target functions.now function.now instruction.now }
 {
     match instruction {
@@ -138,7 +142,9 @@ pub fn is_bad_target(
         }
         Instruction::Sized(sized, ty, number) => sized_out(*sized, ty, *number),
         Instruction::Lambda(interface, number, given) => {
-            is_bad_lambda(allow, interface, *given, function_at(functions, *number))
+            let is_value = values.get(*number as usize).copied();
+            let function = function_at(functions, *number);
+            is_bad_lambda(allow, interface, *given, function, is_value)
         }
         Instruction::Plain(_) => false,
         Instruction::Arithmetic(_, _) => false,

@@ -14,7 +14,7 @@ pub use actions::action_of;
 pub use copying::Copying;
 pub use faults::{
     is_bad_jump, is_bad_member, is_bad_target, is_bad_trap_class, is_bad_trap_order,
-    is_bad_trap_target,
+    is_bad_trap_target, is_value_function,
 };
 pub use flow::{Flow, flow_of};
 pub use members::{constructor_of, field_of, method_of};

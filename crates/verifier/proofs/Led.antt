@@ -8,10 +8,10 @@ use Rattle.pl_code.specs.declared.kinds.Slot.{Slot}
 use Rattle.verifier_table.specs.Shapes.{Meeting, Nowhere, Known, Torn, Table, meets, same_kinds}
 use Rattle.verifier_table.proofs.SameKinds.{kinds_themselves}
 use Rattle.verifier.specs.Meets.{met_if}
-use Rattle.verifier.specs.Acts.{at_line, LeadsOn}
+use Rattle.verifier.specs.Acts.{at_line, MergesInto}
 
 -- one line is led to
-pub led_to_one : (old new : Table) (line : ℕ) → new ≡ record { stack = old.stack; lines = set old.lines line (meets (at_line old line) old.stack) } → LeadsOn old new (λ to. eqb to line)
+pub led_to_one : (old new : Table) (line : ℕ) → new ≡ record { stack = old.stack; lines = set old.lines line (meets (at_line old line) old.stack) } → MergesInto old new (λ to. eqb to line)
 led_to_one old new line e =
     let lines : new.lines ≡ set old.lines line (meets (at_line old line) old.stack) = ap (λ (t : Table). t.lines) e in
     record {
@@ -43,7 +43,7 @@ met_twice true true kinds m = met_again kinds m
 met_twice true false kinds m = refl
 met_twice false t kinds m = refl
 
-pub led_twice : (a b c : Table) (first second : ℕ → Bool) → LeadsOn a b first → LeadsOn b c second → LeadsOn a c (λ to. first to || second to)
+pub led_twice : (a b c : Table) (first second : ℕ → Bool) → MergesInto a b first → MergesInto b c second → MergesInto a c (λ to. first to || second to)
 led_twice a b c first second f s =
     record {
       stack = s.stack ∙ f.stack;
@@ -51,5 +51,5 @@ led_twice a b c first second f s =
       each = λ to h. s.each to (let l = f.same in omega (arith, l)) ∙ (λ i. met_if (second to) (f.stack i) (f.each to h i)) ∙ met_twice (first to) (second to) a.stack (at_line a to);
     }
 
-pub led_nowhere : (t : Table) → LeadsOn t t (λ to. false)
+pub led_nowhere : (t : Table) → MergesInto t t (λ to. false)
 led_nowhere t = record { stack = refl; same = refl; each = λ to h. refl }

@@ -1,5 +1,6 @@
 pub mod Led
 pub mod Takings
+pub mod Cutting
 pub mod Lines
 pub mod Passing
 pub mod Counting

@@ -1,22 +1,24 @@
 -- A line that leads on, or breaks.
 use Rattle.std.proofs.Common.{◌≡◌, ℕ, ◌+◌, ◌<◌, Bool, true, false, ◌&&◌, ◌||◌, ltb, List, Option, Some, None, length, refl, sym, ap, ◌∙◌, arith}
-use Rattle.std.specs.Prelude.{not, slice_index_or}
+use Rattle.std.specs.Prelude.{not, slice_index_or, slice_get, option_map, option_and_then}
 use Rattle.std.proofs.lemmas.Bool.{false≢true}
 use Rattle.pl_code.specs.declared.kinds.Slot.{Slot}
 use Rattle.pl_code.specs.declared.code.FunCode.{FunCode}
 use Rattle.pl_code.specs.declared.code.Instruction.{Instruction}
+use Rattle.pl_code.specs.declared.code.Instruction.TheVariants as code
+use Rattle.pl_code.specs.declared.kinds.Numbered.TheVariants as numbered
 use Rattle.allowlist.specs.Allow.{AllowList}
-use Rattle.instruction_types.specs.Effects.{flow_of}
+use Rattle.instruction_types.specs.Effects.{flow_of, effect_of, calls}
 use Rattle.instruction_types.specs.Faults.{is_bad_target, is_bad_member, is_bad_jump}
-use Rattle.verifier_table.specs.Shapes.{Table, Nowhere}
+use Rattle.verifier_table.specs.Shapes.{Table, Meeting, Nowhere, known_of}
 use Rattle.verifier.specs.declared.fault.FaultKind.TheVariants.{BadShape}
-use Rattle.verifier.specs.Meets.{goes_to, left_at, led_to, passed, met_if}
+use Rattle.verifier.specs.Meets.{goes_to, left_at, left_in, led_to, passed, met_if}
 use Rattle.verifier.specs.Faults.{fault_of, falls, has_shape, instruction_fault}
-use Rattle.verifier.specs.Acts.{Does, LeadsOn, PassesOn, at_line}
+use Rattle.verifier.specs.Acts.{Does, MergesInto, PassesOn, at_line}
 
 module _ (allow : AllowList) (functions : List FunCode) (f : FunCode) (line : ℕ) (i : Instruction) where
   -- what the instruction leaves leads on
-  pub passes_on : (old mid new : Table) → Does old mid true (left_at allow functions f i (at_line old line)) → LeadsOn mid new (goes_to (flow_of i) line) → PassesOn allow functions f line (Some i) old new
+  pub passes_on : (old mid new : Table) → Does old mid true (left_at allow functions f i (at_line old line)) → MergesInto mid new (goes_to (flow_of i) line) → PassesOn allow functions f line (Some i) old new
   unfolding passed
   passes_on old mid new d l =
       record {
@@ -67,3 +69,15 @@ module _ (allow : AllowList) (functions : List FunCode) (f : FunCode) (line : �
   unfit_fault old t m j e =
       let s = ap (λ left. not (has_shape (length f.lines) line (flow_of i) left)) (sym e) in
       sym (λ k. fault_of (t k) (m k) (j k) (s k))
+
+-- ---- a call
+
+-- what a call does is what its instruction leaves
+pub call_does : (allow : AllowList) (functions : List FunCode) (f : FunCode) (i : Instruction) (number : ℕ) (m : Meeting) (old mid new : Table) (fits : Bool) → i ≡ code.Numbered numbered.Call number
+    → Some mid.stack ≡ known_of m → mid.lines ≡ old.lines → Does mid new fits (left_in (option_map calls (slice_get functions number)) mid.stack) → Does old new fits (left_at allow functions f i m)
+unfolding left_at effect_of
+call_does allow functions f i number m old mid new fits call known same d =
+    record {
+      stack = d.stack ∙ ap (option_and_then (left_in (effect_of allow functions f (code.Numbered numbered.Call number)))) known ∙ ap (λ i. left_at allow functions f i m) (sym call);
+      lines = d.lines ∙ same;
+    }

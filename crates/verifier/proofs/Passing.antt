@@ -15,7 +15,7 @@ use Rattle.verifier_table.specs.Shapes.{Nowhere, Table}
 use Rattle.verifier.specs.declared.fault.FaultKind.{FaultKind}
 use Rattle.verifier.specs.Meets.{met_if, caught_at, turned_at, turns_to, starts, passed, met}
 use Rattle.verifier.specs.Faults.{instruction_fault, fault_in, line_fault, found, first_from}
-use Rattle.verifier.specs.Acts.{at_line, LeadsOn, Caught, Turned, Begins, PassesOn}
+use Rattle.verifier.specs.Acts.{at_line, MergesInto, Caught, Turned, Begins, PassesOn}
 
 -- the list behind an index
 pub next_item : {X : Type 0} (xs : List X) (i : ℕ) (x : X) → x ≡ get_or xs i x → i < length xs → drop i xs ≡ x ∷ drop (i + 1) xs
@@ -34,7 +34,7 @@ pub record CatchesOn (traps rest : List Trap) (old now : Table) : Type 0 where
 pub catches_first : (traps : List Trap) (t : Table) → CatchesOn traps (drop 0 traps) t t
 catches_first traps t = record { stack = refl; same = refl; each = λ to h e. refl }
 
-pub catches_one : (traps rest more : List Trap) (trap : Trap) (old now new : Table) → CatchesOn traps rest old now → rest ≡ trap ∷ more → LeadsOn now new (λ to. eqb to trap.at) → CatchesOn traps more old new
+pub catches_one : (traps rest more : List Trap) (trap : Trap) (old now new : Table) → CatchesOn traps rest old now → rest ≡ trap ∷ more → MergesInto now new (λ to. eqb to trap.at) → CatchesOn traps more old new
 catches_one traps rest more trap old now new c e l =
     record {
       stack = l.stack ∙ c.stack;
@@ -59,7 +59,7 @@ pub record TurnsOn (lines rest : List Instruction) (old now : Table) : Type 0 wh
 pub turns_first : (lines : List Instruction) (t : Table) → TurnsOn lines (drop 0 lines) t t
 turns_first lines t = record { stack = refl; same = refl; each = λ to h e. refl }
 
-pub turns_one : (lines rest more : List Instruction) (i : Instruction) (old now new : Table) → TurnsOn lines rest old now → rest ≡ i ∷ more → LeadsOn now new (turns_to (flow_of i)) → TurnsOn lines more old new
+pub turns_one : (lines rest more : List Instruction) (i : Instruction) (old now new : Table) → TurnsOn lines rest old now → rest ≡ i ∷ more → MergesInto now new (turns_to (flow_of i)) → TurnsOn lines more old new
 turns_one lines rest more i old now new c e l =
     record {
       stack = l.stack ∙ c.stack;
@@ -96,7 +96,7 @@ begins f a b c d e g na b_at nb is_c caught is_e turned =
           ∙ ap (λ m. caught_at to m f.traps) (ap (λ ms. get_or ms to Nowhere) c_lines ∙ b_at to h));
     }
 
-pub first_led : (f : FunCode) (n : ℕ) (a b : Table) → a ≡ record { stack = []; lines = replicate n Nowhere } → n ≡ length f.lines → LeadsOn a b (λ to. eqb to 0)
+pub first_led : (f : FunCode) (n : ℕ) (a b : Table) → a ≡ record { stack = []; lines = replicate n Nowhere } → n ≡ length f.lines → MergesInto a b (λ to. eqb to 0)
     → (length a.lines ≡ length f.lines) × ((to : ℕ) → to < length f.lines → at_line b to ≡ met_if (eqb to 0) [] Nowhere) × (length b.lines ≡ length f.lines) × (b.stack ≡ [])
 first_led f n a b is count l =
     let lines : a.lines ≡ replicate n Nowhere = ap (λ (t : Table). t.lines) is in

@@ -1,5 +1,5 @@
 -- What is taken from a stack, one after the other.
-use Rattle.std.proofs.Common.{◌≡◌, ℕ, suc, ◌+◌, ◌-◌, ◌<◌, ◌≤◌, length, take, get_or, Bool, true, false, cond, List, [], ◌∷◌, ◌++◌, Option, Some, None, map, refl, sym, ap, ◌∙◌, arith}
+use Rattle.std.proofs.Common.{◌≡◌, ℕ, zero, suc, ◌+◌, ◌-◌, ◌*◌, ◌/◌, ◌%◌, ◌<◌, ◌≤◌, length, take, get_or, Bool, true, false, cond, List, [], ◌∷◌, ◌++◌, Option, Some, None, map, refl, sym, ap, ◌∙◌, arith}
 use Rattle.std.specs.Prelude.{replicate, reverse, option_and_then}
 use Rattle.std.proofs.Math.Seq.{take-suc, take-length}
 use Rattle.std.proofs.lemmas.List.{reverse-append, map-append}
@@ -83,3 +83,29 @@ all_arguments params = let z : length params - 0 ≡ length params = omega arith
 
 pub arguments_yet : (params : List Ty) (t : Table) → SoFar (argument_kinds params) (argument_kinds (take (length params - 0) params)) t t
 arguments_yet params t = record { stack = ap (λ ks. taken ks t.stack) (sym (all_arguments params)); lines = refl }
+
+-- ---- windows
+
+pub window_goes : (wanted rest front more : List Slot) (old now new : Table) → SoFar wanted rest old now → rest ≡ front ++ more → so_far true new.stack ≡ taken front now.stack → new.lines ≡ now.lines → SoFar wanted more old new
+window_goes wanted rest front more old now new s e t l =
+    record {
+      stack = s.stack ∙ ap (λ r. taken r now.stack) e ∙ taken_append front more now.stack ∙ ap (option_and_then (taken more)) (sym t);
+      lines = l ∙ s.lines;
+    }
+
+pub window_fails : (wanted rest front more : List Slot) (old now : Table) → SoFar wanted rest old now → rest ≡ front ++ more → None ≡ taken front now.stack → None ≡ taken wanted old.stack
+window_fails wanted rest front more old now s e t =
+    sym (s.stack ∙ ap (λ r. taken r now.stack) e ∙ taken_append front more now.stack ∙ ap (option_and_then (taken more)) (sym t))
+
+copies_append : (a b : ℕ) (k : Slot) → replicate (a + b) k ≡ replicate a k ++ replicate b k
+copies_append zero b k = let e : zero + b ≡ b = omega arith in ap (λ n. replicate n k) e
+copies_append (suc a) b k = let e : suc a + b ≡ suc (a + b) = omega arith in ap (λ n. replicate n k) e ∙ ap (λ ks. k ∷ ks) (copies_append a b k)
+
+pub one_window : (windows done : ℕ) (k : Slot) → done < windows → replicate (32 * windows - 32 * done) k ≡ replicate 32 k ++ replicate (32 * windows - 32 * (done + 1)) k
+one_window windows done k h = let e : 32 * windows - 32 * done ≡ 32 + (32 * windows - 32 * (done + 1)) = omega arith in ap (λ n. replicate n k) e ∙ copies_append 32 (32 * windows - 32 * (done + 1)) k
+
+pub windows_yet : (windows : ℕ) (k : Slot) (t : Table) → SoFar (replicate (32 * windows) k) (replicate (32 * windows - 32 * 0) k) t t
+windows_yet windows k t = let z : 32 * windows ≡ 32 * windows - 32 * 0 = omega arith in record { stack = ap (λ n. taken (replicate n k) t.stack) z; lines = refl }
+
+pub copies_cut : (number : ℕ) (k : Slot) → replicate (32 * (number / 32)) k ++ replicate (number % 32) k ≡ replicate number k
+copies_cut number k = let e : 32 * (number / 32) + number % 32 ≡ number = omega arith in sym (copies_append (32 * (number / 32)) (number % 32) k) ∙ ap (λ n. replicate n k) e

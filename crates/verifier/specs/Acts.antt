@@ -25,7 +25,7 @@ abbrev pub at_line : Table → ℕ → Meeting
 at_line t line = slice_index_or t.lines line Nowhere
 
 -- the stack leads to the lines that pass a test
-pub record LeadsOn (old new : Table) (test : ℕ → Bool) : Type 0 where
+pub record MergesInto (old new : Table) (test : ℕ → Bool) : Type 0 where
   pub stack : new.stack ≡ old.stack
   pub same : length new.lines ≡ length old.lines
   pub each : (to : ℕ) → to < length old.lines → at_line new to ≡ met_if (test to) old.stack (at_line old to)

@@ -1,4 +1,5 @@
 pub mod Acts
+pub mod Signed
 pub mod Meets
 pub mod Faults
 pub mod Shaped

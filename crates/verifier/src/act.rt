@@ -12,7 +12,8 @@ use pl_code::Slot;
 use std::alloc::AllocError;
 use verifier_table::ShapeTable;
 
-fn give(table: &mut ShapeTable, gives: Option<Slot>) -> Result<(), AllocError>
+/// Puts what is given on the stack.
+pub(crate) fn give(table: &mut ShapeTable, gives: Option<Slot>) -> Result<(), AllocError>
     ensures { OnOk result (table.new ≡ record { stack = result_kinds gives ++ table.old.stack; lines = table.old.lines }) }
 {
     match gives {

@@ -3,10 +3,12 @@
 ghost use Rattle.std.specs.Prelude.{◌≡◌, ◌+◌, ◌<◌, ◌≤◌, ℕ, length, option_map, IfOk, None};
 ghost use Rattle.pl_code.specs.Reading.{told};
 ghost use Rattle.verifier.specs.Faults.{trap_fault, traps_fault, function_fault, code_fault, behind, told_fault, line_count};
+ghost use Rattle.verifier.specs.Signed.{AreOf};
 ghost use Rattle.verifier.specs.Words.{LineWords, FunctionWords, LeastLines, LeastFunctions};
 
 use crate::fault::FaultKind;
 use crate::pass::lines_fault;
+use crate::signatures::{Signatures, signatures_of};
 use allowlist::Allow;
 use instruction_types::{is_bad_trap_class, is_bad_trap_order, is_bad_trap_target};
 use pl_code::{FunCode, Trap};
@@ -59,10 +61,12 @@ fn function_fault(
     alloc: Global,
     allow: &Allow,
     functions: &[FunCode],
+    signatures: &Signatures,
     function: &FunCode,
     first: u32,
-    most: &mut usize,
+    most: &mut u128,
 ) -> Result<Option<(u32, FaultKind)>, AllocError>
+    requires { AreOf functions.now signatures.now }
     ensures rises { most.old ≤ most.new }
     ensures words { IfOk result (λ found. found ≡ None → LineWords allow.now functions.now function.now (length function.now.lines) most.new) }
     ensures least { IfOk result (λ found. found ≡ None → LeastLines allow.now functions.now function.now (length function.now.lines) most.old most.new) }
@@ -75,7 +79,7 @@ fn function_fault(
     let traps = function.traps.as_slice();
     match traps_fault(function.lines.len(), traps) {
         Some((at, kind)) => Ok(Some((behind(next, at), kind))),
-        None => match lines_fault(alloc, allow, functions, function, most)? {
+        None => match lines_fault(alloc, allow, functions, signatures, function, most)? {
             Some((at, kind)) => {
                 let later = behind(next, traps.len());
                 Ok(Some((behind(later, at), kind)))
@@ -101,7 +105,7 @@ pub(crate) fn code_fault(
     alloc: Global,
     allow: &Allow,
     functions: &[FunCode],
-    most: &mut usize,
+    most: &mut u128,
 ) -> Result<Option<(u32, FaultKind)>, AllocError>
     ensures words { IfOk result (λ found. found ≡ None → FunctionWords allow.now functions.now (length functions.now) most.new) }
     ensures least { IfOk result (λ found. found ≡ None → LeastFunctions allow.now functions.now (length functions.now) most.old most.new) }
@@ -110,9 +114,10 @@ pub(crate) fn code_fault(
     if functions.is_empty() {
         return Ok(Some((1, FaultKind::BadTarget)));
     }
+    let signatures = signatures_of(alloc, functions)?;
     let mut first = 2;
     for function in functions {
-        match function_fault(alloc, allow, functions, function, first, most)? {
+        match function_fault(alloc, allow, functions, &signatures, function, first, most)? {
             None => {}
             Some(found) => return Ok(Some(found)),
         }

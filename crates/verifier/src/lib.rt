@@ -2,12 +2,14 @@
 #![tactic(auto)]
 
 mod act;
+mod call;
 mod fault;
 mod functions;
 mod laws;
-mod lead;
 mod line;
 mod pass;
+mod signatures;
+mod successors;
 mod take;
 mod verified;
 

@@ -1,6 +1,6 @@
 //! What is taken from the stack.
 
-ghost use Rattle.std.specs.Prelude.{◌≡◌, [], ◌∷◌, ◌++◌, Some, None, if◌then◌else◌, replicate, reverse};
+ghost use Rattle.std.specs.Prelude.{◌≡◌, ◌*◌, ◌^◌, ◌<◌, [], ◌∷◌, ◌++◌, Some, None, if◌then◌else◌, replicate, reverse};
 ghost use Rattle.pl_code.specs.declared.kinds.Slot.TheVariants.{R};
 ghost use Rattle.instruction_types.specs.Effects.{taken};
 ghost use Rattle.instruction_types.specs.Members.{argument_kinds};
@@ -9,7 +9,7 @@ ghost use Rattle.instruction_types.specs.Seen.{seen_takes};
 use instruction_types::{Takes, kind_of_type};
 use pl_code::Slot;
 use pl_types::Ty;
-use verifier_table::{ShapeTable, is_same_slot};
+use verifier_table::{ShapeTable, is_same_slot, window_of_copies};
 
 fn one(table: &mut ShapeTable, kind: Slot) -> bool
     ensures stack { (if result then Some table.new.stack else None) ≡ taken (kind ∷ []) table.old.stack }
@@ -41,7 +41,22 @@ fn three(table: &mut ShapeTable, first: Slot, second: Slot, third: Slot) -> bool
     two(table, second, third)
 }
 
-fn copies(table: &mut ShapeTable, number: u64, kind: Slot) -> bool
+/// The values of so many windows, all of a kind.
+fn window_copies(table: &mut ShapeTable, windows: u64, kind: Slot) -> bool
+    requires { 32 * windows < 2 ^ 64 }
+    ensures stack { (if result then Some table.new.stack else None) ≡ taken (replicate (32 * windows) kind) table.old.stack }
+    ensures lines { table.new.lines ≡ table.old.lines }
+{
+    let window = window_of_copies(kind);
+    for done in 0..windows {
+        if !table.take_window(window) {
+            return false;
+        }
+    }
+    true
+}
+
+fn few_copies(table: &mut ShapeTable, number: u64, kind: Slot) -> bool
     ensures stack { (if result then Some table.new.stack else None) ≡ taken (replicate number kind) table.old.stack }
     ensures lines { table.new.lines ≡ table.old.lines }
 {
@@ -53,7 +68,18 @@ fn copies(table: &mut ShapeTable, number: u64, kind: Slot) -> bool
     true
 }
 
-fn params(table: &mut ShapeTable, params: &[Slot]) -> bool
+/// So many values of a kind: whole windows, and then what is left.
+fn copies(table: &mut ShapeTable, number: u64, kind: Slot) -> bool
+    ensures stack { (if result then Some table.new.stack else None) ≡ taken (replicate number kind) table.old.stack }
+    ensures lines { table.new.lines ≡ table.old.lines }
+{
+    if !window_copies(table, number / 32, kind) {
+        return false;
+    }
+    few_copies(table, number % 32, kind)
+}
+
+pub(crate) fn params(table: &mut ShapeTable, params: &[Slot]) -> bool
     ensures stack { (if result then Some table.new.stack else None) ≡ taken (reverse params.now) table.old.stack }
     ensures lines { table.new.lines ≡ table.old.lines }
 {

@@ -10,7 +10,7 @@ use crate::functions::code_fault;
 use crate::laws::shape_laws;
 use allowlist::Allow;
 use pl_code::Code;
-use std::alloc::Global;
+use std::alloc::{AllocError, Global};
 use std::marker::Model;
 
 /// Code that breaks nowhere, with its share of the list under which it was verified.
@@ -73,6 +73,16 @@ impl Verified {
     }
 }
 
+/// A share of the list, and how many words a frame has. No memory has a frame of 2^64 words or more.
+fn share(alloc: Global, allow: &Allow, words: u128) -> Result<(Allow, usize), AllocError>
+    ensures { IfOk result (λ shared. (shared.0 ≡ allow.now) × (shared.1 ≡ words)) }
+{
+    let Ok(words) = usize::try_from(words) else {
+        return Err(AllocError);
+    };
+    Ok((allow.share(alloc)?, words))
+}
+
 /// Code that may run under a list: it breaks nowhere. Else the code is handed back, with the first line of its listing, counted
 /// from 1, at which it breaks. At one line BadTarget is tried first, then BadMember, BackJump and BadShape.
 ///
@@ -86,13 +96,13 @@ pub fn verify(alloc: Global, allow: &Allow, code: Code) -> Result<Verified, (Cod
     ensures exact { MatchResult result (λ verified. shape_fault allow.now code ≡ None) (λ refused. Refuses refused.1 (shape_fault allow.now code)) }
 {
     shape_laws();
-    let mut words = 0;
+    let mut words: u128 = 0;
     match code_fault(alloc, allow, code.functions.as_slice(), &mut words) {
         Err(_) => Err((code, VerifyErr::NoMemory)),
         Ok(Some((line, kind))) => Err((code, kind.at(line))),
-        Ok(None) => match allow.share(alloc) {
+        Ok(None) => match share(alloc, allow, words) {
             Err(_) => Err((code, VerifyErr::NoMemory)),
-            Ok(under) => Ok(Verified {
+            Ok((under, words)) => Ok(Verified {
                 kept: code,
                 under,
                 words,

@@ -1,5 +1,5 @@
 -- Nodes of which no two have one stack, and one more of them.
-use Rattle.std.proofs.Common.{◌≡◌, ℕ, zero, suc, Some, ◌+◌, ◌<◌, Bool, true, false, cond, eqb, List, [], ◌∷◌, ◌++◌, length, map, get_or, refl, sym, ap, ◌∙◌, subst, add-one, arith, inl, inr}
+use Rattle.std.proofs.Common.{◌≡◌, ℕ, zero, suc, Some, ◌+◌, ◌<◌, ◌≤◌, Bool, true, false, cond, eqb, List, [], ◌∷◌, ◌++◌, length, map, take, drop, get_or, refl, sym, ap, ◌∙◌, subst, add-one, arith, inl, inr}
 use Rattle.std.proofs.Math.ListN.{get_or-append, get_or-map, set}
 use Rattle.std.proofs.Math.Seq.{map-set_same}
 use Rattle.std.proofs.lemmas.List.{get_or_push, length-append, length-set, get_or-set_same, get_or-set_other, get_or_default}
@@ -9,7 +9,9 @@ use Rattle.pl_code.specs.declared.kinds.Slot.TheVariants.{I, J, R}
 use Rattle.instruction_types.specs.Effects.{same_slots}
 use Rattle.verifier_table.specs.Shapes.{same_kinds}
 use Rattle.verifier_table.specs.declared.node.Node.{Node}
-use Rattle.verifier_table.specs.Nodes.{stack_at, part_of, stacks_of, fresh, root, node_at, link_of, with_link, IsLinked, LeadsTo, AreLinked, HaveHeights}
+use Rattle.verifier_table.specs.Nodes.{stack_at, part_of, stacks_of, fresh, root, node_at, link_of, with_link, IsLinked, LeadsTo, AreLinked}
+use Rattle.verifier_table.specs.Windows.{numeral_of}
+use Rattle.verifier_table.specs.Measures.{Measure, measure_of, Measures, HaveMeasures}
 use Rattle.verifier_table.specs.Grows.{Grows, HasTop}
 use Rattle.verifier_table.proofs.SameKinds.{slot_itself, one_slot, kinds_themselves, one_list}
 use Rattle.verifier_table.proofs.Unwound.{length-stacks, first_stack, stack_is, one_more, same_parts}
@@ -73,13 +75,13 @@ root_linked =
       links = λ from kind h s. let none = root_links from kind in absurd (omega (arith, none, s));
     }
 
-root_height : (at : ℕ) → at < length (root ∷ []) → (node_at (root ∷ []) at).height ≡ length (stack_at (stacks_of (root ∷ [])) at)
+root_measure : (at : ℕ) → at < length (root ∷ []) → Measures (stacks_of (root ∷ [])) (stack_at (stacks_of (root ∷ [])) at) (measure_of (node_at (root ∷ []) at))
 unfolding stacks_of
-root_height zero h = refl
-root_height (suc at) h = absurd (omega arith)
+root_measure zero h = record { height = refl; window = refl; within = omega arith; under = refl }
+root_measure (suc at) h = absurd (omega arith)
 
-pub root_high : HaveHeights (root ∷ [])
-root_high = record { each = root_height }
+pub root_measured : HaveMeasures (root ∷ [])
+root_measured = record { each = root_measure }
 
 -- ---- a stack that is there already
 
@@ -114,19 +116,22 @@ part_is n I to = refl
 part_is n J to = refl
 part_is n R to = refl
 
-height_is : (n : Node) (kind : Slot) (to : ℕ) → (with_link n kind to).height ≡ n.height
-height_is n I to = refl
-height_is n J to = refl
-height_is n R to = refl
+measure_is : (n : Node) (kind : Slot) (to : ℕ) → measure_of (with_link n kind to) ≡ measure_of n
+measure_is n I to = refl
+measure_is n J to = refl
+measure_is n R to = refl
 
-no_link : (kind k : Slot) (at height : ℕ) → link_of (fresh kind at height) k ≡ 0
-no_link kind I at height = refl
-no_link kind J at height = refl
-no_link kind R at height = refl
+measures_grown : (old new : List (List Slot)) (at : ℕ) (more ks : List Slot) (m : Measure) → Grows old new at more → Measures old ks m → Measures new ks m
+measures_grown old new at more ks m g h = record { height = h.height; window = h.window; within = g.longer m.under h.within; under = g.kept m.under h.within ∙ h.under }
 
-module _ (nodes : List Node) (at : ℕ) (kind : Slot) (height : ℕ) where
+no_link : (kind k : Slot) (at height window under : ℕ) → link_of (fresh kind at height window under) k ≡ 0
+no_link kind I at height window under = refl
+no_link kind J at height window under = refl
+no_link kind R at height window under = refl
+
+module _ (nodes : List Node) (at : ℕ) (kind : Slot) (height window under : ℕ) where
   with_node : List Node
-  with_node = nodes ++ fresh kind at height ∷ []
+  with_node = nodes ++ fresh kind at height window under ∷ []
 
   changed : Node
   changed = with_link (node_at nodes at) kind (length nodes)
@@ -137,7 +142,7 @@ module _ (nodes : List Node) (at : ℕ) (kind : Slot) (height : ℕ) where
   module _ (l : AreLinked nodes) (h : at < length nodes) (none : link_of (node_at nodes at) kind ≡ 0) where
     length-with : length with_node ≡ length nodes + 1
     unfolding with_node
-    length-with = length-append nodes (fresh kind at height ∷ [])
+    length-with = length-append nodes (fresh kind at height window under ∷ [])
 
     length-after : length after_push ≡ length nodes + 1
     unfolding after_push
@@ -145,11 +150,11 @@ module _ (nodes : List Node) (at : ℕ) (kind : Slot) (height : ℕ) where
 
     old_node : (c : ℕ) → c < length nodes → node_at with_node c ≡ node_at nodes c
     unfolding with_node
-    old_node c b = get_or-append nodes (fresh kind at height ∷ []) root c b
+    old_node c b = get_or-append nodes (fresh kind at height window under ∷ []) root c b
 
-    new_node : node_at with_node (length nodes) ≡ fresh kind at height
+    new_node : node_at with_node (length nodes) ≡ fresh kind at height window under
     unfolding with_node
-    new_node = get_or_push nodes (fresh kind at height) root (length nodes) refl
+    new_node = get_or_push nodes (fresh kind at height window under) root (length nodes) refl
 
     parts_same : map part_of after_push ≡ map part_of with_node
     unfolding after_push changed
@@ -178,7 +183,7 @@ module _ (nodes : List Node) (at : ℕ) (kind : Slot) (height : ℕ) where
 
     stacks_after : stacks_of after_push ≡ stacks_of nodes ++ (kind ∷ stack_at (stacks_of nodes) at) ∷ []
     unfolding with_node
-    stacks_after = same_parts after_push with_node parts_same (omega (arith, length-after)) (omega (arith, length-with)) ∙ one_more nodes (fresh kind at height) l.some
+    stacks_after = same_parts after_push with_node parts_same (omega (arith, length-after)) (omega (arith, length-with)) ∙ one_more nodes (fresh kind at height window under) l.some
 
     pub grows : Grows (stacks_of nodes) (stacks_of after_push) (length nodes) (kind ∷ stack_at (stacks_of nodes) at)
     grows =
@@ -191,22 +196,29 @@ module _ (nodes : List Node) (at : ℕ) (kind : Slot) (height : ℕ) where
           kept = λ k b. ap (λ ss. stack_at ss k) stacks_after ∙ get_or-append (stacks_of nodes) ((kind ∷ stack_at (stacks_of nodes) at) ∷ []) [] k b;
         }
 
-    height_after : (c : ℕ) → (node_at after_push c).height ≡ (node_at with_node c).height
+    measure_after : (c : ℕ) → measure_of (node_at after_push c) ≡ measure_of (node_at with_node c)
     unfolding after_push changed
-    height_after c =
-        let heights : map (λ (n : Node). n.height) after_push ≡ map (λ (n : Node). n.height) with_node =
-        map-set_same (λ (n : Node). n.height) with_node at changed root (height_is (node_at nodes at) kind (length nodes) ∙ sym (ap (λ (n : Node). n.height) (old_node at h))) in
-        sym (get_or-map (λ (n : Node). n.height) after_push c root) ∙ ap (λ ns. get_or ns c 0) heights ∙ get_or-map (λ (n : Node). n.height) with_node c root
+    measure_after c =
+        let measures : map measure_of after_push ≡ map measure_of with_node = map-set_same measure_of with_node at changed root (measure_is (node_at nodes at) kind (length nodes) ∙ sym (ap measure_of (old_node at h))) in
+        sym (get_or-map measure_of after_push c root) ∙ ap (λ ms. get_or ms c (measure_of root)) measures ∙ get_or-map measure_of with_node c root
 
-    pub still_high : HaveHeights nodes → height ≡ length (stack_at (stacks_of nodes) at) + 1 → HaveHeights after_push
-    still_high heights is =
+    new_measure : measure_of (node_at after_push (length nodes)) ≡ record { height = height; window = window; under = under }
+    new_measure = measure_after (length nodes) ∙ ap measure_of new_node
+
+    old_measure : (c : ℕ) → c < length nodes → measure_of (node_at after_push c) ≡ measure_of (node_at nodes c)
+    old_measure c b = measure_after c ∙ ap measure_of (old_node c b)
+
+    pub still_measured : HaveMeasures nodes → Measures (stacks_of nodes) (kind ∷ stack_at (stacks_of nodes) at) (record { height = height; window = window; under = under }) → HaveMeasures after_push
+    still_measured old new =
         record {
           each = λ c b.
               elim (eqb_tells c (length nodes)) [
-                | inl q ↦ subst (λ c. (node_at after_push c).height ≡ length (stack_at (stacks_of after_push) c)) (sym q.1)
-                    (height_after (length nodes) ∙ ap (λ (n : Node). n.height) new_node ∙ is ∙ add-one (length (stack_at (stacks_of nodes) at)) ∙ sym (ap length grows.is))
+                | inl q ↦ subst (λ c. Measures (stacks_of after_push) (stack_at (stacks_of after_push) c) (measure_of (node_at after_push c))) (sym q.1)
+                    (subst (λ ks. Measures (stacks_of after_push) ks (measure_of (node_at after_push (length nodes)))) (sym grows.is)
+                    (subst (Measures (stacks_of after_push) (kind ∷ stack_at (stacks_of nodes) at)) (sym new_measure) (measures_grown _ _ _ _ _ _ grows new)))
                 | inr q ↦ let n : ¬ (c ≡ length nodes) = q.1 in let w : c < length nodes = omega (arith, length-after, n) in
-                    height_after c ∙ ap (λ (n : Node). n.height) (old_node c w) ∙ heights.each c w ∙ sym (ap length (grows.kept c (omega (arith, length-stacks nodes l.some))))
+                    subst (λ ks. Measures (stacks_of after_push) ks (measure_of (node_at after_push c))) (sym (grows.kept c (omega (arith, length-stacks nodes l.some, w))))
+                    (subst (Measures (stacks_of after_push) (stack_at (stacks_of nodes) c)) (sym (old_measure c w)) (measures_grown _ _ _ _ _ _ grows (old.each c w)))
               ];
         }
 
@@ -283,7 +295,7 @@ module _ (nodes : List Node) (at : ℕ) (kind : Slot) (height : ℕ) where
     from_new : (k : Slot) → 0 < link_of (node_at after_push (length nodes)) k → ⊥
     from_new k s =
         let n : ¬ (length nodes ≡ at) = λ e. absurd (omega arith) in
-        let e : link_of (node_at after_push (length nodes)) k ≡ 0 = ap (λ n. link_of n k) (node_other (length nodes) n ∙ new_node) ∙ no_link kind k at height in
+        let e : link_of (node_at after_push (length nodes)) k ≡ 0 = ap (λ n. link_of n k) (node_other (length nodes) n ∙ new_node) ∙ no_link kind k at height window under in
         absurd (omega (arith, e))
 
     from_each : (from : ℕ) (k : Slot) → from < length after_push → 0 < link_of (node_at after_push from) k → LeadsTo after_push from k (link_of (node_at after_push from) k)
@@ -304,13 +316,28 @@ module _ (nodes : List Node) (at : ℕ) (kind : Slot) (height : ℕ) where
 pub shown_length : (nodes : List Node) (stacks : List (List Slot)) → AreLinked nodes → stacks_of nodes ≡ stacks → length stacks ≡ length nodes
 shown_length nodes stacks l e = sym (ap length e) ∙ length-stacks nodes l.some
 
-pub shown_height : (nodes : List Node) (stacks : List (List Slot)) → AreLinked nodes → HaveHeights nodes → stacks_of nodes ≡ stacks → (at : ℕ) (n : Node) → at < length stacks → n ≡ get_or nodes at n
-    → n.height ≡ length (stack_at stacks at)
-shown_height nodes stacks l heights e at n h is =
+pub shown_measure : (nodes : List Node) (stacks : List (List Slot)) → AreLinked nodes → HaveMeasures nodes → stacks_of nodes ≡ stacks → (at : ℕ) (n : Node) → at < length stacks → n ≡ get_or nodes at n
+    → Measures stacks (stack_at stacks at) (measure_of n)
+shown_measure nodes stacks l measures e at n h is =
     let s = shown_length nodes stacks l e in
     let w : at < length nodes = omega (arith, s) in
     let same : node_at nodes at ≡ n = get_or_default nodes at root n w ∙ sym is in
-    sym (ap (λ (n : Node). n.height) same) ∙ heights.each at w ∙ ap (λ ss. length (stack_at ss at)) e
+    subst (λ ss. Measures ss (stack_at ss at) (measure_of n)) e (subst (λ n. Measures (stacks_of nodes) (stack_at (stacks_of nodes) at) (measure_of n)) same (measures.each at w))
+
+-- a stack is not higher than its place
+low : (nodes : List Node) → AreLinked nodes → (n at : ℕ) → at ≤ n → at < length nodes → length (stack_at (stacks_of nodes) at) ≤ at
+low nodes l n zero b h = let e : length (stack_at (stacks_of nodes) 0) ≡ 0 = ap length (first_stack nodes) in omega (arith, e)
+low nodes l zero (suc at) b h = absurd (omega arith)
+low nodes l (suc n) (suc at) b h =
+    let before = (l.each (suc at) (omega arith) h).before in
+    let top : length (stack_at (stacks_of nodes) (suc at)) ≡ suc (length (stack_at (stacks_of nodes) (node_at nodes (suc at)).below)) = ap length (top_is nodes l (suc at) (omega arith) h) in
+    let r = low nodes l n (node_at nodes (suc at)).below (omega (arith, before)) (omega (arith, before)) in
+    omega (arith, top, r, before)
+
+pub shown_low : (nodes : List Node) (stacks : List (List Slot)) → AreLinked nodes → stacks_of nodes ≡ stacks → (at : ℕ) → at < length stacks → length (stack_at stacks at) ≤ at
+shown_low nodes stacks l e at h =
+    let s = shown_length nodes stacks l e in
+    subst (λ ss. length (stack_at ss at) ≤ at) e (low nodes l at at (omega arith) (omega (arith, s)))
 
 pub shown_test : (nodes : List Node) (stacks : List (List Slot)) → AreLinked nodes → stacks_of nodes ≡ stacks → (a b : ℕ) → a < length stacks → b < length stacks → eqb a b ≡ same_kinds (stack_at stacks a) (stack_at stacks b)
 shown_test nodes stacks l e a b ha hb =
@@ -340,21 +367,29 @@ grown_along : (a b x y : List (List Slot)) (m n at : ℕ) (kind : Slot) → a �
 grown_along a b x y m n at kind e f q g =
     subst (λ y. Grows b y n (kind ∷ stack_at b at)) f (subst (λ n. Grows b x n (kind ∷ stack_at b at)) q (subst (λ b. Grows b x m (kind ∷ stack_at b at)) e g))
 
+-- the measure of a stack with one more kind
+pub measured_with : (stacks : List (List Slot)) (ks : List Slot) (kind : Slot) (m : Measure) (height window under : ℕ) → Measures stacks ks m → height ≡ m.height + 1
+    → ((others : List Slot) → m.window ≡ numeral_of (take 32 others) → window ≡ numeral_of (take 32 (kind ∷ others))) → under < length stacks → stack_at stacks under ≡ drop 31 ks
+    → Measures stacks (kind ∷ ks) (record { height = height; window = window; under = under })
+measured_with stacks ks kind m height window under old high numeral within lies =
+    record { height = high ∙ add-one m.height ∙ ap suc old.height; window = numeral ks old.window; within = within; under = lies }
+
 -- a node that was put there, and linked
-pub shown_pushed : (nodes with_it : List Node) (stacks : List (List Slot)) → AreLinked nodes → HaveHeights nodes → stacks_of nodes ≡ stacks → (at : ℕ) (kind : Slot) (height : ℕ) (n before now : Node) (to new : ℕ)
-    → at < length stacks → n ≡ get_or nodes at n → to ≡ link_of n kind → to ≡ 0 → height ≡ n.height + 1 → new ≡ length nodes → with_it ≡ nodes ++ fresh kind at height ∷ [] → before ≡ get_or with_it at before → now ≡ with_link before kind new
-    → AreLinked (set with_it at now) × HaveHeights (set with_it at now) × Grows stacks (stacks_of (set with_it at now)) new (kind ∷ stack_at stacks at)
+pub shown_pushed : (nodes with_it : List Node) (stacks : List (List Slot)) → AreLinked nodes → HaveMeasures nodes → stacks_of nodes ≡ stacks → (at : ℕ) (kind : Slot) (height window under : ℕ) (n before now : Node) (to new : ℕ)
+    → at < length stacks → n ≡ get_or nodes at n → to ≡ link_of n kind → to ≡ 0 → Measures stacks (kind ∷ stack_at stacks at) (record { height = height; window = window; under = under }) → new ≡ length nodes
+    → with_it ≡ nodes ++ fresh kind at height window under ∷ [] → before ≡ get_or with_it at before → now ≡ with_link before kind new
+    → AreLinked (set with_it at now) × HaveMeasures (set with_it at now) × Grows stacks (stacks_of (set with_it at now)) new (kind ∷ stack_at stacks at)
 unfolding after_push with_node changed
-shown_pushed nodes with_it stacks l heights e at kind height n before now to new h is t none is_height is_new is_with is_before is_now =
+shown_pushed nodes with_it stacks l measures e at kind height window under n before now to new h is t none is_measure is_new is_with is_before is_now =
     let s = shown_length nodes stacks l e in
     let w : at < length nodes = omega (arith, s) in
     let same : node_at nodes at ≡ n = get_or_default nodes at root n w ∙ sym is in
     let z : link_of (node_at nodes at) kind ≡ 0 = ap (λ n. link_of n kind) same ∙ sym t ∙ none in
-    let more : length (nodes ++ fresh kind at height ∷ []) ≡ length nodes + 1 = length-append nodes (fresh kind at height ∷ []) in
-    let old : before ≡ node_at nodes at = is_before ∙ ap (λ ns. get_or ns at before) is_with ∙ get_or-append nodes (fresh kind at height ∷ []) before at w ∙ get_or_default nodes at before root w in
-    let made : changed nodes at kind height ≡ now = sym (is_now ∙ (λ i. with_link (old i) kind (is_new i))) in
-    let list : after_push nodes at kind height ≡ set with_it at now = (λ i. set (sym is_with i) at (made i)) in (
-      subst AreLinked list (still_linked nodes at kind height l w z),
-      subst HaveHeights list (still_high nodes at kind height l w z heights (is_height ∙ ap (λ m. m + 1) (sym (ap (λ (n : Node). n.height) same) ∙ heights.each at w))),
-      grown_along (stacks_of nodes) stacks (stacks_of (after_push nodes at kind height)) (stacks_of (set with_it at now)) (length nodes) new at kind e (ap stacks_of list) (sym is_new) (grows nodes at kind height l w z),
+    let old : before ≡ node_at nodes at = is_before ∙ ap (λ ns. get_or ns at before) is_with ∙ get_or-append nodes (fresh kind at height window under ∷ []) before at w ∙ get_or_default nodes at before root w in
+    let made : changed nodes at kind height window under ≡ now = sym (is_now ∙ (λ i. with_link (old i) kind (is_new i))) in
+    let list : after_push nodes at kind height window under ≡ set with_it at now = (λ i. set (sym is_with i) at (made i)) in
+    let measure = subst (λ ss. Measures ss (kind ∷ stack_at ss at) (record { height = height; window = window; under = under })) (sym e) is_measure in (
+      subst AreLinked list (still_linked nodes at kind height window under l w z),
+      subst HaveMeasures list (still_measured nodes at kind height window under l w z measures measure),
+      grown_along (stacks_of nodes) stacks (stacks_of (after_push nodes at kind height window under)) (stacks_of (set with_it at now)) (length nodes) new at kind e (ap stacks_of list) (sym is_new) (grows nodes at kind height window under l w z),
     )

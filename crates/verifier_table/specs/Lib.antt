@@ -1,3 +1,5 @@
 pub mod Shapes
 pub mod Nodes
+pub mod Windows
+pub mod Measures
 pub mod Grows

@@ -28,11 +28,11 @@ stacks_of [] = [] ∷ []
 stacks_of (n ∷ nodes) = stacks_from ([] ∷ []) (map part_of nodes)
 
 -- a node that nothing stands on yet
-abbrev pub fresh : Slot → ℕ → ℕ → Node
-fresh kind below height = record { kind = kind; below = below; height = height; with_int = 0; with_long = 0; with_reference = 0 }
+abbrev pub fresh : Slot → ℕ → ℕ → ℕ → ℕ → Node
+fresh kind below height window under = record { kind = kind; below = below; height = height; window = window; under = under; with_int = 0; with_long = 0; with_reference = 0 }
 
 abbrev pub root : Node
-root = fresh R 0 0
+root = fresh R 0 0 0 0
 
 abbrev pub node_at : List Node → ℕ → Node
 node_at nodes at = slice_index_or nodes at root
@@ -44,9 +44,9 @@ link_of n R = n.with_reference
 
 -- a node whose link for a kind is this one
 abbrev pub with_link : Node → Slot → ℕ → Node
-with_link n I to = record { kind = n.kind; below = n.below; height = n.height; with_int = to; with_long = n.with_long; with_reference = n.with_reference }
-with_link n J to = record { kind = n.kind; below = n.below; height = n.height; with_int = n.with_int; with_long = to; with_reference = n.with_reference }
-with_link n R to = record { kind = n.kind; below = n.below; height = n.height; with_int = n.with_int; with_long = n.with_long; with_reference = to }
+with_link n I to = record { kind = n.kind; below = n.below; height = n.height; window = n.window; under = n.under; with_int = to; with_long = n.with_long; with_reference = n.with_reference }
+with_link n J to = record { kind = n.kind; below = n.below; height = n.height; window = n.window; under = n.under; with_int = n.with_int; with_long = to; with_reference = n.with_reference }
+with_link n R to = record { kind = n.kind; below = n.below; height = n.height; window = n.window; under = n.under; with_int = n.with_int; with_long = n.with_long; with_reference = to }
 
 -- what lies below a node comes before it, and leads to it
 pub record IsLinked (nodes : List Node) (at : ℕ) : Type 0 where
@@ -64,10 +64,6 @@ pub record AreLinked (nodes : List Node) : Type 0 where
   pub some : 0 < length nodes
   pub each : (at : ℕ) → 0 < at → at < length nodes → IsLinked nodes at
   pub links : (from : ℕ) (kind : Slot) → from < length nodes → 0 < link_of (node_at nodes from) kind → LeadsTo nodes from kind (link_of (node_at nodes from) kind)
-
--- each node has the height of its stack
-pub record HaveHeights (nodes : List Node) : Type 0 where
-  pub each : (at : ℕ) → at < length nodes → (node_at nodes at).height ≡ length (stack_at (stacks_of nodes) at)
 
 -- what stands at a line
 abbrev pub seen_place : List (List Slot) → Place → Meeting

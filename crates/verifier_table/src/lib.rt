@@ -5,6 +5,8 @@ mod node;
 mod slots;
 mod stacks;
 mod table;
+mod windows;
 
 pub use slots::is_same_slot;
 pub use table::ShapeTable;
+pub use windows::{window_of_copies, window_with};

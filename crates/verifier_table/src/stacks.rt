@@ -1,11 +1,13 @@
 //! Stacks of kinds, each of them once.
 
-ghost use Rattle.std.specs.Prelude.{◌≡◌, ◌<◌, [], ◌∷◌, length, IfOk, OnErr};
+ghost use Rattle.std.specs.Prelude.{◌≡◌, ◌<◌, [], ◌∷◌, length, drop, IfOk, OnErr};
 ghost use Rattle.verifier_table.specs.Shapes.{same_kinds};
 ghost use Rattle.verifier_table.specs.Nodes.{stack_at, link_of, with_link};
 ghost use Rattle.verifier_table.specs.Grows.{Grows, HasTop};
+ghost use Rattle.verifier_table.specs.Windows.{HasWindow};
 
 use crate::node::Node;
+use crate::windows::{WINDOW, window_with};
 use pl_code::Slot;
 use std::alloc::{AllocError, Global};
 use std::marker::Model;
@@ -19,19 +21,22 @@ pub(crate) struct Stacks {
 impl Model for Stacks {
     ghost use Rattle.std.specs.Prelude.{List};
     ghost use Rattle.pl_code.specs.declared.kinds.Slot.{Slot as SlotData};
-    ghost use Rattle.verifier_table.specs.Nodes.{stacks_of, AreLinked, HaveHeights};
+    ghost use Rattle.verifier_table.specs.Nodes.{stacks_of, AreLinked};
+    ghost use Rattle.verifier_table.specs.Measures.{HaveMeasures};
 
     ghost Value = { List (List SlotData) };
 
     ghost view = { λ s. stacks_of s.nodes.items };
 
-    ghost invariant = { λ s. AreLinked s.nodes.items × HaveHeights s.nodes.items };
+    ghost invariant = { λ s. AreLinked s.nodes.items × HaveMeasures s.nodes.items };
 }
 
 const ROOT: Node = Node {
     kind: Slot::R,
     below: 0,
     height: 0,
+    window: 0,
+    under: 0,
     with_int: 0,
     with_long: 0,
     with_reference: 0,
@@ -106,6 +111,44 @@ impl Stacks {
         self.nodes[at].height
     }
 
+    /// The place of a stack without its top, if it has one.
+    fn rest(&self, at: usize) -> usize
+        requires { at < length self.now }
+        ensures within { result < length self.now }
+        ensures rest { stack_at self.now result ≡ drop 1 (stack_at self.now at) }
+    {
+        match self.top(at) {
+            None => at,
+            Some((_, rest)) => rest,
+        }
+    }
+
+    /// The place of what lies below so many kinds of a stack.
+    fn below(&self, at: usize, count: usize) -> usize
+        requires { at < length self.now }
+        ensures within { result < length self.now }
+        ensures below { stack_at self.now result ≡ drop count (stack_at self.now at) }
+    {
+        let mut place = at;
+        for _ in 0..count {
+            place = self.rest(place);
+        }
+        place
+    }
+
+    /// The place of what lies below the top 32 kinds of a stack, if their number is this one.
+    pub(crate) fn under(&self, at: usize, window: u64) -> Option<usize>
+        requires { at < length self.now }
+        ensures { HasWindow self.now at window result }
+    {
+        let node = self.nodes[at];
+        if node.window == window {
+            Some(node.under)
+        } else {
+            None
+        }
+    }
+
     /// The place of a stack with one more kind on top.
     pub(crate) fn with(&mut self, at: usize, kind: Slot) -> Result<usize, AllocError>
         requires { at < length self.old }
@@ -117,14 +160,14 @@ impl Stacks {
         if linked != 0 {
             return Ok(linked);
         }
-        let Some(height) = node.height.checked_add(1) else {
-            return Err(AllocError);
-        };
+        let under = self.below(at, WINDOW - 1);
         let new = self.nodes.len();
         self.nodes.push(Node {
             kind,
             below: at,
-            height,
+            height: node.height + 1,
+            window: window_with(node.window, kind),
+            under,
             with_int: 0,
             with_long: 0,
             with_reference: 0,

@@ -3,6 +3,10 @@
 ghost use Rattle.std.specs.Prelude.{◌≡◌, ◌<◌, [], ◌∷◌, true, length, IfOk, OnOk, MatchOption, replicate, slice_index_or, slice_set, if◌then◌else◌, Some, None};
 ghost use Rattle.verifier_table.specs.Shapes.{Nowhere, meets, known_of};
 ghost use Rattle.verifier_table.specs.Nodes.{stack_at, seen_place, is_within};
+ghost use Rattle.verifier_table.specs.Windows.{numeral_of};
+ghost use Rattle.instruction_types.specs.Effects.{taken};
+ghost use Rattle.pl_code.specs.declared.kinds.Slot.{Slot as SlotData};
+ghost use Rattle.std.specs.Prelude.{List};
 
 use crate::node::Place;
 use crate::stacks::Stacks;
@@ -69,6 +73,20 @@ impl ShapeTable {
         Some(kind)
     }
 
+    /// Takes 32 kinds off that have this number, in one step. `false` where others lie there, or fewer.
+    pub fn take_window(&mut self, window: u64) -> bool
+        ensures stack { (kinds : List SlotData) → length kinds ≡ 32 → window ≡ numeral_of kinds → (if result then Some self.new.stack else None) ≡ taken kinds self.old.stack }
+        ensures lines { self.new.lines ≡ self.old.lines }
+    {
+        match self.stacks.under(self.top, window) {
+            None => false,
+            Some(under) => {
+                self.top = under;
+                true
+            }
+        }
+    }
+
     /// Puts a kind on the stack.
     pub fn put(&mut self, kind: Slot) -> Result<(), AllocError>
         ensures { OnOk result (self.new ≡ record { stack = kind ∷ self.old.stack; lines = self.old.lines }) }
@@ -91,8 +109,8 @@ impl ShapeTable {
         }
     }
 
-    /// What lies on the stack leads to a line.
-    pub fn lead(&mut self, line: usize)
+    /// What lies on the stack leads to a line: it is merged into what stands there.
+    pub fn merge(&mut self, line: usize)
         ensures { self.new ≡ record { stack = self.old.stack; lines = slice_set self.old.lines line (meets (slice_index_or self.old.lines line Nowhere) self.old.stack) } }
     {
         match self.places.get(line) {

@@ -3,7 +3,7 @@ use Rattle.std.specs.Prelude.{not}
 use Rattle.instruction_types.specs.Effects.{flow_of}
 use Rattle.verifier.specs.Meets.{goes_to, left_at}
 use Rattle.verifier.specs.Faults.{falls}
-use Rattle.verifier.specs.Acts.{Does, LeadsOn, at_line}
+use Rattle.verifier.specs.Acts.{Does, MergesInto, at_line}
 use Rattle.verifier.proofs.Lines.{passes_on, no_fault}
 use Rattle.verifier.proofs.line.instruction_fault.Goals as goal
 
@@ -17,10 +17,10 @@ returns c =
     let mid = c.leave.new.table in
     let left = left_at allow functions f i (at_line old c.args.line) in
     let does : Does old mid true left = subst (λ fits. Does old mid fits left) c.if-not-branch.false c.in_ok-leave.ensures in
-    let leads : LeadsOn mid c.lead.new.table (goes_to (flow_of i) c.args.line) = subst (λ way. LeadsOn mid c.lead.new.table (goes_to way c.args.line)) c.flow_of-flow.ensures c.lead.ensures in
+    let leads : MergesInto mid c.merge_into_successors.new.table (goes_to (flow_of i) c.args.line) = subst (λ way. MergesInto mid c.merge_into_successors.new.table (goes_to way c.args.line)) c.flow_of-flow.ensures c.merge_into_successors.ensures in
     let last : (falls (flow_of i) && not (ltb (c.args.line + 1) (length f.lines))) ≡ false =
     (λ k. falls (sym c.flow_of-flow.ensures k) && not (ltb (c.args.line + 1) (sym c.len-count.ensures k))) ∙ sym c.is_last.ensures ∙ c.if-is_last.false in (
       no_fault allow functions f c.args.line i old mid.stack (sym c.is_bad_target.ensures ∙ c.if-is_bad_target.false) (sym c.is_bad_member.ensures ∙ c.if-is_bad_member.false)
           (sym c.is_bad_jump.ensures ∙ c.if-is_bad_jump.false) does.stack last,
-      λ none. passes_on allow functions f c.args.line i old mid c.lead.new.table does leads,
+      λ none. passes_on allow functions f c.args.line i old mid c.merge_into_successors.new.table does leads,
     )

@@ -19,7 +19,7 @@ returns-in-Some-clause-fault c =
     let i = c.index-lines-line.result in
     let item : i ≡ get_or f.lines c.loop-line.line i = c.index-lines-line.is ∙ ap (λ lines. get_or lines c.loop-line.line i) c.as_slice-lines.ensures in
     let count : length c.as_slice-lines.result.now ≡ length f.lines = ap length c.as_slice-lines.ensures in
-    let still = passed_still c.args.allow.now c.args.functions.now f c.loop-line.line c.loop-line.table c.count_words.new.table c.loop-line.invariant.0 c.in_ok-count_words.ensures.lines in
+    let still = passed_still c.args.allow.now c.args.functions.now f c.loop-line.line c.loop-line.table c.count_words.new.table c.loop-line.invariant.0 c.count_words.ensures.lines in
     faulty c.args.allow.now c.args.functions.now f c.loop-line.line i c.count_words.new.table c.in-Some.kind c.in_ok-found.found still item
     (omega (arith, count, c.loop-line-test.true)) c.in_ok-found.ensures.0 c.in-Some.is
 
@@ -29,14 +29,14 @@ loop-line-preserved c =
     let i = c.index-lines-line.result in
     let item : i ≡ get_or f.lines c.loop-line.line i = c.index-lines-line.is ∙ ap (λ lines. get_or lines c.loop-line.line i) c.as_slice-lines.ensures in
     let count : length c.as_slice-lines.result.now ≡ length f.lines = ap length c.as_slice-lines.ensures in
-    let still = passed_still c.args.allow.now c.args.functions.now f c.loop-line.line c.loop-line.table c.count_words.new.table c.loop-line.invariant.0 c.in_ok-count_words.ensures.lines in (
+    let still = passed_still c.args.allow.now c.args.functions.now f c.loop-line.line c.loop-line.table c.count_words.new.table c.loop-line.invariant.0 c.count_words.ensures.lines in (
       sound c.args.allow.now c.args.functions.now f c.loop-line.line i c.count_words.new.table c.instruction_fault.new.table c.in_ok-found.found still item
           (omega (arith, count, c.loop-line-test.true)) c.in_ok-found.ensures.0 c.in-None.is (c.in_ok-found.ensures.1 c.in-None.is),
-      one_line c.args.allow.now c.args.functions.now f c.loop-line.line c.in_ok-locals.locals c.loop-line.most c.count_words.new.most c.loop-line.table c.loop-line.invariant.0
-          (omega (arith, count, c.loop-line-test.true)) c.in_ok-locals.ensures c.loop-line.invariant.1 c.in_ok-count_words.ensures.rises c.in_ok-count_words.ensures.covers,
-      omega (arith, c.loop-line.invariant.2, c.in_ok-count_words.ensures.rises),
-      least_line c.args.allow.now c.args.functions.now f c.loop-line.line c.in_ok-locals.locals c.args.most.now c.loop-line.most c.count_words.new.most c.loop-line.table c.loop-line.invariant.0
-          (omega (arith, count, c.loop-line-test.true)) c.in_ok-locals.ensures c.loop-line.invariant.3 c.in_ok-count_words.ensures.least,
+      one_line c.args.allow.now c.args.functions.now f c.loop-line.line c.local_count-locals.result c.loop-line.most c.count_words.new.most c.loop-line.table c.loop-line.invariant.0
+          (omega (arith, count, c.loop-line-test.true)) c.local_count-locals.ensures.count c.loop-line.invariant.1 c.count_words.ensures.rises c.count_words.ensures.covers,
+      omega (arith, c.loop-line.invariant.2, c.count_words.ensures.rises),
+      least_line c.args.allow.now c.args.functions.now f c.loop-line.line c.local_count-locals.result c.args.most.now c.loop-line.most c.count_words.new.most c.loop-line.table c.loop-line.invariant.0
+          (omega (arith, count, c.loop-line-test.true)) c.local_count-locals.ensures.count c.loop-line.invariant.3 c.count_words.ensures.least,
     )
 
 pub returns-clause-words : goal.returns-clause-words

@@ -4,7 +4,7 @@ use borrow.Author.Tests.{ltb-true}
 use Rattle.verifier_table.specs.Shapes.{Table, Nowhere, meets}
 use Rattle.verifier_table.specs.Nodes.{stack_at}
 use Rattle.verifier_table.proofs.Places.{within_set, seen_set}
-use Rattle.verifier_table.proofs.table.ShapeTable.lead.Goals as goal
+use Rattle.verifier_table.proofs.table.ShapeTable.merge.Goals as goal
 
 pub invariant_of-self : goal.invariant_of-self
 invariant_of-self c = (c.self.invariant.0, within_set _ c.self.inside.places.items c.args.line c.meeting-met.result c.self.invariant.1 c.meeting-met.ensures.within)
