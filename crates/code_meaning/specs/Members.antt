@@ -8,7 +8,7 @@ use Rattle.allowlist.specs.declared.member.MemberType.{MemberType}
 use Rattle.object_values.specs.declared.value.Value.{Value}
 use Rattle.object_values.specs.declared.value.Value.TheVariants as v
 use Rattle.code_meaning.specs.declared.word.Word.{Word}
-use Rattle.code_meaning.specs.declared.word.Word.TheVariants.{I, J, R}
+use Rattle.code_meaning.specs.declared.word.Word.TheVariants.{R}
 use Rattle.code_meaning.specs.Words.{boxed, unboxed}
 
 abbrev pub reference_in : Word → Option Value

@@ -14,7 +14,7 @@ use Rattle.object_values.specs.declared.object.Target.{Target}
 use Rattle.object_values.specs.declared.object.Target.TheVariants as t
 use Rattle.object_values.specs.declared.value.Value.{Value}
 use Rattle.object_values.specs.declared.value.Value.TheVariants as v
-use Rattle.object_heap.specs.Fits.{AllFit, Captures, Lambda, ObjectFits, Rules, Takes, arity_fits, arity_of, class_is_of, class_of_kind, have_types, has_type, iface_fits, is_arity, kind_is_of, kinds, lambda_fits, passes, value_is_of}
+use Rattle.object_heap.specs.Fits.{Captures, Lambda, ObjectFits, Rules, Takes, arity_fits, arity_of, class_is_of, class_of_kind, have_types, has_type, is_arity, kind_is_of, kinds, lambda_fits, passes, value_is_of}
 use Rattle.object_heap.specs.Fits as heap
 use Rattle.object_heap.specs.Objects.{Kind, kind_of}
 use Rattle.object_heap.specs.Parts.{asked}

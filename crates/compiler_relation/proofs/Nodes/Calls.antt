@@ -17,13 +17,13 @@ use Rattle.pl_code.specs.declared.code.Instruction.{Instruction}
 use Rattle.pl_code.specs.declared.code.Instruction.TheVariants as i
 use Rattle.run_state.specs.World.{Limits, End, Counted, Counts, Passes, enter}
 use Rattle.source_meaning.specs.Tree.{Variable, Fun, Program, Programs, functions_in}
-use Rattle.source_meaning.specs.Meaning.{State, Env, Place, Binding, Out, Done, Thrown, Over, More, Flow, Normal, Broke, Continued, Returned, Meaning, bind, leave, found, lookup, assigned, entry, operated, choose, given_by, default_of, default_of_layer, returned, back, goes_next, goes_again, entered, called, applied, logic, modified, expr_of, exprs_of, value_if, value_or, turned, done_turn, stmt_of, stmts_of}
+use Rattle.source_meaning.specs.Meaning.{State, Env, Out, Done, Thrown, Over, More, Flow, Normal, Broke, Continued, Returned, Meaning, entry, default_of, default_of_layer, back, entered, called}
 use Rattle.code_meaning.specs.declared.word.Word.{Word}
 use Rattle.code_meaning.specs.declared.word.Word.TheVariants.{R}
 use Rattle.code_meaning.specs.Words.{unboxed, start_of}
-use Rattle.code_meaning.specs.Machine.{Codes, code_in, Handlers, Frame, Next, Goes, Ends, Stuck, on_local, on_top, on_int, on_words, on_call, on_enter, on_turn, returns, returns_of, unwind, gives_back, take_words, depth_of, pushed, act, to_line}
+use Rattle.code_meaning.specs.Machine.{Codes, code_in, Handlers, Next, on_words, on_call, on_enter, returns, returns_of, gives_back, take_words, depth_of, pushed}
 use Rattle.compiler_relation.specs.Representation.{Representation, Unboxed, Boxed, Absent, representation_of, representation_of_layer, low, kind_of, result_of_layer}
-use Rattle.compiler_relation.specs.Parts.{constant_code, default_code, default_code_layer, operator_code, operation_code, cast_code, cast_takes, cast_gives, pops, kept_before, kept_behind}
+use Rattle.compiler_relation.specs.Parts.{default_code, default_code_layer}
 use Rattle.compiler_relation.specs.Stands.{Scope, At, AllAt, end_all, falls, all_fall, any_continues, end_stmts, scope_of, no_jumps, ArePresent, representations_of, EndAt, FunAt, Compiled, AreCompiled}
 use Rattle.compiler_relation.proofs.Locals.{Agrees, Under, Falling, Fits, under_more}
 use Rattle.compiler_relation.proofs.Follows.{Ctx, Leads, ended, frame, at, place, does_next, throws, Follows, Sim}
