@@ -1,6 +1,6 @@
 use Rattle.std.proofs.Common.{◌≡◌, [], reverse}
-use Rattle.typing_actions.specs.Stacks.{gathered}
-use Rattle.typing_actions.proofs.stack.Stack.take.Given as goal
+use Rattle.plain_stack.specs.Stacks.{gathered}
+use Rattle.plain_stack.proofs.stack.Stack.take.Given as goal
 
 -- what is taken so far, and how many are still to be
 abbrev pub invariant-loop-left : goal.invariant-loop-left

@@ -1,7 +1,7 @@
 -- What is taken off a stack.
 use Rattle.std.proofs.Common.{◌≡◌, refl, ap, ℕ, zero, suc, ◌-◌, ◌<◌, List, [], ◌∷◌, ◌++◌, reverse, Some, None, arith}
 use Rattle.std.proofs.lemmas.List.{reverse-append}
-use Rattle.typing_actions.specs.Stacks.{gathered}
+use Rattle.plain_stack.specs.Stacks.{gathered}
 
 pub gathered_more : {A : Type 0} (n : ℕ) (x : A) (xs others : List A) → 0 < n → gathered n (x ∷ xs) others ≡ gathered (n - 1) xs (x ∷ others)
 gathered_more zero x xs others h = absurd (omega (arith, h))
