@@ -1,17 +1,16 @@
 -- A body is where its items end.
-use Rattle.std.proofs.Common.{◌≡◌, ℕ, zero, suc, ◌-◌, Bool, true, false, List, [], ◌∷◌, ◌++◌, length, reverse, map, append-nil, Some, Ok, Err, refl, sym, ap, ◌∙◌, arith}
+use Rattle.std.proofs.Common.{◌≡◌, ◌-◌, Bool, false, List, [], ◌∷◌, ◌++◌, length, reverse, map, append-nil, Some, Ok, Err, refl, sym, ap, ◌∙◌, arith}
 use Rattle.std.proofs.lemmas.Grind.{common_steps}
 use Rattle.pl_tree.specs.declared.tree.Statement.{Statement}
 use Rattle.allowlist.specs.Allow.{AllowList}
 use Rattle.typing_rules.specs.declared.header.Header.{Header}
-use Rattle.typing_rules.specs.declared.part.Step.{Step}
 use Rattle.typing_rules.specs.declared.state.State.{State}
 use Rattle.pl_types.specs.declared.refusal.Refusal.{Refusal}
 use Rattle.typing_rules.specs.Doing.{Answer}
 use Rattle.typing_rules.specs.Outcomes.{bind}
 use Rattle.typing_rules.specs.Typing.{doer, statements}
 use Rattle.typing_actions.specs.declared.config.Config.{Config}
-use Rattle.typing_actions.specs.Stacks.{gathered}
+use Rattle.plain_stack.specs.Stacks.{gathered}
 use Rattle.typing_driver.specs.Machine.{run, ended, stacked}
 use Rattle.static_types.specs.Bodies.{steps_of, fresh, items_of}
 

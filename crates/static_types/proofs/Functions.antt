@@ -1,14 +1,13 @@
 -- Bodies, and functions of which some are typed.
-use Rattle.std.proofs.Common.{◌≡◌, refl, sym, ap, ◌∙◌, Bool, true, false, List, [], ◌∷◌, ◌++◌, map, Ok, Err, append-nil, subst, arith}
+use Rattle.std.proofs.Common.{◌≡◌, refl, sym, ap, ◌∙◌, true, false, List, [], ◌∷◌, ◌++◌, map, Ok, Err, append-nil, subst, arith}
 use Rattle.std.specs.Prelude.{Result}
 use Rattle.std.proofs.lemmas.Grind.{common_steps}
 use Rattle.pl_types.specs.declared.refusal.Refusal.{Refusal}
 use Rattle.pl_types.specs.declared.ty.Ty.{Ty}
-use Rattle.pl_tree.specs.declared.tree.Block.{Block, out-Block}
+use Rattle.pl_tree.specs.declared.tree.Block.{out-Block}
 use Rattle.pl_tree.specs.declared.tree.Function.{Function}
 use Rattle.pl_tree.specs.declared.tree.Statement.{Statement}
 use Rattle.pl_tree.specs.declared.tree.Tree.{Tree}
-use Rattle.typed_tree.specs.declared.program.Program.{Program}
 use Rattle.pl_tree.specs.declared.tree.Argument.TheFolds.{fold_out-Block}
 use Rattle.typed_tree.specs.declared.program.TypedFunction.{TypedFunction}
 use Rattle.typed_tree.specs.declared.statement.TypedVariable.{TypedVariable}
@@ -19,9 +18,9 @@ use Rattle.typing_rules.specs.declared.part.Caught.{Caught}
 use Rattle.typing_rules.specs.declared.part.Part.{Part}
 use Rattle.typing_rules.specs.declared.part.Step.{Step}
 use Rattle.typing_rules.specs.Outcomes.{Out, bind}
-use Rattle.typing_rules.specs.Doing.{Doing, Answer, Whole}
+use Rattle.typing_rules.specs.Doing.{Doing, Whole}
 use Rattle.typing_rules.specs.Rules.Functions.{headers, function_start, main_start, finished, main}
-use Rattle.typing_rules.specs.Typing.{Reading, Doer, Braces, Seen, ran, doer, braces, statements, function_of, main_of, functions, program, typing_of, argument_step, body_step, expression_step, first_step, lambda_step, statement_step, block_step, catch_step, declaration_step, entry_step, variable_step}
+use Rattle.typing_rules.specs.Typing.{Reading, Doer, Braces, Seen, ran, doer, statements, function_of, main_of, functions, program, typing_of, argument_step, body_step, expression_step, first_step, lambda_step, statement_step, block_step, catch_step, declaration_step, entry_step, variable_step}
 use Rattle.pl_types.specs.declared.refusal.Fail.{Fail}
 use Rattle.pl_types.specs.declared.refusal.Fail.TheVariants.{Refused, NoMemory}
 use Rattle.typing_rules.specs.Outcomes.{Keeps}

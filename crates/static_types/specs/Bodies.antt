@@ -1,7 +1,7 @@
 -- The statements of a body.
 use Rattle.std.specs.declared.alloc.Global.{Global}
 use Rattle.std.specs.declared.vec.Vec.{Vec}
-use Rattle.std.specs.Prelude.{◌≡◌, Bool, false, List, [], ◌∷◌, map, reverse, Option, Some, None, Result, Ok, Err}
+use Rattle.std.specs.Prelude.{◌≡◌, Bool, false, List, [], ◌∷◌, map, Result, Ok, Err}
 use Rattle.pl_types.specs.declared.refusal.Fail.{Fail}
 use Rattle.pl_types.specs.declared.refusal.Fail.TheVariants.{Refused, NoMemory}
 use Rattle.pl_tree.specs.declared.tree.Statement.{Statement}
@@ -39,8 +39,3 @@ abbrev pub Ends : Answer → Result Config Fail → Type 0
 Ends o (Ok c) = o ≡ ended c
 Ends o (Err (Refused r)) = o ≡ Err r
 Ends o (Err NoMemory) = Unit {0}
-
--- all that is on a stack is taken, the uppermost last
-abbrev pub TakesAll : List Step → Option (Vec Step Global) → Type 0
-TakesAll steps None = Unit {0}
-TakesAll steps (Some taken) = taken.items ≡ reverse steps

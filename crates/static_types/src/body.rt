@@ -1,6 +1,6 @@
 //! The statements of a body.
 
-ghost use Rattle.std.specs.Prelude.{◌≡◌, IfOk};
+ghost use Rattle.std.specs.Prelude.{◌≡◌, reverse, IfOk, Ok};
 ghost use Rattle.typing_driver.specs.Machine as worklist;
 ghost use Rattle.static_types.specs.Bodies as spec;
 
@@ -8,8 +8,9 @@ use allowlist::Allow;
 use pl_tree::Statement;
 use pl_types::Fail;
 use plain_data::{Items, Subtree};
+use plain_stack::Stack;
 use std::alloc::{AllocError, Global};
-use typing_actions::{Config, Stack};
+use typing_actions::{Config, take_up};
 use typing_driver::{StatementItem, WorkItem, Worklist, run};
 use typing_rules::{Header, State, Step};
 
@@ -61,10 +62,10 @@ fn ended(
 
 /// The statements that are typed.
 #[tactic(auto, using(crate::proofs::Ends::taken_all))]
-fn steps_in(alloc: Global, mut config: Config) -> Result<Option<Vec<Step>>, AllocError>
-    ensures { IfOk result (λ taken. spec.TakesAll config.steps taken) }
+fn steps_in(alloc: Global, mut config: Config) -> Result<Vec<Step>, Fail>
+    ensures { spec.KeepsSteps (Ok (reverse config.steps)) result }
 {
-    config.steps.take_above(alloc, 0)
+    take_up(alloc, &mut config.steps, 0)
 }
 
 /// The statements of a body, in what is known where it begins.
@@ -80,8 +81,5 @@ pub fn body(
     ensures { spec.KeepsSteps (spec.steps_of allow.now headers.now in_main all.now state) result }
 {
     let config = ended(alloc, allow, headers, state, all, in_main)?;
-    match steps_in(alloc, config)? {
-        Some(steps) => Ok(steps),
-        None => Err(Fail::NoMemory),
-    }
+    steps_in(alloc, config)
 }

@@ -1,6 +1,6 @@
 //! From the tree of a script to its program.
 
-ghost use Rattle.std.specs.Prelude.{◌≡◌, [], false};
+ghost use Rattle.std.specs.Prelude.{[], false};
 ghost use Rattle.pl_tree.specs.declared.tree.Block.{out-Block};
 ghost use Rattle.typing_rules.specs.Outcomes.{Keeps};
 ghost use Rattle.typing_rules.specs.Rules.Functions as functions;

@@ -1,18 +1,21 @@
 -- Stacks, each a list that begins with its top.
 use Rattle.std.specs.declared.alloc.Global.{Global}
 use Rattle.std.specs.declared.vec.Vec.{Vec}
-use Rattle.std.specs.Prelude.{◌≡◌, Bool, true, false, ℕ, zero, suc, ◌-◌, length, List, [], ◌∷◌, Option, Some, None, Result, Ok, Err}
+use Rattle.std.specs.Prelude.{◌≡◌, Bool, true, false, ℕ, ◌-◌, length, List, [], ◌∷◌, Option, Some, None, Result, Ok, Err}
 use Rattle.std.specs.declared.alloc.AllocError.{AllocError}
 use Rattle.pl_types.specs.declared.refusal.Fail.{Fail}
 use Rattle.pl_types.specs.declared.refusal.Fail.TheVariants.{Refused, NoMemory}
+use Rattle.plain_stack.specs.Stacks.{gathered}
 use Rattle.typed_tree.specs.declared.typed.Typed.{Typed}
 use Rattle.typing_rules.specs.declared.part.Part.{Part}
 use Rattle.typing_rules.specs.declared.part.Place.{Place}
 use Rattle.typing_rules.specs.declared.part.Step.{Step}
-use Rattle.typing_rules.specs.Outcomes.{Out, refuse, bind, KeepsIn}
+use Rattle.typing_rules.specs.Outcomes.{Out, refuse, refusal, bind, KeepsIn}
 use Rattle.typing_actions.specs.declared.config.Config.{Config}
 
--- a part that an act takes is not there: never so, where acts are done in their order
+-- A part that an act takes is not there. No rule has the number 0. A body's meaning keeps its parts on no stack, so it is never this; and
+-- what items come to is that meaning, whatever the tree. So acts that are done in their order are never stuck: code that took a part from
+-- another stack would answer what the meaning is not.
 abbrev pub stuck : {A : Type 0} → Out A
 stuck = refuse 0 0
 
@@ -28,31 +31,21 @@ two xs f = one xs (λ y below. one below (λ x rest. f x y rest))
 abbrev pub three : {A B : Type 0} → List A → (A → A → A → List A → Out B) → Out B
 three xs f = one xs (λ z below. two below (λ x y rest. f x y z rest))
 
--- so many from the top, the uppermost last, before some others
-abbrev pub gathered : {A : Type 0} → ℕ → List A → List A → Option (List A × List A)
-gathered zero xs others = Some (others, xs)
-gathered (suc n) [] others = None
-gathered (suc n) (x ∷ xs) others = gathered n xs (x ∷ others)
-
--- what is taken, and what is left
-abbrev pub Takes : {A : Type 0} → ℕ → List A → List A → Option (Vec A Global) → Type 0
-Takes n old new None = gathered n old [] ≡ None
-Takes n old new (Some taken) = gathered n old [] ≡ Some (taken.items, new)
-
 abbrev pub some_gathered : {A B : Type 0} → Option (List A × List A) → (List A → List A → Out B) → Out B
 some_gathered None f = stuck
 some_gathered (Some p) f = f p.0 p.1
 
--- what is taken above a height; nothing is said where it is not there
+-- what is taken above a height; where it is not there, the act is stuck
 abbrev pub TakesUp : {A : Type 0} → ℕ → List A → List A → Result (Vec A Global) Fail → Type 0
 TakesUp n old new (Ok taken) = gathered n old [] ≡ Some (taken.items, new)
 TakesUp n old new (Err NoMemory) = Unit {0}
-TakesUp n old new (Err (Refused r)) = ⊥
+TakesUp n old new (Err (Refused r)) = (gathered n old [] ≡ None) × (r ≡ refusal 0 0)
 
--- two are taken, the upper one last; nothing is said where there are not so many
-abbrev pub PopsTwo : {A : Type 0} → List A → List A → Option (A × A) → Type 0
-PopsTwo old new None = Unit {0}
-PopsTwo old new (Some p) = old ≡ p.1 ∷ p.0 ∷ new
+-- the top is taken; where none is there, the act is stuck
+abbrev pub TakesTop : {A : Type 0} → List A → List A → Result A Fail → Type 0
+TakesTop old new (Ok x) = old ≡ x ∷ new
+TakesTop old new (Err NoMemory) = ⊥
+TakesTop old new (Err (Refused r)) = (old ≡ []) × (r ≡ refusal 0 0)
 
 -- what a rule gives is put on the top, and its refusal is passed on
 abbrev pub Puts : {A U : Type 0} → Result A Fail → List A → Result U Fail → List A → Type 0
@@ -63,12 +56,14 @@ Puts (Err fail) old result new = result ≡ Err fail
 abbrev pub many : {A B : Type 0} → ℕ → List A → (List A → List A → Out B) → Out B
 many n xs f = some_gathered (gathered n xs []) f
 
--- a step that is there or not is taken; nothing is said where it is missing
-abbrev pub PopsIf : Bool → List Step → List Step → Option (Option Step) → Type 0
-PopsIf there old new None = Unit {0}
-PopsIf false old new (Some y) = (y ≡ None) × (new ≡ old)
-PopsIf true old new (Some None) = ⊥
-PopsIf true old new (Some (Some y)) = old ≡ y ∷ new
+-- a step that is there or not is taken; where it is missing, the act is stuck
+abbrev pub TakesIf : Bool → List Step → List Step → Result (Option Step) Fail → Type 0
+TakesIf false old new (Ok y) = (y ≡ None) × (new ≡ old)
+TakesIf false old new (Err fail) = ⊥
+TakesIf true old new (Ok None) = ⊥
+TakesIf true old new (Ok (Some y)) = old ≡ y ∷ new
+TakesIf true old new (Err NoMemory) = ⊥
+TakesIf true old new (Err (Refused r)) = (old ≡ []) × (r ≡ refusal 0 0)
 
 -- what is done with what stands above a height, and what is below
 abbrev pub above : {A B : Type 0} → ℕ → List A → (List A → List A → Out B) → Out B
@@ -89,10 +84,11 @@ with_step c o = bind o (λ y. Ok (record c { steps = y ∷ c.steps }))
 abbrev pub with_test : Config → Out (Option Typed) → Out Config
 with_test c o = bind o (λ t. Ok (record c { tests = t ∷ c.tests }))
 
--- the top of the parts is taken; nothing is said where there is none
-abbrev pub PopsPart : Config → Config → Option Part → Type 0
-PopsPart old new None = Unit {0}
-PopsPart old new (Some x) = old ≡ put_part new new.parts x
+-- the top of the parts is taken; where none is there, the act is stuck
+abbrev pub TakesPart : Config → Config → Result Part Fail → Type 0
+TakesPart old new (Ok x) = old ≡ put_part new new.parts x
+TakesPart old new (Err NoMemory) = ⊥
+TakesPart old new (Err (Refused r)) = (old.parts ≡ []) × (r ≡ refusal 0 0)
 
 -- a part that a rule gives is put on the parts, and the rule's refusal is passed on
 abbrev pub PutsPart : {U : Type 0} → Result Part Fail → Config → Result U Fail → Config → Type 0

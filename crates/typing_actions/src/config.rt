@@ -1,10 +1,11 @@
 //! What typing has so far.
 
-ghost use Rattle.typing_actions.specs.Stacks.{PopsPart, PutsPart, PutsStep, PutsBuilt, PutsTest};
+ghost use Rattle.typing_actions.specs.Stacks.{TakesPart, PutsPart, PutsStep, PutsBuilt, PutsTest};
 
-use crate::stack::Stack;
+use crate::stack::{put, put_given, take_top};
 use pl_types::Fail;
 use plain_data::Subtree;
+use plain_stack::Stack;
 use std::alloc::AllocError;
 use typed_tree::{Typed, TypedVariable};
 use typing_rules::{Caught, Part, Place, State, Step};
@@ -37,25 +38,25 @@ impl Drop for Config {
 }
 
 impl Config {
-    /// Takes the top of the parts off.
-    pub(crate) fn pop_part(&mut self) -> Option<Part>
-        ensures { PopsPart self.old self.new result }
+    /// Takes the top of the parts off, as an act begins.
+    pub(crate) fn take_part(&mut self) -> Result<Part, Fail>
+        ensures { TakesPart self.old self.new result }
     {
-        self.parts.pop()
+        take_top(&mut self.parts)
     }
 
     /// Puts the part that a rule gives on the parts, as an act ends, or passes on what the rule refuses.
     pub(crate) fn put_part(&mut self, given: Result<Part, Fail>) -> Result<(), Fail>
         ensures { PutsPart given self.old result self.new }
     {
-        self.parts.put_given(given)
+        put_given(&mut self.parts, given)
     }
 
     /// The same of a step.
     pub(crate) fn put_step(&mut self, given: Result<Step, Fail>) -> Result<(), Fail>
         ensures { PutsStep given self.old result self.new }
     {
-        self.steps.put_given(given)
+        put_given(&mut self.steps, given)
     }
 
     /// The same of a step whose rule refuses nothing.
@@ -63,7 +64,7 @@ impl Config {
         ensures { PutsBuilt built self.old result self.new }
     {
         match built {
-            Ok(step) => self.steps.put(step),
+            Ok(step) => put(&mut self.steps, step),
             Err(_) => Err(Fail::NoMemory),
         }
     }
@@ -73,7 +74,7 @@ impl Config {
         ensures { PutsTest given self.old result self.new }
     {
         match given {
-            Ok(test) => self.tests.put(Some(test)),
+            Ok(test) => put(&mut self.tests, Some(test)),
             Err(fail) => Err(fail),
         }
     }

@@ -5,6 +5,7 @@ ghost use Rattle.typing_rules.specs.Outcomes.{KeepsIn};
 ghost use Rattle.typing_actions.specs.Expressions as spec;
 
 use crate::config::Config;
+use crate::stack::{put, take_up};
 use pl_tree::{BinaryOperator, Constant, TypeName, UnaryOperator};
 use pl_types::Fail;
 use plain_data::Text;
@@ -63,9 +64,8 @@ pub fn binary(
 ) -> Result<(), Fail>
     ensures { KeepsIn (spec.binary operator at config.old) result config.new }
 {
-    let Some((x, y)) = config.parts.pop_two() else {
-        return Err(Fail::NoMemory);
-    };
+    let y = config.take_part()?;
+    let x = config.take_part()?;
     config.put_part(operators::binary_of(alloc, operator, at, x, y))
 }
 
@@ -78,9 +78,7 @@ pub fn unary(
 ) -> Result<(), Fail>
     ensures { KeepsIn (spec.unary operator at config.old) result config.new }
 {
-    let Some(x) = config.pop_part() else {
-        return Err(Fail::NoMemory);
-    };
+    let x = config.take_part()?;
     config.put_part(operators::unary_of(alloc, operator, at, x))
 }
 
@@ -88,12 +86,9 @@ pub fn unary(
 pub fn choice(alloc: Global, config: &mut Config, at: u32) -> Result<(), Fail>
     ensures { KeepsIn (spec.choice at config.old) result config.new }
 {
-    let Some(no) = config.pop_part() else {
-        return Err(Fail::NoMemory);
-    };
-    let Some((condition, yes)) = config.parts.pop_two() else {
-        return Err(Fail::NoMemory);
-    };
+    let no = config.take_part()?;
+    let yes = config.take_part()?;
+    let condition = config.take_part()?;
     config.put_part(operators::choice_of(alloc, at, condition, yes, no))
 }
 
@@ -101,9 +96,8 @@ pub fn choice(alloc: Global, config: &mut Config, at: u32) -> Result<(), Fail>
 pub fn elvis(alloc: Global, config: &mut Config, at: u32) -> Result<(), Fail>
     ensures { KeepsIn (spec.elvis at config.old) result config.new }
 {
-    let Some((x, y)) = config.parts.pop_two() else {
-        return Err(Fail::NoMemory);
-    };
+    let y = config.take_part()?;
+    let x = config.take_part()?;
     config.put_part(operators::elvis_of(alloc, at, x, y))
 }
 
@@ -111,9 +105,7 @@ pub fn elvis(alloc: Global, config: &mut Config, at: u32) -> Result<(), Fail>
 pub fn instance_of(alloc: Global, config: &mut Config, at: u32, of: &TypeName) -> Result<(), Fail>
     ensures { KeepsIn (spec.instance_of at of.now config.old) result config.new }
 {
-    let Some(x) = config.pop_part() else {
-        return Err(Fail::NoMemory);
-    };
+    let x = config.take_part()?;
     let of = types::type_of(of)?;
     config.put_part(operators::instance_of(alloc, at, x, &of))
 }
@@ -122,19 +114,15 @@ pub fn instance_of(alloc: Global, config: &mut Config, at: u32, of: &TypeName) -
 pub fn bracketed(config: &mut Config, at: u32) -> Result<(), Fail>
     ensures { KeepsIn (spec.bracketed at config.old) result config.new }
 {
-    let Some(x) = config.pop_part() else {
-        return Err(Fail::NoMemory);
-    };
-    config.parts.put(x.bracketed(at))
+    let x = config.take_part()?;
+    put(&mut config.parts, x.bracketed(at))
 }
 
 /// A cast that is written.
 pub fn asked(alloc: Global, config: &mut Config, at: u32, of: &TypeName) -> Result<(), Fail>
     ensures { KeepsIn (spec.asked at of.now config.old) result config.new }
 {
-    let Some(x) = config.pop_part() else {
-        return Err(Fail::NoMemory);
-    };
+    let x = config.take_part()?;
     let to = types::type_of(of)?;
     config.put_part(casts::asked(alloc, at, &to, x))
 }
@@ -150,6 +138,6 @@ pub fn call(
 ) -> Result<(), Fail>
     ensures { KeepsIn (spec.call headers.now at name.now height config.old) result config.new }
 {
-    let given = config.parts.take_up(alloc, height)?;
+    let given = take_up(alloc, &mut config.parts, height)?;
     config.put_part(calls::call_of(alloc, headers, at, name, given))
 }

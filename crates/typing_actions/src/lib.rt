@@ -11,4 +11,4 @@ mod stack;
 pub mod statements;
 
 pub use config::Config;
-pub use stack::Stack;
+pub use stack::{take_top, take_up};

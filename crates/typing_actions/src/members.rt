@@ -5,6 +5,7 @@ ghost use Rattle.typing_rules.specs.Outcomes.{KeepsIn};
 ghost use Rattle.typing_actions.specs.Members as spec;
 
 use crate::config::Config;
+use crate::stack::take_up;
 use allowlist::Allow;
 use pl_tree::{Access, TypeName};
 use pl_types::Fail;
@@ -24,10 +25,8 @@ pub fn method(
 ) -> Result<(), Fail>
     ensures { KeepsIn (spec.method allow.now at access name.now height config.old) result config.new }
 {
-    let given = config.parts.take_up(alloc, height)?;
-    let Some(x) = config.pop_part() else {
-        return Err(Fail::NoMemory);
-    };
+    let given = take_up(alloc, &mut config.parts, height)?;
+    let x = config.take_part()?;
     config.put_part(members::method_of(alloc, allow, access, at, name, x, given))
 }
 
@@ -44,7 +43,7 @@ pub fn static_call(
 ) -> Result<(), Fail>
     ensures { KeepsIn (spec.static allow.now at access of.now name.now height config.old) result config.new }
 {
-    let given = config.parts.take_up(alloc, height)?;
+    let given = take_up(alloc, &mut config.parts, height)?;
     let of = types::type_of(of)?;
     config.put_part(members::static_of(alloc, allow, access, at, name, &of, given))
 }
@@ -60,7 +59,7 @@ pub fn made(
 ) -> Result<(), Fail>
     ensures { KeepsIn (spec.made allow.now at of.now height config.old) result config.new }
 {
-    let given = config.parts.take_up(alloc, height)?;
+    let given = take_up(alloc, &mut config.parts, height)?;
     let of = types::type_of(of)?;
     config.put_part(members::new_of(alloc, allow, at, &of, given))
 }
@@ -76,9 +75,7 @@ pub fn read(
 ) -> Result<(), Fail>
     ensures { KeepsIn (spec.read allow.now at access name.now config.old) result config.new }
 {
-    let Some(x) = config.pop_part() else {
-        return Err(Fail::NoMemory);
-    };
+    let x = config.take_part()?;
     config.put_part(members::read_of(alloc, allow, access, at, name, x))
 }
 

@@ -5,6 +5,7 @@ ghost use Rattle.typing_rules.specs.Outcomes.{KeepsIn};
 ghost use Rattle.typing_actions.specs.Places as spec;
 
 use crate::config::Config;
+use crate::stack::{put, put_given, take_top};
 use pl_tree::{BinaryOperator, Step};
 use pl_types::Fail;
 use plain_data::Text;
@@ -18,17 +19,15 @@ pub fn written(alloc: Global, config: &mut Config, at: u32, name: &Text) -> Resu
     ensures { KeepsIn (spec.written at name.now config.old) result config.new }
 {
     let place = places::written(alloc, at, name, &config.state);
-    config.places.put_given(place)
+    put_given(&mut config.places, place)
 }
 
 /// What is no name.
 pub fn fixed(config: &mut Config) -> Result<(), Fail>
     ensures { KeepsIn (spec.fixed config.old) result config.new }
 {
-    let Some(_part) = config.pop_part() else {
-        return Err(Fail::NoMemory);
-    };
-    config.places.put(Place::Fixed)
+    let _part = config.take_part()?;
+    put(&mut config.places, Place::Fixed)
 }
 
 /// An assignment.
@@ -40,12 +39,8 @@ pub fn assign(
 ) -> Result<(), Fail>
     ensures { KeepsIn (spec.assign at operator config.old) result config.new }
 {
-    let Some(x) = config.pop_part() else {
-        return Err(Fail::NoMemory);
-    };
-    let Some(place) = config.places.pop() else {
-        return Err(Fail::NoMemory);
-    };
+    let x = config.take_part()?;
+    let place = take_top(&mut config.places)?;
     config.put_part(places::assign_of(alloc, at, operator, place, x))
 }
 
@@ -59,8 +54,6 @@ pub fn step(
 ) -> Result<(), Fail>
     ensures { KeepsIn (spec.step at step gives config.old) result config.new }
 {
-    let Some(place) = config.places.pop() else {
-        return Err(Fail::NoMemory);
-    };
+    let place = take_top(&mut config.places)?;
     config.put_part(places::step_of(alloc, at, step, gives, place))
 }

@@ -3,13 +3,14 @@
 ghost use Rattle.std.specs.Prelude.{◌≡◌};
 ghost use Rattle.typing_rules.specs.Outcomes.{KeepsIn};
 ghost use Rattle.typing_actions.specs.Statements as spec;
-ghost use Rattle.typing_actions.specs.Stacks.{PopsIf};
+ghost use Rattle.typing_actions.specs.Stacks.{TakesIf};
 
 use crate::config::Config;
-use crate::stack::Stack;
+use crate::stack::{put, put_given, stuck, take_top, take_up};
 use pl_tree::{Spelled, TypeName};
 use pl_types::{Fail, Refusal, Ty, rules};
 use plain_data::{Items, Text};
+use plain_stack::Stack;
 use std::alloc::Global;
 use typing_rules::rules::{casts, statements, types};
 use typing_rules::{Form, Step};
@@ -18,9 +19,7 @@ use typing_rules::{Form, Step};
 pub fn test(alloc: Global, config: &mut Config) -> Result<(), Fail>
     ensures { KeepsIn (spec.test config.old) result config.new }
 {
-    let Some(x) = config.pop_part() else {
-        return Err(Fail::NoMemory);
-    };
+    let x = config.take_part()?;
     config.put_test(statements::test(alloc, x))
 }
 
@@ -28,26 +27,22 @@ pub fn test(alloc: Global, config: &mut Config) -> Result<(), Fail>
 pub fn loop_test(alloc: Global, config: &mut Config) -> Result<(), Fail>
     ensures { KeepsIn (spec.loop_test config.old) result config.new }
 {
-    let Some(x) = config.pop_part() else {
-        return Err(Fail::NoMemory);
-    };
-    config.tests.put_given(statements::loop_test(alloc, x))
+    let x = config.take_part()?;
+    put_given(&mut config.tests, statements::loop_test(alloc, x))
 }
 
 /// A test, an update or a first value that is missing.
 pub fn no_test(config: &mut Config) -> Result<(), Fail>
     ensures { KeepsIn (spec.no_test config.old) result config.new }
 {
-    config.tests.put(None)
+    put(&mut config.tests, None)
 }
 
 /// What a `for` begins with.
 pub fn deed(alloc: Global, config: &mut Config, at: u32) -> Result<(), Fail>
     ensures { KeepsIn (spec.deed at config.old) result config.new }
 {
-    let Some(x) = config.pop_part() else {
-        return Err(Fail::NoMemory);
-    };
+    let x = config.take_part()?;
     config.put_step(statements::deed(alloc, at, x))
 }
 
@@ -55,25 +50,21 @@ pub fn deed(alloc: Global, config: &mut Config, at: u32) -> Result<(), Fail>
 pub fn update(config: &mut Config, at: u32) -> Result<(), Fail>
     ensures { KeepsIn (spec.update at config.old) result config.new }
 {
-    let Some(x) = config.pop_part() else {
-        return Err(Fail::NoMemory);
-    };
+    let x = config.take_part()?;
     let Form::Deed = x.form else {
         return Err(Fail::Refused(Refusal {
             number: rules::NOT_A_STATEMENT,
             offset: at,
         }));
     };
-    config.tests.put(Some(x.into_typed()))
+    put(&mut config.tests, Some(x.into_typed()))
 }
 
 /// What a variable begins with.
 pub fn initial(alloc: Global, config: &mut Config, of: &TypeName) -> Result<(), Fail>
     ensures { KeepsIn (spec.initial of.now config.old) result config.new }
 {
-    let Some(x) = config.pop_part() else {
-        return Err(Fail::NoMemory);
-    };
+    let x = config.take_part()?;
     let to = types::type_of(of)?;
     config.put_test(casts::cast_to(alloc, &to, x))
 }
@@ -87,20 +78,19 @@ pub fn variable(
 ) -> Result<(), Fail>
     ensures { KeepsIn (spec.variable name.now of.now config.old) result config.new }
 {
-    let Some(value) = config.tests.pop() else {
-        return Err(Fail::NoMemory);
-    };
+    let value = take_top(&mut config.tests)?;
     let to = types::type_of(of)?;
-    config.variables.put_given(statements::variable_of(alloc, name, &to, value, &mut config.state))
+    put_given(
+        &mut config.variables,
+        statements::variable_of(alloc, name, &to, value, &mut config.state),
+    )
 }
 
 /// An expression statement.
 pub fn expression(alloc: Global, config: &mut Config, at: u32, last: bool) -> Result<(), Fail>
     ensures { KeepsIn (spec.expression at last config.old) result config.new }
 {
-    let Some(x) = config.pop_part() else {
-        return Err(Fail::NoMemory);
-    };
+    let x = config.take_part()?;
     let step = statements::expression_of(alloc, at, last, x, &config.state);
     config.put_step(step)
 }
@@ -109,9 +99,7 @@ pub fn expression(alloc: Global, config: &mut Config, at: u32, last: bool) -> Re
 pub fn return_value(alloc: Global, config: &mut Config, at: u32) -> Result<(), Fail>
     ensures { KeepsIn (spec.return_value at config.old) result config.new }
 {
-    let Some(x) = config.pop_part() else {
-        return Err(Fail::NoMemory);
-    };
+    let x = config.take_part()?;
     let step = statements::return_of(alloc, at, x, &config.state);
     config.put_step(step)
 }
@@ -120,9 +108,7 @@ pub fn return_value(alloc: Global, config: &mut Config, at: u32) -> Result<(), F
 pub fn throw(alloc: Global, config: &mut Config, at: u32) -> Result<(), Fail>
     ensures { KeepsIn (spec.throw at config.old) result config.new }
 {
-    let Some(x) = config.pop_part() else {
-        return Err(Fail::NoMemory);
-    };
+    let x = config.take_part()?;
     config.put_step(statements::throw_of(alloc, at, x))
 }
 
@@ -154,7 +140,7 @@ pub fn continue_loop(alloc: Global, config: &mut Config, at: u32) -> Result<(), 
 pub fn block(alloc: Global, config: &mut Config, at: u32, height: usize) -> Result<(), Fail>
     ensures { KeepsIn (spec.block at height config.old) result config.new }
 {
-    let steps = config.steps.take_up(alloc, height)?;
+    let steps = take_up(alloc, &mut config.steps, height)?;
     config.put_built(statements::block_of(alloc, at, steps))
 }
 
@@ -162,7 +148,7 @@ pub fn block(alloc: Global, config: &mut Config, at: u32, height: usize) -> Resu
 pub fn declaration(alloc: Global, config: &mut Config, at: u32, height: usize) -> Result<(), Fail>
     ensures { KeepsIn (spec.declaration at height config.old) result config.new }
 {
-    let variables = config.variables.take_up(alloc, height)?;
+    let variables = take_up(alloc, &mut config.variables, height)?;
     config.put_built(statements::declaration_of(alloc, at, Items::from_vec(variables)))
 }
 
@@ -170,11 +156,10 @@ pub fn declaration(alloc: Global, config: &mut Config, at: u32, height: usize) -
 pub fn if_alone(alloc: Global, config: &mut Config, at: u32) -> Result<(), Fail>
     ensures { KeepsIn (spec.if_alone at config.old) result config.new }
 {
-    let Some(Some(condition)) = config.tests.pop() else {
-        return Err(Fail::NoMemory);
-    };
-    let Some(then) = config.steps.pop() else {
-        return Err(Fail::NoMemory);
+    let test = take_top(&mut config.tests)?;
+    let then = take_top(&mut config.steps)?;
+    let Some(condition) = test else {
+        return Err(stuck());
     };
     config.put_built(statements::if_of(alloc, at, condition, then, None))
 }
@@ -183,25 +168,25 @@ pub fn if_alone(alloc: Global, config: &mut Config, at: u32) -> Result<(), Fail>
 pub fn if_else(alloc: Global, config: &mut Config, at: u32) -> Result<(), Fail>
     ensures { KeepsIn (spec.if_else at config.old) result config.new }
 {
-    let Some(Some(condition)) = config.tests.pop() else {
-        return Err(Fail::NoMemory);
-    };
-    let Some((then, otherwise)) = config.steps.pop_two() else {
-        return Err(Fail::NoMemory);
+    let test = take_top(&mut config.tests)?;
+    let otherwise = take_top(&mut config.steps)?;
+    let then = take_top(&mut config.steps)?;
+    let Some(condition) = test else {
+        return Err(stuck());
     };
     config.put_built(statements::if_of(alloc, at, condition, then, Some(otherwise)))
 }
 
-/// A step, if one is there. `None` where it is missing.
-fn pop_if(steps: &mut Stack<Step>, there: bool) -> Option<Option<Step>>
-    ensures { PopsIf there steps.old steps.new result }
+/// Takes a step off, if one is there.
+fn take_if(steps: &mut Stack<Step>, there: bool) -> Result<Option<Step>, Fail>
+    ensures { TakesIf there steps.old steps.new result }
 {
     if !there {
-        return Some(None);
+        return Ok(None);
     }
-    match steps.pop() {
-        Some(step) => Some(Some(step)),
-        None => None,
+    match take_top(steps) {
+        Ok(step) => Ok(Some(step)),
+        Err(fail) => Err(fail),
     }
 }
 
@@ -215,15 +200,10 @@ pub fn whole_loop(
 ) -> Result<(), Fail>
     ensures { KeepsIn (spec.whole_loop at has_first has_body config.old) result config.new }
 {
-    let Some((test, update)) = config.tests.pop_two() else {
-        return Err(Fail::NoMemory);
-    };
-    let Some(body) = pop_if(&mut config.steps, has_body) else {
-        return Err(Fail::NoMemory);
-    };
-    let Some(first) = pop_if(&mut config.steps, has_first) else {
-        return Err(Fail::NoMemory);
-    };
+    let update = take_top(&mut config.tests)?;
+    let test = take_top(&mut config.tests)?;
+    let body = take_if(&mut config.steps, has_body)?;
+    let first = take_if(&mut config.steps, has_first)?;
     config.put_built(statements::loop_of(alloc, at, first, test, update, body))
 }
 
@@ -231,12 +211,8 @@ pub fn whole_loop(
 pub fn do_loop(alloc: Global, config: &mut Config, at: u32) -> Result<(), Fail>
     ensures { KeepsIn (spec.do_loop at config.old) result config.new }
 {
-    let Some(test) = config.tests.pop() else {
-        return Err(Fail::NoMemory);
-    };
-    let Some(body) = config.steps.pop() else {
-        return Err(Fail::NoMemory);
-    };
+    let test = take_top(&mut config.tests)?;
+    let body = take_top(&mut config.steps)?;
     config.put_built(statements::do_of(alloc, at, body, test))
 }
 
@@ -267,12 +243,10 @@ pub fn catch(
 ) -> Result<(), Fail>
     ensures { KeepsIn (spec.catch at of.now name.now config.old) result config.new }
 {
-    let Some(body) = config.steps.pop() else {
-        return Err(Fail::NoMemory);
-    };
+    let body = take_top(&mut config.steps)?;
     let class = types::caught_class(of)?;
     match statements::caught(alloc, at, class, name, body) {
-        Ok(caught) => config.catches.put(caught),
+        Ok(caught) => put(&mut config.catches, caught),
         Err(_) => Err(Fail::NoMemory),
     }
 }
@@ -281,9 +255,7 @@ pub fn catch(
 pub fn whole_try(alloc: Global, config: &mut Config, at: u32, height: usize) -> Result<(), Fail>
     ensures { KeepsIn (spec.whole_try at height config.old) result config.new }
 {
-    let catches = config.catches.take_up(alloc, height)?;
-    let Some(body) = config.steps.pop() else {
-        return Err(Fail::NoMemory);
-    };
+    let catches = take_up(alloc, &mut config.catches, height)?;
+    let body = take_top(&mut config.steps)?;
     config.put_built(statements::try_of(alloc, at, body, catches))
 }

@@ -102,7 +102,7 @@ fn begun(
 ) -> Result<(), Fail>
     ensures { KeepsIn (deeds.deed (reading allow.now headers.now e.now).first config.old) result config.new }
 {
-    let first = first_of(allow, headers, e)?;
+    let first = first_of(allow, headers, e);
     statements::deed(alloc, config, first)
 }
 
@@ -110,7 +110,7 @@ fn begun(
 fn updated(allow: &Allow, headers: &[Header], config: &mut Config, e: &Expr) -> Result<(), Fail>
     ensures { KeepsIn (deeds.update (reading allow.now headers.now e.now).first config.old) result config.new }
 {
-    let first = first_of(allow, headers, e)?;
+    let first = first_of(allow, headers, e);
     statements::update(config, first)
 }
 

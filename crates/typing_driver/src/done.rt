@@ -1,6 +1,6 @@
 //! What is done once parts are typed, before the items that are left.
 
-ghost use Rattle.std.specs.Prelude.{◌≡◌, ◌∷◌};
+ghost use Rattle.std.specs.Prelude.{◌∷◌};
 ghost use Rattle.typing_worklist.specs.Going.{Goes};
 ghost use Rattle.typing_worklist.specs.Item as j;
 ghost use Rattle.typing_worklist.specs.Items.{word_item, binding_item};

@@ -1,6 +1,6 @@
 //! The pass: items until none is left.
 
-ghost use Rattle.std.specs.Prelude.{◌≡◌, ◌∷◌};
+ghost use Rattle.std.specs.Prelude.{◌∷◌};
 ghost use Rattle.typing_worklist.specs.Going.{Goes};
 ghost use Rattle.typing_worklist.specs.Items.{item_of};
 ghost use Rattle.typing_worklist.specs.Machine as spec;

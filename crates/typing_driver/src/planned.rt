@@ -1,6 +1,6 @@
 //! What is put in the place of items, before those that are left.
 
-ghost use Rattle.std.specs.Prelude.{◌≡◌, ◌∷◌};
+ghost use Rattle.std.specs.Prelude.{◌∷◌};
 ghost use Rattle.typing_worklist.specs.Going.{Goes};
 ghost use Rattle.typing_worklist.specs.Items.{expression_item, statement_item, loop_item, declaration_item, catch_item, unbuilt_item};
 ghost use Rattle.typing_worklist.specs.Machine.{run};

@@ -1,6 +1,6 @@
 //! What is behind a statement that is typed.
 
-ghost use Rattle.std.specs.Prelude.{◌≡◌, ◌∷◌};
+ghost use Rattle.std.specs.Prelude.{◌∷◌};
 ghost use Rattle.typing_worklist.specs.Going.{Goes};
 ghost use Rattle.typing_worklist.specs.Item as j;
 ghost use Rattle.typing_worklist.specs.Machine.{run};
@@ -9,7 +9,7 @@ use allowlist::Allow;
 use pl_tree::Statement;
 use pl_types::Fail;
 use plain_data::{Items, Subtree};
-use typing_actions::Config;
+use typing_actions::{Config, take_top};
 use typing_rules::Header;
 use typing_rules::rules::statements::reached;
 use typing_worklist::{StatementItem, WorkItem, Worklist};
@@ -29,9 +29,7 @@ pub fn behind<'a>(
 ) -> Result<(), Fail>
     ensures { Goes (run _allow.now _headers.now (j.Reached all.now at place in_main after ∷ worklist.old) config.old) result (run _allow.now _headers.now worklist.new config.new) }
 {
-    let Some(x) = config.steps.pop() else {
-        return Err(Fail::NoMemory);
-    };
+    let x = take_top(&mut config.steps)?;
     let x = reached(after, place, x)?;
     let escapes = x.escapes;
     config.steps.push(x)?;

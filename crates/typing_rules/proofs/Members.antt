@@ -1,11 +1,12 @@
 -- What is found of the members of a list.
-use Rattle.std.proofs.Common.{◌≡◌, ◌≢◌, ℕ, zero, suc, ◌+◌, ◌<◌, Bool, true, false, cond, eqb, List, [], ◌∷◌, ◌++◌, Option, Some, None, IfSome, length, sym, refl, ap, ◌∙◌, arith}
+use Rattle.std.proofs.Common.{◌≡◌, ◌≢◌, ℕ, zero, suc, ◌+◌, ◌<◌, ◌≤◌, Bool, true, false, cond, eqb, ltb, List, [], ◌∷◌, ◌++◌, Option, Some, None, IfSome, get_or, length, sym, refl, ap, ◌∙◌, inl, inr, arith}
 use Rattle.std.specs.Prelude.{codes}
-use Rattle.std.specs.List.{slice_get, slice_index_or, flat_map}
+use Rattle.std.specs.List.{list_all, slice_get, slice_index_or, flat_map}
 use Rattle.std.specs.Str.{bytes_eq}
 use Rattle.std.specs.Char.{to_ascii_uppercase}
 use Rattle.std.proofs.lemmas.Bool.Decides.{nat_tests}
-use Rattle.std.proofs.lemmas.Bool.{and_parts, and_from, eqb-true, eq-eqb}
+use Rattle.std.proofs.lemmas.Bool.{and_parts, and_from, cases_lt, eqb-true, eq-eqb, false≢true, le-ltb}
+use Rattle.std.proofs.lemmas.List.Folds.{list_all_at}
 use Rattle.std.proofs.lemmas.Option.{slice_get_within, get_or_from_slice_get}
 use Rattle.std.proofs.lemmas.Slice.Eq.{bytes_eq-Decides}
 use Rattle.pl_types.specs.Classes.{lineage_of, lineage_within, parents_of}
@@ -33,6 +34,30 @@ found_within allow class name arity number h =
 pub all_within : (allow : AllowList) (class : ℕ) (name : List ℕ) (arity : ℕ) (found : Option ℕ) → found ≡ member_of allow class name arity → IfSome found (λ number. number < 228)
 all_within allow class name arity None h = tt
 all_within allow class name arity (Some number) h = found_within allow class name arity number (sym h)
+
+-- ---- no member has so many parameters
+
+few : list_all (λ (m : MemberType). ltb (length m.params) 256) catalogue ≡ true
+unfolding catalogue
+few = refl
+
+few_at : (allow : AllowList) (class : ℕ) (name : List ℕ) (arity number : ℕ) → member_of allow class name arity ≡ Some number → arity < 256
+few_at allow class name arity number h =
+    let found = found_is_allowed allow class name arity number h in
+    let m = found.1.0 in
+    let count : length (get_or catalogue number m).params ≡ arity = ap (λ (x : MemberType). length x.params) (get_or_from_slice_get catalogue number m m found.1.1) ∙ found.1.3 in
+    elim (cases_lt arity 256) [
+      | inl l ↦ l
+      | inr g ↦ absurd (false≢true (sym (list_all_at (λ (x : MemberType). ltb (length x.params) 256) catalogue number m (slice_get_within catalogue number m found.1.1)
+          (ap (λ n. ltb n 256) count ∙ le-ltb arity 256 g)) ∙ few))
+    ]
+
+none_as : (allow : AllowList) (class : ℕ) (name : List ℕ) (arity : ℕ) (found : Option ℕ) → member_of allow class name arity ≡ found → 256 ≤ arity → member_of allow class name arity ≡ None
+none_as allow class name arity None e h = e
+none_as allow class name arity (Some number) e h = absurd (omega (arith, h, few_at allow class name arity number e))
+
+pub too_many : (allow : AllowList) (class : ℕ) (name : List ℕ) (arity : ℕ) → 256 ≤ arity → member_of allow class name arity ≡ None
+too_many allow class name arity h = none_as allow class name arity (member_of allow class name arity) refl h
 
 -- ---- a class's own
 
@@ -110,6 +135,9 @@ own_is allow class name arity number h owner =
       ap (is_called class name arity) (sym at) ∙ called class name arity found.1.0 (ap (λ m. m.owner) at ∙ owner) found.1.2 found.1.3,
     )
     (has_flag allow.members number found.0)
+
+pub own_too_many : (allow : AllowList) (class : ℕ) (name : List ℕ) (arity : ℕ) → 256 ≤ arity → own_member allow class name arity ≡ None
+own_too_many allow class name arity h = own_none allow class name arity (too_many allow class name arity h)
 
 -- ---- getters
 

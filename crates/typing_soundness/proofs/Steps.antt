@@ -32,7 +32,6 @@ use Rattle.typing_soundness.proofs.Types.{void_by, class_built, built_aim, IsAim
 use Rattle.typing_soundness.proofs.Parts.{passed, accepted, settled, cast_is}
 use Rattle.typing_soundness.proofs.Names.{seen, in_sight, Fresh, Distinct, Known}
 use Rattle.typing_soundness.proofs.Sentences as sentence
-use Rattle.typing_soundness.proofs.Sentences.{before_if}
 use Rattle.program_typing.specs.Reached.{StmtReached}
 use Rattle.typing_soundness.proofs.Values.{Value, PartAt}
 use Rattle.typing_soundness.proofs.Reaching.{Reaches, AloneReached, stmt_reaches, never_escapes}

@@ -1,7 +1,8 @@
 -- Parts that were put on a stack are those above its height.
 use Rattle.std.proofs.Common.{◌≡◌, ℕ, suc, ◌+◌, ◌-◌, List, [], ◌∷◌, ◌++◌, length, append-nil, Some, ap, ◌∙◌, arith}
 use Rattle.typing_rules.specs.Outcomes.{Out}
-use Rattle.typing_actions.specs.Stacks.{gathered, some_gathered, above}
+use Rattle.plain_stack.specs.Stacks.{gathered}
+use Rattle.typing_actions.specs.Stacks.{some_gathered, above}
 use Rattle.typing_worklist.specs.Machine.{stacked}
 
 pub stacked_length : {A : Type 0} (xs below : List A) → length (stacked xs below) ≡ length xs + length below

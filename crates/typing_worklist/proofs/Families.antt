@@ -18,7 +18,6 @@ use Rattle.typing_rules.specs.Outcomes.{Out, KeepsIn}
 use Rattle.typing_rules.specs.Rules.Types.{type_of}
 use Rattle.typing_rules.specs.State.{declared}
 use Rattle.typing_actions.specs.declared.config.Config.{Config}
-use Rattle.typing_actions.specs.Bodies as bodies
 use Rattle.typing_worklist.specs.declared.item.Act.{Act}
 use Rattle.typing_worklist.specs.declared.item.StatementAct.{StatementAct}
 use Rattle.typing_worklist.specs.declared.item.BindingItem.{BindingItem}

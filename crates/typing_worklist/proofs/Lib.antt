@@ -4,8 +4,7 @@ pub mod ValuePlans
 pub mod StatementPlans
 pub mod PartPlans
 pub mod Goings
-pub mod Firsts
+pub mod Begins
 pub mod Runs
-pub mod Names
 pub mod Opened
 pub mod Families

@@ -32,7 +32,7 @@ use Rattle.typing_worklist.specs.Machine.{run, stacked, part_to, place_to}
 use Rattle.typing_worklist.specs.Plans.{Open, type_in, member_plan, method_plan, element_plan, value_plan, negated_plan, member_target, target_plan}
 use Rattle.typing_worklist.proofs.Above.{above_stacked}
 use Rattle.typing_worklist.proofs.Opened.{expression_over, expression_is}
-use Rattle.typing_worklist.proofs.Names.{names_by, names_are}
+use Rattle.typing_worklist.proofs.Begins.{names_by, names_are}
 use Rattle.typing_worklist.proofs.Behind.{behind, behind_next, again}
 
 -- behind a minus, what is no literal is a value with the operator

@@ -1,19 +1,18 @@
 //! The first token of an expression.
 
-ghost use Rattle.std.specs.Prelude.{◌≡◌, Some, None, Ok, MatchOption};
-ghost use Rattle.pl_tree.specs.declared.tree.Expr.{out-Expr};
-ghost use Rattle.typing_rules.specs.Outcomes.{Keeps};
+ghost use Rattle.std.specs.Prelude.{◌≡◌, ◌<◌, Some, None, IfSome, MatchOption};
+ghost use Rattle.pl_tree.specs.declared.tree.Expr.{out-Expr, size-Expr};
 ghost use Rattle.typing_rules.specs.Typing.{reading};
 ghost use Rattle.typing_worklist.specs.Plans as spec;
 
 use allowlist::Allow;
 use pl_tree::Expr;
-use pl_types::Fail;
 use typing_rules::Header;
 
 /// The part that an expression begins with.
 fn left_of(e: &Expr) -> Option<&Expr>
-    ensures { MatchOption result (spec.left_of (out-Expr e.now) ≡ None) (λ l. spec.left_of (out-Expr e.now) ≡ Some l.now) }
+    ensures part { MatchOption result (spec.left_of (out-Expr e.now) ≡ None) (λ l. spec.left_of (out-Expr e.now) ≡ Some l.now) }
+    ensures lower { IfSome result (λ l. size-Expr l.now < size-Expr e.now) }
 {
     match e {
         Expr::Assign {
@@ -106,16 +105,13 @@ fn place_of(e: &Expr) -> u32
 }
 
 /// The first token of an expression: that of the expression at its left end.
-#[tactic(auto, using(crate::proofs::Firsts::first_is))]
-pub fn first_of(_allow: &Allow, _headers: &[Header], e: &Expr) -> Result<u32, Fail>
-    ensures { Keeps (Ok (reading _allow.now _headers.now e.now).first) result }
+#[tactic(auto, using(crate::proofs::Begins::first_is))]
+pub fn first_of(_allow: &Allow, _headers: &[Header], e: &Expr) -> u32
+    ensures { result ≡ (reading _allow.now _headers.now e.now).first }
 {
     let mut left = e;
-    for _ in 0..u64::MAX {
-        match left_of(left) {
-            Some(next) => left = next,
-            None => return Ok(place_of(left)),
-        }
+    while let Some(next) = left_of(left) {
+        left = next;
     }
-    Err(Fail::NoMemory)
+    place_of(left)
 }

@@ -1,6 +1,6 @@
 //! Calls of the script's own functions.
 
-ghost use Rattle.std.specs.Prelude.{◌≡◌, ◌+◌, Ok, Some};
+ghost use Rattle.std.specs.Prelude.{◌≡◌, ◌≤◌, ◌+◌, MatchOption, Some};
 ghost use Rattle.typing_rules.specs.Outcomes.{Keeps};
 ghost use Rattle.typing_rules.specs.Rules.Calls as spec;
 
@@ -37,16 +37,13 @@ fn arguments(
     Ok(casts)
 }
 
-/// What calls say of a function that is the so-manieth, from 0.
-fn number_of(index: usize) -> Result<u32, Fail>
-    ensures { Keeps (Ok (index + 1)) result }
+/// What calls say of a function that is the so-manieth, from 0. `None` where a number of 32 bits does not count so far.
+fn number_of(index: usize) -> Option<u32>
+    ensures { MatchOption result (4294967295 ≤ index) (λ number. number ≡ index + 1) }
 {
-    let Ok(place) = u32::try_from(index) else {
-        return Err(Fail::NoMemory);
-    };
-    match place.checked_add(1) {
-        Some(number) => Ok(number),
-        None => Err(Fail::NoMemory),
+    match u32::try_from(index) {
+        Ok(place) => place.checked_add(1),
+        Err(_) => None,
     }
 }
 
@@ -59,7 +56,9 @@ fn called(
 ) -> Result<Part, Fail>
     ensures { Keeps (spec.called (Some header.now) at index given.items) result }
 {
-    let number = number_of(index)?;
+    let Some(number) = number_of(index) else {
+        return Err(Fail::NoMemory);
+    };
     let parts = arguments(alloc, header.parameters.as_slice(), given)?;
     let of = header.result.share(alloc)?;
     let operation = Operation::Function(number);

@@ -94,7 +94,8 @@ fn called(
 
 // ---- calls on a value
 
-/// The member of a class that a name with so many arguments means.
+/// The member of a class that a name with so many arguments means. None has more parameters than a number counts.
+#[tactic(auto, using(crate::proofs::Members::too_many))]
 fn meant(
     allow: &Allow,
     kind: MemberKind,
@@ -107,7 +108,7 @@ fn meant(
     ensures within { IfOk result (λ number. number < MEMBER_COUNT) }
 {
     let Ok(arity) = u32::try_from(count) else {
-        return Err(Fail::NoMemory);
+        return Err(refuse(rules::UNKNOWN_MEMBER, at));
     };
     let found = member_of(allow, class, name.as_str(), arity);
     wanted(allow, kind, at, found)
@@ -254,12 +255,13 @@ fn constructed(
 }
 
 /// The constructor that a class itself has with so many arguments.
+#[tactic(auto, using(crate::proofs::Members::own_too_many))]
 fn constructor_meant(allow: &Allow, at: u32, class: u32, count: usize) -> Result<u32, Fail>
     ensures rule { Keeps (spec.wanted kind.Constructor at (own_member allow.now class [] count)) result }
     ensures within { IfOk result (λ number. number < MEMBER_COUNT) }
 {
     let Ok(arity) = u32::try_from(count) else {
-        return Err(Fail::NoMemory);
+        return Err(refuse(rules::UNKNOWN_MEMBER, at));
     };
     let found = constructor_of(allow, class, arity);
     wanted(allow, MemberKind::Constructor, at, found)

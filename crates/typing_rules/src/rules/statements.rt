@@ -1,6 +1,6 @@
 //! Statements.
 
-ghost use Rattle.std.specs.Prelude.{◌≡◌, ◌&&◌, not, ◌||◌, map, IfOk, Ok};
+ghost use Rattle.std.specs.Prelude.{◌≡◌, ◌&&◌, ◌||◌, map, IfOk, Ok};
 ghost use Rattle.std.specs.List.{list_all, list_any};
 ghost use Rattle.typing_rules.specs.Outcomes.{Keeps, KeepsBoth, bind};
 ghost use Rattle.typing_rules.specs.Rules.Statements as spec;

@@ -1,4 +1,4 @@
-use Rattle.std.proofs.Common.{◌≡◌, ℕ, suc, ◌+◌, ◌∙◌, List, ◌∷◌, length, sym, ap, add-one, drop, arith}
+use Rattle.std.proofs.Common.{◌≡◌, suc, ◌+◌, ◌∙◌, List, ◌∷◌, sym, ap, add-one, drop, arith}
 use Rattle.std.proofs.Math.Seq.{drop-cons}
 use Rattle.pl_tree.specs.declared.tree.Function.{Function}
 use Rattle.typed_tree.specs.declared.program.TypedFunction.{TypedFunction}
