@@ -86,10 +86,10 @@ unfolding same_call
 called_alike a b class name arity kind kept p q =
     and_from (is_instance a.kind) (not (is_removal a.name (length a.params)) && (eqb (length a.params) (length b.params) && bytes_eq a.name b.name)) (instance_is a kind)
     (and_from (not (is_removal a.name (length a.params))) (eqb (length a.params) (length b.params) && bytes_eq a.name b.name)
-      (ap (λ n. not (is_removal n (length a.params))) p.name_is ∙ ap (λ n. not (is_removal name n)) p.arity_is ∙ ap not kept)
+    (ap (λ n. not (is_removal n (length a.params))) p.name_is ∙ ap (λ n. not (is_removal name n)) p.arity_is ∙ ap not kept)
     (and_from (eqb (length a.params) (length b.params)) (bytes_eq a.name b.name)
-      (eq-eqb (length a.params) (length b.params) (p.arity_is ∙ sym q.arity_is))
-      ((bytes_eq-Decides a.name b.name).1 (p.name_is ∙ sym q.name_is))))
+    (eq-eqb (length a.params) (length b.params) (p.arity_is ∙ sym q.arity_is))
+    ((bytes_eq-Decides a.name b.name).1 (p.name_is ∙ sym q.name_is))))
 
 both_shared : (a b : MemberType) (class : ℕ) → class < 57 → class_is_below class a.owner ≡ true → class_is_below class b.owner ≡ true → shares a b ≡ true
 unfolding shares below_both

@@ -97,14 +97,14 @@ called allow class name arity k h =
     record {
       name_is = ap (λ m. m.name) at ∙ f.1.2;
       arity_is = ap (λ m. length m.params) at ∙ f.1.3;
-      below = ap (λ m. class_is_below class m.owner) (sym (read_at k a.0 a.1)) ∙ a.2
+      below = ap (λ m. class_is_below class m.owner) (sym (read_at k a.0 a.1)) ∙ a.2;
     }
 
 there : (allow : AllowList) (class : ℕ) (name : List ℕ) (arity k : ℕ) → member_of allow class name arity ≡ Some k → slice_get catalogue k ≡ Some (member_at k)
 there allow class name arity k h = let f = found_is_allowed allow class name arity k h in f.1.1 ∙ ap Some (read_at k f.1.0 f.1.1)
 
 small : (allow : AllowList) (class : ℕ) (name : List ℕ) (arity k : ℕ) → member_of allow class name arity ≡ Some k → class < 57
-small allow class name arity k h = elim (cases_lt class 57) [ | inl l ↦ l | inr g ↦ (let e = sym (member_past allow class name arity g) ∙ h in cc) ]
+small allow class name arity k h = elim (cases_lt class 57) [ inl l ↦ l | inr g ↦ (let e = sym (member_past allow class name arity g) ∙ h in cc) ]
 
 one_found : Transitive → (allow : AllowList) (class above : ℕ) (name : List ℕ) (arity number : ℕ) → class_is_below class above ≡ true → is_removal name arity ≡ false
     → (member_at number).kind ≡ Instance → member_of allow above name arity ≡ Some number → member_of allow class name arity ≡ Some number
@@ -113,7 +113,7 @@ one_found trans allow class above name arity number below kept kind h =
     let p = called allow above name arity number h in
     let here : IsCalled (member_at number) class name arity = record { name_is = p.name_is; arity_is = p.arity_is; below = trans class above (member_at number).owner below p.below } in
     let same = one_member number s.0 (member_at number) (member_at s.0) class name arity (small allow class name arity s.0 s.1)
-          (there allow above name arity number h) (there allow class name arity s.0 s.1) kind kept here (called allow class name arity s.0 s.1) in
+    (there allow above name arity number h) (there allow class name arity s.0 s.1) kind kept here (called allow class name arity s.0 s.1) in
     s.1 ∙ ap Some (sym same)
 
 pub one_instance : Transitive → (allow : AllowList) (class above : ℕ) (name : List ℕ) (arity number : ℕ) → class_is_below class above ≡ true → is_removal name arity ≡ false

@@ -56,7 +56,7 @@ is_member allow class name arity number h =
       member = listed allow class name arity number Instance p.0 p.1;
       called = ap (λ m. m.name) at ∙ f.1.2;
       takes = ap (λ m. length m.params) at ∙ f.1.3;
-      above = ap (λ m. class_is_below class m.owner) (sym (read_at number a.0 a.1)) ∙ a.2
+      above = ap (λ m. class_is_below class m.owner) (sym (read_at number a.0 a.1)) ∙ a.2;
     }
 
 called_at : (number k : ℕ) (t : Bool) → cond t (Some number) None ≡ Some k → (number ≡ k) × (t ≡ true)

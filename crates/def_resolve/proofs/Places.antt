@@ -31,4 +31,4 @@ beyond name error h p =
     let d = digits name h in
     let no = parse_signed_digits own w32 name (Err error) p d.0 in
     ap (λ t. cond t (Some (place_at (digits_value 10 name))) None) h
-    ∙ ap Some (far (digits_value 10 name) (elim (cases_lt (digits_value 10 name) 2147483648) [ | inl l ↦ absurd (no (d.1, l)) | inr g ↦ g ]))
+    ∙ ap Some (far (digits_value 10 name) (elim (cases_lt (digits_value 10 name) 2147483648) [ inl l ↦ absurd (no (d.1, l)) | inr g ↦ g ]))
