@@ -15,9 +15,11 @@ use object_heap::Heap;
 use object_values::{Object, Value};
 
 /// What an access is for.
-#[derive(Clone, Copy, Debug, PartialEq, Eq)]
+#[derive(Clone, Copy)]
 pub enum Purpose {
+    /// To read what is there.
     Read,
+    /// To write it.
     Write,
 }
 
