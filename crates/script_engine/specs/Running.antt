@@ -21,8 +21,8 @@ use Rattle.program_typing.specs.Agreeing.{types_in}
 use Rattle.code_meaning.specs.Words.{boxed, unboxed}
 use Rattle.code_meaning.specs.declared.word.Word.{Word}
 use Rattle.code_meaning.specs.declared.word.Word.TheVariants.{I, J, R}
-use Rattle.machine.specs.declared.configuration.End as run_end
-use Rattle.machine.specs.declared.configuration.End.TheVariants as r
+use Rattle.machine.specs.declared.configuration.RunEnd as run_end
+use Rattle.machine.specs.declared.configuration.RunEnd.TheVariants as r
 use Rattle.machine.specs.declared.configuration.Limits.{Limits}
 use Rattle.machine.specs.Seen.{limits_of, limit_of, ended}
 use Rattle.machine.specs.Activations.{Activation}
@@ -66,7 +66,7 @@ abbrev pub value_of : Ty → Option Word → Value
 value_of of word = value_by (out-Ty of) word
 
 -- the end of a run of code, with its value; none where it is stuck
-abbrev pub end_left : Ty → run_end.End → Option left_end.End
+abbrev pub end_left : Ty → run_end.RunEnd → Option left_end.End
 end_left of (r.Result word) = Some (l.Value (value_of of word))
 end_left of (r.Thrown id) = Some (l.Thrown id)
 end_left of (r.Limit which) = Some (l.Limit which)
@@ -84,7 +84,7 @@ world_left o left = record { store = o.heap; ticks = left; reached = o.reached }
 -- an activation of code that gives this type left this
 pub record LeftBy (of : Ty) (a : Activation) (o : Outcome) : Type 0 where
   pub left : ℕ
-  pub end : run_end.End
+  pub end : run_end.RunEnd
   pub read : end_left of end ≡ Some o.end
   pub stands : a.now ≡ Some (ended end (world_left o left))
   pub ticks : o.ticks ≡ a.limits.ticks - left

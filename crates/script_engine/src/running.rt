@@ -77,14 +77,14 @@ fn value_of(of: &Ty, word: &Option<Word>) -> Result<Value, AllocError>
 }
 
 /// The end of a run, with its value.
-fn end_left(of: &Ty, end: &machine::End) -> Result<Option<End>, AllocError>
+fn end_left(of: &Ty, end: &machine::RunEnd) -> Result<Option<End>, AllocError>
     ensures { IfOk result (λ left. left ≡ end_left of.now end.now) }
 {
     match end {
-        machine::End::Result(word) => Ok(Some(End::Value(value_of(of, word)?))),
-        machine::End::Thrown(id) => Ok(Some(End::Thrown(*id))),
-        machine::End::Limit(which) => Ok(Some(End::Limit(*which))),
-        machine::End::Stuck => Ok(None),
+        machine::RunEnd::Result(word) => Ok(Some(End::Value(value_of(of, word)?))),
+        machine::RunEnd::Thrown(id) => Ok(Some(End::Thrown(*id))),
+        machine::RunEnd::Limit(which) => Ok(Some(End::Limit(*which))),
+        machine::RunEnd::Stuck => Ok(None),
     }
 }
 
@@ -95,7 +95,7 @@ fn left(of: &Ty, activation: Activation<'_>) -> Result<Outcome, AllocError>
     let Some(ran) = activation.outcome() else {
         return Err(AllocError);
     };
-    let machine::Outcome {
+    let machine::RunOutcome {
         end,
         heap,
         ticks,
