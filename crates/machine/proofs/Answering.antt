@@ -4,7 +4,6 @@ use Rattle.object_values.specs.declared.value.Value.{Value}
 use Rattle.object_values.specs.declared.value.Value.TheVariants as v
 use Rattle.object_heap.specs.Effects.{Effect, Gives, Throws, NoRoom}
 use Rattle.object_heap.specs.Store.{Store}
-use Rattle.pl_code.specs.declared.code.FunCode.{FunCode}
 use Rattle.run_state.specs.World.{World, Limits, Limited, Room, with_store, Given, Raised, Full, acts_in}
 use Rattle.code_meaning.specs.declared.word.Word.{Word}
 use Rattle.code_meaning.specs.declared.word.Word.TheVariants.{R}

@@ -1,5 +1,5 @@
 -- A turn pays a tick, so that the turns of each frame and the ticks that are left stay within 64 bits together.
-use Rattle.std.proofs.Common.{◌≡◌, ℕ, ℤ, zero, suc, ◌+◌, ◌-◌, ◌<◌, ◌≤◌, ◌^◌, ◌||◌, Bool, true, false, List, [], ◌∷◌, Option, Some, None, refl, sym, ap, ◌∙◌, subst, arith}
+use Rattle.std.proofs.Common.{◌≡◌, ℕ, ℤ, zero, suc, ◌+◌, ◌-◌, ◌<◌, ◌^◌, ◌||◌, Bool, true, false, List, [], ◌∷◌, Option, Some, None, refl, sym, subst, arith}
 use Rattle.std.specs.Prelude.{slice_get, nat_lt, not, pos, negsuc, if◌then◌else◌}
 use Rattle.std.proofs.lemmas.Bool.{ltb-true}
 use Rattle.pl_types.specs.declared.ty.Ty.{Ty}
@@ -35,7 +35,7 @@ use Rattle.code_meaning.specs.declared.word.Word.{Word}
 use Rattle.code_meaning.specs.declared.word.Word.TheVariants.{I, J, R}
 use Rattle.code_meaning.specs.Members.{Receiving, Unfit, OnNull, Receives, Reads, count_of, given_as, received}
 use Rattle.code_meaning.specs.Words.{Calculation, NoRow, Calculates, boxed, calculation, unboxed}
-use Rattle.code_meaning.specs.Machine.{Codes, code_in, function_of, Frame, Config, Next, Goes, Ends, Stuck, Handlers, is_instance, lands, traps_of, unwind, on_top, on_int, on_long, on_reference, on_type, on_value, on_local, on_stack, on_words, on_loops, unless_zero, if_null, to_line, take_words, copied, depth_of, is_written, on_outcome, on_thrown, on_calculation, gives_back, cast_due, returns, returns_of, on_turn, on_enter, on_call, on_act, on_paid, on_received, plain_act, numbered_act, quoted_act, typed_act, cast_act, member_act, act, acts, lines_of, step}
+use Rattle.code_meaning.specs.Machine.{Codes, code_in, function_of, Frame, Config, Next, Goes, Ends, Stuck, Handlers, is_instance, lands, traps_of, unwind, on_top, on_int, on_long, on_reference, on_type, on_value, on_local, on_stack, on_words, on_loops, unless_zero, if_null, to_line, take_words, copied, depth_of, is_written, on_outcome, on_thrown, on_calculation, gives_back, returns, returns_of, on_turn, on_enter, on_call, on_act, on_paid, on_received, plain_act, numbered_act, quoted_act, typed_act, member_act, act, acts, lines_of, step}
 use Rattle.machine.specs.Runs.{TurnsFit, CountsFit}
 
 -- ---- ticks

@@ -6,15 +6,15 @@ use Rattle.run_state.specs.World.{World}
 use Rattle.code_meaning.specs.Machine.{Next, after}
 use Rattle.machine.specs.declared.configuration.Configuration.{Configuration}
 use Rattle.machine.specs.declared.configuration.Limits.{Limits}
-use Rattle.machine.specs.declared.configuration.End.{End}
-use Rattle.machine.specs.declared.configuration.End.TheVariants as end
+use Rattle.machine.specs.declared.configuration.RunEnd.{RunEnd}
+use Rattle.machine.specs.declared.configuration.RunEnd.TheVariants as end
 use Rattle.machine.specs.declared.configuration.Step.{Step}
 use Rattle.machine.specs.declared.configuration.Step.TheVariants as said
 use Rattle.machine.specs.Seen.{world_of, limits_of, ended, goes, codes_of}
 use Rattle.machine.specs.Activations.{Activation, now_of, counted, later, is_over, turn_of, Turned}
 use Rattle.machine.proofs.Reaching.{stays, none_taken}
 
-over : (e : End) (w : World) → IsTrue (is_over (Some (ended e w)))
+over : (e : RunEnd) (w : World) → IsTrue (is_over (Some (ended e w)))
 over (end.Result word) w = refl
 over (end.Thrown id) w = refl
 over (end.Limit which) w = refl

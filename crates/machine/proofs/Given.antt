@@ -5,7 +5,6 @@ use Rattle.member_calls.specs.Answers.{AnswersIfBuilt}
 use Rattle.object_heap.specs.declared.answer.Answer.{Answer}
 use Rattle.object_heap.specs.Effects.{Effect, Answers}
 use Rattle.object_heap.specs.Store.{Store}
-use Rattle.pl_code.specs.declared.code.FunCode.{FunCode}
 use Rattle.run_state.specs.World.{World, Limits, acts_in}
 use Rattle.code_meaning.specs.declared.word.Word.{Word}
 use Rattle.code_meaning.specs.Members.{given_as}

@@ -1,5 +1,5 @@
 -- Where exceptions go on.
-use Rattle.std.proofs.Common.{◌≡◌, ℕ, ◌&&◌, Bool, true, false, cond, find, map, List, [], ◌∷◌, Option, Some, None, nat_le, nat_lt, slice_get, if◌then◌else◌, refl, sym, ap, ◌∙◌}
+use Rattle.std.proofs.Common.{◌≡◌, ℕ, ◌&&◌, Bool, true, false, cond, find, map, List, [], ◌∷◌, Option, Some, None, nat_le, nat_lt, if◌then◌else◌, refl, sym, ap, ◌∙◌}
 use Rattle.pl_types.specs.Names.{class_of_full}
 use Rattle.pl_code.specs.declared.code.Trap.{Trap}
 use Rattle.pl_code.specs.declared.code.FunCode.{FunCode}

@@ -1,11 +1,10 @@
 -- Instructions one after the other.
-use Rattle.std.proofs.Common.{◌≡◌, ℕ, zero, suc, true, false, ◌+◌, ◌-◌, ◌<◌, List, refl, sym, ap, ◌∙◌, arith}
-use Rattle.pl_code.specs.declared.code.FunCode.{FunCode}
+use Rattle.std.proofs.Common.{◌≡◌, ℕ, zero, suc, true, false, ◌+◌, ◌-◌, ◌<◌, refl, sym, ap, ◌∙◌, arith}
 use Rattle.run_state.specs.World.{World, Limits}
 use Rattle.code_meaning.specs.Machine.{Next, Goes, step, after, Codes}
 use Rattle.machine.specs.declared.configuration.Configuration.{Configuration}
-use Rattle.machine.specs.declared.configuration.End.{End}
-use Rattle.machine.specs.declared.configuration.End.TheVariants as end
+use Rattle.machine.specs.declared.configuration.RunEnd.{RunEnd}
+use Rattle.machine.specs.declared.configuration.RunEnd.TheVariants as end
 use Rattle.machine.specs.declared.configuration.Step.{Step}
 use Rattle.machine.specs.declared.configuration.Step.TheVariants as said
 use Rattle.machine.specs.Seen.{configuration_of, world_of, ended, goes, Comes}
@@ -44,14 +43,14 @@ module _ (codes : Codes) (limits : Limits) where
         ∙ sym (one_more k (steps_taken codes limits m (Goes (configuration_of d))));
   }
 
-  pub stays : (m : ℕ) (e : End) (w : World) → after codes limits m (ended e w) ≡ ended e w
+  pub stays : (m : ℕ) (e : RunEnd) (w : World) → after codes limits m (ended e w) ≡ ended e w
   stays zero e w = refl
   stays (suc m) (end.Result word) w = refl
   stays (suc m) (end.Thrown id) w = refl
   stays (suc m) (end.Limit which) w = refl
   stays (suc m) end.Stuck w = refl
 
-  pub none_taken : (m : ℕ) (e : End) (w : World) → steps_taken codes limits m (ended e w) ≡ 0
+  pub none_taken : (m : ℕ) (e : RunEnd) (w : World) → steps_taken codes limits m (ended e w) ≡ 0
   none_taken zero e w = refl
   none_taken (suc m) (end.Result word) w = refl
   none_taken (suc m) (end.Thrown id) w = refl

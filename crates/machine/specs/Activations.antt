@@ -12,7 +12,7 @@ use Rattle.machine.specs.declared.configuration.Configuration.{Configuration}
 use Rattle.machine.specs.declared.configuration.Limits.{Limits}
 use Rattle.machine.specs.declared.configuration.Step.{Step}
 use Rattle.machine.specs.declared.configuration.Step.TheVariants as step
-use Rattle.machine.specs.declared.activation.Outcome.{Outcome}
+use Rattle.machine.specs.declared.activation.RunOutcome.{RunOutcome}
 use Rattle.machine.specs.Seen.{configuration_of, limits_of, world_of, ended, codes_of}
 use Rattle.machine.specs.Runs.{steps_taken}
 
@@ -82,7 +82,7 @@ turn_of (step.Ends end) = turn.Done
 turn_of step.NoMemory = turn.NoMemory
 
 -- What is left of an activation that has ended; nothing of another.
-abbrev pub Leaves : Activation → Option Outcome → Type 0
+abbrev pub Leaves : Activation → Option RunOutcome → Type 0
 Leaves a None = is_over a.now ≡ false
 Leaves a (Some o) =
     (left : ℕ) × (a.now ≡ Some (ended o.end (record { store = o.heap; ticks = left; reached = o.reached })))

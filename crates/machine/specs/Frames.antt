@@ -37,6 +37,10 @@ pub record Laid : Type 0 where
 abbrev pub with_stack : Frame → List Word → Frame
 with_stack f stack = record { text = f.text; fun = f.fun; line = f.line; locals = f.locals; stack = stack; turns = f.turns; due = f.due }
 
+-- All stays but the operands of the newest frame.
+abbrev pub OnlyStack : Laid → Laid → Type 0
+OnlyStack old new = (new.top ≡ with_stack old.top new.top.stack) × (new.below ≡ old.below) × (new.words ≡ old.words) × (new.depth ≡ old.depth)
+
 abbrev pub with_words : Frame → List Word → List Word → Frame
 with_words f locals stack = record { text = f.text; fun = f.fun; line = f.line; locals = locals; stack = stack; turns = f.turns; due = f.due }
 

@@ -1,5 +1,5 @@
 -- Traps whose classes were found, and what an index of them may leave out.
-use Rattle.std.specs.Prelude.{◌≡◌, ◌≤◌, ◌<◌, ◌+◌, ◌*◌, ◌&&◌, ℕ, suc, Bool, false, List, [], map, Option, Some, None, nat_le, nat_lt, slice_get}
+use Rattle.std.specs.Prelude.{◌≡◌, ◌≤◌, ◌<◌, ◌+◌, ◌*◌, ◌&&◌, ℕ, suc, Bool, false, List, map, Option, Some, None, nat_le, nat_lt, slice_get}
 use Rattle.pl_types.specs.Names.{class_of_full}
 use Rattle.pl_code.specs.declared.code.Trap.{Trap}
 use Rattle.pl_code.specs.declared.code.FunCode.{FunCode}

@@ -22,8 +22,8 @@ use Rattle.machine.specs.declared.references.Pairing.{Pairing}
 use Rattle.machine.specs.declared.references.Pairing.TheVariants as pairing
 use Rattle.machine.specs.declared.operators.Operated.{Operated}
 use Rattle.machine.specs.declared.operators.Operated.TheVariants as operated
-use Rattle.machine.specs.declared.stacks.Copying.{Copying}
-use Rattle.machine.specs.declared.stacks.Copying.TheVariants as copying
+use Rattle.machine.specs.declared.operands.Copying.{Copying}
+use Rattle.machine.specs.declared.operands.Copying.TheVariants as copying
 use Rattle.object_values.specs.declared.object.Owner.{Owner}
 use Rattle.allowlist.specs.declared.table.TheConstants.{MEMBER_COUNT}
 

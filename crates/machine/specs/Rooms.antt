@@ -8,7 +8,7 @@ use Rattle.code_meaning.specs.Members.{count_of}
 use Rattle.allowlist.specs.declared.table.TheConstants.{MEMBER_COUNT}
 
 -- the words that a call takes, the top first, and how many there is memory for
-pub record Pile : Type 0 where
+pub record TakenWords : Type 0 where
   pub items : List Word
   pub room : ℕ
 

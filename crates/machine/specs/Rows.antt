@@ -19,8 +19,8 @@ use Rattle.machine.specs.declared.references.Pairing.{Pairing}
 use Rattle.machine.specs.declared.references.Pairing.TheVariants as pairing
 use Rattle.machine.specs.declared.operators.Operated.{Operated}
 use Rattle.machine.specs.declared.operators.Operated.TheVariants as c
-use Rattle.machine.specs.declared.stacks.Copying.{Copying}
-use Rattle.machine.specs.declared.stacks.Copying.TheVariants as copying
+use Rattle.machine.specs.declared.operands.Copying.{Copying}
+use Rattle.machine.specs.declared.operands.Copying.TheVariants as copying
 use Rattle.machine.specs.Handlers.{catches, line_of, linked_traps}
 use Rattle.machine.specs.declared.handlers.LinkedTrap.{LinkedTrap}
 use Rattle.machine.specs.Seen.{limit_of}

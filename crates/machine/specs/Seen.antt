@@ -14,8 +14,8 @@ use Rattle.machine.specs.Rooms as rooms
 use Rattle.machine.specs.declared.configuration.World as held_world
 use Rattle.machine.specs.declared.configuration.Limits as held_limits
 use Rattle.machine.specs.declared.configuration.Configuration.{Configuration}
-use Rattle.machine.specs.declared.configuration.End as held_end
-use Rattle.machine.specs.declared.configuration.End.TheVariants as end
+use Rattle.machine.specs.declared.configuration.RunEnd as held_end
+use Rattle.machine.specs.declared.configuration.RunEnd.TheVariants as end
 use Rattle.machine.specs.declared.configuration.Step.{Step}
 use Rattle.machine.specs.declared.configuration.Step.TheVariants as step
 
@@ -56,7 +56,7 @@ limit_of which.Ticks = Ticks
 limit_of which.Room = Room
 
 -- a run that has ended in a world
-abbrev pub ended : held_end.End → World → Next
+abbrev pub ended : held_end.RunEnd → World → Next
 ended (end.Result word) w = Ends (Result word w)
 ended (end.Thrown id) w = Ends (Uncaught id w)
 ended (end.Limit limit) w = Ends (Limited (limit_of limit) w)
@@ -67,13 +67,13 @@ goes step.Goes = true
 goes (step.Ends end) = false
 goes step.NoMemory = false
 
-abbrev pub end_in : Step → Option held_end.End
+abbrev pub end_in : Step → Option held_end.RunEnd
 end_in step.Goes = None
 end_in (step.Ends end) = Some end
 end_in step.NoMemory = None
 
 -- the word that a run gives, if it gives one
-abbrev pub given_word : held_end.End → Option Word
+abbrev pub given_word : held_end.RunEnd → Option Word
 given_word (end.Result word) = word
 given_word other = None
 

@@ -7,15 +7,15 @@ ghost use Rattle.code_meaning.specs.Words.{start_of};
 ghost use Rattle.machine.specs.Activations.{HasTurned, Leaves, SparesFor, Turned, turn_of};
 ghost use Rattle.machine.specs.Seen.{codes_of, configuration_of};
 
-use crate::configuration::{Configuration, End, Limits, Step, World};
+use crate::configuration::{Configuration, Limits, RunEnd, Step, World};
 use crate::executable::Executable;
 use crate::frames::Frames;
 use crate::reached::Reached;
 use crate::reserve::{frames_at_start, words_at_start};
 use crate::rules::Rules;
 use crate::running::{Ran, run_on};
-use crate::stack::Stack;
 use crate::values::Values;
+use crate::words::Words;
 use allowlist::MEMBER_COUNT;
 use code_meaning::Word;
 use object_heap::Heap;
@@ -37,8 +37,8 @@ pub struct Activation<'c> {
 
 /// What a run leaves.
 #[derive(Drop)]
-pub struct Outcome {
-    pub end: End,
+pub struct RunOutcome {
+    pub end: RunEnd,
     pub heap: Heap,
     /// How many ticks were paid.
     pub ticks: u64,
@@ -87,7 +87,7 @@ impl<'c> Activation<'c> {
     {
         let (slots, last) = match executable.code().functions.get(0) {
             Some(main) => (main.locals.as_slice(), Step::Goes),
-            None => (&[] as &[Slot], Step::Ends(End::Stuck)),
+            None => (&[] as &[Slot], Step::Ends(RunEnd::Stuck)),
         };
         let words = words_at_start(executable.frame(), limits.depth);
         let run = configuration(executable.arguments(), heap, args, slots, limits, words)?;
@@ -122,7 +122,7 @@ impl<'c> Activation<'c> {
     }
 
     /// What the run leaves, once it has ended.
-    pub fn outcome(self) -> Option<Outcome>
+    pub fn outcome(self) -> Option<RunOutcome>
         ensures { Leaves self.entry result }
     {
         let Activation {
@@ -144,7 +144,7 @@ impl<'c> Activation<'c> {
             reached,
         } = world;
         match last.into_end() {
-            Some(end) => Some(Outcome {
+            Some(end) => Some(RunOutcome {
                 end,
                 heap,
                 ticks: limits.ticks.saturating_sub(ticks),
@@ -172,7 +172,7 @@ fn configuration(
     let alloc = heap.alloc();
     let depth = frames_at_start(limits.depth);
     let frames = Frames::start(alloc, args, slots, depth, words)?;
-    let words = Stack::with_room(alloc, arguments)?;
+    let words = Words::with_room(alloc, arguments)?;
     let values = Values::with_room(alloc, arguments)?;
     let reached = Reached::with_room(alloc, MEMBER_COUNT as usize)?;
     Ok(Configuration {

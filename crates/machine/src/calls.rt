@@ -1,5 +1,5 @@
 //! Calls and returns.
-ghost use Rattle.std.specs.Prelude.{◌≤◌, ◌<◌, ◌+◌, ◌^◌, ◌≡◌, ◌∷◌, ◌++◌, [], suc, Some, None, List, map, length, slice_get, IsNone};
+ghost use Rattle.std.specs.Prelude.{◌≤◌, ◌<◌, ◌+◌, ◌^◌, ◌≡◌, ◌∷◌, ◌++◌, [], suc, Some, None, map, length, slice_get, IsNone};
 ghost use Rattle.pl_code.specs.declared.code.FunCode.{FunCode};
 ghost use Rattle.run_state.specs.World.{enter};
 ghost use Rattle.code_meaning.specs.Words as words;
@@ -10,7 +10,7 @@ ghost use Rattle.machine.specs.Seen.{Comes, room_of, with_stack, world_of, codes
 ghost use Rattle.machine.specs.Rows.{CountsTo};
 ghost use Rattle.machine.specs.Memory.{CallFinds, HasMemory, RoomFor};
 
-use crate::configuration::{Configuration, End, Step, World};
+use crate::configuration::{Configuration, RunEnd, Step, World};
 use crate::linked_code::LinkedCode;
 use crate::rules::Rules;
 use code_meaning::Word;
@@ -26,7 +26,7 @@ pub fn call(run: &mut Configuration, code: &LinkedCode, limits: &Rules<'_>, numb
 {
     match run.frames.function_at(code, number) {
         Some(function) => call_function(run, code, limits, function, number),
-        None => Step::Ends(End::Stuck),
+        None => Step::Ends(RunEnd::Stuck),
     }
 }
 
@@ -43,10 +43,10 @@ fn call_function(
     ensures room { room_of run.new ≡ room_of run.old }
 {
     if !run.frames.has(function.params.len()) {
-        return Step::Ends(End::Stuck);
+        return Step::Ends(RunEnd::Stuck);
     }
     match count_call(&mut run.world, limits, run.frames.depth()) {
-        Some(which) => Step::Ends(End::Limit(which)),
+        Some(which) => Step::Ends(RunEnd::Limit(which)),
         None => push_frame(run, number, function),
     }
 }
@@ -105,10 +105,10 @@ pub fn ret(run: &mut Configuration, code: &LinkedCode, limits: &Rules<'_>) -> St
             None => give_back(run, code, limits, None),
             Some(_) => match run.frames.pop() {
                 Some(word) => give_back(run, code, limits, Some(word)),
-                None => Step::Ends(End::Stuck),
+                None => Step::Ends(RunEnd::Stuck),
             },
         },
-        None => Step::Ends(End::Stuck),
+        None => Step::Ends(RunEnd::Stuck),
     }
 }
 
@@ -128,6 +128,6 @@ fn give_back(
             None => run.goes_on(),
         }
     } else {
-        Step::Ends(End::Result(word))
+        Step::Ends(RunEnd::Result(word))
     }
 }

@@ -6,8 +6,8 @@ ghost use Rattle.machine.specs.Memory.{HasMemory};
 
 use crate::frames::Frames;
 use crate::reached::Reached;
-use crate::stack::Stack;
 use crate::values::Values;
+use crate::words::Words;
 use code_meaning::Word;
 use object_heap::{Heap, Which};
 
@@ -39,13 +39,13 @@ pub struct Configuration {
     pub frames: Frames,
     pub world: World,
     /// The words that a call of a member takes off the operands, the deepest on the top. Each call fills it anew.
-    pub words: Stack,
+    pub words: Words,
     /// What a call of a member is called with. Each call fills it anew.
     pub values: Values,
 }
 
 /// How a run ends.
-pub enum End {
+pub enum RunEnd {
     /// It gives this, or nothing.
     Result(Option<Word>),
     /// The number of the exception that was thrown.
@@ -56,27 +56,27 @@ pub enum End {
     Stuck,
 }
 
-impl Drop for End {
+impl Drop for RunEnd {
     fn drop(self) {
         match self {
-            End::Result(_word) => {}
-            End::Thrown(_id) => {}
-            End::Limit(_which) => {}
-            End::Stuck => {}
+            RunEnd::Result(_word) => {}
+            RunEnd::Thrown(_id) => {}
+            RunEnd::Limit(_which) => {}
+            RunEnd::Stuck => {}
         }
     }
 }
 
-impl End {
+impl RunEnd {
     /// The word that a run gives, if it gives one.
     pub fn into_word(self) -> Option<Word>
         ensures { result ≡ given_word self }
     {
         match self {
-            End::Result(word) => word,
-            End::Thrown(_id) => None,
-            End::Limit(_which) => None,
-            End::Stuck => None,
+            RunEnd::Result(word) => word,
+            RunEnd::Thrown(_id) => None,
+            RunEnd::Limit(_which) => None,
+            RunEnd::Stuck => None,
         }
     }
 }
@@ -85,7 +85,7 @@ impl End {
 pub enum Step {
     /// The run goes on.
     Goes,
-    Ends(End),
+    Ends(RunEnd),
     /// There was no memory. Nothing is said of the run.
     NoMemory,
 }
@@ -112,7 +112,7 @@ impl Step {
     }
 
     /// The end, where the run has ended.
-    pub(crate) fn into_end(self) -> Option<End>
+    pub(crate) fn into_end(self) -> Option<RunEnd>
         ensures { result ≡ end_in self }
     {
         match self {

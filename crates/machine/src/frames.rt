@@ -1,5 +1,5 @@
 //! Frames that lie one on the other in one vector of words.
-ghost use Rattle.std.specs.Prelude.{◌+◌, ◌^◌, ◌++◌, map, nat_le, ◌≡◌, ◌≤◌, ◌<◌, ◌↔◌, true, suc, [], ◌∷◌, length, option_map, slice_get, slice_set, IsTrue, MatchOption, OnOk, OnErr, IsOk, IfOk};
+ghost use Rattle.std.specs.Prelude.{◌+◌, ◌^◌, ◌++◌, map, nat_le, ◌≡◌, ◌≤◌, ◌<◌, true, suc, [], ◌∷◌, length, option_map, slice_get, slice_set, MatchOption, OnOk, OnErr, IsOk, IfOk};
 ghost use Rattle.std.specs.Option.{option_copied};
 ghost use Rattle.std.specs.Vec.{vec_capacity};
 ghost use Rattle.code_meaning.specs.Machine.{depth_of, take_words, code_in, function_of};

@@ -1,5 +1,5 @@
 //! Locals, jumps and loops.
-ghost use Rattle.std.specs.Prelude.{◌≡◌, ◌<◌, ◌+◌, ◌^◌, [], ◌∷◌, suc, slice_get, slice_set};
+ghost use Rattle.std.specs.Prelude.{◌≡◌, ◌<◌, ◌+◌, ◌^◌, ◌∷◌, suc, slice_get, slice_set};
 ghost use Rattle.code_meaning.specs.Machine.{numbered_act, on_local, on_top, on_turn, to_line, Goes, code_in, on_int, unless_zero};
 ghost use Rattle.run_state.specs.World.{take_turn};
 ghost use Rattle.machine.specs.Seen.{Comes, room_of, world_of, codes_of, limits_in};
@@ -7,12 +7,12 @@ ghost use Rattle.machine.specs.Sparing.{LocalBare, NumberedSpares};
 ghost use Rattle.machine.specs.Memory.{CallFinds, HasMemory};
 
 use crate::calls::call;
-use crate::configuration::{Configuration, End, Step};
+use crate::configuration::{Configuration, RunEnd, Step};
 use crate::copies::copy_of;
 use crate::linked_code::LinkedCode;
+use crate::operands::pop_int;
 use crate::references::jump_if_null;
 use crate::rules::Rules;
-use crate::stacks::pop_int;
 use object_heap::Which;
 use pl_code::Numbered;
 
@@ -37,20 +37,20 @@ pub fn numbered(
         Numbered::IfZero => match pop_int(&mut run.frames) {
             Some(0) => run.goes_to(number),
             Some(_) => run.goes_on(),
-            None => Step::Ends(End::Stuck),
+            None => Step::Ends(RunEnd::Stuck),
         },
         Numbered::IfNotZero => match pop_int(&mut run.frames) {
             Some(0) => run.goes_on(),
             Some(_) => run.goes_to(number),
-            None => Step::Ends(End::Stuck),
+            None => Step::Ends(RunEnd::Stuck),
         },
         Numbered::IfNull => jump_if_null(run, number),
         Numbered::Loop => match run.frames.function_at(code, run.frames.fun()) {
             Some(function) => repeat(run, code, limits, function.loops, number),
-            None => Step::Ends(End::Stuck),
+            None => Step::Ends(RunEnd::Stuck),
         },
         Numbered::Call => call(run, code, limits, number),
-        _ => Step::Ends(End::Stuck),
+        _ => Step::Ends(RunEnd::Stuck),
     }
 }
 
@@ -65,7 +65,7 @@ fn load(run: &mut Configuration, number: u32) -> Step
             Ok(word) => run.push(word),
             Err(_) => Step::NoMemory,
         },
-        None => Step::Ends(End::Stuck),
+        None => Step::Ends(RunEnd::Stuck),
     }
 }
 
@@ -79,7 +79,7 @@ fn store(run: &mut Configuration, number: u32) -> Step
             run.frames.store(number as usize, word);
             run.goes_on()
         }
-        None => Step::Ends(End::Stuck),
+        None => Step::Ends(RunEnd::Stuck),
     }
 }
 
@@ -99,7 +99,7 @@ fn repeat(
     match pop_int(&mut run.frames) {
         Some(0) => run.goes_on(),
         Some(_) => turn(run, code, limits, limited, line),
-        None => Step::Ends(End::Stuck),
+        None => Step::Ends(RunEnd::Stuck),
     }
 }
 
@@ -119,10 +119,10 @@ fn turn(
 {
     let turns = run.frames.turns();
     if limited && turns >= limits.loops() {
-        return Step::Ends(End::Limit(Which::Loop));
+        return Step::Ends(RunEnd::Limit(Which::Loop));
     }
     if run.world.ticks == 0 {
-        return Step::Ends(End::Limit(Which::Ticks));
+        return Step::Ends(RunEnd::Limit(Which::Ticks));
     }
     run.world.ticks -= 1;
     run.frames.set_turns(turns + 1);

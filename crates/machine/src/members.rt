@@ -16,15 +16,15 @@ ghost use Rattle.machine.specs.Rows.{beside};
 ghost use Rattle.machine.specs.Members.{filled, receiving_of};
 ghost use Rattle.pl_types.specs.Host.{no_host};
 
-use crate::configuration::{Configuration, End, Step};
+use crate::configuration::{Configuration, RunEnd, Step};
 use crate::executable::{Executable, Link};
 use crate::frames::Frames;
 use crate::linked_code::LinkedCode;
 use crate::paying::pay_member;
 use crate::receiving::{Receiving, received};
 use crate::rules::Rules;
-use crate::stack::Stack;
 use crate::throwing::answered_as;
+use crate::words::Words;
 use allowlist::{MEMBER_COUNT, MemberKind, MemberType};
 use code_meaning::Word;
 use object_heap::throw;
@@ -44,7 +44,7 @@ pub fn named(run: &mut Configuration, executable: &Executable, limits: &Rules<'_
             limits,
             member.number(),
         ),
-        _ => Step::Ends(End::Stuck),
+        _ => Step::Ends(RunEnd::Stuck),
     }
 }
 
@@ -78,13 +78,13 @@ fn call_member(
 {
     match words_of(&mut run.frames, &mut run.words, called) {
         Ok(true) => call_with(run, code, limits, number, called),
-        Ok(false) => Step::Ends(End::Stuck),
+        Ok(false) => Step::Ends(RunEnd::Stuck),
         Err(_) => Step::NoMemory,
     }
 }
 
 // The words that a call takes off the stack, the deepest on the top. It is false where there are too few.
-fn words_of(frames: &mut Frames, taken: &mut Stack, called: &MemberType) -> Result<bool, AllocError>
+fn words_of(frames: &mut Frames, taken: &mut Words, called: &MemberType) -> Result<bool, AllocError>
     ensures words { IfOk result (λ enough. beside frames.new.top.stack (filled enough taken.new.items) ≡ spec.take_words (count_of called.now) frames.old.top.stack []) }
     ensures memory { count_of called.now ≤ taken.old.room → IsOk result }
     ensures room { (frames.new.count ≤ frames.old.count) × (frames.new.words ≡ frames.old.words) × (frames.new.depth ≡ frames.old.depth) × (taken.new.room ≡ taken.old.room) }
@@ -97,7 +97,7 @@ fn words_of(frames: &mut Frames, taken: &mut Stack, called: &MemberType) -> Resu
 }
 
 // So many words off the stack, the deepest on the top.
-fn take_words(frames: &mut Frames, count: usize, taken: &mut Stack) -> Result<bool, AllocError>
+fn take_words(frames: &mut Frames, count: usize, taken: &mut Words) -> Result<bool, AllocError>
     ensures words { IfOk result (λ enough. beside frames.new.top.stack (filled enough taken.new.items) ≡ spec.take_words count frames.old.top.stack taken.old.items) }
     ensures memory { length taken.old.items + count ≤ taken.old.room → IsOk result }
     ensures room { (frames.new.count ≤ frames.old.count) × (frames.new.words ≡ frames.old.words) × (frames.new.depth ≡ frames.old.depth) × (taken.new.room ≡ taken.old.room) }
@@ -161,7 +161,7 @@ fn call_on(
     ensures room { room_of run.new ≡ room_of run.old }
 {
     match receiving {
-        Receiving::Unfit => Step::Ends(End::Stuck),
+        Receiving::Unfit => Step::Ends(RunEnd::Stuck),
         Receiving::OnNull => on_null(run, code, limits, called),
         Receiving::Receives => pay_and_act(run, code, limits, number, called),
         Receiving::Reads => {
@@ -201,7 +201,7 @@ fn pay_and_act(
 {
     match pay_member(&mut run.world, run.frames.text(), number) {
         Ok(None) => act(run, code, limits, number, called),
-        Ok(Some(which)) => Step::Ends(End::Limit(which)),
+        Ok(Some(which)) => Step::Ends(RunEnd::Limit(which)),
         Err(_) => Step::NoMemory,
     }
 }
@@ -221,6 +221,6 @@ fn act(
 {
     match member_calls::call(number, &mut run.world.heap, run.values.as_slice()) {
         Some(answer) => answered_as(run, code, limits, &called.result, answer),
-        None => Step::Ends(End::Stuck),
+        None => Step::Ends(RunEnd::Stuck),
     }
 }

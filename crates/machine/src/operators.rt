@@ -5,16 +5,17 @@ ghost use Rattle.arithmetic.specs.Operators.{of_type, as_long};
 ghost use Rattle.arithmetic.specs.declared.operator.Num.TheVariants as n;
 ghost use Rattle.code_meaning.specs.Machine.{on_calculation};
 ghost use Rattle.code_meaning.specs.Words as words;
-ghost use Rattle.machine.specs.Seen.{Comes, room_of, with_stack, world_of, codes_of, limits_in};
+ghost use Rattle.machine.specs.Frames.{OnlyStack};
+ghost use Rattle.machine.specs.Seen.{Comes, room_of, world_of, codes_of, limits_in};
 ghost use Rattle.machine.specs.Rows.{CalculatesTo, calculated_of};
 ghost use Rattle.machine.specs.Sparing.{NoZero};
 ghost use Rattle.machine.specs.Memory.{HasMemory, HasRoom};
 
-use crate::configuration::{Configuration, End, Step};
+use crate::configuration::{Configuration, RunEnd, Step};
 use crate::frames::Frames;
 use crate::linked_code::LinkedCode;
+use crate::operands::{pop_int, pop_long};
 use crate::rules::Rules;
-use crate::stacks::{pop_int, pop_long};
 use crate::throwing::throw_zero_divisor;
 use arithmetic::{Num, Op, arith};
 use code_meaning::Word;
@@ -42,7 +43,7 @@ pub fn arithmetic(
     ensures room { room_of run.new ≡ room_of run.old }
 {
     match calculated(&mut run.frames, op, width) {
-        Operated::NoRow => Step::Ends(End::Stuck),
+        Operated::NoRow => Step::Ends(RunEnd::Stuck),
         Operated::Number(number) => run.push(word_of(number)),
         Operated::ZeroDivisor => throw_zero_divisor(run, code, limits),
     }
@@ -60,9 +61,7 @@ fn word_of(number: Num) -> Word
 fn calculated(frames: &mut Frames, op: ArithmeticOp, width: Width) -> Operated
     ensures stack { CalculatesTo (words.calculation op width frames.old.top.stack) frames.new.top.stack result }
     ensures room { frames.old.count ≤ frames.old.words → HasRoom result frames.new }
-    ensures top { frames.new.top ≡ with_stack frames.old.top frames.new.top.stack }
-    ensures below { frames.new.below ≡ frames.old.below }
-    ensures kept { (frames.new.words ≡ frames.old.words) × (frames.new.depth ≡ frames.old.depth) }
+    ensures only { OnlyStack frames.old frames.new }
 {
     match width {
         Width::Int => ints(frames, op),
@@ -73,9 +72,7 @@ fn calculated(frames: &mut Frames, op: ArithmeticOp, width: Width) -> Operated
 fn ints(frames: &mut Frames, op: ArithmeticOp) -> Operated
     ensures stack { CalculatesTo (words.ints_of op frames.old.top.stack) frames.new.top.stack result }
     ensures room { frames.old.count ≤ frames.old.words → HasRoom result frames.new }
-    ensures top { frames.new.top ≡ with_stack frames.old.top frames.new.top.stack }
-    ensures below { frames.new.below ≡ frames.old.below }
-    ensures kept { (frames.new.words ≡ frames.old.words) × (frames.new.depth ≡ frames.old.depth) }
+    ensures only { OnlyStack frames.old frames.new }
 {
     if takes_one(op) {
         one_int(frames, op_of(op))
@@ -87,9 +84,7 @@ fn ints(frames: &mut Frames, op: ArithmeticOp) -> Operated
 fn longs(frames: &mut Frames, op: ArithmeticOp) -> Operated
     ensures stack { CalculatesTo (words.longs_of op frames.old.top.stack) frames.new.top.stack result }
     ensures room { frames.old.count ≤ frames.old.words → HasRoom result frames.new }
-    ensures top { frames.new.top ≡ with_stack frames.old.top frames.new.top.stack }
-    ensures below { frames.new.below ≡ frames.old.below }
-    ensures kept { (frames.new.words ≡ frames.old.words) × (frames.new.depth ≡ frames.old.depth) }
+    ensures only { OnlyStack frames.old frames.new }
 {
     if takes_one(op) {
         one_long(frames, op_of(op))
@@ -119,9 +114,7 @@ fn is_shift(op: ArithmeticOp) -> bool
 fn one_int(frames: &mut Frames, op: Op) -> Operated
     ensures stack { CalculatesTo (words.one_int op frames.old.top.stack) frames.new.top.stack result }
     ensures room { frames.old.count ≤ frames.old.words → HasRoom result frames.new }
-    ensures top { frames.new.top ≡ with_stack frames.old.top frames.new.top.stack }
-    ensures below { frames.new.below ≡ frames.old.below }
-    ensures kept { (frames.new.words ≡ frames.old.words) × (frames.new.depth ≡ frames.old.depth) }
+    ensures only { OnlyStack frames.old frames.new }
 {
     match pop_int(frames) {
         Some(a) => given(on_ints(op, a, a)),
@@ -133,9 +126,7 @@ fn one_int(frames: &mut Frames, op: Op) -> Operated
 fn two_ints(frames: &mut Frames, op: Op) -> Operated
     ensures stack { CalculatesTo (words.two_ints op frames.old.top.stack) frames.new.top.stack result }
     ensures room { frames.old.count ≤ frames.old.words → HasRoom result frames.new }
-    ensures top { frames.new.top ≡ with_stack frames.old.top frames.new.top.stack }
-    ensures below { frames.new.below ≡ frames.old.below }
-    ensures kept { (frames.new.words ≡ frames.old.words) × (frames.new.depth ≡ frames.old.depth) }
+    ensures only { OnlyStack frames.old frames.new }
 {
     match pop_int(frames) {
         Some(b) => match pop_int(frames) {
@@ -150,9 +141,7 @@ fn two_ints(frames: &mut Frames, op: Op) -> Operated
 fn one_long(frames: &mut Frames, op: Op) -> Operated
     ensures stack { CalculatesTo (words.one_long op frames.old.top.stack) frames.new.top.stack result }
     ensures room { frames.old.count ≤ frames.old.words → HasRoom result frames.new }
-    ensures top { frames.new.top ≡ with_stack frames.old.top frames.new.top.stack }
-    ensures below { frames.new.below ≡ frames.old.below }
-    ensures kept { (frames.new.words ≡ frames.old.words) × (frames.new.depth ≡ frames.old.depth) }
+    ensures only { OnlyStack frames.old frames.new }
 {
     match pop_long(frames) {
         Some(a) => given(on_longs(op, a, Num::Long(a))),
@@ -164,9 +153,7 @@ fn one_long(frames: &mut Frames, op: Op) -> Operated
 fn long_and_int(frames: &mut Frames, op: Op) -> Operated
     ensures stack { CalculatesTo (words.long_and_int op frames.old.top.stack) frames.new.top.stack result }
     ensures room { frames.old.count ≤ frames.old.words → HasRoom result frames.new }
-    ensures top { frames.new.top ≡ with_stack frames.old.top frames.new.top.stack }
-    ensures below { frames.new.below ≡ frames.old.below }
-    ensures kept { (frames.new.words ≡ frames.old.words) × (frames.new.depth ≡ frames.old.depth) }
+    ensures only { OnlyStack frames.old frames.new }
 {
     match pop_int(frames) {
         Some(b) => match pop_long(frames) {
@@ -181,9 +168,7 @@ fn long_and_int(frames: &mut Frames, op: Op) -> Operated
 fn two_longs(frames: &mut Frames, op: Op) -> Operated
     ensures stack { CalculatesTo (words.two_longs op frames.old.top.stack) frames.new.top.stack result }
     ensures room { frames.old.count ≤ frames.old.words → HasRoom result frames.new }
-    ensures top { frames.new.top ≡ with_stack frames.old.top frames.new.top.stack }
-    ensures below { frames.new.below ≡ frames.old.below }
-    ensures kept { (frames.new.words ≡ frames.old.words) × (frames.new.depth ≡ frames.old.depth) }
+    ensures only { OnlyStack frames.old frames.new }
 {
     match pop_long(frames) {
         Some(b) => match pop_long(frames) {

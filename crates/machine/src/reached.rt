@@ -1,5 +1,5 @@
 //! The members that were called.
-ghost use Rattle.std.specs.Prelude.{◌≡◌, ◌≤◌, ◌<◌, false, [], ◌∷◌, ◌++◌, length, OnOk, IsOk, IfOk};
+ghost use Rattle.std.specs.Prelude.{◌≡◌, ◌≤◌, ◌<◌, false, [], ◌∷◌, ◌++◌, OnOk, IsOk, IfOk};
 ghost use Rattle.machine.specs.Rooms.{is_among};
 
 use allowlist::MEMBER_COUNT;

@@ -6,8 +6,8 @@ ghost use Rattle.code_meaning.specs.Members as members;
 ghost use Rattle.machine.specs.Members.{behind, filled, is_null, received_with, receiving_of};
 
 use crate::boxes::boxed;
-use crate::stack::Stack;
 use crate::values::Values;
+use crate::words::Words;
 use allowlist::{MemberKind, MemberType};
 use code_meaning::Word;
 use object_values::Value;
@@ -32,7 +32,7 @@ pub enum Receiving {
 /// `values` alone.
 pub fn received(
     called: &MemberType,
-    words: &mut Stack,
+    words: &mut Words,
     values: &mut Values,
 ) -> Result<Receiving, AllocError>
     ensures exact { IfOk result (λ r. receiving_of r values.new.items ≡ members.received called.now words.old.items) }
@@ -55,7 +55,7 @@ pub fn received(
 
 fn received_all(
     params: &[Ty],
-    words: &mut Stack,
+    words: &mut Words,
     values: &mut Values,
 ) -> Result<Receiving, AllocError>
     ensures exact { IfOk result (λ r. receiving_of r values.new.items ≡ members.receives (members.taken_all params.now words.old.items)) }
@@ -72,7 +72,7 @@ fn received_all(
 
 fn received_on(
     params: &[Ty],
-    words: &mut Stack,
+    words: &mut Words,
     values: &mut Values,
 ) -> Result<Receiving, AllocError>
     ensures exact { IfOk result (λ r. receiving_of r values.new.items ≡ members.received_by kind.Instance params.now words.old.items) }
@@ -90,7 +90,7 @@ fn received_on(
 
 fn received_by(
     params: &[Ty],
-    words: &mut Stack,
+    words: &mut Words,
     values: &mut Values,
     receiver: Value,
 ) -> Result<Receiving, AllocError>
@@ -125,7 +125,7 @@ fn is_null(value: &Value) -> bool
 }
 
 // The arguments of these types, behind values that are there. It is false where the words do not fit.
-fn take_arguments(params: &[Ty], words: &mut Stack, values: &mut Values) -> Result<bool, AllocError>
+fn take_arguments(params: &[Ty], words: &mut Words, values: &mut Values) -> Result<bool, AllocError>
     ensures exact { IfOk result (λ fit. filled fit values.new.items ≡ behind values.old.items (members.taken_all params.now words.old.items)) }
     ensures memory { length values.old.items + length words.old.items ≤ values.old.room → IsOk result }
     ensures room { (words.new.room ≡ words.old.room) × (values.new.room ≡ values.old.room) }

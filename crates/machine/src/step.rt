@@ -8,14 +8,14 @@ ghost use Rattle.machine.specs.Sparing.{InstructionSpares, Spares};
 ghost use Rattle.machine.specs.Runs.{CountsFit};
 
 use crate::boxes::{box_number, unbox};
-use crate::configuration::{Configuration, End, Step};
+use crate::configuration::{Configuration, RunEnd, Step};
 use crate::executable::Executable;
 use crate::jumps::numbered;
 use crate::members::named;
+use crate::operands::plain;
 use crate::operators::arithmetic;
 use crate::references::quoted;
 use crate::rules::Rules;
-use crate::stacks::plain;
 use crate::typed::{cast, typed};
 use code_meaning::Word;
 use pl_code::Instruction;
@@ -30,7 +30,7 @@ pub fn step(run: &mut Configuration, executable: &Executable, limits: &Rules<'_>
 {
     match executable.instruction(&run.frames) {
         Some(instruction) => execute(run, executable, limits, instruction),
-        None => Step::Ends(End::Stuck),
+        None => Step::Ends(RunEnd::Stuck),
     }
 }
 
@@ -62,6 +62,6 @@ fn execute(
         Instruction::Invoke(_) => named(run, executable, limits),
         Instruction::New(_) => named(run, executable, limits),
         Instruction::Field(_) => named(run, executable, limits),
-        _ => Step::Ends(End::Stuck),
+        _ => Step::Ends(RunEnd::Stuck),
     }
 }

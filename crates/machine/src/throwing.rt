@@ -17,7 +17,7 @@ ghost use Rattle.machine.specs.Sparing.{OnReference, OnValue};
 ghost use Rattle.machine.specs.Memory.{HasMemory, IsAnswered, OnlyToMake};
 ghost use Rattle.machine.specs.Rows.{bare, landing, landed};
 
-use crate::configuration::{Configuration, End, Step, World};
+use crate::configuration::{Configuration, RunEnd, Step, World};
 use crate::frames::Frames;
 use crate::linked_code::LinkedCode;
 use crate::rules::Rules;
@@ -44,7 +44,7 @@ pub fn answered(
     match answer {
         Answer::Value(value) => run.push(unboxed(value)),
         Answer::Thrown(id) => unwind(run, code, id),
-        Answer::Room => Step::Ends(End::Limit(Which::Room)),
+        Answer::Room => Step::Ends(RunEnd::Limit(Which::Room)),
         Answer::NoMemory => Step::NoMemory,
     }
 }
@@ -63,7 +63,7 @@ pub fn answered_whole(
     match answer {
         Answer::Value(value) => run.push(Word::R(value)),
         Answer::Thrown(id) => unwind(run, code, id),
-        Answer::Room => Step::Ends(End::Limit(Which::Room)),
+        Answer::Room => Step::Ends(RunEnd::Limit(Which::Room)),
         Answer::NoMemory => Step::NoMemory,
     }
 }
@@ -84,7 +84,7 @@ pub fn answered_as(
     match answer {
         Answer::Value(value) => run.push(given_as(of, value)),
         Answer::Thrown(id) => unwind(run, code, id),
-        Answer::Room => Step::Ends(End::Limit(Which::Room)),
+        Answer::Room => Step::Ends(RunEnd::Limit(Which::Room)),
         Answer::NoMemory => Step::NoMemory,
     }
 }
@@ -152,7 +152,7 @@ pub fn throw_top(run: &mut Configuration, code: &LinkedCode, limits: &Rules<'_>)
 {
     match run.frames.pop() {
         Some(word) => throw_word(run, code, limits, &word),
-        None => Step::Ends(End::Stuck),
+        None => Step::Ends(RunEnd::Stuck),
     }
 }
 
@@ -167,7 +167,7 @@ fn throw_word(run: &mut Configuration, code: &LinkedCode, limits: &Rules<'_>, wo
             let answer = throw_value(&mut run.world.heap, value);
             answered_throw(run, code, limits, answer)
         }
-        _ => Step::Ends(End::Stuck),
+        _ => Step::Ends(RunEnd::Stuck),
     }
 }
 
@@ -183,9 +183,9 @@ fn answered_throw(
     ensures room { room_of run.new ≡ room_of run.old }
 {
     match answer {
-        Answer::Value(_value) => Step::Ends(End::Stuck),
+        Answer::Value(_value) => Step::Ends(RunEnd::Stuck),
         Answer::Thrown(id) => unwind(run, code, id),
-        Answer::Room => Step::Ends(End::Limit(Which::Room)),
+        Answer::Room => Step::Ends(RunEnd::Limit(Which::Room)),
         Answer::NoMemory => Step::NoMemory,
     }
 }
@@ -202,7 +202,7 @@ fn unwind(run: &mut Configuration, code: &LinkedCode, id: u32) -> Step
             Some(line) => return land(run, line, id),
             None => {
                 if !run.frames.leave() {
-                    return Step::Ends(End::Thrown(id));
+                    return Step::Ends(RunEnd::Thrown(id));
                 }
             }
         }

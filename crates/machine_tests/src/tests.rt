@@ -1,7 +1,7 @@
 use crate::rows::{ROWS, Row};
 use allowlist::{Allow, Catalogue};
 use code_meaning::Word;
-use machine::{Activation, End, Executable, Limits, Outcome};
+use machine::{Activation, Executable, Limits, RunEnd, RunOutcome};
 use object_heap::{Heap, Which};
 use object_values::{Elements, Value};
 use pl_code::read_listing;
@@ -43,17 +43,17 @@ fn word_text(alloc: Global, word: &Word) -> Result<String, AllocError> {
     }
 }
 
-fn end_text(alloc: Global, end: &End) -> Result<String, AllocError> {
+fn end_text(alloc: Global, end: &RunEnd) -> Result<String, AllocError> {
     match end {
-        End::Result(Some(word)) => word_text(alloc, word),
-        End::Result(None) => String::from_str(alloc, "nothing"),
-        End::Thrown(_) => String::from_str(alloc, "thrown"),
-        End::Limit(which) => String::from_str(alloc, limit_text(*which)),
-        End::Stuck => String::from_str(alloc, "stuck"),
+        RunEnd::Result(Some(word)) => word_text(alloc, word),
+        RunEnd::Result(None) => String::from_str(alloc, "nothing"),
+        RunEnd::Thrown(_) => String::from_str(alloc, "thrown"),
+        RunEnd::Limit(which) => String::from_str(alloc, limit_text(*which)),
+        RunEnd::Stuck => String::from_str(alloc, "stuck"),
     }
 }
 
-fn left_text(alloc: Global, outcome: Option<Outcome>) -> Result<String, AllocError> {
+fn left_text(alloc: Global, outcome: Option<RunOutcome>) -> Result<String, AllocError> {
     match &outcome {
         Some(outcome) => {
             let end = end_text(alloc, &outcome.end)?;

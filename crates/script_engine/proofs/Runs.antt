@@ -34,8 +34,8 @@ use Rattle.code_meaning.specs.Words.{bit, unboxed}
 use Rattle.code_meaning.specs.Machine as code_config
 use Rattle.code_meaning.specs.Machine.{Next, Goes, Ends, start, after}
 use Rattle.machine.specs.declared.configuration.Limits.{Limits}
-use Rattle.machine.specs.declared.configuration.End as run_end
-use Rattle.machine.specs.declared.configuration.End.TheVariants as r
+use Rattle.machine.specs.declared.configuration.RunEnd as run_end
+use Rattle.machine.specs.declared.configuration.RunEnd.TheVariants as r
 use Rattle.machine.specs.Seen.{codes_of, limits_of, limit_of, ended}
 use Rattle.machine.specs.Activations.{Activation, later, is_over, counted}
 use Rattle.machine.proofs.Turning.{comes_to_its_end}
@@ -55,7 +55,7 @@ use Rattle.allowlist.specs.Allow.{AllowList}
 -- an activation of code that gives this type left this
 record LeftBy (of : Ty) (a : Activation) (o : Outcome) : Type 0 where
   left : ℕ
-  end : run_end.End
+  end : run_end.RunEnd
   read : end_left of end ≡ Some o.end
   stands : a.now ≡ Some (ended end (world_left o left))
   ticks : o.ticks ≡ a.limits.ticks - left
@@ -188,7 +188,7 @@ main_out p limits bound main begun e =
     (meaning (alone p) limits bound).stmts (record { text = script_text; depth = 0 }) (record { world = begun; turns = 0 }) e main.body
 
 end_read : (p : Program) (limits : run.Limits) (bound : ℕ) (main : Fun) (o : Option Env) (begun : World)
-    → ((e : Env) → o ≡ Some e → IsEnough main.result (main_out p limits bound main begun e)) → (end : run_end.End) (left : left_end.End) (w : World)
+    → ((e : Env) → o ≡ Some e → IsEnough main.result (main_out p limits bound main begun e)) → (end : run_end.RunEnd) (left : left_end.End) (w : World)
     → end_left main.result end ≡ Some left → (whole : End (Option Word)) → code.source_in (alone p) limits bound main o begun ≡ Some whole → Ends whole ≡ ended end w
     → end_in p limits bound main o begun ≡ Some (end_seen left w)
 end_read p limits bound main None begun enough end left w seen whole is same = cc

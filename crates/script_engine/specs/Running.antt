@@ -21,14 +21,13 @@ use Rattle.program_typing.specs.Agreeing.{types_in}
 use Rattle.code_meaning.specs.Words.{boxed, unboxed, plain_value}
 use Rattle.code_meaning.specs.declared.word.Word.{Word}
 use Rattle.code_meaning.specs.declared.word.Word.TheVariants.{R}
-use Rattle.machine.specs.declared.configuration.End as run_end
-use Rattle.machine.specs.declared.configuration.End.TheVariants as r
+use Rattle.machine.specs.declared.configuration.RunEnd as run_end
+use Rattle.machine.specs.declared.configuration.RunEnd.TheVariants as r
 use Rattle.machine.specs.declared.configuration.Limits.{Limits}
-use Rattle.machine.specs.declared.activation.Outcome as run_outcome
+use Rattle.machine.specs.declared.activation.RunOutcome as run_outcome
 use Rattle.machine.specs.Seen.{limits_of, limit_of, codes_of}
 use Rattle.code_meaning.specs.Machine.{start}
 use Rattle.verifier_soundness.specs.Fits.{kinds_of, main_params}
-use Rattle.verified_machine.specs.Tasks.{OnlySpares}
 use Rattle.machine.specs.Activations.{Activation}
 use Rattle.script_engine.specs.declared.compiling.Script.{Script}
 use Rattle.script_engine.specs.Compiling.{IsScriptOf}
@@ -64,7 +63,7 @@ abbrev pub value_of : Ty → Option Word → Value
 value_of of word = value_by (out-Ty of) word
 
 -- the end of a run of code, with its value; none where it is stuck
-abbrev pub end_left : Ty → run_end.End → Option left_end.End
+abbrev pub end_left : Ty → run_end.RunEnd → Option left_end.End
 end_left of (r.Result word) = Some (l.Value (value_of of word))
 end_left of (r.Thrown id) = Some (l.Thrown id)
 end_left of (r.Limit which) = Some (l.Limit which)
@@ -80,14 +79,14 @@ abbrev pub world_left : Outcome → ℕ → World
 world_left o left = record { store = o.heap; ticks = left; reached = o.reached }
 
 -- an end, and not stuck
-abbrev pub IsEnd : run_end.End → Type 0
+abbrev pub IsEnd : run_end.RunEnd → Type 0
 IsEnd (r.Result word) = Unit {0}
 IsEnd (r.Thrown id) = Unit {0}
 IsEnd (r.Limit which) = Unit {0}
 IsEnd r.Stuck = ⊥
 
 -- what a run of code that gives this type leaves, with the value read
-pub record LeftOf (of : Ty) (ran : run_outcome.Outcome) (o : Outcome) : Type 0 where
+pub record LeftOf (of : Ty) (ran : run_outcome.RunOutcome) (o : Outcome) : Type 0 where
   pub end : end_left of ran.end ≡ Some o.end
   pub heap : o.heap ≡ ran.heap
   pub ticks : o.ticks ≡ ran.ticks
@@ -95,13 +94,9 @@ pub record LeftOf (of : Ty) (ran : run_outcome.Outcome) (o : Outcome) : Type 0 w
   pub reached : o.reached ≡ ran.reached
 
 -- a run that comes to this leaves it
-abbrev pub Comes : Ty → Option run_outcome.Outcome → Outcome → Type 0
+abbrev pub Comes : Ty → Option run_outcome.RunOutcome → Outcome → Type 0
 Comes of None o = ⊥
 Comes of (Some ran) o = LeftOf of ran o
-
--- no instruction of a run takes memory
-abbrev pub SparesAll : Activation → Type 0
-SparesAll a = (q : ℕ) → OnlySpares q a
 
 -- the world in which a run begins
 abbrev pub world_at : Store → Limits → World

@@ -1,10 +1,9 @@
 //! Runs of scripts.
 
-ghost use Rattle.std.specs.Prelude.{◌≡◌, IfOk, IsOk, IsSome, IsTrue, Some, slice_get};
-ghost use Rattle.machine.specs.Activations.{is_over};
+ghost use Rattle.std.specs.Prelude.{◌≡◌, IfOk, IsOk, Some, slice_get};
 ghost use Rattle.verifier_soundness.specs.Rows.{HaveRows};
-ghost use Rattle.verified_machine.specs.Tasks.{ending, rest};
-ghost use Rattle.script_engine.specs.Running.{RunsAsItsProgram, LeftOf, Comes, IsEnd, SparesAll, TakesArguments, begun, value_of, word_in, words_in, end_left, params_of};
+ghost use Rattle.verified_machine.specs.Tasks.{ending, SparesMemory};
+ghost use Rattle.script_engine.specs.Running.{RunsAsItsProgram, LeftOf, Comes, IsEnd, TakesArguments, begun, value_of, word_in, words_in, end_left, params_of};
 
 use crate::compiling::Script;
 use code_meaning::Word;
@@ -15,7 +14,6 @@ use object_values::{Elements, Value};
 use pl_code::{Code, Slot};
 use pl_types::Ty;
 use std::alloc::{AllocError, Global};
-use task_core::Turn;
 use verified_machine::VerifiedActivation;
 
 /// The word of an argument in a local of a kind.
@@ -70,24 +68,24 @@ fn value_of(of: &Ty, word: Option<Word>) -> Value
 }
 
 /// The end of a run that is not stuck, with its value.
-fn end_left(of: &Ty, end: machine::End) -> End
+fn end_left(of: &Ty, end: machine::RunEnd) -> End
     requires { IsEnd end }
     ensures { end_left of.now end ≡ Some result }
 {
     match &end {
-        machine::End::Thrown(id) => End::Thrown(*id),
-        machine::End::Limit(which) => End::Limit(*which),
-        machine::End::Result(_) => End::Value(value_of(of, end.into_word())),
-        machine::End::Stuck => unreachable!(),
+        machine::RunEnd::Thrown(id) => End::Thrown(*id),
+        machine::RunEnd::Limit(which) => End::Limit(*which),
+        machine::RunEnd::Result(_) => End::Value(value_of(of, end.into_word())),
+        machine::RunEnd::Stuck => unreachable!(),
     }
 }
 
 /// What a run of code of this result type leaves.
-fn outcome_left(of: &Ty, ran: machine::Outcome) -> Outcome
+fn outcome_left(of: &Ty, ran: machine::RunOutcome) -> Outcome
     requires { IsEnd ran.end }
     ensures { LeftOf of.now ran result }
 {
-    let machine::Outcome {
+    let machine::RunOutcome {
         end,
         heap,
         ticks,
@@ -100,19 +98,6 @@ fn outcome_left(of: &Ty, ran: machine::Outcome) -> Outcome
         ticks,
         steps,
         reached,
-    }
-}
-
-/// What a run of code of this result type leaves that has ended.
-#[tactic(auto, using(crate::proofs::Left::fitting_end, crate::proofs::Left::not_over, crate::proofs::Left::comes_from))]
-fn left(of: &Ty, activation: VerifiedActivation<'_>) -> Outcome
-    requires over { IsTrue (is_over activation.run.now) }
-    requires none { rest activation.run ≡ 0 }
-    ensures { Comes of.now (ending activation.entry.run) result }
-{
-    match activation.outcome() {
-        Some(ran) => outcome_left(of, ran),
-        None => unreachable!(),
     }
 }
 
@@ -144,18 +129,13 @@ impl Script {
     /// # Errors
     ///
     /// Want of memory; none where no instruction of the run takes any.
-    pub fn finish(&self, mut activation: VerifiedActivation<'_>) -> Result<Outcome, AllocError>
-        requires begun { IsSome activation.run.now }
-        ensures comes { IfOk result (Comes self.now.result (ending activation.entry.run)) }
-        ensures memory { SparesAll activation.entry.run → IsOk result }
+    #[tactic(auto, using(crate::proofs::Left::fitting_end, crate::proofs::Left::comes_from))]
+    pub fn finish(&self, activation: VerifiedActivation<'_>) -> Result<Outcome, AllocError>
+        ensures comes { IfOk result (Comes self.now.result (ending activation.run)) }
+        ensures memory { SparesMemory activation.run → IsOk result }
     {
-        loop {
-            match activation.advance(u64::MAX) {
-                Turn::More => {}
-                Turn::Done => return Ok(left(&self.result, activation)),
-                Turn::NoMemory => return Err(AllocError),
-            }
-        }
+        let ran = activation.finish()?;
+        Ok(outcome_left(&self.result, ran))
     }
 
     /// Runs the script: [`Script::start`], and then [`Script::finish`].

@@ -1,2 +1,3 @@
 mod Resting
 mod Outcomes
+pub mod Finishing

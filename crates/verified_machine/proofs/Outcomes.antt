@@ -13,10 +13,10 @@ use Rattle.run_state.specs.World.{World, Limits, End}
 use Rattle.object_heap.specs.declared.outcome.Which.TheVariants as which
 use Rattle.code_meaning.specs.declared.word.Word.{Word}
 use Rattle.code_meaning.specs.Machine.{Config, Next, Goes, Ends, Stuck, start}
-use Rattle.machine.specs.declared.activation.Outcome.{Outcome}
+use Rattle.machine.specs.declared.activation.RunOutcome.{RunOutcome}
 use Rattle.machine.specs.declared.configuration.Limits as configuration
-use Rattle.machine.specs.declared.configuration.End as held
-use Rattle.machine.specs.declared.configuration.End.TheVariants as end
+use Rattle.machine.specs.declared.configuration.RunEnd as held
+use Rattle.machine.specs.declared.configuration.RunEnd.TheVariants as end
 use Rattle.machine.specs.Links.{Executable}
 use Rattle.machine.specs.Seen.{limits_of, ended, codes_of}
 use Rattle.machine.specs.Activations.{Activation, counted, is_over, Leaves}
@@ -25,7 +25,7 @@ use Rattle.verifier_soundness.proofs.Runs.{well_shaped, starts_fit}
 use Rattle.verified_machine.specs.Tasks.{code_under, Keeps, KeepsFrom, IsVerified, IsHeld, RunUnder, EndFits, LeavesFitting, rest_from, rest, outcome_in, ending_from, ending}
 use Rattle.verified_machine.proofs.Resting.{taken_most, done_is, counted_none}
 
-ended_so : (ticks left steps : ℕ) (w : World) (e : held.End) → w.ticks ≡ left → (next : Next) → next ≡ ended e w → (next ≡ Stuck → ⊥)
+ended_so : (ticks left steps : ℕ) (w : World) (e : held.RunEnd) → w.ticks ≡ left → (next : Next) → next ≡ ended e w → (next ≡ Stuck → ⊥)
     → outcome_in ticks steps next ≡ Some (record { end = e; heap = w.store; ticks = ticks - left; steps = steps; reached = w.reached })
 ended_so ticks left steps w (end.Result word) same next is stuck = ap (outcome_in ticks steps) is ∙ ap (λ n. Some (record { end = end.Result word; heap = w.store; ticks = ticks - n; steps = steps; reached = w.reached })) same
 ended_so ticks left steps w (end.Thrown id) same next is stuck = ap (outcome_in ticks steps) is ∙ ap (λ n. Some (record { end = end.Thrown id; heap = w.store; ticks = ticks - n; steps = steps; reached = w.reached })) same
@@ -35,7 +35,7 @@ ended_so ticks left steps w (end.Limit which.Ticks) same next is stuck = ap (out
 ended_so ticks left steps w (end.Limit which.Room) same next is stuck = ap (outcome_in ticks steps) is ∙ ap (λ n. Some (record { end = end.Limit which.Room; heap = w.store; ticks = ticks - n; steps = steps; reached = w.reached })) same
 ended_so ticks left steps w end.Stuck same next is stuck = absurd (stuck is)
 
-not_goes : (e : held.End) (w : World) (c : Config) → Goes c ≡ ended e w → ⊥
+not_goes : (e : held.RunEnd) (w : World) (c : Config) → Goes c ≡ ended e w → ⊥
 not_goes (end.Result word) w c e = cc
 not_goes (end.Thrown id) w c e = cc
 not_goes (end.Limit limit) w c e = cc
@@ -48,11 +48,11 @@ some_next : (n m : Next) → Some n ≡ Some m → n ≡ m
 some_next n m e = cc
 
 -- the world that an outcome has
-abbrev world_left : Outcome → ℕ → World
+abbrev world_left : RunOutcome → ℕ → World
 world_left o left = record { store = o.heap; ticks = left; reached = o.reached }
 
 module _ (allow : AllowList) where
-  leaves_from : (a : Activation) (o : Outcome) (now : Option Next) (left : ℕ) → KeepsFrom allow a.code (limits_of a.limits a.allow) a.steps now → now ≡ Some (ended o.end (world_left o left)) → o.ticks ≡ a.limits.ticks - left → o.steps ≡ a.steps
+  leaves_from : (a : Activation) (o : RunOutcome) (now : Option Next) (left : ℕ) → KeepsFrom allow a.code (limits_of a.limits a.allow) a.steps now → now ≡ Some (ended o.end (world_left o left)) → o.ticks ≡ a.limits.ticks - left → o.steps ≡ a.steps
       → Some o ≡ ending_from a now
   leaves_from a o None left k is ticks steps = cc
   leaves_from a o (Some (Goes c)) left k is ticks steps = absurd (not_goes o.end (world_left o left) c (some_next (Goes c) (ended o.end (world_left o left)) is))
@@ -69,7 +69,7 @@ module _ (allow : AllowList) where
   none_is_over b n e g z = false≢true (sym e ∙ g ∙ ap (λ n. n == 0) z)
 
   -- what a run leaves once nothing is left is what it comes to
-  pub leaves_ending : (a : Activation) (o : Option Outcome) → IsVerified allow a → rest a ≡ 0 → Leaves a o → o ≡ ending a
+  pub leaves_ending : (a : Activation) (o : Option RunOutcome) → IsVerified allow a → rest a ≡ 0 → Leaves a o → o ≡ ending a
   leaves_ending a None k none l = absurd (none_is_over (is_over a.now) (rest a) l (done_is allow a k) none)
   leaves_ending a (Some o) k none l = leaves_from a o a.now l.0 k l.1 l.2 l.3
 
@@ -117,19 +117,19 @@ starts_bounded held e limits args w a same is =
 
 -- ---- how it ends
 
-end_fits : (allow : AllowList) (code : List FunCode) (limits : Limits) (e : held.End) (w : World) → FitsNext allow code limits (ended e w) → EndFits code e × ReachesAllowed allow w
+end_fits : (allow : AllowList) (code : List FunCode) (limits : Limits) (e : held.RunEnd) (w : World) → FitsNext allow code limits (ended e w) → EndFits code e × ReachesAllowed allow w
 end_fits allow code limits (end.Result result) w fits = fits
 end_fits allow code limits (end.Thrown id) w fits = (tt, fits)
 end_fits allow code limits (end.Limit limit) w fits = (tt, fits)
 end_fits allow code limits end.Stuck w fits = absurd fits
 
-ends_fitting : (allow : AllowList) (code : List FunCode) (limits : Limits) (steps : ℕ) (e : held.End) (w : World) (now : Option Next) → now ≡ Some (ended e w) → KeepsFrom allow code limits steps now
+ends_fitting : (allow : AllowList) (code : List FunCode) (limits : Limits) (steps : ℕ) (e : held.RunEnd) (w : World) (now : Option Next) → now ≡ Some (ended e w) → KeepsFrom allow code limits steps now
     → EndFits code e × ReachesAllowed allow w
 ends_fitting allow code limits steps e w now is k =
     let keeps : Keeps allow code limits steps (ended e w) = subst (KeepsFrom allow code limits steps) is k in
     end_fits allow code limits e w keeps.fits
 
-pub leaves_fitting : (r : RunUnder) (o : Option Outcome) → IsVerified r.allow r.run → Leaves r.run o → IfSome o (LeavesFitting r)
+pub leaves_fitting : (r : RunUnder) (o : Option RunOutcome) → IsVerified r.allow r.run → Leaves r.run o → IfSome o (LeavesFitting r)
 leaves_fitting r None k l = tt
 leaves_fitting r (Some o) k l =
     let x = ends_fitting r.allow r.run.code (limits_of r.run.limits r.run.allow) r.run.steps o.end (world_left o l.0) r.run.now l.1 k in

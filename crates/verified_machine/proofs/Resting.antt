@@ -273,6 +273,7 @@ module _ (allow : AllowList) where
       record {
         next = o.next;
         stands = o.stands;
+        fits = o.fits;
         spares = λ n c less is.
             let fits : FitsConfig allow a.code limits c = subst (FitsNext allow a.code limits) is (stays_fitting allow a.code [] limits keeps.well keeps.under keeps.rows n o.next keeps.fits) in
             (o.spares n c less is, is_within (held_code a) a.frame words limits c keeps.well fits);

@@ -7,6 +7,7 @@ use Rattle.pl_code.specs.declared.code.FunCode.{FunCode}
 use Rattle.allowlist.specs.Allow.{AllowList, flag}
 use Rattle.verifier.specs.Shaped.{IsWellShapedCode}
 use Rattle.verifier.specs.Verified.{CodeUnder, FrameWords}
+use Rattle.machine.specs.Rooms.{FitsAtStart}
 use Rattle.machine.specs.Sparing.{Spares}
 use Rattle.machine.specs.Links.{Executable}
 use Rattle.run_state.specs.World.{Limits, Limit, Loop, Depth, Ticks, Room, End, Result, Uncaught, Limited}
@@ -14,9 +15,9 @@ use Rattle.code_meaning.specs.declared.word.Word.{Word}
 use Rattle.code_meaning.specs.Machine.{Config, Next, Goes, Ends, Stuck, after}
 use Rattle.task_core.specs.declared.task.Turn.{Turn}
 use Rattle.task_core.specs.declared.task.Turn.TheVariants as turn
-use Rattle.machine.specs.declared.activation.Outcome.{Outcome}
-use Rattle.machine.specs.declared.configuration.End as held
-use Rattle.machine.specs.declared.configuration.End.TheVariants as end
+use Rattle.machine.specs.declared.activation.RunOutcome.{RunOutcome}
+use Rattle.machine.specs.declared.configuration.RunEnd as held
+use Rattle.machine.specs.declared.configuration.RunEnd.TheVariants as end
 use Rattle.machine.specs.Seen.{limits_of, codes_of}
 use Rattle.machine.specs.Runs.{steps_taken}
 use Rattle.machine.specs.Activations.{Activation, counted}
@@ -48,11 +49,19 @@ HeldFrom c frame (Some n) = FrameWords frame c
 abbrev pub IsHeld : AllowList → Activation → Type 0
 IsHeld allow a = HeldFrom (record { code = record { functions = a.code }; allow = allow }) a.frame a.now
 
--- The next instructions, so many at most, take no memory.
+-- The next instructions, so many at most, take no memory, and what the limit of depth allows was taken at the start.
 pub record OnlySpares (q : ℕ) (a : Activation) : Type 0 where
   pub next : Next
   pub stands : a.now ≡ Some next
+  pub fits : FitsAtStart a.frame a.limits.depth
   pub spares : (k : ℕ) (c : Config) → k < q → after (codes_of a.code) (limits_of a.limits a.allow) k next ≡ Goes c → Spares (codes_of a.code) a.allow c
+
+-- The same of all instructions up to the end.
+pub record SparesMemory (a : Activation) : Type 0 where
+  pub next : Next
+  pub stands : a.now ≡ Some next
+  pub fits : FitsAtStart a.frame a.limits.depth
+  pub spares : (k : ℕ) (c : Config) → after (codes_of a.code) (limits_of a.limits a.allow) k next ≡ Goes c → Spares (codes_of a.code) a.allow c
 
 -- after want of memory nothing is known
 abbrev pub KeepsFrom : AllowList → List FunCode → Limits → ℕ → Option Next → Type 0
@@ -68,14 +77,14 @@ pub record RunUnder : Type 0 where
   pub allow : AllowList
 
 -- an end of a run of verified code: its result is what the code gives, and it is not stuck
-abbrev pub EndFits : List FunCode → held.End → Type 0
+abbrev pub EndFits : List FunCode → held.RunEnd → Type 0
 EndFits code (end.Result result) = option_map kind_of result ≡ main_result code
 EndFits code (end.Thrown id) = Unit {0}
 EndFits code (end.Limit limit) = Unit {0}
 EndFits code end.Stuck = ⊥
 
 -- what a run of verified code leaves: an end that fits, and members of the list alone were reached
-pub record LeavesFitting (r : RunUnder) (o : Outcome) : Type 0 where
+pub record LeavesFitting (r : RunUnder) (o : RunOutcome) : Type 0 where
   pub end : EndFits r.run.code o.end
   pub reached : list_all (flag r.allow.members) o.reached ≡ true
 
@@ -104,24 +113,24 @@ which_of Ticks = which.Ticks
 which_of Room = which.Room
 
 -- what an end leaves of so many ticks, after so many steps
-abbrev pub outcome_of : ℕ → ℕ → End (Option Word) → Outcome
+abbrev pub outcome_of : ℕ → ℕ → End (Option Word) → RunOutcome
 outcome_of ticks steps (Result result w) = record { end = end.Result result; heap = w.store; ticks = ticks - w.ticks; steps = steps; reached = w.reached }
 outcome_of ticks steps (Uncaught id w) = record { end = end.Thrown id; heap = w.store; ticks = ticks - w.ticks; steps = steps; reached = w.reached }
 outcome_of ticks steps (Limited limit w) = record { end = end.Limit (which_of limit); heap = w.store; ticks = ticks - w.ticks; steps = steps; reached = w.reached }
 
-abbrev pub outcome_in : ℕ → ℕ → Next → Option Outcome
+abbrev pub outcome_in : ℕ → ℕ → Next → Option RunOutcome
 outcome_in ticks steps (Goes c) = None
 outcome_in ticks steps (Ends r) = Some (outcome_of ticks steps r)
 outcome_in ticks steps Stuck = None
 
-abbrev pub ending_from : Activation → Option Next → Option Outcome
+abbrev pub ending_from : Activation → Option Next → Option RunOutcome
 ending_from a None = None
 ending_from a (Some n) =
     outcome_in a.limits.ticks (counted (a.steps + rest_from a.code (limits_of a.limits a.allow) (Some n)))
     (after (codes_of a.code) (limits_of a.limits a.allow) (most_left a.code (limits_of a.limits a.allow) n) n)
 
 -- what an activation comes to when it is run alone
-abbrev pub ending : Activation → Option Outcome
+abbrev pub ending : Activation → Option RunOutcome
 ending a = ending_from a a.now
 
 -- a turn with which it has ended

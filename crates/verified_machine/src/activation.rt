@@ -1,18 +1,18 @@
 //! A run of verified code, which takes turns and ends.
-ghost use Rattle.std.specs.Prelude.{◌≡◌, ◌≤◌, [], Some, IfOk, IfSome};
+ghost use Rattle.std.specs.Prelude.{◌≡◌, ◌≤◌, [], Some, IfOk, IfSome, IsOk, IsTrue, OnOk};
 ghost use Rattle.code_meaning.specs.Machine.{start};
 ghost use Rattle.machine.specs.Seen.{limits_of, codes_of};
-ghost use Rattle.machine.specs.Activations.{HasTurned, Leaves, Turned};
+ghost use Rattle.machine.specs.Activations.{HasTurned, Leaves, Turned, is_over};
 ghost use Rattle.verifier.specs.Verified.{FrameWords};
 ghost use Rattle.verifier_soundness.specs.Rows.{HaveRows};
 ghost use Rattle.verifier_soundness.specs.Fits.{kinds_of, main_params};
 ghost use Rattle.verifier_soundness.specs.Bounds.{most_steps};
 ghost use Rattle.task_core.specs.Turns.{Turns};
-ghost use Rattle.verified_machine.specs.Tasks.{LeavesFitting, OnlySpares, code_under, rest, ending, is_end};
+ghost use Rattle.verified_machine.specs.Tasks.{LeavesFitting, OnlySpares, SparesMemory, code_under, rest, ending, is_end};
 
 use allowlist::Allow;
 use code_meaning::Word;
-use machine::{Activation, Executable, Limits, Outcome};
+use machine::{Activation, Executable, Limits, RunOutcome};
 use object_heap::Heap;
 use object_values::Elements;
 use pl_code::Code;
@@ -144,8 +144,28 @@ impl<'c> VerifiedActivation<'c> {
         }
     }
 
+    /// Runs to the end, and gives what the run leaves.
+    ///
+    /// It takes no memory where no instruction up to the end does, and what the limit of depth allows was taken at the start.
+    ///
+    /// # Errors
+    ///
+    /// Want of memory.
+    #[tactic(auto, using(crate::proofs::Finishing::left_by, crate::proofs::Finishing::fits_still))]
+    pub fn finish(mut self) -> Result<RunOutcome, AllocError>
+        ensures alone { IfOk result (λ left. ending self.entry.run ≡ Some left) }
+        ensures fitting { IfOk result (LeavesFitting self.entry) }
+        ensures memory { SparesMemory self.entry.run → IsOk result }
+    {
+        self.run_out()?;
+        let Some(left) = self.outcome() else {
+            unreachable!()
+        };
+        Ok(left)
+    }
+
     /// What the run leaves, once it has ended: what it would have come to alone.
-    pub fn outcome(self) -> Option<Outcome>
+    pub fn outcome(self) -> Option<RunOutcome>
         ensures leaves { Leaves self.entry.run result }
         ensures fitting { IfSome result (LeavesFitting self.entry) }
         ensures alone { rest self.entry.run ≡ 0 → result ≡ ending self.entry.run }
@@ -154,8 +174,28 @@ impl<'c> VerifiedActivation<'c> {
     }
 }
 
+impl<'c> VerifiedActivation<'c> {
+    // Takes turns until the run has ended.
+    fn run_out(&mut self) -> Result<(), AllocError>
+        ensures over { OnOk result (IsTrue (is_over self.new.run.now)) }
+        ensures left { OnOk result (rest self.new.run ≡ 0) }
+        ensures ending { OnOk result (ending self.new.run ≡ ending self.old.run) }
+        ensures code { OnOk result (self.new.run.code ≡ self.old.run.code) }
+        ensures allow { OnOk result (self.new.allow ≡ self.old.allow) }
+        ensures memory { SparesMemory self.old.run → IsOk result }
+    {
+        'turns: loop {
+            match self.advance(u64::MAX) {
+                Turn::More => {}
+                Turn::Done => return Ok(()),
+                Turn::NoMemory => return Err(AllocError),
+            }
+        }
+    }
+}
+
 impl<'c> Task for VerifiedActivation<'c> {
-    type Ending = Option<Outcome>;
+    type Ending = Option<RunOutcome>;
 
     ghost rest = { λ a. rest a.run };
 

@@ -2,7 +2,7 @@ ghost use Rattle.std.specs.Prelude.{◌<◌};
 
 use allowlist::{Allow, Catalogue};
 use code_meaning::Word;
-use machine::{End, Limits, Outcome};
+use machine::{Limits, RunEnd, RunOutcome};
 use object_heap::{Heap, Which};
 use object_values::{Elements, Value};
 use pl_code::read_listing;
@@ -75,9 +75,9 @@ fn started<'c>(
     }
 }
 
-fn is_int(end: &End, wanted: i32) -> bool {
+fn is_int(end: &RunEnd, wanted: i32) -> bool {
     match end {
-        End::Result(Some(Word::R(Value::Int(number)))) => *number == wanted,
+        RunEnd::Result(Some(Word::R(Value::Int(number)))) => *number == wanted,
         _ => false,
     }
 }
@@ -96,7 +96,7 @@ fn left(activation: Option<VerifiedActivation<'_>>, number: i32, steps: u64, tic
     }
 }
 
-fn leaves_so(outcome: &Outcome, number: i32, steps: u64, ticks: u64) -> bool {
+fn leaves_so(outcome: &RunOutcome, number: i32, steps: u64, ticks: u64) -> bool {
     is_int(&outcome.end, number) && outcome.steps == steps && outcome.ticks == ticks
 }
 
@@ -155,6 +155,20 @@ fn one_turn(rt: HostRuntime) -> Result<(), Fail> {
     Ok(())
 }
 
+#[test]
+fn to_the_end(rt: HostRuntime) -> Result<(), Fail> {
+    let allow = Catalogue::full(rt.alloc())?;
+    let Some(code) = verified(rt.alloc(), &allow, SUM)? else {
+        return Err("not verified")?;
+    };
+    let Some(activation) = started(rt.alloc(), &code)? else {
+        return Err("not started")?;
+    };
+    let outcome = activation.finish()?;
+    assert!(rt; leaves_so(&outcome, 10, 72, 5));
+    Ok(())
+}
+
 /// Code without rows does not start.
 #[test]
 fn a_row_is_wanting(rt: HostRuntime) -> Result<(), Fail> {
@@ -167,9 +181,9 @@ fn a_row_is_wanting(rt: HostRuntime) -> Result<(), Fail> {
     Ok(())
 }
 
-fn is_limit(end: &End, wanted: Which) -> bool {
+fn is_limit(end: &RunEnd, wanted: Which) -> bool {
     match end {
-        End::Limit(which) => *which == wanted,
+        RunEnd::Limit(which) => *which == wanted,
         _ => false,
     }
 }

@@ -4,13 +4,14 @@ ghost use Rattle.pl_code.specs.declared.kinds.Plain.TheVariants as plains;
 ghost use Rattle.code_meaning.specs.declared.word.Word.TheVariants.{I, J};
 ghost use Rattle.code_meaning.specs.Machine as spec;
 ghost use Rattle.code_meaning.specs.Machine.{plain_act, on_stack, to_line};
-ghost use Rattle.machine.specs.Seen.{Comes, int_of, long_of, room_of, with_stack, world_of, codes_of, limits_in};
+ghost use Rattle.machine.specs.Frames.{OnlyStack};
+ghost use Rattle.machine.specs.Seen.{Comes, int_of, long_of, room_of, world_of, codes_of, limits_in};
 ghost use Rattle.machine.specs.Rows.{Copies};
 ghost use Rattle.machine.specs.Sparing.{CopySpares, OneBare, PlainSpares, TwoBare, is_text};
 ghost use Rattle.machine.specs.Memory.{HasMemory, IsCopied};
 
 use crate::calls::ret;
-use crate::configuration::{Configuration, End, Step};
+use crate::configuration::{Configuration, RunEnd, Step};
 use crate::copies::copy_of;
 use crate::frames::Frames;
 use crate::linked_code::LinkedCode;
@@ -33,23 +34,23 @@ pub fn plain(run: &mut Configuration, code: &LinkedCode, limits: &Rules<'_>, kin
         Plain::Null => run.push(Word::R(Value::Null)),
         Plain::IntToLong => match pop_int(&mut run.frames) {
             Some(a) => run.push(Word::J(i64::from(a))),
-            None => Step::Ends(End::Stuck),
+            None => Step::Ends(RunEnd::Stuck),
         },
         Plain::LongToInt => match pop_long(&mut run.frames) {
             Some(a) => run.push(Word::I(low_int(a))),
-            None => Step::Ends(End::Stuck),
+            None => Step::Ends(RunEnd::Stuck),
         },
         Plain::IntToByte => match pop_int(&mut run.frames) {
             Some(a) => run.push(Word::I(i32::from(low_byte(a)))),
-            None => Step::Ends(End::Stuck),
+            None => Step::Ends(RunEnd::Stuck),
         },
         Plain::IntToShort => match pop_int(&mut run.frames) {
             Some(a) => run.push(Word::I(i32::from(low_short(a)))),
-            None => Step::Ends(End::Stuck),
+            None => Step::Ends(RunEnd::Stuck),
         },
         Plain::IntToChar => match pop_int(&mut run.frames) {
             Some(a) => run.push(Word::I(i32::from(low_char(a)))),
-            None => Step::Ends(End::Stuck),
+            None => Step::Ends(RunEnd::Stuck),
         },
         Plain::Ret => ret(run, code, limits),
         Plain::Concat => pair(run, code, limits, Pairing::Concat),
@@ -64,9 +65,7 @@ pub fn plain(run: &mut Configuration, code: &LinkedCode, limits: &Rules<'_>, kin
 pub fn pop_int(frames: &mut Frames) -> Option<i32>
     ensures stack { MatchOption result (int_of frames.old.top.stack ≡ None) (λ a. frames.old.top.stack ≡ I a ∷ frames.new.top.stack) }
     ensures room { frames.old.count ≤ frames.old.words → MatchOption result (Unit {0}) (λ a. frames.new.count < frames.new.words) }
-    ensures top { frames.new.top ≡ with_stack frames.old.top frames.new.top.stack }
-    ensures below { frames.new.below ≡ frames.old.below }
-    ensures kept { (frames.new.words ≡ frames.old.words) × (frames.new.depth ≡ frames.old.depth) }
+    ensures only { OnlyStack frames.old frames.new }
 {
     match &frames.pop() {
         Some(Word::I(a)) => Some(*a),
@@ -78,9 +77,7 @@ pub fn pop_int(frames: &mut Frames) -> Option<i32>
 pub fn pop_long(frames: &mut Frames) -> Option<i64>
     ensures stack { MatchOption result (long_of frames.old.top.stack ≡ None) (λ a. frames.old.top.stack ≡ J a ∷ frames.new.top.stack) }
     ensures room { frames.old.count ≤ frames.old.words → MatchOption result (Unit {0}) (λ a. frames.new.count < frames.new.words) }
-    ensures top { frames.new.top ≡ with_stack frames.old.top frames.new.top.stack }
-    ensures below { frames.new.below ≡ frames.old.below }
-    ensures kept { (frames.new.words ≡ frames.old.words) × (frames.new.depth ≡ frames.old.depth) }
+    ensures only { OnlyStack frames.old frames.new }
 {
     match &frames.pop() {
         Some(Word::J(a)) => Some(*a),
@@ -104,7 +101,7 @@ fn copy(run: &mut Configuration, kind: Plain) -> Step
 {
     match copied(&mut run.frames, kind) {
         Copying::Done => run.goes_on(),
-        Copying::Stuck => Step::Ends(End::Stuck),
+        Copying::Stuck => Step::Ends(RunEnd::Stuck),
         Copying::NoMemory => Step::NoMemory,
     }
 }
@@ -112,9 +109,7 @@ fn copy(run: &mut Configuration, kind: Plain) -> Step
 fn copied(frames: &mut Frames, kind: Plain) -> Copying
     ensures stack { Copies (spec.copied kind frames.old.top.stack) frames.new.top.stack result }
     ensures memory { CopySpares kind frames.old.top.stack → frames.old.count + 2 ≤ frames.old.words → IsCopied result }
-    ensures top { frames.new.top ≡ with_stack frames.old.top frames.new.top.stack }
-    ensures below { frames.new.below ≡ frames.old.below }
-    ensures kept { (frames.new.words ≡ frames.old.words) × (frames.new.depth ≡ frames.old.depth) }
+    ensures only { OnlyStack frames.old frames.new }
 {
     match kind {
         Plain::Pop => pop(frames),
@@ -129,9 +124,7 @@ fn copied(frames: &mut Frames, kind: Plain) -> Copying
 fn pop(frames: &mut Frames) -> Copying
     ensures stack { Copies (spec.copied plains.Pop frames.old.top.stack) frames.new.top.stack result }
     ensures memory { IsCopied result }
-    ensures top { frames.new.top ≡ with_stack frames.old.top frames.new.top.stack }
-    ensures below { frames.new.below ≡ frames.old.below }
-    ensures kept { (frames.new.words ≡ frames.old.words) × (frames.new.depth ≡ frames.old.depth) }
+    ensures only { OnlyStack frames.old frames.new }
 {
     match frames.pop() {
         Some(_top) => Copying::Done,
@@ -143,9 +136,7 @@ fn pop(frames: &mut Frames) -> Copying
 fn put_two(frames: &mut Frames, first: Word, second: Word) -> Copying
     ensures stack { Copies (Some (second ∷ first ∷ frames.old.top.stack)) frames.new.top.stack result }
     ensures memory { frames.old.count + 2 ≤ frames.old.words → IsCopied result }
-    ensures top { frames.new.top ≡ with_stack frames.old.top frames.new.top.stack }
-    ensures below { frames.new.below ≡ frames.old.below }
-    ensures kept { (frames.new.words ≡ frames.old.words) × (frames.new.depth ≡ frames.old.depth) }
+    ensures only { OnlyStack frames.old frames.new }
 {
     match frames.push(first) {
         Ok(()) => match frames.push(second) {
@@ -159,9 +150,7 @@ fn put_two(frames: &mut Frames, first: Word, second: Word) -> Copying
 fn put_three(frames: &mut Frames, first: Word, second: Word, third: Word) -> Copying
     ensures stack { Copies (Some (third ∷ second ∷ first ∷ frames.old.top.stack)) frames.new.top.stack result }
     ensures memory { frames.old.count + 3 ≤ frames.old.words → IsCopied result }
-    ensures top { frames.new.top ≡ with_stack frames.old.top frames.new.top.stack }
-    ensures below { frames.new.below ≡ frames.old.below }
-    ensures kept { (frames.new.words ≡ frames.old.words) × (frames.new.depth ≡ frames.old.depth) }
+    ensures only { OnlyStack frames.old frames.new }
 {
     match frames.push(first) {
         Ok(()) => put_two(frames, second, third),
@@ -172,9 +161,7 @@ fn put_three(frames: &mut Frames, first: Word, second: Word, third: Word) -> Cop
 fn put_four(frames: &mut Frames, first: Word, second: Word, third: Word, fourth: Word) -> Copying
     ensures stack { Copies (Some (fourth ∷ third ∷ second ∷ first ∷ frames.old.top.stack)) frames.new.top.stack result }
     ensures memory { frames.old.count + 4 ≤ frames.old.words → IsCopied result }
-    ensures top { frames.new.top ≡ with_stack frames.old.top frames.new.top.stack }
-    ensures below { frames.new.below ≡ frames.old.below }
-    ensures kept { (frames.new.words ≡ frames.old.words) × (frames.new.depth ≡ frames.old.depth) }
+    ensures only { OnlyStack frames.old frames.new }
 {
     match frames.push(first) {
         Ok(()) => put_three(frames, second, third, fourth),
@@ -185,9 +172,7 @@ fn put_four(frames: &mut Frames, first: Word, second: Word, third: Word, fourth:
 fn dup(frames: &mut Frames) -> Copying
     ensures stack { Copies (spec.copied plains.Dup frames.old.top.stack) frames.new.top.stack result }
     ensures memory { frames.old.count < frames.old.words → OneBare frames.old.top.stack → IsCopied result }
-    ensures top { frames.new.top ≡ with_stack frames.old.top frames.new.top.stack }
-    ensures below { frames.new.below ≡ frames.old.below }
-    ensures kept { (frames.new.words ≡ frames.old.words) × (frames.new.depth ≡ frames.old.depth) }
+    ensures only { OnlyStack frames.old frames.new }
 {
     match frames.pop() {
         Some(z) => match copy_of(&z) {
@@ -201,9 +186,7 @@ fn dup(frames: &mut Frames) -> Copying
 fn dup_two(frames: &mut Frames) -> Copying
     ensures stack { Copies (spec.copied plains.Dup2 frames.old.top.stack) frames.new.top.stack result }
     ensures memory { frames.old.count + 2 ≤ frames.old.words → TwoBare frames.old.top.stack → IsCopied result }
-    ensures top { frames.new.top ≡ with_stack frames.old.top frames.new.top.stack }
-    ensures below { frames.new.below ≡ frames.old.below }
-    ensures kept { (frames.new.words ≡ frames.old.words) × (frames.new.depth ≡ frames.old.depth) }
+    ensures only { OnlyStack frames.old frames.new }
 {
     match frames.pop() {
         Some(z) => match frames.pop() {
@@ -218,9 +201,7 @@ fn dup_two(frames: &mut Frames) -> Copying
 fn share_two(frames: &mut Frames, z: Word, y: Word) -> Copying
     ensures stack { Copies (Some (z ∷ y ∷ z ∷ y ∷ frames.old.top.stack)) frames.new.top.stack result }
     ensures memory { frames.old.count + 4 ≤ frames.old.words → is_text z ≡ false → is_text y ≡ false → IsCopied result }
-    ensures top { frames.new.top ≡ with_stack frames.old.top frames.new.top.stack }
-    ensures below { frames.new.below ≡ frames.old.below }
-    ensures kept { (frames.new.words ≡ frames.old.words) × (frames.new.depth ≡ frames.old.depth) }
+    ensures only { OnlyStack frames.old frames.new }
 {
     match copy_of(&z) {
         Ok(upper) => match copy_of(&y) {
@@ -234,9 +215,7 @@ fn share_two(frames: &mut Frames, z: Word, y: Word) -> Copying
 fn dup_below_one(frames: &mut Frames) -> Copying
     ensures stack { Copies (spec.copied plains.DupX1 frames.old.top.stack) frames.new.top.stack result }
     ensures memory { frames.old.count < frames.old.words → OneBare frames.old.top.stack → IsCopied result }
-    ensures top { frames.new.top ≡ with_stack frames.old.top frames.new.top.stack }
-    ensures below { frames.new.below ≡ frames.old.below }
-    ensures kept { (frames.new.words ≡ frames.old.words) × (frames.new.depth ≡ frames.old.depth) }
+    ensures only { OnlyStack frames.old frames.new }
 {
     match frames.pop() {
         Some(z) => match frames.pop() {
@@ -250,9 +229,7 @@ fn dup_below_one(frames: &mut Frames) -> Copying
 fn share_below_one(frames: &mut Frames, z: Word, y: Word) -> Copying
     ensures stack { Copies (Some (z ∷ y ∷ z ∷ frames.old.top.stack)) frames.new.top.stack result }
     ensures memory { frames.old.count + 3 ≤ frames.old.words → is_text z ≡ false → IsCopied result }
-    ensures top { frames.new.top ≡ with_stack frames.old.top frames.new.top.stack }
-    ensures below { frames.new.below ≡ frames.old.below }
-    ensures kept { (frames.new.words ≡ frames.old.words) × (frames.new.depth ≡ frames.old.depth) }
+    ensures only { OnlyStack frames.old frames.new }
 {
     match copy_of(&z) {
         Ok(copy) => put_three(frames, copy, y, z),
@@ -263,9 +240,7 @@ fn share_below_one(frames: &mut Frames, z: Word, y: Word) -> Copying
 fn dup_below_two(frames: &mut Frames) -> Copying
     ensures stack { Copies (spec.copied plains.DupX2 frames.old.top.stack) frames.new.top.stack result }
     ensures memory { frames.old.count < frames.old.words → OneBare frames.old.top.stack → IsCopied result }
-    ensures top { frames.new.top ≡ with_stack frames.old.top frames.new.top.stack }
-    ensures below { frames.new.below ≡ frames.old.below }
-    ensures kept { (frames.new.words ≡ frames.old.words) × (frames.new.depth ≡ frames.old.depth) }
+    ensures only { OnlyStack frames.old frames.new }
 {
     match frames.pop() {
         Some(z) => match frames.pop() {
@@ -282,9 +257,7 @@ fn dup_below_two(frames: &mut Frames) -> Copying
 fn share_below_two(frames: &mut Frames, z: Word, y: Word, x: Word) -> Copying
     ensures stack { Copies (Some (z ∷ y ∷ x ∷ z ∷ frames.old.top.stack)) frames.new.top.stack result }
     ensures memory { frames.old.count + 4 ≤ frames.old.words → is_text z ≡ false → IsCopied result }
-    ensures top { frames.new.top ≡ with_stack frames.old.top frames.new.top.stack }
-    ensures below { frames.new.below ≡ frames.old.below }
-    ensures kept { (frames.new.words ≡ frames.old.words) × (frames.new.depth ≡ frames.old.depth) }
+    ensures only { OnlyStack frames.old frames.new }
 {
     match copy_of(&z) {
         Ok(copy) => put_four(frames, copy, x, y, z),

@@ -5,21 +5,21 @@ use code_meaning::Word;
 use std::alloc::{AllocError, Global};
 use std::marker::Model;
 
-/// A stack of words, which contracts see as the list of its words from the top down, with how many there is memory for.
+/// Words, the top first, which contracts see as their list from the top down, with how many there is memory for.
 #[derive(Drop)]
-pub struct Stack {
+pub struct Words {
     items: Vec<Word>,
     room: usize,
 }
 
-impl Model for Stack {
+impl Model for Words {
     ghost use Rattle.std.specs.Prelude.{◌≤◌, reverse};
     ghost use Rattle.std.specs.Vec.{vec_capacity};
-    ghost use Rattle.machine.specs.Rooms.{Pile};
+    ghost use Rattle.machine.specs.Rooms.{TakenWords};
     ghost use Rattle.std.specs.Coded.{codes};
     ghost use Rattle.pl_types.specs.contracts.ty.Ty as ty;
 
-    ghost Value = { Pile };
+    ghost Value = { TakenWords };
 
     ghost coded = { Prim.hlevel (codes, ty.the_row.coded) };
 
@@ -28,13 +28,13 @@ impl Model for Stack {
     ghost invariant = { λ s. s.room ≤ vec_capacity s.items };
 }
 
-impl Stack {
-    /// An empty stack with memory for so many words.
-    pub fn with_room(alloc: Global, room: usize) -> Result<Stack, AllocError>
-        ensures empty { IfOk result (λ stack. stack.items ≡ []) }
-        ensures room { IfOk result (λ stack. stack.room ≡ room) }
+impl Words {
+    /// No words, and memory for so many words.
+    pub fn with_room(alloc: Global, room: usize) -> Result<Words, AllocError>
+        ensures empty { IfOk result (λ words. words.items ≡ []) }
+        ensures room { IfOk result (λ words. words.room ≡ room) }
     {
-        Ok(Stack {
+        Ok(Words {
             items: Vec::with_capacity(alloc, room)?,
             room,
         })
@@ -47,7 +47,7 @@ impl Stack {
         self.items.len()
     }
 
-    /// Takes the top off, or gives `None` where the stack is empty.
+    /// Takes the top off, or gives `None` where there is none.
     pub fn pop(&mut self) -> Option<Word>
         ensures top { MatchOption result ((self.old.items ≡ []) × (self.new.items ≡ [])) (λ top. self.old.items ≡ top ∷ self.new.items) }
         ensures room { self.new.room ≡ self.old.room }
