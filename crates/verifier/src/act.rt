@@ -1,6 +1,6 @@
 //! What an instruction does to the stack.
 
-ghost use Rattle.std.specs.Prelude.{◌≡◌, ◌∷◌, ◌++◌, Some, None, if◌then◌else◌, IfOk, OnOk, MatchOption};
+ghost use Rattle.std.specs.Prelude.{◌≡◌, ◌∷◌, ◌++◌, Some, None, IfOk, OnOk, MatchOption};
 ghost use Rattle.instruction_types.specs.Effects.{Exchanges, copied, emptied, result_kinds, left_by};
 ghost use Rattle.instruction_types.specs.Seen.{seen_action, seen_takes};
 ghost use Rattle.verifier.specs.Acts.{Does, HasNoTwo};

@@ -26,7 +26,7 @@ use Rattle.code_meaning.specs.declared.word.Word.{Word}
 use Rattle.code_meaning.specs.declared.word.Word.TheVariants.{I, J, R}
 use Rattle.code_meaning.specs.Words.{Calculation, NoRow, Calculates, boxed, unboxed, word_of}
 use Rattle.code_meaning.specs.Machine as code_steps
-use Rattle.code_meaning.specs.Machine.{Frame, Next, Goes, on_top, on_int, on_reference, on_value, on_local, on_stack, on_turn, on_calculation, unless_zero, if_null, to_line, depth_of, on_loops, function_of}
+use Rattle.code_meaning.specs.Machine.{Frame, Next, Goes, on_top, on_int, on_reference, on_value, on_local, on_stack, on_turn, on_calculation, unless_zero, if_null, to_line, on_loops, function_of}
 use Rattle.verifier_soundness.specs.Fits.{kind_of, kinds_of, frame_kinds, with_prelude}
 use Rattle.verifier_soundness.proofs.Words.{exchanged, on_one, on_one_int, on_one_reference, on_one_local, stored, left_is}
 use Rattle.verifier_soundness.proofs.Operators.{CalculatesTo}

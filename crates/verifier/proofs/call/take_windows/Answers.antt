@@ -1,5 +1,5 @@
-use Rattle.std.proofs.Common.{◌≡◌, ◌+◌, ◌*◌, take, drop, refl, sym, ap, ◌∙◌, arith}
-use Rattle.verifier.proofs.Takings.{window_goes, window_fails, SoFar}
+use Rattle.std.proofs.Common.{◌+◌, ◌*◌, take, drop, refl, ◌∙◌}
+use Rattle.verifier.proofs.Takings.{window_goes, window_fails}
 use Rattle.verifier.proofs.Cutting.{cut_off}
 use Rattle.verifier.proofs.call.take_windows.Goals as goal
 

@@ -1,4 +1,4 @@
-use Rattle.std.proofs.Common.{◌≡◌, ◌*◌, ℕ, List, drop}
+use Rattle.std.proofs.Common.{◌≡◌, ◌*◌, List, drop}
 use Rattle.pl_code.specs.declared.kinds.Slot.{Slot}
 use Rattle.verifier_table.specs.Windows.{HasWindows}
 use Rattle.verifier.proofs.Takings.{SoFar}

@@ -1,4 +1,4 @@
-use Rattle.std.proofs.Common.{map, take, ap, ◌∙◌, arith}
+use Rattle.std.proofs.Common.{map, ap, ◌∙◌}
 use Rattle.instruction_types.specs.Faults.{is_value_function}
 use Rattle.verifier.proofs.Cutting.{one_value, all_of}
 use Rattle.verifier.proofs.signatures.all_values.Goals as goal

@@ -1,4 +1,4 @@
-use Rattle.std.proofs.Common.{subst, ap, arith}
+use Rattle.std.proofs.Common.{subst}
 use Rattle.std.specs.Prelude.{reverse}
 use Rattle.verifier_table.specs.Windows.{HasWindows}
 use Rattle.verifier.specs.Signed.{AllCut}

@@ -1,4 +1,4 @@
-use Rattle.std.proofs.Common.{take, sym, ap, ◌∙◌, arith}
+use Rattle.std.proofs.Common.{take, sym, ap, ◌∙◌}
 use Rattle.std.specs.Prelude.{reverse}
 use Rattle.verifier_table.specs.Windows.{numeral_of}
 use Rattle.verifier.proofs.Cutting.{one_more_kind, all_of}

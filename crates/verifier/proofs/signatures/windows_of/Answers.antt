@@ -1,4 +1,4 @@
-use Rattle.std.proofs.Common.{◌≡◌, ◌-◌, ◌*◌, length, take, drop, ap, ◌∙◌, arith}
+use Rattle.std.proofs.Common.{◌≡◌, ◌-◌, ◌*◌, length, take, drop, ap, arith}
 use Rattle.verifier.proofs.Cutting.{one_cut}
 use Rattle.verifier.proofs.signatures.windows_of.Goals as goal
 

@@ -1,4 +1,4 @@
-use Rattle.std.proofs.Common.{◌≡◌, ◌+◌, ◌*◌, ◌%◌, ap, ◌∙◌}
+use Rattle.std.proofs.Common.{◌+◌, ◌*◌, ◌%◌, ap, ◌∙◌}
 use Rattle.verifier_table.proofs.Numerals.{one_pushed}
 use Rattle.verifier_table.proofs.windows.window_with.Goals as goal
 

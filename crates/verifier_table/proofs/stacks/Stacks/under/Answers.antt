@@ -1,4 +1,4 @@
-use Rattle.std.proofs.Common.{◌≡◌, sym, ◌∙◌, arith}
+use Rattle.std.proofs.Common.{sym, ◌∙◌, arith}
 use Rattle.verifier_table.proofs.Linked.{shown_length, shown_measure}
 use Rattle.verifier_table.proofs.stacks.Stacks.under.Goals as goal
 
