@@ -1,5 +1,5 @@
 -- Members that are called, made or read: how their parts are represented, and what well-formed programs have.
-use Rattle.std.proofs.Common.{◌≡◌, ◌≢◌, ℕ, zero, suc, ◌+◌, ◌≤◌, arith, Bool, true, false, List, [], ◌∷◌, drop, Option, Some, None, Result, refl, sym, ap, ◌∙◌, subst}
+use Rattle.std.proofs.Common.{◌≡◌, ◌≢◌, ℕ, zero, suc, ◌+◌, ◌≤◌, arith, true, false, List, [], ◌∷◌, drop, Some, None, refl, sym, ap, ◌∙◌, subst}
 use Rattle.std.specs.Prelude.{map, slice_get}
 use Rattle.std.specs.Option.{option_map}
 use Rattle.std.specs.Str.{bytes_eq}
@@ -23,12 +23,12 @@ use Rattle.typed_tree.specs.declared.operation.Operation.TheVariants as operatio
 use Rattle.typed_tree.specs.declared.typed.Typed.{Typed}
 use Rattle.source_meaning.specs.Tree.{Exprs, Guarded, Program, type_of}
 use Rattle.source_meaning.specs.Programs.{expr_of, exprs_of}
-use Rattle.program_typing.specs.Agreeing.{Known, Scope, TakesTypes, MemberAgrees, Applies, Guards, ExprAgrees, ExprsAgree, types_of, is_primitive, is_primitive_layer}
+use Rattle.program_typing.specs.Agreeing.{Known, Scope, TakesTypes, MemberAgrees, Applies, Guards, ExprAgrees, ExprsAgree, types_of, is_primitive_layer}
 use Rattle.compiler_relation.specs.Representation.{Representation, Unboxed, Boxed, representation_of, representation_of_layer}
 use Rattle.compiler_relation.specs.Parts.{without_null}
 use Rattle.compiler_relation.specs.Stands.{MemberFits, GuardFits, representations}
 use Rattle.codegen.specs.Called.{IsCalled, member_operation}
-use Rattle.codegen.specs.Worklist.{Item, Value, Values, Put, Call, Jump, Bind, Wanted, As, Wants, Taken, Back, parts_from, member_takes}
+use Rattle.codegen.specs.Worklist.{Item, Value, Values, Put, Call, Jump, Bind, As, Wants, Taken, Back, parts_from, member_takes}
 use Rattle.codegen.specs.Sound.{Refuses}
 use Rattle.codegen.specs.declared.config.Config.{Config}
 use Rattle.codegen.proofs.Fitting.{is_boxed, types_lie}

@@ -8,7 +8,7 @@ use Rattle.pl_code.specs.declared.code.Instruction.TheVariants as i
 use Rattle.source_meaning.specs.Tree.{Expr, Missing, Given, Finish, Program, type_of}
 use Rattle.compiler_relation.specs.Representation.{Representation, Unboxed, representation_of}
 use Rattle.compiler_relation.specs.Parts.{default_code, pops}
-use Rattle.compiler_relation.specs.Stands.{Scope, SkipAt, UpdateAt, LastAt, EndAt, AllAt, end_expr, end_all, end_skip, end_update, end_last, end_end}
+use Rattle.compiler_relation.specs.Stands.{Scope, SkipAt, UpdateAt, LastAt, EndAt, end_skip, end_update, end_last, end_end}
 use Rattle.compiler_relation.specs.Placed.{untrapped}
 use Rattle.codegen.specs.Checks.{denoted}
 use Rattle.codegen.specs.Labels.{line_of}

@@ -1,12 +1,11 @@
 -- Blocks whose exceptions are caught, and their catches.
-use Rattle.std.proofs.Common.{◌≡◌, ℕ, suc, ◌<◌, ◌+◌, List, [], ◌∷◌, ◌++◌, length, drop, Ok, Option, Some, None, refl, sym, ap, ◌∙◌, subst, append_assoc}
+use Rattle.std.proofs.Common.{◌≡◌, ℕ, suc, ◌<◌, ◌+◌, List, [], ◌∷◌, ◌++◌, length, Ok, Option, Some, None, refl, sym, ap, ◌∙◌, subst, append_assoc}
 use Rattle.std.specs.Prelude.{map, slice_get, false}
 use Rattle.pl_types.specs.declared.ty.Ty.{Ty}
 use Rattle.pl_types.specs.declared.ty.Ty.TheVariants as t
 use Rattle.pl_code.specs.declared.code.FunCode.{FunCode}
 use Rattle.pl_code.specs.declared.code.Trap.{Trap}
 use Rattle.typed_tree.specs.declared.statement.TypedCatch.{TypedCatch, out-TypedCatch}
-use Rattle.allowlist.specs.Allow.{AllowList}
 use Rattle.program_typing.specs.Agreeing.{Known, known}
 use Rattle.program_typing.specs.Types.{IsNamed}
 use Rattle.source_meaning.specs.Tree.{Name, Try, Stmts, Catches, NoCatch, Catch, Program}
@@ -18,7 +17,7 @@ use Rattle.codegen.specs.Checks.{denoted}
 use Rattle.codegen.specs.Labels.{line_of}
 use Rattle.codegen.specs.Opened.{body_of, caught}
 use Rattle.codegen.specs.Worklist.{Item, One, Run, Declared, Close, Flows, Either, Skip, Bind, Tried, Caught, Over, Stand, Trapped, Back, catches_from, flow_of, flow_caught, either, jumps_of, scope_in, next_in, whole_in}
-use Rattle.codegen.specs.Sound.{Agree, Keeps, names_in, binds}
+use Rattle.codegen.specs.Sound.{Agree, Keeps, names_in}
 use Rattle.codegen.specs.declared.config.Config.{Config}
 use Rattle.codegen.specs.declared.config.Flow.{Flow}
 use Rattle.codegen.specs.declared.work_item.Exits.{Exits}

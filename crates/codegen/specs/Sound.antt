@@ -4,7 +4,7 @@ use Rattle.std.specs.Prelude.{◌≡◌, ℕ, ◌<◌, ◌++◌, Bool, true, fal
 use Rattle.pl_types.specs.declared.ty.Ty.{Ty}
 use Rattle.pl_types.specs.declared.conversion.Cast.{Cast}
 use Rattle.pl_types.specs.declared.conversion.Cast.TheVariants as cast
-use Rattle.source_meaning.specs.Tree.{Name, Maybe, Missing, Given, Stmts, Finish, Then, Declare, Catches, NoCatch, Catch, Variable, Program, type_of}
+use Rattle.source_meaning.specs.Tree.{Name, Maybe, Missing, Given, Stmts, Finish, Then, Declare, NoCatch, Catch, Variable, Program, type_of}
 use Rattle.program_typing.specs.Types.{HasValues}
 use Rattle.program_typing.specs.Types as types
 use Rattle.allowlist.specs.Allow.{AllowList}

@@ -1,5 +1,5 @@
 -- What is still to be written, and what it means that it stands in code.
-use Rattle.std.specs.Prelude.{◌≡◌, ◌≢◌, ℕ, suc, ◌+◌, ◌&&◌, ◌||◌, Bool, true, false, ◌++◌, reverse, take, List, [], ◌∷◌, length, map, drop, Option, Some, None, slice_get}
+use Rattle.std.specs.Prelude.{◌≡◌, ◌≢◌, ℕ, suc, ◌+◌, ◌&&◌, ◌||◌, Bool, true, false, ◌++◌, List, [], ◌∷◌, length, map, drop, Option, Some, None, slice_get}
 use Rattle.pl_code.specs.declared.kinds.Numbered.{Numbered}
 use Rattle.pl_code.specs.declared.kinds.Numbered.TheVariants as numbered
 use Rattle.pl_code.specs.declared.kinds.Slot.{Slot}

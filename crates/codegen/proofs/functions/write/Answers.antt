@@ -1,4 +1,4 @@
-use Rattle.std.proofs.Common.{◌≡◌, rules, suc, sym, refl, Some}
+use Rattle.std.proofs.Common.{◌≡◌, rules, suc, refl, Some}
 use Rattle.std.specs.Prelude.{slice_get}
 use Rattle.codegen.proofs.Whole.{functions_more, functions_all, got_item, got_mapped, got_none}
 use Rattle.source_meaning.specs.Programs.{fun_of}
