@@ -183,8 +183,8 @@ fn on_null(
     ensures memory { run.old.frames.count < run.old.frames.words → suc run.old.frames.top.line < 2 ^ 64 → OnlyToMake run.old.world.heap run.new.world.heap result }
     ensures room { room_of run.new ≡ room_of run.old }
 {
-    let answer = throw(&mut run.world.heap, NULL_POINTER_EXCEPTION, None);
-    answered_as(run, code, limits, &called.result, answer)
+    let thrown = throw(&mut run.world.heap, NULL_POINTER_EXCEPTION, None);
+    answered_as(run, code, limits, &called.result, thrown)
 }
 
 fn pay_and_act(

@@ -1,5 +1,5 @@
 -- Runs that are taken to their ends.
-use Rattle.std.proofs.Common.{◌≡◌, ℕ, ◌+◌, ◌<◌, Option, Some, None, IsTrue, sym, ap, subst, ◌∙◌, arith}
+use Rattle.std.proofs.Common.{◌≡◌, ℕ, ◌+◌, Option, Some, None, IsTrue, sym, ap, subst, ◌∙◌}
 use Rattle.std.specs.Prelude.{option_map}
 use Rattle.code_meaning.specs.Machine.{after}
 use Rattle.machine.proofs.Turning.{adds}
@@ -28,10 +28,7 @@ spares_on q a new is s =
     })
 
 -- A turn behind which the run goes on.
-module _ (q : ℕ) (old new : RunUnder) (some : 0 < q) (turned : Turned q old.run new.run turn.More) (turns : Turns (λ (r : RunUnder). rest r.run) (λ (r : RunUnder). ending r.run) q old new turn.More) where
-  pub lowers : rest new.run < rest old.run
-  lowers = omega (arith, some, turns.0.lowered, turns.1)
-
+module _ (q : ℕ) (old new : RunUnder) (turned : Turned q old.run new.run turn.More) (turns : Turns (λ (r : RunUnder). rest r.run) (λ (r : RunUnder). ending r.run) q old new turn.More) where
   pub ends_alike : ending new.run ≡ ending old.run
   ends_alike = turns.0.kept
 

@@ -1,4 +1,4 @@
-use Rattle.std.proofs.Common.{◌∙◌, refl, subst, arith}
+use Rattle.std.proofs.Common.{◌∙◌, refl, subst}
 use Rattle.task_core.specs.Turns.{Turns}
 use Rattle.machine.specs.Activations.{HasTurned, Turned}
 use Rattle.verified_machine.specs.Tasks.{RunUnder, rest, ending}
@@ -13,8 +13,8 @@ turns-preserved c =
     let turned = subst (Turned 18446744073709551615 c.turns.self.run c.advance.new.self.run) c.in-More.is c.advance.ensures.exact in
     let turns = subst (Turns (λ (r : RunUnder). rest r.run) (λ (r : RunUnder). ending r.run) 18446744073709551615 c.turns.self c.advance.new.self) c.in-More.is c.advance.ensures.turns in
     record {
-      ending = ends_alike 18446744073709551615 c.turns.self c.advance.new.self (omega arith) turned turns ∙ c.turns.invariant.ending;
-      code = code_alike 18446744073709551615 c.turns.self c.advance.new.self (omega arith) turned turns ∙ c.turns.invariant.code;
+      ending = ends_alike 18446744073709551615 c.turns.self c.advance.new.self turned turns ∙ c.turns.invariant.ending;
+      code = code_alike 18446744073709551615 c.turns.self c.advance.new.self turned turns ∙ c.turns.invariant.code;
       allow = c.advance.ensures.allow ∙ c.turns.invariant.allow;
       spares = λ s. spares_on 18446744073709551615 c.turns.self.run c.advance.new.self.run turned.0 (c.turns.invariant.spares s);
     }
