@@ -131,8 +131,8 @@ impl Script {
     /// Want of memory; none where no instruction of the run takes any.
     #[tactic(auto, using(crate::proofs::Left::fitting_end, crate::proofs::Left::comes_from))]
     pub fn finish(&self, activation: VerifiedActivation<'_>) -> Result<Outcome, AllocError>
-        ensures comes { IfOk result (Comes self.now.result (ending activation.run)) }
-        ensures memory { SparesMemory activation.run → IsOk result }
+        ensures comes { IfOk result (Comes self.now.result (ending activation.entry.run)) }
+        ensures memory { SparesMemory activation.entry.run → IsOk result }
     {
         let ran = activation.finish()?;
         Ok(outcome_left(&self.result, ran))
