@@ -1,5 +1,5 @@
 -- What a JSON value means in a heap: the value that it is bound to, and the objects that come to the heap for it.
-use Rattle.std.specs.Prelude.{ℕ, ℤ, pos, negsuc, int_le, ◌&&◌, Bool, true, false, Option, Some, None, List, [], ◌∷◌, ◌++◌, length, if◌then◌else◌}
+use Rattle.std.specs.Prelude.{◌≡◌, ℕ, ℤ, pos, negsuc, int_le, ◌&&◌, Bool, true, false, Option, Some, None, List, [], ◌∷◌, ◌++◌, length, if◌then◌else◌}
 use Rattle.pl_types.specs.declared.classes.TheConstants.{ARRAY_LIST, HASH_MAP}
 use Rattle.pl_units.specs.Utf16.{units}
 use Rattle.serde_json.specs.Data.{Num, Data, null, boolean, number, string, array, object, Items, no_items, item, Members, no_members, member}
@@ -11,6 +11,7 @@ use Rattle.object_values.specs.declared.object.Object.TheVariants as o
 use Rattle.object_values.specs.declared.object.Guard.{Guard}
 use Rattle.object_values.specs.declared.object.Guard.TheVariants as g
 use Rattle.object_values.specs.Pairs.{with_pair}
+use Rattle.object_heap.specs.Store.{Store}
 
 -- a value, and the objects of the heap
 pub record Bound : Type 0 where
@@ -86,3 +87,9 @@ bound_array frozen objects ds = bound frozen objects (array ds)
 
 abbrev pub bound_object : Bool → List Object → Members → Bound
 bound_object frozen objects ms = bound frozen objects (object ms)
+
+-- the objects that were there come first, and the room is what it was
+pub record Grown (old new : Store) : Type 0 where
+  pub more : List Object
+  pub objects : new.objects ≡ old.objects ++ more
+  pub room : new.room ≡ old.room
