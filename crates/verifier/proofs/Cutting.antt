@@ -22,23 +22,23 @@ drop_twice zero m xs = let e : zero + m ≡ m = omega arith in ap (λ k. drop k 
 drop_twice (suc n) m [] = drop_none (suc n + m) ∙ sym (drop_none m)
 drop_twice (suc n) m (x ∷ xs) = let e : suc n + m ≡ suc (n + m) = omega arith in ap (λ k. drop k (x ∷ xs)) e ∙ drop_twice n m xs
 
--- the top 32 behind so many, of a list that is turned around
-turned_part : (front part back : List Slot) (n : ℕ) → length back ≡ n → 32 ≤ length part → take 32 (drop n (reverse (front ++ (part ++ back)))) ≡ take 32 (reverse part)
+-- the top 31 behind so many, of a list that is turned around
+turned_part : (front part back : List Slot) (n : ℕ) → length back ≡ n → 31 ≤ length part → take 31 (drop n (reverse (front ++ (part ++ back)))) ≡ take 31 (reverse part)
 turned_part front part back n e h =
     let whole : reverse (front ++ (part ++ back)) ≡ reverse back ++ (reverse part ++ reverse front) = reverse-append front (part ++ back) ∙ ap (λ l. l ++ reverse front) (reverse-append part back) ∙ append_assoc (reverse back) (reverse part) (reverse front) in
     let many : n ≡ length (reverse back) = sym (length-reverse back ∙ e) in
     let few : length (reverse part) ≡ length part = length-reverse part in
-    ap (λ l. take 32 (drop n l)) whole ∙ ap (λ k. take 32 (drop k (reverse back ++ (reverse part ++ reverse front)))) many ∙ ap (take 32) (drop-append_seam (reverse back) (reverse part ++ reverse front))
-    ∙ take-append-le 32 (reverse part) (reverse front) (omega (arith, few, h))
+    ap (λ l. take 31 (drop n l)) whole ∙ ap (λ k. take 31 (drop k (reverse back ++ (reverse part ++ reverse front)))) many ∙ ap (take 31) (drop-append_seam (reverse back) (reverse part ++ reverse front))
+    ∙ take-append-le 31 (reverse part) (reverse front) (omega (arith, few, h))
 
-pub part_is : (xs : List Slot) (a n : ℕ) → a + 32 + n ≡ length xs → take 32 (drop n (reverse xs)) ≡ take 32 (reverse (take 32 (drop a xs)))
+pub part_is : (xs : List Slot) (a n : ℕ) → a + 31 + n ≡ length xs → take 31 (drop n (reverse xs)) ≡ take 31 (reverse (take 31 (drop a xs)))
 part_is xs a n e =
     let behind = drop a xs in
-    let cut : xs ≡ take a xs ++ (take 32 behind ++ drop 32 behind) = sym (take-append-drop a xs) ∙ ap (λ l. take a xs ++ l) (sym (take-append-drop 32 behind)) in
+    let cut : xs ≡ take a xs ++ (take 31 behind ++ drop 31 behind) = sym (take-append-drop a xs) ∙ ap (λ l. take a xs ++ l) (sym (take-append-drop 31 behind)) in
     let left : length behind ≡ length xs - a = length-drop a xs in
-    let last : length (drop 32 behind) ≡ length behind - 32 = length-drop 32 behind in
-    let mid : length (take 32 behind) ≡ min 32 (length behind) = length-take 32 behind in
-    ap (λ l. take 32 (drop n (reverse l))) cut ∙ turned_part (take a xs) (take 32 behind) (drop 32 behind) n (omega (arith, left, last, e)) (omega (arith, left, mid, e))
+    let last : length (drop 31 behind) ≡ length behind - 31 = length-drop 31 behind in
+    let mid : length (take 31 behind) ≡ min 31 (length behind) = length-take 31 behind in
+    ap (λ l. take 31 (drop n (reverse l))) cut ∙ turned_part (take a xs) (take 31 behind) (drop 31 behind) n (omega (arith, left, last, e)) (omega (arith, left, mid, e))
 
 pub rest_is : (xs : List Slot) (n m : ℕ) → m ≡ length xs - n → n ≤ length xs → drop n (reverse xs) ≡ reverse (take m xs)
 rest_is xs n m e h =
@@ -61,19 +61,19 @@ pub record CutSoFar (params : List Slot) (windows : List ℕ) (done : ℕ) : Typ
 pub none_cut : (params : List Slot) → CutSoFar params [] 0
 none_cut params = record { many = refl; cut = record { few = omega arith; each = λ i h. absurd (omega (arith, h)) } }
 
-pub one_cut : (params part : List Slot) (windows more : List ℕ) (window done a : ℕ) → CutSoFar params windows done → done < length params / 32 → a + 32 + 32 * done ≡ length params → part ≡ take 32 (drop a params)
-    → window ≡ numeral_of (take 32 (reverse part)) → more ≡ windows ++ window ∷ [] → CutSoFar params more (done + 1)
+pub one_cut : (params part : List Slot) (windows more : List ℕ) (window done a : ℕ) → CutSoFar params windows done → done < length params / 31 → a + 31 + 31 * done ≡ length params → part ≡ take 31 (drop a params)
+    → window ≡ numeral_of (take 31 (reverse part)) → more ≡ windows ++ window ∷ [] → CutSoFar params more (done + 1)
 one_cut params part windows more window done a c h at is numeral e =
     let turned : length (reverse params) ≡ length params = length-reverse params in
     let longer : length more ≡ length windows + 1 = ap length e ∙ length-append windows (window ∷ []) in
-    let here : window ≡ numeral_of (take 32 (drop (32 * done) (reverse params))) = numeral ∙ ap (λ l. numeral_of (take 32 (reverse l))) is ∙ ap numeral_of (sym (part_is params a (32 * done) at)) in
+    let here : window ≡ numeral_of (take 31 (drop (31 * done) (reverse params))) = numeral ∙ ap (λ l. numeral_of (take 31 (reverse l))) is ∙ ap numeral_of (sym (part_is params a (31 * done) at)) in
     record {
       many = omega (arith, longer, c.many);
       cut = record {
         few = omega (arith, longer, c.many, turned, at);
         each = λ i b.
             elim (eqb_tells i done) [
-              | inl q ↦ ap (λ ws. get_or ws i 0) e ∙ get_or_push windows window 0 i (c.many ∙ sym q.1) ∙ here ∙ ap (λ n. numeral_of (take 32 (drop (32 * n) (reverse params)))) (sym q.1)
+              | inl q ↦ ap (λ ws. get_or ws i 0) e ∙ get_or_push windows window 0 i (c.many ∙ sym q.1) ∙ here ∙ ap (λ n. numeral_of (take 31 (drop (31 * n) (reverse params)))) (sym q.1)
               | inr q ↦ let n : ¬ (i ≡ done) = q.1 in let w : i < length windows = omega (arith, longer, c.many, n, b) in
                   ap (λ ws. get_or ws i 0) e ∙ get_or-append windows (window ∷ []) 0 i w ∙ c.cut.each i w
             ];
@@ -110,17 +110,17 @@ cut_found functions windows shown k f w read all h is at same reads =
 -- ---- a window that is taken
 
 pub record CutOff (kinds : List Slot) (i : ℕ) : Type 0 where
-  pub is : drop (32 * i) kinds ≡ take 32 (drop (32 * i) kinds) ++ drop (32 * (i + 1)) kinds
-  pub many : length (take 32 (drop (32 * i) kinds)) ≡ 32
+  pub is : drop (31 * i) kinds ≡ take 31 (drop (31 * i) kinds) ++ drop (31 * (i + 1)) kinds
+  pub many : length (take 31 (drop (31 * i) kinds)) ≡ 31
 
 pub cut_off : (kinds : List Slot) (windows : List ℕ) (i : ℕ) → HasWindows kinds windows → i < length windows → CutOff kinds i
 cut_off kinds windows i c h =
-    let next : 32 * (i + 1) ≡ 32 * i + 32 = omega arith in
+    let next : 31 * (i + 1) ≡ 31 * i + 31 = omega arith in
     let few = c.few in
-    let left : length (drop (32 * i) kinds) ≡ length kinds - 32 * i = length-drop (32 * i) kinds in
-    let front : length (take 32 (drop (32 * i) kinds)) ≡ min 32 (length (drop (32 * i) kinds)) = length-take 32 (drop (32 * i) kinds) in
+    let left : length (drop (31 * i) kinds) ≡ length kinds - 31 * i = length-drop (31 * i) kinds in
+    let front : length (take 31 (drop (31 * i) kinds)) ≡ min 31 (length (drop (31 * i) kinds)) = length-take 31 (drop (31 * i) kinds) in
     record {
-      is = sym (take-append-drop 32 (drop (32 * i) kinds)) ∙ ap (λ l. take 32 (drop (32 * i) kinds) ++ l) (sym (drop_twice (32 * i) 32 kinds) ∙ ap (λ n. drop n kinds) (sym next));
+      is = sym (take-append-drop 31 (drop (31 * i) kinds)) ∙ ap (λ l. take 31 (drop (31 * i) kinds) ++ l) (sym (drop_twice (31 * i) 31 kinds) ∙ ap (λ n. drop n kinds) (sym next));
       many = omega (arith, few, left, front, h);
     }
 

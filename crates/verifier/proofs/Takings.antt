@@ -101,11 +101,11 @@ copies_append : (a b : ℕ) (k : Slot) → replicate (a + b) k ≡ replicate a k
 copies_append zero b k = let e : zero + b ≡ b = omega arith in ap (λ n. replicate n k) e
 copies_append (suc a) b k = let e : suc a + b ≡ suc (a + b) = omega arith in ap (λ n. replicate n k) e ∙ ap (λ ks. k ∷ ks) (copies_append a b k)
 
-pub one_window : (windows done : ℕ) (k : Slot) → done < windows → replicate (32 * windows - 32 * done) k ≡ replicate 32 k ++ replicate (32 * windows - 32 * (done + 1)) k
-one_window windows done k h = let e : 32 * windows - 32 * done ≡ 32 + (32 * windows - 32 * (done + 1)) = omega arith in ap (λ n. replicate n k) e ∙ copies_append 32 (32 * windows - 32 * (done + 1)) k
+pub one_window : (windows done : ℕ) (k : Slot) → done < windows → replicate (31 * windows - 31 * done) k ≡ replicate 31 k ++ replicate (31 * windows - 31 * (done + 1)) k
+one_window windows done k h = let e : 31 * windows - 31 * done ≡ 31 + (31 * windows - 31 * (done + 1)) = omega arith in ap (λ n. replicate n k) e ∙ copies_append 31 (31 * windows - 31 * (done + 1)) k
 
-pub windows_yet : (windows : ℕ) (k : Slot) (t : Table) → SoFar (replicate (32 * windows) k) (replicate (32 * windows - 32 * 0) k) t t
-windows_yet windows k t = let z : 32 * windows ≡ 32 * windows - 32 * 0 = omega arith in record { stack = ap (λ n. taken (replicate n k) t.stack) z; lines = refl }
+pub windows_yet : (windows : ℕ) (k : Slot) (t : Table) → SoFar (replicate (31 * windows) k) (replicate (31 * windows - 31 * 0) k) t t
+windows_yet windows k t = let z : 31 * windows ≡ 31 * windows - 31 * 0 = omega arith in record { stack = ap (λ n. taken (replicate n k) t.stack) z; lines = refl }
 
-pub copies_cut : (number : ℕ) (k : Slot) → replicate (32 * (number / 32)) k ++ replicate (number % 32) k ≡ replicate number k
-copies_cut number k = let e : 32 * (number / 32) + number % 32 ≡ number = omega arith in sym (copies_append (32 * (number / 32)) (number % 32) k) ∙ ap (λ n. replicate n k) e
+pub copies_cut : (number : ℕ) (k : Slot) → replicate (31 * (number / 31)) k ++ replicate (number % 31) k ≡ replicate number k
+copies_cut number k = let e : 31 * (number / 31) + number % 31 ≡ number = omega arith in sym (copies_append (31 * (number / 31)) (number % 31) k) ∙ ap (λ n. replicate n k) e

@@ -1,4 +1,4 @@
-//! Calls: the parameters of a function are taken 32 at a time.
+//! Calls: the parameters of a function are taken 31 at a time.
 
 ghost use Rattle.std.specs.Prelude.{◌≡◌, ◌*◌, List, Some, None, if◌then◌else◌, IfOk, length, drop, reverse, slice_get, option_map};
 ghost use Rattle.pl_code.specs.declared.kinds.Slot.{Slot as SlotData};
@@ -17,7 +17,7 @@ use verifier_table::ShapeTable;
 
 /// Takes off the kinds of windows. `false` where other kinds lie there.
 fn take_windows(table: &mut ShapeTable, windows: &[u64]) -> bool
-    ensures stack { (kinds : List SlotData) → HasWindows kinds windows.now → Passed result kinds (drop (32 * length windows.now) kinds) table.old.stack table.new.stack }
+    ensures stack { (kinds : List SlotData) → HasWindows kinds windows.now → Passed result kinds (drop (31 * length windows.now) kinds) table.old.stack table.new.stack }
     ensures lines { table.new.lines ≡ table.old.lines }
 {
     for at in 0..windows.len() {
@@ -37,7 +37,7 @@ fn take_params(table: &mut ShapeTable, kinds: &[Slot], windows: &[u64]) -> bool
     if !take_windows(table, windows) {
         return false;
     }
-    params(table, &kinds[..kinds.len() - 32 * windows.len()])
+    params(table, &kinds[..kinds.len() - 31 * windows.len()])
 }
 
 fn call_function(

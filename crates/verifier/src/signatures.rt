@@ -18,9 +18,9 @@ pub(crate) struct Signatures {
     pub windows: Items<Items<u64>>,
 }
 
-/// The number of the last 32 of some kinds, the last one's digit lowest.
+/// The number of the last 31 of some kinds, the last one's digit lowest.
 fn window_of(kinds: &[Slot]) -> u64
-    ensures { result ≡ numeral_of (take 32 (reverse kinds.now)) }
+    ensures { result ≡ numeral_of (take 31 (reverse kinds.now)) }
 {
     let mut window = 0;
     for at in 0..kinds.len() {
@@ -34,9 +34,9 @@ fn windows_of(alloc: Global, params: &[Slot]) -> Result<Items<u64>, AllocError>
     ensures { IfOk result (λ windows. HasWindows (reverse params.now) windows) }
 {
     let mut windows = Items::new(alloc);
-    for done in 0..params.len() / 32 {
-        let end = params.len() - 32 * done;
-        windows.push(window_of(&params[end - 32..end]))?;
+    for done in 0..params.len() / 31 {
+        let end = params.len() - 31 * done;
+        windows.push(window_of(&params[end - 31..end]))?;
     }
     Ok(windows)
 }

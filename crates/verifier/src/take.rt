@@ -43,8 +43,8 @@ fn three(table: &mut ShapeTable, first: Slot, second: Slot, third: Slot) -> bool
 
 /// The values of so many windows, all of a kind.
 fn window_copies(table: &mut ShapeTable, windows: u64, kind: Slot) -> bool
-    requires { 32 * windows < 2 ^ 64 }
-    ensures stack { (if result then Some table.new.stack else None) ≡ taken (replicate (32 * windows) kind) table.old.stack }
+    requires { 31 * windows < 2 ^ 64 }
+    ensures stack { (if result then Some table.new.stack else None) ≡ taken (replicate (31 * windows) kind) table.old.stack }
     ensures lines { table.new.lines ≡ table.old.lines }
 {
     let window = window_of_copies(kind);
@@ -73,10 +73,10 @@ fn copies(table: &mut ShapeTable, number: u64, kind: Slot) -> bool
     ensures stack { (if result then Some table.new.stack else None) ≡ taken (replicate number kind) table.old.stack }
     ensures lines { table.new.lines ≡ table.old.lines }
 {
-    if !window_copies(table, number / 32, kind) {
+    if !window_copies(table, number / 31, kind) {
         return false;
     }
-    few_copies(table, number % 32, kind)
+    few_copies(table, number % 31, kind)
 }
 
 pub(crate) fn params(table: &mut ShapeTable, params: &[Slot]) -> bool

@@ -369,7 +369,7 @@ grown_along a b x y m n at kind e f q g =
 
 -- the measure of a stack with one more kind
 pub measured_with : (stacks : List (List Slot)) (ks : List Slot) (kind : Slot) (m : Measure) (height window under : ℕ) → Measures stacks ks m → height ≡ m.height + 1
-    → ((others : List Slot) → m.window ≡ numeral_of (take 32 others) → window ≡ numeral_of (take 32 (kind ∷ others))) → under < length stacks → stack_at stacks under ≡ drop 31 ks
+    → ((others : List Slot) → m.window ≡ numeral_of (take 31 others) → window ≡ numeral_of (take 31 (kind ∷ others))) → under < length stacks → stack_at stacks under ≡ drop 30 ks
     → Measures stacks (kind ∷ ks) (record { height = height; window = window; under = under })
 measured_with stacks ks kind m height window under old high numeral within lies =
     record { height = high ∙ add-one m.height ∙ ap suc old.height; window = numeral ks old.window; within = within; under = lies }

@@ -1,4 +1,4 @@
--- Kinds by 32 and their numbers.
+-- Kinds by 31 and their numbers.
 use Rattle.std.proofs.Common.{◌≡◌, ℕ, zero, suc, ◌+◌, ◌*◌, ◌%◌, ◌<◌, ◌≤◌, true, false, Bool, cond, List, [], ◌∷◌, length, take, drop, Option, Some, None, refl, sym, ap, ◌∙◌, subst, add-one, arith}
 use Rattle.std.proofs.lemmas.Nat.{mod-mul-add}
 use Rattle.pl_code.specs.declared.kinds.Slot.{Slot}
@@ -66,23 +66,23 @@ one_further zero ks = omega arith
 one_further (suc n) [] = none_further n _ refl
 one_further (suc n) (k ∷ ks) = let r = one_further n ks in omega (arith, r)
 
-scaled_31 : (x : ℕ) → scaled 31 x ≡ 4611686018427387904 * x
-scaled_31 x = omega arith
+scaled_30 : (x : ℕ) → scaled 30 x ≡ 1152921504606846976 * x
+scaled_30 x = omega arith
 
-first_31 : (ks : List Slot) → numeral_of (take 32 ks) % 4611686018427387904 ≡ numeral_of (take 31 ks)
-first_31 ks =
-    let x = numeral_of (take 1 (drop 31 ks)) in
-    let whole : numeral_of (take 32 ks) ≡ numeral_of (take 31 ks) + scaled 31 x = one_further 31 ks in
-    let few : numeral_of (take 31 ks) < scaled 31 1 = below 31 ks in
-    let s : scaled 31 x ≡ 4611686018427387904 * x = scaled_31 x in
-    let one : scaled 31 1 ≡ 4611686018427387904 * 1 = scaled_31 1 in
-    let sum : numeral_of (take 32 ks) ≡ x * 4611686018427387904 + numeral_of (take 31 ks) = omega (arith, whole, s) in
-    ap (λ n. n % 4611686018427387904) sum ∙ mod-mul-add x 4611686018427387904 (numeral_of (take 31 ks)) (omega (arith, few, one))
+first_30 : (ks : List Slot) → numeral_of (take 31 ks) % 1152921504606846976 ≡ numeral_of (take 30 ks)
+first_30 ks =
+    let x = numeral_of (take 1 (drop 30 ks)) in
+    let whole : numeral_of (take 31 ks) ≡ numeral_of (take 30 ks) + scaled 30 x = one_further 30 ks in
+    let few : numeral_of (take 30 ks) < scaled 30 1 = below 30 ks in
+    let s : scaled 30 x ≡ 1152921504606846976 * x = scaled_30 x in
+    let one : scaled 30 1 ≡ 1152921504606846976 * 1 = scaled_30 1 in
+    let sum : numeral_of (take 31 ks) ≡ x * 1152921504606846976 + numeral_of (take 30 ks) = omega (arith, whole, s) in
+    ap (λ n. n % 1152921504606846976) sum ∙ mod-mul-add x 1152921504606846976 (numeral_of (take 30 ks)) (omega (arith, few, one))
 
-pub one_pushed : (kind : Slot) (ks : List Slot) (window : ℕ) → window ≡ numeral_of (take 32 ks) → 4 * (window % 4611686018427387904) + digit kind ≡ numeral_of (take 32 (kind ∷ ks))
+pub one_pushed : (kind : Slot) (ks : List Slot) (window : ℕ) → window ≡ numeral_of (take 31 ks) → 4 * (window % 1152921504606846976) + digit kind ≡ numeral_of (take 31 (kind ∷ ks))
 one_pushed kind ks window e =
-    let first : window % 4611686018427387904 ≡ numeral_of (take 31 ks) = ap (λ n. n % 4611686018427387904) e ∙ first_31 ks in
-    let whole : numeral_of (take 32 (kind ∷ ks)) ≡ digit kind + 4 * numeral_of (take 31 ks) = refl in
+    let first : window % 1152921504606846976 ≡ numeral_of (take 30 ks) = ap (λ n. n % 1152921504606846976) e ∙ first_30 ks in
+    let whole : numeral_of (take 31 (kind ∷ ks)) ≡ digit kind + 4 * numeral_of (take 30 ks) = refl in
     omega (arith, first, whole)
 
 -- ---- what is taken
@@ -101,10 +101,10 @@ taken_are_first [] s t h = refl
 taken_are_first (k ∷ ks) [] t h = cc
 taken_are_first (k ∷ ks) (x ∷ s) t h = heads_first k x ks s t (same_slots k x) refl h (taken_are_first ks s t)
 
-pub window_fits : (ks s : List Slot) → numeral_of (take 32 s) ≡ numeral_of ks → taken ks s ≡ Some (drop 32 s)
-window_fits ks s e = ap (λ front. taken front s) (sym (one_numeral (take 32 s) ks e)) ∙ taken_front 32 s
+pub window_fits : (ks s : List Slot) → numeral_of (take 31 s) ≡ numeral_of ks → taken ks s ≡ Some (drop 31 s)
+window_fits ks s e = ap (λ front. taken front s) (sym (one_numeral (take 31 s) ks e)) ∙ taken_front 31 s
 
-pub window_differs : (ks s : List Slot) → length ks ≡ 32 → ¬ (numeral_of (take 32 s) ≡ numeral_of ks) → (left : Option (List Slot)) → taken ks s ≡ left → None ≡ left
+pub window_differs : (ks s : List Slot) → length ks ≡ 31 → ¬ (numeral_of (take 31 s) ≡ numeral_of ks) → (left : Option (List Slot)) → taken ks s ≡ left → None ≡ left
 window_differs ks s l n None e = refl
 window_differs ks s l n (Some t) e = absurd (n (ap numeral_of (subst (λ m. take m s ≡ ks) l (taken_are_first ks s t e))))
 

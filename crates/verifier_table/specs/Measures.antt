@@ -5,7 +5,7 @@ use Rattle.verifier_table.specs.declared.node.Node.{Node}
 use Rattle.verifier_table.specs.Nodes.{stack_at, stacks_of, node_at}
 use Rattle.verifier_table.specs.Windows.{numeral_of}
 
--- how high it is, the number of its top 32 kinds, and the place of what lies below them
+-- how high it is, the number of its top 31 kinds, and the place of what lies below them
 pub record Measure : Type 0 where
   pub height : ℕ
   pub window : ℕ
@@ -17,9 +17,9 @@ measure_of n = record { height = n.height; window = n.window; under = n.under }
 -- a measure is that of kinds, where these stacks are
 pub record Measures (stacks : List (List Slot)) (kinds : List Slot) (m : Measure) : Type 0 where
   pub height : m.height ≡ length kinds
-  pub window : m.window ≡ numeral_of (take 32 kinds)
+  pub window : m.window ≡ numeral_of (take 31 kinds)
   pub within : m.under < length stacks
-  pub under : stack_at stacks m.under ≡ drop 32 kinds
+  pub under : stack_at stacks m.under ≡ drop 31 kinds
 
 -- each node has the measure of its stack
 pub record HaveMeasures (nodes : List Node) : Type 0 where

@@ -1,6 +1,6 @@
 use pl_code::Slot;
 
-/// A stack that is not empty: its top and what lies below, how many kinds it has, the number of its top 32 kinds and what lies
+/// A stack that is not empty: its top and what lies below, how many kinds it has, the number of its top 31 kinds and what lies
 /// under those, and the stacks that are this one with an int, a long or a reference on top. A stack is told by its place; place
 /// 0 is the empty one's, and where no such stack is there the number is 0.
 #[derive(Clone, Copy)]

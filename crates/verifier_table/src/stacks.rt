@@ -136,7 +136,7 @@ impl Stacks {
         place
     }
 
-    /// The place of what lies below the top 32 kinds of a stack, if their number is this one.
+    /// The place of what lies below the top 31 kinds of a stack, if their number is this one.
     pub(crate) fn under(&self, at: usize, window: u64) -> Option<usize>
         requires { at < length self.now }
         ensures { HasWindow self.now at window result }

@@ -73,9 +73,9 @@ impl ShapeTable {
         Some(kind)
     }
 
-    /// Takes 32 kinds off that have this number, in one step. `false` where others lie there, or fewer.
+    /// Takes 31 kinds off that have this number, in one step. `false` where others lie there, or fewer.
     pub fn take_window(&mut self, window: u64) -> bool
-        ensures stack { (kinds : List SlotData) → length kinds ≡ 32 → window ≡ numeral_of kinds → (if result then Some self.new.stack else None) ≡ taken kinds self.old.stack }
+        ensures stack { (kinds : List SlotData) → length kinds ≡ 31 → window ≡ numeral_of kinds → (if result then Some self.new.stack else None) ≡ taken kinds self.old.stack }
         ensures lines { self.new.lines ≡ self.old.lines }
     {
         match self.stacks.under(self.top, window) {

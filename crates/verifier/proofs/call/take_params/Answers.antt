@@ -10,5 +10,5 @@ returns-clause-stack c =
     let kinds = c.args.kinds.now in
     let many = length c.args.windows.now in
     c.params.ensures.stack
-    ∙ ap (λ ks. taken ks c.take_windows.new.table.stack) (sym (rest_is kinds (32 * many) (length kinds - 32 * many) refl (omega (arith, c.requires.few, length-reverse kinds))))
+    ∙ ap (λ ks. taken ks c.take_windows.new.table.stack) (sym (rest_is kinds (31 * many) (length kinds - 31 * many) refl (omega (arith, c.requires.few, length-reverse kinds))))
     ∙ sym (c.if-not-take_windows.ensures.stack (reverse kinds) c.requires)

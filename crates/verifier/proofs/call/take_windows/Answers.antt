@@ -10,8 +10,8 @@ pub returns-then-not-take_window-clause-stack : goal.returns-then-not-take_windo
 returns-then-not-take_window-clause-stack c kinds cut =
     let i = c.loop-at.at in
     let off = cut_off kinds c.args.windows.now i cut c.loop-at-test.true in
-    window_fails kinds (drop (32 * i) kinds) (take 32 (drop (32 * i) kinds)) (drop (32 * (i + 1)) kinds) _ _ (c.loop-at.invariant.1 kinds cut) off.is
-    (c.if-not-take_window.ensures.stack (take 32 (drop (32 * i) kinds)) off.many (cut.each i c.loop-at-test.true))
+    window_fails kinds (drop (31 * i) kinds) (take 31 (drop (31 * i) kinds)) (drop (31 * (i + 1)) kinds) _ _ (c.loop-at.invariant.1 kinds cut) off.is
+    (c.if-not-take_window.ensures.stack (take 31 (drop (31 * i) kinds)) off.many (cut.each i c.loop-at-test.true))
 
 pub returns-then-not-take_window-clause-lines : goal.returns-then-not-take_window-clause-lines
 returns-then-not-take_window-clause-lines c = c.if-not-take_window.ensures.lines ∙ c.loop-at.invariant.0
@@ -22,7 +22,7 @@ loop-at-preserved c = (
   λ kinds cut.
       let i = c.loop-at.at in
       let off = cut_off kinds c.args.windows.now i cut c.loop-at-test.true in
-      window_goes kinds (drop (32 * i) kinds) (take 32 (drop (32 * i) kinds)) (drop (32 * (i + 1)) kinds) _ _ _ (c.loop-at.invariant.1 kinds cut) off.is
-      (c.if-not-take_window.ensures.stack (take 32 (drop (32 * i) kinds)) off.many (cut.each i c.loop-at-test.true))
+      window_goes kinds (drop (31 * i) kinds) (take 31 (drop (31 * i) kinds)) (drop (31 * (i + 1)) kinds) _ _ _ (c.loop-at.invariant.1 kinds cut) off.is
+      (c.if-not-take_window.ensures.stack (take 31 (drop (31 * i) kinds)) off.many (cut.each i c.loop-at-test.true))
       c.if-not-take_window.ensures.lines,
 )

@@ -5,4 +5,4 @@ use Rattle.verifier.proofs.Takings.{SoFar}
 use Rattle.verifier.proofs.call.take_windows.Given as goal
 
 abbrev pub invariant-loop-at : goal.invariant-loop-at
-invariant-loop-at l = (l.table.lines ≡ l.initial.table.lines) × ((kinds : List Slot) → HasWindows kinds l.windows → SoFar kinds (drop (32 * l.at) kinds) l.initial.table l.table)
+invariant-loop-at l = (l.table.lines ≡ l.initial.table.lines) × ((kinds : List Slot) → HasWindows kinds l.windows → SoFar kinds (drop (31 * l.at) kinds) l.initial.table l.table)
