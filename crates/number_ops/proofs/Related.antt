@@ -28,24 +28,24 @@ use Rattle.number_ops.specs.Order.{found_of}
 use Rattle.number_ops.specs.Outcomes.{effect, says, class_raised}
 use Rattle.number_ops.specs.Relations.{equal, equal_if, thrown, thrown_if, EqualityGivesFlags, EqualityMakesNothing, CastsGivePrimitives, CastsToPrimitivesMakeNothing, ThrowsAlone}
 
--- What an outcome gives passes a test, and it makes no text.
-abbrev Only : (Value → Type 0) → Outcome → Type 0
+-- An outcome gives what passes a test, or throws.
+abbrev pub Only : (Value → Type 0) → Outcome → Type 0
 Only test (outcome.Gives value) = test value
 Only test (outcome.Makes text) = ⊥
 Only test (outcome.Throws raised message) = Unit {0}
-Only test outcome.NoMemory = Unit {0}
+Only test outcome.NoMemory = ⊥
 
 given_only : (test : Value → Type 0) (told : Outcome) (value : Value) → Only test told → told ≡ outcome.Gives value → test value
 given_only test (outcome.Gives found) value h e = let same : found ≡ value = cc in subst test same h
 given_only test (outcome.Makes text) value h e = absurd h
 given_only test (outcome.Throws raised message) value h e = absurd (cc)
-given_only test outcome.NoMemory value h e = absurd (cc)
+given_only test outcome.NoMemory value h e = absurd h
 
 makes_none : (test : Value → Type 0) (told : Outcome) (text : List ℕ) → Only test told → told ≡ outcome.Makes text → ⊥
 makes_none test (outcome.Gives value) text h e = absurd (cc)
 makes_none test (outcome.Makes made) text h e = absurd h
 makes_none test (outcome.Throws raised message) text h e = absurd (cc)
-makes_none test outcome.NoMemory text h e = absurd (cc)
+makes_none test outcome.NoMemory text h e = absurd h
 
 -- ---- `==`
 
@@ -75,7 +75,7 @@ equality_makes_nothing objects a b text e = makes_none IsFlag (equal objects a b
 
 -- ---- casts to primitives
 
-abbrev Is : Primitive → Value → Type 0
+abbrev pub Is : Primitive → Value → Type 0
 Is p value = is_primitive p value ≡ true
 
 -- a cast that is not refused gives a value of the type; nothing is made a text
@@ -183,7 +183,7 @@ from_long a prim.Long explicit = refl
 
 -- .. the cast
 
-cast_is : (p : Primitive) (objects : List Object) (value : Value) (explicit : Bool) → Only (Is p) (cast_at_run_time objects value (ty.Prim p) explicit)
+pub cast_is : (p : Primitive) (objects : List Object) (value : Value) (explicit : Bool) → Only (Is p) (cast_at_run_time objects value (ty.Prim p) explicit)
 unfolding out-Ty denote.Hole.Carrier.out
 cast_is p objects v.Null explicit = tt
 cast_is p objects (v.Bool a) explicit = given_is p objects (v.Bool a) (ty.Prim p) (to_primitive p explicit (v.Bool a)) (from_flag p explicit a)

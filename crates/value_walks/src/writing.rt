@@ -237,9 +237,7 @@ fn items_text(
     let mut rest = visits;
     for at in 0..items.len() {
         separate(out, at)?;
-        let Some(item) = item_at(items, at) else {
-            return Err(TextErr::NoMemory);
-        };
+        let Some(item) = item_at(items, at) else { unreachable!() };
         rest = value_at(heap, levels, item, rest, out)?;
     }
     Ok(rest)
@@ -306,9 +304,7 @@ fn all_pairs_text(
     let mut rest = visits;
     for at in 0..pairs.len() {
         separate(out, at)?;
-        let Some((key, value)) = pair_at(pairs, at) else {
-            return Err(TextErr::NoMemory);
-        };
+        let Some((key, value)) = pair_at(pairs, at) else { unreachable!() };
         rest = shown_text(heap, levels, shown, key, value, rest, out)?;
     }
     Ok(rest)
