@@ -78,3 +78,12 @@ stops objects between at out old new element elements cause h =
 pub end : (objects : List Object) (between : List ℕ) (at : ℕ) (out : List ℕ) → behind objects between at out [] ≡ Makes out
 end objects between zero out = ap Makes (append-nil out)
 end objects between (suc at) out = ap Makes (append-nil out)
+
+-- ---- behind the last element
+
+rest_none : (between : List ℕ) (at : ℕ) → rest_joined between at [] ≡ []
+rest_none between zero = refl
+rest_none between (suc at) = refl
+
+pub ended : (objects : List Object) (between : List ℕ) (at : ℕ) (out : List ℕ) → behind objects between at out [] ≡ Makes out
+ended objects between at out = ap Makes (ap (λ (rest : List ℕ). out ++ rest) (rest_none between at) ∙ append-nil out)

@@ -102,7 +102,7 @@ fn join_values(heap: &Heap, between: &[u16], values: &[Value]) -> Outcome
             Err(cause) => return stopped(heap, cause),
         }
     }
-    Outcome::Makes(UText::from_units(out))
+    Outcome::made_of(out)
 }
 
 // The key and the value at a place.
@@ -128,13 +128,13 @@ fn join_pairs(heap: &Heap, between: &[u16], part: Part, pairs: &Pairs) -> Outcom
             Err(cause) => return stopped(heap, cause),
         }
     }
-    Outcome::Makes(UText::from_units(out))
+    Outcome::made_of(out)
 }
 
 fn join_none(heap: &Heap) -> Outcome
     ensures { result ≡ Outcome.Makes [] }
 {
-    Outcome::Makes(UText::from_units(Vec::new(heap.alloc())))
+    Outcome::Makes(UText::empty(heap.alloc()))
 }
 
 // The texts of what a view shows of the pairs of a map.

@@ -115,7 +115,7 @@ fn of_units(units: Result<Vec<u16>, AllocError>) -> Outcome
     ensures { (store : Store) (text : List ℕ) → IfOk units (λ made. made.items ≡ text) → Tells store (Makes text) result }
 {
     match units {
-        Ok(units) => Outcome::Makes(UText::from_units(units)),
+        Ok(units) => Outcome::made_of(units),
         Err(_) => Outcome::NoMemory,
     }
 }

@@ -1,6 +1,7 @@
 //! What members come to, and how that is paid.
 ghost use Rattle.std.specs.Prelude.{◌≡◌};
 ghost use Rattle.object_heap.specs.Effects.{Answers};
+ghost use Rattle.object_heap.specs.Store.{Store};
 ghost use Rattle.api_text.specs.declared.outcome.Outcome.{Outcome};
 ghost use Rattle.api_text.specs.Outcomes as spec;
 ghost use Rattle.api_text.specs.Outcomes.{effect, Tells, WantsMemory};
@@ -109,6 +110,16 @@ impl Drop for Outcome {
 }
 
 impl Outcome {
+    /// A text of these units that is made, unless there is no memory for it.
+    pub(crate) fn made_of(units: Vec<u16>) -> Outcome
+        ensures { (store : Store) → Tells store (Outcome.Makes units.items) result }
+    {
+        match UText::from_units(units) {
+            Ok(text) => Outcome::Makes(text),
+            Err(_) => Outcome::NoMemory,
+        }
+    }
+
     /// Pays for it, and changes the heap.
     pub fn settle(self, heap: &mut Heap) -> Answer
         ensures does { (told : Outcome) → Tells heap.old told self → Answers (effect heap.old told) heap.old heap.new result }

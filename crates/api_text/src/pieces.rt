@@ -5,7 +5,7 @@ ghost use Rattle.object_values.specs.declared.value.Value.TheVariants as v;
 ghost use Rattle.api_text.specs.Pieces as spec;
 ghost use Rattle.api_text.specs.Writing.{Made, MadeTexts, StopsOne};
 
-use crate::writing::{Stop, Texts, push_piece, write, write_both};
+use crate::writing::{kept, Stop, Texts, push_piece, write, write_both};
 use object_values::{Elements, Value};
 use pl_units::{UText, find_units};
 use std::alloc::Global;
@@ -26,7 +26,7 @@ fn finished(mut out: Vec<u16>, rest: &[u16], room: u64) -> Result<UText, Stop>
     ensures { Made room (out.items ++ rest.now) result }
 {
     match write(&mut out, rest, room) {
-        Ok(()) => Ok(UText::from_units(out)),
+        Ok(()) => kept(out),
         Err(stop) => Err(stop),
     }
 }

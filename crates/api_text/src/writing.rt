@@ -69,6 +69,16 @@ pub fn write_both(out: &mut Vec<u16>, units: &[u16], others: &[u16], room: u64) 
     write(out, others, room)
 }
 
+/// The text of units that were written.
+pub fn kept(units: Vec<u16>) -> Result<UText, Stop>
+    ensures { (room : ℕ) → Made room units.items result }
+{
+    match UText::from_units(units) {
+        Ok(text) => Ok(text),
+        Err(_) => Err(Stop::NoMemory),
+    }
+}
+
 /// The outcome of a text that was made, or was not.
 #[tactic(auto, using(crate::proofs::Room::no_room_for_text))]
 pub fn made(heap: &Heap, made: Result<UText, Stop>) -> Outcome

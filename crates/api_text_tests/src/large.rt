@@ -69,7 +69,7 @@ fn a_million_appends(rt: HostRuntime) -> Result<(), Fail> {
 fn long_text(alloc: Global) -> Result<Value, AllocError> {
     let mut units = Vec::new(alloc);
     units.resize(UNITS, 97)?;
-    Ok(Value::Str(UText::from_units(units)))
+    Ok(Value::Str(UText::from_units(units)?))
 }
 
 fn length_of(answer: &Answer) -> usize {

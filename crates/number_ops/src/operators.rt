@@ -12,7 +12,6 @@ use crate::values::{boxed, compares, is_null, is_text, number_in, truth_in};
 use arithmetic::{Num, Op, arith};
 use object_heap::{Answer, Heap};
 use object_values::Value;
-use pl_units::UText;
 use value_walks::{TextErr, VISITS, push_text};
 
 /// An operator whose operands have types that are found here. Bytes, shorts and chars become ints, and where one side is a long
@@ -76,7 +75,7 @@ fn followed(heap: &Heap, mut text: Vec<u16>, value: &Value) -> Outcome
     ensures { Tells (spec.after text.items heap.now.objects value.now) result }
 {
     match push_text(heap, value, VISITS, &mut text) {
-        Ok(_) => Outcome::Makes(UText::from_units(text)),
+        Ok(_) => Outcome::made_of(text),
         Err(TextErr::Deep) => too_deep(heap),
         Err(TextErr::Large) => too_large(heap),
         Err(TextErr::NoMemory) => Outcome::NoMemory,

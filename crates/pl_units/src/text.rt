@@ -13,23 +13,28 @@ use crate::search::{find_in, rfind_in, stands_in};
 use std::alloc::{AllocError, Global};
 use std::cmp::Ordering;
 use std::marker::Model;
+use std::rc::RcSlice;
 
 /// A text of scripts, as Java's `String`: a list of 16-bit code units, which is mostly UTF-16. Any unit may stand anywhere,
 /// so a surrogate may lack its partner. Contracts see the list.
 ///
-/// Lengths and places count units from 0, and a text never changes. A method that makes a text takes its memory from the
-/// allocator of its own text, and fails only where that has none.
+/// Lengths and places count units from 0, and a text never changes: one that is shared copies no unit. A method that makes a
+/// text takes its memory from the allocator of its own text, and fails only where that has none.
 #[derive(Debug, Drop)]
 pub struct UText {
-    content: Vec<u16>,
+    // `None` for the text that has no unit, which takes no memory.
+    content: Option<RcSlice<u16>>,
+    alloc: Global,
 }
 
 impl Model for UText {
     ghost use Rattle.std.specs.Prelude.{ℕ, List};
+    ghost use Rattle.std.specs.Rc.{rc_slice_items};
+    ghost use Rattle.pl_units.specs.Shared.{items_in};
 
     ghost Value = { List ℕ };
 
-    ghost view = { λ t. t.content.items };
+    ghost view = { λ t. items_in rc_slice_items t.content };
 }
 
 impl UText {
@@ -37,41 +42,43 @@ impl UText {
     pub fn from_utf8(alloc: Global, s: &str) -> Result<UText, AllocError>
         ensures { IfOk result (λ t. t ≡ units s.now) }
     {
-        let mut content = Vec::new(alloc);
-        for scalar in s.chars() {
-            push_scalar(&mut content, scalar)?;
-        }
-        Ok(UText { content })
+        UText::from_units(encoded(alloc, s)?)
     }
 
-    /// The text of these units, whatever they are. It keeps the vector, and takes no memory.
-    pub fn from_units(units: Vec<u16>) -> UText
-        ensures { result ≡ units.items }
+    /// The text that has no unit. It takes no memory.
+    pub fn empty(alloc: Global) -> UText
+        ensures { result ≡ [] }
     {
-        UText { content: units }
+        UText {
+            content: None,
+            alloc,
+        }
+    }
+
+    /// The text of these units, whatever they are. It keeps the vector.
+    pub fn from_units(units: Vec<u16>) -> Result<UText, AllocError>
+        ensures { IfOk result (λ t. t ≡ units.items) }
+    {
+        let alloc = *units.allocator();
+        let content = Some(RcSlice::from_vec(units)?);
+        Ok(UText { content, alloc })
     }
 
     /// The text of a copy of these units, whatever they are.
     pub fn from_slice(alloc: Global, units: &[u16]) -> Result<UText, AllocError>
         ensures { IfOk result (λ t. t ≡ units.now) }
     {
-        let content = Vec::from_slice(alloc, units)?;
-        Ok(UText { content })
+        UText::from_units(Vec::from_slice(alloc, units)?)
     }
 
     /// The units of the text, lent.
     pub fn units(&self) -> &[u16]
         ensures { result.now ≡ self.now }
     {
-        self.content.as_slice()
-    }
-
-    /// The vector of the units, which the text gives up.
-    pub fn into_units(self) -> Vec<u16>
-        ensures { result.items ≡ self }
-    {
-        let UText { content } = self;
-        content
+        match &self.content {
+            Some(content) => content.as_slice(),
+            None => &[],
+        }
     }
 
     /// The text in UTF-8: a surrogate pair is one scalar value, and an unpaired surrogate becomes U+FFFD.
@@ -95,7 +102,7 @@ impl UText {
     pub fn is_empty(&self) -> bool
         ensures { IsTrue result ↔ (self.now ≡ []) }
     {
-        self.content.is_empty()
+        self.units().is_empty()
     }
 
     /// The unit at a place before the end.
@@ -103,14 +110,21 @@ impl UText {
         requires { i < length self.now }
         ensures { slice_get self.now i ≡ Some result }
     {
-        self.content[i]
+        self.units()[i]
     }
 
-    /// The same text once more.
+    /// The same text once more. It copies no unit and takes no memory, and fails only where a number of 64 bits does not count
+    /// how often the text is shared.
     pub fn share(&self) -> Result<UText, AllocError>
         ensures { IfOk result (λ t. t ≡ self.now) }
     {
-        UText::from_slice(self.alloc(), self.units())
+        match &self.content {
+            Some(content) => Ok(UText {
+                content: Some(content.clone()?),
+                alloc: self.alloc,
+            }),
+            None => Ok(UText::empty(self.alloc)),
+        }
     }
 
     /// The units from the place `from` up to the place `to`, without the one at `to`. It may cut a surrogate pair in two.
@@ -129,7 +143,7 @@ impl UText {
     {
         let mut content = Vec::from_slice(self.alloc(), self.units())?;
         content.extend_from_slice(other.units())?;
-        Ok(UText { content })
+        UText::from_units(content)
     }
 
     /// The least place at or after `from` at which the part stands, or `None` if there is none.
@@ -186,6 +200,17 @@ impl UText {
     }
 
     fn alloc(&self) -> Global {
-        *self.content.allocator()
+        self.alloc
     }
+}
+
+// The units that UTF-8 bytes spell.
+fn encoded(alloc: Global, s: &str) -> Result<Vec<u16>, AllocError>
+    ensures { IfOk result (λ content. content.items ≡ units s.now) }
+{
+    let mut content = Vec::new(alloc);
+    for scalar in s.chars() {
+        push_scalar(&mut content, scalar)?;
+    }
+    Ok(content)
 }

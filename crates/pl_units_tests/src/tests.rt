@@ -91,10 +91,14 @@ fn parts(rt: HostRuntime) -> Result<(), Fail> {
         let part = is_part(&whole, from, to, utf8)?;
         assert!(rt; part, "{from} to {to}");
     }
-    let units = whole.share()?.into_units();
-    let again = UText::from_units(units);
+    let again = UText::from_slice(rt.alloc(), whole.share()?.units())?;
     assert!(rt; again.is(&whole) && 2 < again.len());
     assert!(rt; again.at(2) == 0xDE00);
+    let none = UText::empty(rt.alloc());
+    assert!(rt; none.is_empty() && none.share()?.is_empty() && none.is(&whole.sub(0, 0)?));
+    // A share copies no unit: both are the same slice.
+    let shared = whole.share()?;
+    assert!(rt; shared.units().as_ptr() == whole.units().as_ptr());
     Ok(())
 }
 

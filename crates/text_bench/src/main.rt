@@ -50,7 +50,7 @@ fn word(alloc: Global, text: &str) -> Result<Value, AllocError> {
 fn long_text(alloc: Global) -> Result<Value, AllocError> {
     let mut units = Vec::new(alloc);
     units.resize(UNITS, 97)?;
-    Ok(Value::Str(UText::from_units(units)))
+    Ok(Value::Str(UText::from_units(units)?))
 }
 
 fn is_value(answer: &Answer) -> bool {

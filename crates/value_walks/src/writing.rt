@@ -1,5 +1,5 @@
 //! The text of a value.
-ghost use Rattle.std.specs.Prelude.{◌≡◌, ◌++◌, OnOk, IfErr, Option};
+ghost use Rattle.std.specs.Prelude.{◌≡◌, ◌++◌, OnOk, IfErr, IfOk, Option};
 ghost use Rattle.std.specs.Option.{option_copied};
 ghost use Rattle.object_heap.specs.Parts.{pairs_in};
 ghost use Rattle.value_walks.specs.Texts as spec;
@@ -31,8 +31,19 @@ pub fn text(heap: &Heap, value: &Value, budget: u64) -> Result<UText, TextErr>
 {
     let mut out = Vec::new(heap.alloc());
     match push_text(heap, value, budget, &mut out) {
-        Ok(_) => Ok(UText::from_units(out)),
+        Ok(_) => text_of_units(out),
         Err(cause) => Err(cause),
+    }
+}
+
+// The text of units that were written.
+fn text_of_units(units: Vec<u16>) -> Result<UText, TextErr>
+    ensures ok { IfOk result (λ text. text ≡ units.items) }
+    ensures err { IfErr result (λ cause. cause ≡ TextErr.NoMemory) }
+{
+    match UText::from_units(units) {
+        Ok(text) => Ok(text),
+        Err(_) => Err(TextErr::NoMemory),
     }
 }
 

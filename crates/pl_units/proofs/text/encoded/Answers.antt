@@ -4,7 +4,7 @@ use Rattle.std.proofs.lemmas.List.{map-id}
 use Rattle.std.proofs.lemmas.Iterator.{YieldsList-from_chars}
 use Rattle.std.proofs.lemmas.Iterator.Consumers.{YieldsList-end}
 use Rattle.pl_units.specs.Utf16.{units, units_of_scalar}
-use Rattle.pl_units.proofs.text.UText.from_utf8.Goals as goal
+use Rattle.pl_units.proofs.text.encoded.Goals as goal
 
 -- each character was yielded
 pub returns : goal.returns

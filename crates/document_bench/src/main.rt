@@ -1,0 +1,138 @@
+//! Prints what reading, binding and answering a document takes, in nanoseconds, over 200,000 documents of one form: `rt run -- times`.
+//! With `lines` it prints the documents, so that others can be measured over the same bytes. With no argument it does nothing.
+#![tactic(auto)]
+
+use json_bridge::{bind, give};
+use object_heap::Heap;
+use serde_json::Value as Json;
+use std::alloc::{AllocError, Global};
+use std::rt::Clock;
+use std::time::Instant;
+use std::{env, io};
+
+const DOCUMENTS: u32 = 200_000;
+
+const TIMES: u32 = 5;
+
+const ROOM: u64 = 16_000_000;
+
+/// How far a document is taken.
+#[derive(Clone, Copy)]
+enum Part {
+    Read,
+    Bound,
+    Answered,
+}
+
+fn name(part: Part) -> &'static str {
+    match part {
+        Part::Read => "read",
+        Part::Bound => "read and bound",
+        Part::Answered => "read, bound, given back and written",
+    }
+}
+
+// The number of the next document, of 31 bits.
+fn next(x: u64) -> u64 {
+    x.wrapping_mul(1_103_515_245).wrapping_add(12_345) % 2_147_483_648
+}
+
+fn document(alloc: Global, x: u64) -> Result<String, AllocError> {
+    let n = x % 1000;
+    let tag = x % 7;
+    if x % 10 == 5 {
+        format!(in alloc; "{{\"tag\":\"t{tag}\"}}")
+    } else {
+        format!(in alloc; "{{\"n\":{n},\"tag\":\"t{tag}\"}}")
+    }
+}
+
+fn documents(alloc: Global) -> Result<Vec<String>, AllocError> {
+    let mut lines = Vec::new(alloc);
+    let mut x = 0;
+    for _ in 0..DOCUMENTS {
+        x = next(x);
+        lines.push(document(alloc, x)?)?;
+    }
+    Ok(lines)
+}
+
+fn is_answered(heap: &mut Heap, json: &Json) -> bool {
+    let Ok(value) = bind(heap, json, false) else {
+        return false;
+    };
+    match give(heap, &value) {
+        Ok(given) => given.to_string(heap.alloc()).is_ok(),
+        Err(_) => false,
+    }
+}
+
+// Whether a line comes so far.
+fn comes(alloc: Global, part: Part, line: &str) -> bool {
+    let Ok(json) = Json::from_slice(alloc, line.as_bytes()) else {
+        return false;
+    };
+    let mut heap = Heap::new(alloc, ROOM);
+    match part {
+        Part::Read => true,
+        Part::Bound => bind(&mut heap, &json, false).is_ok(),
+        Part::Answered => is_answered(&mut heap, &json),
+    }
+}
+
+fn come_often(alloc: Global, part: Part, lines: &[String]) -> u32 {
+    let mut done = 0u32;
+    for line in lines {
+        if comes(alloc, part, line.as_str()) {
+            done = done.saturating_add(1);
+        }
+    }
+    done
+}
+
+// The least of some runs, in nanoseconds a document.
+fn least(
+    rt: &impl Clock,
+    alloc: Global,
+    part: Part,
+    lines: &[String],
+) -> io::Result<(u128, u32)> {
+    let mut least = u128::MAX;
+    let mut done = 0;
+    for _ in 0..TIMES {
+        let start = Instant::now(rt)?;
+        done = come_often(alloc, part, lines);
+        least = least.min(start.elapsed(rt)?.as_nanos() / u128::from(DOCUMENTS));
+    }
+    Ok((least, done))
+}
+
+fn measure(rt: &(impl Clock + Print), alloc: Global, lines: &[String]) -> io::Result<()> {
+    for part in [Part::Read, Part::Bound, Part::Answered] {
+        let (spent, done) = least(rt, alloc, part, lines)?;
+        let name = name(part);
+        println!(rt; "{name}: {spent} ns ({done} of {DOCUMENTS})")?;
+    }
+    Ok(())
+}
+
+fn print_all(rt: &impl Print, lines: &[String]) -> io::Result<()> {
+    for line in lines {
+        println!(rt; "{line}")?;
+    }
+    Ok(())
+}
+
+fn main(rt: HostRuntime) -> io::Result<()> {
+    let mut args = env::args(&rt)?;
+    let Some(word) = args.nth(1) else {
+        return Ok(());
+    };
+    let Ok(lines) = documents(rt.alloc()) else {
+        return println!(rt; "no memory");
+    };
+    match word.as_str() {
+        "lines" => print_all(&rt, &lines),
+        _ => measure(&rt, rt.alloc(), &lines),
+    }
+}
