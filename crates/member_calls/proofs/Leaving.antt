@@ -27,14 +27,14 @@ use Rattle.api_text.specs.Outcomes as text_outcomes
 use Rattle.member_calls.specs.Laws.{StillThere, EffectLeaves, ActLeaves}
 use Rattle.member_calls.specs.Members.{is_of_numbers, is_of_texts, is_of_host, asked_of_host, does}
 
-there_refl : (objects : List Object) → StillThere objects objects
+pub there_refl : (objects : List Object) → StillThere objects objects
 there_refl objects = ([], sym (append-nil (kinds objects)))
 
-kinds-added : (objects : List Object) (object : Object) → kinds (objects ++ object ∷ []) ≡ kinds objects ++ kind_of object ∷ []
+pub kinds-added : (objects : List Object) (object : Object) → kinds (objects ++ object ∷ []) ≡ kinds objects ++ kind_of object ∷ []
 kinds-added [] object = refl
 kinds-added (x ∷ objects) object = ap (λ ks. kind_of x ∷ ks) (kinds-added objects object)
 
-there_added : (objects : List Object) (object : Object) → StillThere objects (objects ++ object ∷ [])
+pub there_added : (objects : List Object) (object : Object) → StillThere objects (objects ++ object ∷ [])
 there_added objects object = (kind_of object ∷ [], kinds-added objects object)
 
 -- a change that keeps the kind
@@ -58,7 +58,7 @@ renewed_kind units (o.Builder before) = refl
 renewed_kind units object = refl
 
 -- what is paid leaves what it does for any room
-paid_leaves : (store : Store) (objects : List Object) (made : ℕ) (next : Store → Effect)
+pub paid_leaves : (store : Store) (objects : List Object) (made : ℕ) (next : Store → Effect)
     → ((room : ℕ) → EffectLeaves store.objects (next (record { objects = objects; room = room }))) → EffectLeaves store.objects (after_paying (paid store objects made) next)
 unfolding paid
 paid_leaves store objects made next h =
@@ -68,11 +68,11 @@ paid_leaves store objects made next h =
 text_leaves : (store : Store) (units : List ℕ) → EffectLeaves store.objects (e.gives_text store units)
 text_leaves store units = paid_leaves store store.objects (length units + 1) (λ paid. e.Gives (v.Str units) paid) (λ room. there_refl store.objects)
 
-throw_leaves : (store : Store) (class : ℕ) (message : Option (List ℕ)) → EffectLeaves store.objects (throws store class message)
+pub throw_leaves : (store : Store) (class : ℕ) (message : Option (List ℕ)) → EffectLeaves store.objects (throws store class message)
 throw_leaves store class message =
     paid_leaves store (store.objects ++ o.Exc class message ∷ []) 0 (λ paid. e.Throws (length store.objects) paid) (λ room. there_added store.objects (o.Exc class message))
 
-number_leaves : (store : Store) (told : NumberOutcome) → EffectLeaves store.objects (number_outcomes.effect store told)
+pub number_leaves : (store : Store) (told : NumberOutcome) → EffectLeaves store.objects (number_outcomes.effect store told)
 number_leaves store (number.Gives value) = there_refl store.objects
 number_leaves store (number.Makes units) = text_leaves store units
 number_leaves store (number.Throws raised message) = throw_leaves store (number_outcomes.class_raised raised) message
