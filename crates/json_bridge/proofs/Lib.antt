@@ -1,2 +1,5 @@
 mod Fitting
 mod Growing
+mod Naming
+mod Stepping
+mod Walking

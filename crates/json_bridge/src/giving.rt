@@ -278,6 +278,7 @@ fn put(
     ensures { OnOk result (members_view members.new.entries ≡ put (spec.name_of key.now) (view json) (members_view members.old.entries)) }
 {
     let name = name_of(alloc, key)?;
-    members.insert(name, json)?;
+    let before = members.insert(name, json)?;
+    drop(before);
     Ok(())
 }

@@ -56,5 +56,7 @@ fn is_new_name(names: &mut Map<String, Json>, key: &Value) -> Result<bool, Alloc
     };
     let name = text.to_utf8()?;
     let before = names.insert(name, Json::Null)?;
-    Ok(before.is_none())
+    let is_new = before.is_none();
+    drop(before);
+    Ok(is_new)
 }
