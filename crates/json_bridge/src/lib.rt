@@ -10,4 +10,4 @@ mod names;
 pub use binding::bind;
 pub use error::{GiveErr, NumErr};
 pub use giving::give;
-pub use laws::binding_keeps_fit;
+pub use laws::{binding_keeps_fit, bound_is_given_back, giving_has_no_float};
