@@ -50,6 +50,10 @@ pub record Codes : Type 0 where
   pub script : List FunCode
   pub prelude : List FunCode
 
+-- the codes of a run, the script's first
+abbrev pub codes_of : List FunCode → List FunCode → Codes
+codes_of script prelude = record { script = script; prelude = prelude }
+
 abbrev pub code_in : Codes → Owner → List FunCode
 code_in codes Script = codes.script
 code_in codes Prelude = codes.prelude

@@ -15,8 +15,8 @@ use Rattle.object_values.specs.declared.object.Owner.TheVariants.{Prelude}
 use Rattle.object_values.specs.declared.value.Value.{Value}
 use Rattle.run_state.specs.World.{World, Limits, End}
 use Rattle.code_meaning.specs.declared.word.Word.{Word}
-use Rattle.compiler_relation.specs.Correct.{Words, EndsAs, codes_of, program_ends}
-use Rattle.code_meaning.specs.Machine.{start}
+use Rattle.compiler_relation.specs.Correct.{Words, EndsAs, program_ends}
+use Rattle.code_meaning.specs.Machine.{start, codes_of}
 use Rattle.codegen.specs.Labels.{settled_line}
 use Rattle.codegen.specs.declared.symbols.Entry as d
 use Rattle.codegen.specs.Worklist.{scope_in, entry}

@@ -11,9 +11,9 @@ use Rattle.compiler_relation.specs.Correct.{IsCodeOf}
 use Rattle.compiler_relation.specs.Stands.{Compiled}
 use Rattle.run_state.specs.World.{World, Limits}
 use Rattle.code_meaning.specs.declared.word.Word.{Word}
-use Rattle.code_meaning.specs.Machine.{start}
+use Rattle.code_meaning.specs.Machine.{start, codes_of}
 use Rattle.verifier_soundness.specs.Rows.{HaveRows}
-use Rattle.verifier_soundness.specs.Fits.{kinds_of, main_params, ReachesAllowed, with_prelude}
+use Rattle.verifier_soundness.specs.Fits.{kinds_of, main_params, ReachesAllowed}
 use Rattle.verifier_soundness.specs.Bounds.{most_steps, EndsWithin}
 
 -- Each instruction of the code of a well-formed program of either text has a row.
@@ -26,4 +26,4 @@ abbrev pub ProgramsRun : Type 0
 ProgramsRun =
     (allow : AllowList) (p : typed.Program) (code prelude : List FunCode) → WellFormed (known allow (program_of p)) → Reached (program_of p) → IsCodeOf p code
     → (limits : Limits) → limits.allowed ≡ allow → (words : List Word) (w : World) → kinds_of words ≡ main_params code → ReachesAllowed allow w
-    → EndsWithin allow code prelude limits (most_steps code limits w.ticks) (start (with_prelude code prelude) words w)
+    → EndsWithin allow code prelude limits (most_steps code limits w.ticks) (start (codes_of code prelude) words w)

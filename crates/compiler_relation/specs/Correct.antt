@@ -74,9 +74,6 @@ IsCodeOf p code = Compiled Script (program_of p) code
 abbrev pub programs_of : typed.Program → Program → Programs
 programs_of p prelude = record { script = program_of p; prelude = prelude }
 
-abbrev pub codes_of : List FunCode → List FunCode → Codes
-codes_of code prelude = record { script = code; prelude = prelude }
-
 -- how a typed program ends at a bound, beside a prelude
 abbrev pub program_ends : typed.Program → Program → Limits → ℕ → List Value → World → Option (End (Option Word))
 program_ends p prelude limits bound args w = source (programs_of p prelude) limits bound args w

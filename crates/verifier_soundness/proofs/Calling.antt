@@ -16,8 +16,8 @@ use Rattle.verifier.specs.Fits.{FitsLine, at_with}
 use Rattle.run_state.specs.World.{World, Limits, Counted, Counts, Passes, enter}
 use Rattle.code_meaning.specs.declared.word.Word.{Word}
 use Rattle.code_meaning.specs.Words.{start_of}
-use Rattle.code_meaning.specs.Machine.{Frame, on_words, on_call, on_enter, take_words, returns, returns_of, gives_back, pushed, depth_of, function_of}
-use Rattle.verifier_soundness.specs.Fits.{kind_of, kinds_of, frame_kinds, with_prelude}
+use Rattle.code_meaning.specs.Machine.{Frame, on_words, on_call, on_enter, take_words, returns, returns_of, gives_back, pushed, depth_of, function_of, codes_of}
+use Rattle.verifier_soundness.specs.Fits.{kind_of, kinds_of, frame_kinds}
 use Rattle.verifier_soundness.proofs.Words.{exchanged, exchange_of, take_kinds, on_one, starts_are}
 use Rattle.verifier_soundness.proofs.Standing.{StandsIn, begins_fit}
 use Rattle.verifier_soundness.proofs.Lowering.{lines_in, left_at, lines_below, tick_worth, paid_is_less, below_is_less, something_left, frames_most}
@@ -38,7 +38,7 @@ module _ (allow : AllowList) (code prelude : List FunCode) (limits : Limits) (we
   begin_locals g args e = map-append kind_of args (map start_of g.locals) ∙ (λ i. e i ++ starts_are g.locals i)
 
   entered : (function g : FunCode) (k : ℕ) (f : Frame) (below : List Frame) (w : World) (args others : List Word) → Here allow code limits function f below w → Entering function g k f below args others
-      → (c : Counted) → EntersSo limits (depth_of below) w c → Moves allow code limits (left_at code limits f below w) (on_enter (with_prelude code prelude) limits c k g [] f below w args others)
+      → (c : Counted) → EntersSo limits (depth_of below) w c → Moves allow code limits (left_at code limits f below w) (on_enter (codes_of code prelude) limits c k g [] f below w args others)
   entered function g k f below w args others here x (Passes limit w') so = same_reached allow code limits w w' so here.reached
   entered function g k f below w args others here x (Counts w') so =
       let good = well.each k g x.is in
@@ -62,7 +62,7 @@ module _ (allow : AllowList) (code prelude : List FunCode) (limits : Limits) (we
 
   pub call_moves : (function : FunCode) (f : Frame) (below : List Frame) (w : World) (i : Instruction) (s : StandsIn allow code function (frame_kinds f) i) → Here allow code limits function f below w
       → (k : ℕ) (o : Option FunCode) → flow_of i ≡ flow.GoesOn → slice_get code k ≡ o → left_in (callee_effect o) (kinds_of f.stack) ≡ Some s.left
-      → Moves allow code limits (left_at code limits f below w) (on_call (with_prelude code prelude) limits o k f below w)
+      → Moves allow code limits (left_at code limits f below w) (on_call (codes_of code prelude) limits o k f below w)
   unfolding calls left_by
   call_moves function f below w i s here k None goes is leaves = cc
   call_moves function f below w i s here k (Some g) goes is leaves =
@@ -73,7 +73,7 @@ module _ (allow : AllowList) (code prelude : List FunCode) (limits : Limits) (we
       let params : kinds_of t.words ≡ g.params = t.kinds ∙ append-nil (reverse (reverse g.params)) ∙ reverse-reverse g.params in
       let left : result_kinds g.result ++ kinds_of t.others ≡ s.left = ap (λ ks. result_kinds g.result ++ ks) t.left ∙ x.left_so in
       let awaits = fits_with allow code limits function (frame_kinds f) (f.line + 1) s.left (result_kinds g.result ++ kinds_of t.others) (s.goes (f.line + 1) (same_line (flow_of i) f.line goes)) left in
-      subst (λ o. Moves allow code limits (left_at code limits f below w) (on_words o (λ args stack. on_enter (with_prelude code prelude) limits (enter limits (depth_of below) w) k g [] f below w args stack))) (sym took)
+      subst (λ o. Moves allow code limits (left_at code limits f below w) (on_words o (λ args stack. on_enter (codes_of code prelude) limits (enter limits (depth_of below) w) k g [] f below w args stack))) (sym took)
       (entered function g k f below w t.words t.others here (record { is = is; params = params; awaits = awaits }) (enter limits (depth_of below) w) (call_is_paid limits (depth_of below) w))
 
   -- ---- returns
@@ -84,7 +84,7 @@ module _ (allow : AllowList) (code prelude : List FunCode) (limits : Limits) (we
 
   -- what is given goes to the frame below, or ends the run
   given : (function : FunCode) (f : Frame) (w : World) (result : Option Word) (below : List Frame) → Here allow code limits function f below w → option_map kind_of result ≡ function.result
-      → Moves allow code limits (left_at code limits f below w) (gives_back (with_prelude code prelude) limits below [] result w)
+      → Moves allow code limits (left_at code limits f below w) (gives_back (codes_of code prelude) limits below [] result w)
   given function f w result [] here is = (is ∙ here.belows, here.reached)
   given function f w result (g ∷ fs) here is =
       let b = here.belows in
@@ -109,21 +109,21 @@ module _ (allow : AllowList) (code prelude : List FunCode) (limits : Limits) (we
       one_on n = omega arith
 
   given_due : (function : FunCode) (f : Frame) (below : List Frame) (w : World) (result : Option Word) → Here allow code limits function f below w → option_map kind_of result ≡ function.result
-      → Moves allow code limits (left_at code limits f below w) (gives_back (with_prelude code prelude) limits below f.due result w)
+      → Moves allow code limits (left_at code limits f below w) (gives_back (codes_of code prelude) limits below f.due result w)
   given_due function f below w result here is =
-      subst (λ due. Moves allow code limits (left_at code limits f below w) (gives_back (with_prelude code prelude) limits below due result w)) (sym here.due) (given function f w result below here is)
+      subst (λ due. Moves allow code limits (left_at code limits f below w) (gives_back (codes_of code prelude) limits below due result w)) (sym here.due) (given function f w result below here is)
 
   returned : (function : FunCode) (f : Frame) (below : List Frame) (w : World) (left : List Slot) → Here allow code limits function f below w
       → (kind : Option Slot) → function.result ≡ kind → exchanged (result_kinds kind) [] (kinds_of f.stack) ≡ Some left
-      → Moves allow code limits (left_at code limits f below w) (returns_of (with_prelude code prelude) limits kind f.stack (λ result. gives_back (with_prelude code prelude) limits below f.due result w))
+      → Moves allow code limits (left_at code limits f below w) (returns_of (codes_of code prelude) limits kind f.stack (λ result. gives_back (codes_of code prelude) limits below f.due result w))
   returned function f below w left here None is leaves = given_due function f below w None here (sym is)
   returned function f below w left here (Some k) is leaves =
-      on_one (Moves allow code limits (left_at code limits f below w)) k [] left f.stack (λ word rest. gives_back (with_prelude code prelude) limits below f.due (Some word) w) leaves
+      on_one (Moves allow code limits (left_at code limits f below w)) k [] left f.stack (λ word rest. gives_back (codes_of code prelude) limits below f.due (Some word) w) leaves
       (λ word rest kind q. given_due function f below w (Some word) here (ap Some kind ∙ sym is))
 
   pub return_moves : (function : FunCode) (f : Frame) (below : List Frame) (w : World) (left : List Slot) → Here allow code limits function f below w
       → exchanged (result_kinds function.result) [] (kinds_of f.stack) ≡ Some left
-      → Moves allow code limits (left_at code limits f below w) (returns (with_prelude code prelude) limits (function_of (with_prelude code prelude) f) f.stack (λ result. gives_back (with_prelude code prelude) limits below f.due result w))
+      → Moves allow code limits (left_at code limits f below w) (returns (codes_of code prelude) limits (function_of (codes_of code prelude) f) f.stack (λ result. gives_back (codes_of code prelude) limits below f.due result w))
   return_moves function f below w left here leaves =
-      subst (λ o. Moves allow code limits (left_at code limits f below w) (returns (with_prelude code prelude) limits o f.stack (λ result. gives_back (with_prelude code prelude) limits below f.due result w))) (sym (function_is code prelude f function here.text here.fits.is))
+      subst (λ o. Moves allow code limits (left_at code limits f below w) (returns (codes_of code prelude) limits o f.stack (λ result. gives_back (codes_of code prelude) limits below f.due result w))) (sym (function_is code prelude f function here.text here.fits.is))
       (returned function f below w left here function.result refl leaves)

@@ -28,8 +28,8 @@ use Rattle.verifier.specs.Meets.{left_in}
 use Rattle.run_state.specs.World.{World, Limits, Counted, Counts, Passes, pay_tick, reach, reaches, pay_member}
 use Rattle.code_meaning.specs.declared.word.Word.{Word}
 use Rattle.code_meaning.specs.Members.{Receiving, Unfit, OnNull, Receives, Reads, received, count_of, given_as}
-use Rattle.code_meaning.specs.Machine.{Frame, Next, Goes, Ends, Stuck, on_words, on_act, on_paid, on_received, member_act, take_words}
-use Rattle.verifier_soundness.specs.Fits.{kinds_of, frame_kinds, ReachesAllowed, with_prelude}
+use Rattle.code_meaning.specs.Machine.{Frame, Next, Goes, Ends, Stuck, on_words, on_act, on_paid, on_received, member_act, take_words, codes_of}
+use Rattle.verifier_soundness.specs.Fits.{kinds_of, frame_kinds, ReachesAllowed}
 use Rattle.verifier_soundness.specs.Rows.{member_has_row}
 use Rattle.verifier_soundness.proofs.Words.{exchanged, exchange_of, take_kinds}
 use Rattle.verifier_soundness.proofs.Casts.{throws_is}
@@ -124,30 +124,30 @@ module _ (allow : AllowList) (code : List FunCode) (limits : Limits) where
 module _ (allow : AllowList) (code prelude : List FunCode) (limits : Limits) (well : IsWellShapedCode allow code) (function : FunCode) (f : Frame) (below : List Frame) (i : Instruction) (s : StandsIn allow code function (frame_kinds f) i) (goes : flow_of i ≡ flow.GoesOn) where
   -- what a member does
   acts_move : (w : World) → Here allow code limits function f below w → (m : MemberType) (stack : List Word) (o : Option Effect) → is_some o ≡ true → ActGives (given_by m.result) o
-      → kind_of_type m.result ∷ kinds_of stack ≡ s.left → Moves allow code limits (left_at code limits f below w) (on_act (with_prelude code prelude) limits o m f below w stack)
+      → kind_of_type m.result ∷ kinds_of stack ≡ s.left → Moves allow code limits (left_at code limits f below w) (on_act (codes_of code prelude) limits o m f below w stack)
   acts_move w here m stack None some gives kinds = absurd (false≢true some)
   acts_move w here m stack (Some e) some gives kinds =
       effect_moves allow code prelude limits well function f below w i s here (given_as m.result) (kind_of_type m.result) stack e goes kinds (gives_so m.result e gives)
 
   does_move : (w : World) → Here allow code limits function f below w → (number : ℕ) (stack : List Word) (arguments : List Value) → Rowed number → suit_all (asked_by_member (member_at number)) arguments ≡ true
       → kind_of_type (member_at number).result ∷ kinds_of stack ≡ s.left
-      → Moves allow code limits (left_at code limits f below w) (on_act (with_prelude code prelude) limits (does limits.host number arguments w.store) (member_at number) f below w stack)
+      → Moves allow code limits (left_at code limits f below w) (on_act (codes_of code prelude) limits (does limits.host number arguments w.store) (member_at number) f below w stack)
   does_move w here number stack arguments r suit kinds =
       acts_move w here (member_at number) stack (does limits.host number arguments w.store) (built_act limits.host number arguments w.store ∙ (λ i. r.built i || is_of_host number))
       (act_gives limits.host number (member_at number) arguments w.store r.stands suit) kinds
 
   paid_moves : (w : World) → Here allow code limits function f below w → (number : ℕ) (stack : List Word) (arguments : List Value) → Rowed number → suit_all (asked_by_member (member_at number)) arguments ≡ true
       → kind_of_type (member_at number).result ∷ kinds_of stack ≡ s.left → (c : Counted) → MemberPaid allow code limits w c
-      → Moves allow code limits (left_at code limits f below w) (on_paid (with_prelude code prelude) limits c number arguments (member_at number) f below stack)
+      → Moves allow code limits (left_at code limits f below w) (on_paid (codes_of code prelude) limits c number arguments (member_at number) f below stack)
   paid_moves w here number stack arguments r suit kinds (Passes limit w') paid = paid
   paid_moves w here number stack arguments r suit kinds (Counts w') paid =
-      sooner allow code limits (left_at code limits f below w') (left_at code limits f below w) (on_act (with_prelude code prelude) limits (does limits.host number arguments w'.store) (member_at number) f below w' stack)
+      sooner allow code limits (left_at code limits f below w') (left_at code limits f below w) (on_act (codes_of code prelude) limits (does limits.host number arguments w'.store) (member_at number) f below w' stack)
       (fewer_ticks allow code limits f below w w' paid.0)
       (does_move w' (record { fits = here.fits; due = here.due; text = here.text; belows = here.belows; within = here.within; reached = paid.1 }) number stack arguments r suit kinds)
 
   received_moves : (w : World) → Here allow code limits function f below w → (number : ℕ) (stack : List Word) → Rowed number → flag allow.members number ≡ true
       → kind_of_type (member_at number).result ∷ kinds_of stack ≡ s.left → (received : Receiving) → ReceivedSo (asked_by_member (member_at number)) received
-      → Moves allow code limits (left_at code limits f below w) (on_received (with_prelude code prelude) limits received number (member_at number) f below w stack)
+      → Moves allow code limits (left_at code limits f below w) (on_received (codes_of code prelude) limits received number (member_at number) f below w stack)
   received_moves w here number stack r allowed kinds Unfit so = absurd so
   received_moves w here number stack r allowed kinds OnNull so =
       effect_moves allow code prelude limits well function f below w i s here (given_as (member_at number).result) (kind_of_type (member_at number).result) stack (effect w.store null_error) goes kinds
@@ -159,7 +159,7 @@ module _ (allow : AllowList) (code prelude : List FunCode) (limits : Limits) (we
   -- the call of a member of the list
   member_moves : (w : World) → Here allow code limits function f below w → (number : ℕ) → Rowed number → flag allow.members number ≡ true
       → exchanged (takes_by (member_at number).kind (member_at number).params) (kind_of_type (member_at number).result ∷ []) (kinds_of f.stack) ≡ Some s.left
-      → Moves allow code limits (left_at code limits f below w) (member_act (with_prelude code prelude) limits (Some number) f below w)
+      → Moves allow code limits (left_at code limits f below w) (member_act (codes_of code prelude) limits (Some number) f below w)
   member_moves w here number r allowed leaves =
       let m = member_at number in
       let takes = takes_by m.kind m.params in
@@ -168,13 +168,13 @@ module _ (allow : AllowList) (code prelude : List FunCode) (limits : Limits) (we
       let took : take_words (count_of m) f.stack [] ≡ Some (t.words, t.others) = ap (λ n. take_words n f.stack []) (takes_many m.kind m.params) ∙ t.is in
       let given : kinds_of t.words ≡ reverse takes = t.kinds ∙ append-nil (reverse takes) in
       let left : kind_of_type m.result ∷ kinds_of t.others ≡ s.left = ap (λ ks. kind_of_type m.result ∷ ks) t.left ∙ x.left_so in
-      subst (λ o. Moves allow code limits (left_at code limits f below w) (on_words o (λ words stack. on_received (with_prelude code prelude) limits (received m words) number m f below w stack))) (sym took)
+      subst (λ o. Moves allow code limits (left_at code limits f below w) (on_words o (λ words stack. on_received (codes_of code prelude) limits (received m words) number m f below w stack))) (sym took)
       (received_moves w here number t.others r allowed left (received m t.words) (received_suits m.kind m.owner m.params m.result t.words given r.owner r.params r.shaped))
 
   -- ---- by what names it
 
   pub invoked_moves : (w : World) → Here allow code limits function f below w → (text : List ℕ) (o : Option ℕ) → method_of allow text ≡ o → member_has_row o ≡ true → left_in (option_map invokes o) (kinds_of f.stack) ≡ Some s.left
-      → Moves allow code limits (left_at code limits f below w) (member_act (with_prelude code prelude) limits o f below w)
+      → Moves allow code limits (left_at code limits f below w) (member_act (codes_of code prelude) limits o f below w)
   unfolding invokes member_takes left_by
   invoked_moves w here text None is row leaves = absurd (false≢true row)
   invoked_moves w here text (Some number) is row leaves =
@@ -184,7 +184,7 @@ module _ (allow : AllowList) (code prelude : List FunCode) (limits : Limits) (we
       (ap (λ takes. exchanged takes (kind_of_type m.result ∷ []) (kinds_of f.stack)) (sym (method_takes m.kind m.params found.looked_for)) ∙ leaves)
 
   pub made_moves : (w : World) → Here allow code limits function f below w → (text : List ℕ) (o : Option ℕ) → constructor_of allow text ≡ o → member_has_row o ≡ true → left_in (option_map makes o) (kinds_of f.stack) ≡ Some s.left
-      → Moves allow code limits (left_at code limits f below w) (member_act (with_prelude code prelude) limits o f below w)
+      → Moves allow code limits (left_at code limits f below w) (member_act (codes_of code prelude) limits o f below w)
   unfolding makes left_by
   made_moves w here text None is row leaves = absurd (false≢true row)
   made_moves w here text (Some number) is row leaves =
@@ -195,7 +195,7 @@ module _ (allow : AllowList) (code prelude : List FunCode) (limits : Limits) (we
       ((λ i. exchanged (sym (constructor_takes m.kind m.params found.looked_for) i) (made_is m.kind m.params m.result found.looked_for r.shaped i ∷ []) (kinds_of f.stack)) ∙ leaves)
 
   pub read_moves : (w : World) → Here allow code limits function f below w → (text : List ℕ) (o : Option ℕ) → field_of allow text ≡ o → member_has_row o ≡ true → left_in (option_map reads o) (kinds_of f.stack) ≡ Some s.left
-      → Moves allow code limits (left_at code limits f below w) (member_act (with_prelude code prelude) limits o f below w)
+      → Moves allow code limits (left_at code limits f below w) (member_act (codes_of code prelude) limits o f below w)
   unfolding reads left_by
   read_moves w here text None is row leaves = absurd (false≢true row)
   read_moves w here text (Some number) is row leaves =

@@ -13,8 +13,8 @@ use Rattle.verifier.specs.Meets.{goes_to}
 use Rattle.verifier.specs.Fits.{FrameKinds, FitsLine, at_with}
 use Rattle.run_state.specs.World.{World, Limits, Counted, Counts, Passes, Ticks, Loop, Depth, pay_tick, take_turn, goes_deeper, enter}
 use Rattle.code_meaning.specs.declared.word.Word.{Word}
-use Rattle.code_meaning.specs.Machine.{Frame, Config, Next, Goes, Ends, Stuck, to_line, depth_of, code_in, function_of}
-use Rattle.verifier_soundness.specs.Fits.{kinds_of, frame_kinds, BelowFits, ReachesAllowed, FitsConfig, FitsEnd, with_prelude}
+use Rattle.code_meaning.specs.Machine.{Frame, Config, Next, Goes, Ends, Stuck, to_line, depth_of, code_in, function_of, codes_of}
+use Rattle.verifier_soundness.specs.Fits.{kinds_of, frame_kinds, BelowFits, ReachesAllowed, FitsConfig, FitsEnd}
 use Rattle.verifier_soundness.proofs.Standing.{StandsIn}
 use Rattle.verifier_soundness.proofs.Lowering.{lines_in, lines_so, left_at, left_of, lines_below, tick_worth, later_is_less}
 use Rattle.object_values.specs.declared.object.Owner.TheVariants.{Script}
@@ -66,8 +66,8 @@ call_is_paid limits depth w = deeper_so limits depth w (pay_tick w) (tick_is_pai
 -- ---- where a step goes
 
 -- the function of a frame that stands in the script's text
-pub function_is : (code prelude : List FunCode) (f : Frame) (function : FunCode) → f.text ≡ Script → slice_get code f.fun ≡ Some function → function_of (with_prelude code prelude) f ≡ Some function
-function_is code prelude f function text is = ap (λ text. slice_get (code_in (with_prelude code prelude) text) f.fun) text ∙ is
+pub function_is : (code prelude : List FunCode) (f : Frame) (function : FunCode) → f.text ≡ Script → slice_get code f.fun ≡ Some function → function_of (codes_of code prelude) f ≡ Some function
+function_is code prelude f function text is = ap (λ text. slice_get (code_in (codes_of code prelude) text) f.fun) text ∙ is
 
 module _ (allow : AllowList) (code : List FunCode) (limits : Limits) where
   pub record Reached (from : ℕ) (c : Config) : Type 0 where

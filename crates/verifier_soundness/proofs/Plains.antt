@@ -26,8 +26,8 @@ use Rattle.code_meaning.specs.declared.word.Word.{Word}
 use Rattle.code_meaning.specs.declared.word.Word.TheVariants.{I, J, R}
 use Rattle.code_meaning.specs.Words.{Calculation, NoRow, Calculates, boxed, unboxed, word_of}
 use Rattle.code_meaning.specs.Machine as code_steps
-use Rattle.code_meaning.specs.Machine.{Frame, Next, Goes, on_top, on_int, on_reference, on_value, on_local, on_stack, on_turn, on_calculation, unless_zero, if_null, to_line, on_loops, function_of}
-use Rattle.verifier_soundness.specs.Fits.{kind_of, kinds_of, frame_kinds, with_prelude}
+use Rattle.code_meaning.specs.Machine.{Frame, Next, Goes, on_top, on_int, on_reference, on_value, on_local, on_stack, on_turn, on_calculation, unless_zero, if_null, to_line, on_loops, function_of, codes_of}
+use Rattle.verifier_soundness.specs.Fits.{kind_of, kinds_of, frame_kinds}
 use Rattle.verifier_soundness.proofs.Words.{exchanged, on_one, on_one_int, on_one_reference, on_one_local, stored, left_is}
 use Rattle.verifier_soundness.proofs.Operators.{CalculatesTo}
 use Rattle.verifier_soundness.proofs.Casts.{divisor_is}
@@ -204,7 +204,7 @@ module _ (allow : AllowList) (code prelude : List FunCode) (limits : Limits) (we
 
   -- ---- operators and boxes
 
-  pub calculated : (c : Calculation) → flow_of i ≡ flow.GoesOn → CalculatesTo c s.left → Moved (on_calculation (with_prelude code prelude) limits c f below w)
+  pub calculated : (c : Calculation) → flow_of i ≡ flow.GoesOn → CalculatesTo c s.left → Moved (on_calculation (codes_of code prelude) limits c f below w)
   calculated NoRow goes to = absurd to
   calculated (Calculates None stack) goes to = effect_moves allow code prelude limits well function f below w i s here unboxed to.0 stack (effect w.store zero_divisor) goes to.1 (divisor_is unboxed to.0 w.store)
   calculated (Calculates (Some number) stack) goes to = next_with (word_of number ∷ stack) goes to
@@ -246,7 +246,7 @@ module _ (allow : AllowList) (code prelude : List FunCode) (limits : Limits) (we
       (λ value stack kinds. let x = branches_on to stack goes kinds in by_null Moved value (to_line f below w to stack) (to_line f below w (suc f.line) stack) x.1 x.0)
 
   -- a turn goes back, and pays a tick
-  turned : (to : ℕ) (c : Counted) → flow_of i ≡ flow.Turns to → CountsSo w c → Moved (on_turn (with_prelude code prelude) limits c to f below w [])
+  turned : (to : ℕ) (c : Counted) → flow_of i ≡ flow.Turns to → CountsSo w c → Moved (on_turn (codes_of code prelude) limits c to f below w [])
   turned to (Passes limit w') goes so = same_reached allow code limits w w' so here.reached
   turned to (Counts w') goes so =
       let lines = lines_are allow code limits function (frame_kinds f) here.fits in
@@ -267,16 +267,16 @@ module _ (allow : AllowList) (code prelude : List FunCode) (limits : Limits) (we
   -- a loop of a function with a limit of turns, or without
   abbrev looping : ℕ → Bool → Next
   looping to limited =
-      on_top f.stack (λ word stack. on_int word (λ a. unless_zero a (on_turn (with_prelude code prelude) limits (take_turn limits limited f.turns w) to f below w stack) (to_line f below w (suc f.line) stack)))
+      on_top f.stack (λ word stack. on_int word (λ a. unless_zero a (on_turn (codes_of code prelude) limits (take_turn limits limited f.turns w) to f below w stack) (to_line f below w (suc f.line) stack)))
 
   loops_with : (to : ℕ) (limited : Bool) → flow_of i ≡ flow.Turns to → emptied (kinds_of f.stack) ≡ Some s.left → Moved (looping to limited)
   loops_with to limited goes leaves =
-      only_int Moved f.stack s.left (λ a stack. unless_zero a (on_turn (with_prelude code prelude) limits (take_turn limits limited f.turns w) to f below w stack) (to_line f below w (suc f.line) stack)) leaves
-      (λ a kinds. by_zero Moved a (on_turn (with_prelude code prelude) limits (take_turn limits limited f.turns w) to f below w []) (to_line f below w (suc f.line) [])
+      only_int Moved f.stack s.left (λ a stack. unless_zero a (on_turn (codes_of code prelude) limits (take_turn limits limited f.turns w) to f below w stack) (to_line f below w (suc f.line) stack)) leaves
+      (λ a kinds. by_zero Moved a (on_turn (codes_of code prelude) limits (take_turn limits limited f.turns w) to f below w []) (to_line f below w (suc f.line) [])
       (turned to (take_turn limits limited f.turns w) goes (turn_is_paid limits limited f.turns w))
       (goes_on allow code limits function f below w w i s here (suc f.line) [] same (turn_next (flow_of i) f.line to goes) kinds))
 
-  pub loops : (to : ℕ) → flow_of i ≡ flow.Turns to → emptied (kinds_of f.stack) ≡ Some s.left → Moved (on_loops (with_prelude code prelude) limits (function_of (with_prelude code prelude) f) (looping to))
+  pub loops : (to : ℕ) → flow_of i ≡ flow.Turns to → emptied (kinds_of f.stack) ≡ Some s.left → Moved (on_loops (codes_of code prelude) limits (function_of (codes_of code prelude) f) (looping to))
   loops to goes leaves =
-      subst (λ o. Moved (on_loops (with_prelude code prelude) limits o (looping to))) (sym (function_is code prelude f function here.text here.fits.is))
+      subst (λ o. Moved (on_loops (codes_of code prelude) limits o (looping to))) (sym (function_is code prelude f function here.text here.fits.is))
       (loops_with to function.loops goes leaves)

@@ -13,9 +13,9 @@ use Rattle.verifier.proofs.Whole.{sound_is_well_shaped}
 use Rattle.run_state.specs.World.{World, Limits, End}
 use Rattle.code_meaning.specs.declared.word.Word.{Word}
 use Rattle.code_meaning.specs.Words.{start_of}
-use Rattle.code_meaning.specs.Machine.{Frame, Config, Next, Goes, Ends, Stuck, start, start_at, step, after}
+use Rattle.code_meaning.specs.Machine.{Frame, Config, Next, Goes, Ends, Stuck, start, start_at, step, after, codes_of}
 use Rattle.verifier_soundness.specs.Rows.{HaveRows}
-use Rattle.verifier_soundness.specs.Fits.{kind_of, kinds_of, frame_kinds, main_result, ReachesAllowed, BelowFits, FitsConfig, FitsNext, with_prelude}
+use Rattle.verifier_soundness.specs.Fits.{kind_of, kinds_of, frame_kinds, main_result, ReachesAllowed, BelowFits, FitsConfig, FitsNext}
 use Rattle.verifier_soundness.specs.Bounds.{most_steps, EndsWithin}
 use Rattle.verifier_soundness.specs.Laws.{StartsFit, NeverStuck, RunsEnd, StartsEnd, FramesFit}
 use Rattle.verifier_soundness.proofs.Words.{starts_are}
@@ -34,7 +34,7 @@ gives_main [] f e = let wrong : None ≡ Some f = e in cc
 gives_main (g ∷ fs) f e = let same : g ≡ f = cc in ap (λ (f : FunCode). f.result) (sym same)
 
 pub starts_fit : (allow : AllowList) (code prelude : List FunCode) (limits : Limits) (f : FunCode) (words : List Word) (w : World) → IsWellShapedCode allow code → slice_get code 0 ≡ Some f → kinds_of words ≡ f.params → ReachesAllowed allow w
-    → FitsNext allow code limits (start (with_prelude code prelude) words w)
+    → FitsNext allow code limits (start (codes_of code prelude) words w)
 starts_fit allow code prelude limits f words w well is params reached =
     subst (λ o. FitsNext allow code limits (start_at o words w)) (sym is)
     (record {
@@ -58,15 +58,15 @@ module _ (allow : AllowList) (code prelude : List FunCode) (limits : Limits) (we
   moved_fits from (Ends r) m = m
   moved_fits from Stuck m = m
 
-  pub stays_fitting : (steps : ℕ) (from : Next) → FitsNext allow code limits from → FitsNext allow code limits (after (with_prelude code prelude) limits steps from)
+  pub stays_fitting : (steps : ℕ) (from : Next) → FitsNext allow code limits from → FitsNext allow code limits (after (codes_of code prelude) limits steps from)
   stays_fitting zero from fits = fits
-  stays_fitting (suc k) (Goes c) fits = stays_fitting k (step (with_prelude code prelude) limits c) (moved_fits (left_of code limits c) (step (with_prelude code prelude) limits c) (step_moves allow code prelude limits well under rows c fits))
+  stays_fitting (suc k) (Goes c) fits = stays_fitting k (step (codes_of code prelude) limits c) (moved_fits (left_of code limits c) (step (codes_of code prelude) limits c) (step_moves allow code prelude limits well under rows c fits))
   stays_fitting (suc k) (Ends r) fits = fits
   stays_fitting (suc k) Stuck fits = fits
 
   -- ---- the end
 
-  end_stays : (n : ℕ) (r : End (Option Word)) → after (with_prelude code prelude) limits n (Ends r) ≡ Ends r
+  end_stays : (n : ℕ) (r : End (Option Word)) → after (codes_of code prelude) limits n (Ends r) ≡ Ends r
   end_stays zero r = refl
   end_stays (suc n) r = refl
 
@@ -89,7 +89,7 @@ module _ (allow : AllowList) (code prelude : List FunCode) (limits : Limits) (we
   ends_in zero from (Goes c) m h = absurd (nothing_left (left_of code limits c) from m.less h (some_left c m.fits))
   ends_in (suc k) from (Goes c) m h =
       let less = m.less in
-      let e = ends_in k (left_of code limits c) (step (with_prelude code prelude) limits c) (step_moves allow code prelude limits well under rows c m.fits) (omega (arith, less, h)) in
+      let e = ends_in k (left_of code limits c) (step (codes_of code prelude) limits c) (step_moves allow code prelude limits well under rows c m.fits) (omega (arith, less, h)) in
       record { end = e.end; ends = e.ends; fits = e.fits }
 
   fitting_ends : (c : Config) (steps : ℕ) → FitsConfig allow code limits c → left_of code limits c ≤ steps → EndsWithin allow code prelude limits steps (Goes c)
@@ -115,7 +115,7 @@ start_ends allow code prelude limits well under rows f words w None is fits = cc
 start_ends allow code prelude limits well under rows f words w (Some g) is fits = ends_within allow code prelude limits well under rows (started g words w) fits
 
 pub run_ends : (allow : AllowList) (code prelude : List FunCode) (limits : Limits) → IsWellShapedCode allow code → limits.allowed ≡ allow → HaveRows allow code → (f : FunCode) (words : List Word) (w : World) → slice_get code 0 ≡ Some f → kinds_of words ≡ f.params
-    → ReachesAllowed allow w → EndsWithin allow code prelude limits (most_steps code limits w.ticks) (start (with_prelude code prelude) words w)
+    → ReachesAllowed allow w → EndsWithin allow code prelude limits (most_steps code limits w.ticks) (start (codes_of code prelude) words w)
 run_ends allow code prelude limits well under rows f words w is params reached =
     start_ends allow code prelude limits well under rows f words w (slice_get code 0) is (starts_fit allow code prelude limits f words w well is params reached)
 

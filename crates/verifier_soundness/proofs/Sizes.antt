@@ -10,9 +10,9 @@ use Rattle.verifier.specs.Fits.{FrameKinds, FitsLine, Awaits, at_with}
 use Rattle.verifier.specs.Verified.{CodeUnder, FrameWords}
 use Rattle.run_state.specs.World.{Limits}
 use Rattle.code_meaning.specs.declared.word.Word.{Word}
-use Rattle.code_meaning.specs.Machine.{Frame, Config, code_in}
+use Rattle.code_meaning.specs.Machine.{Frame, Config, code_in, codes_of}
 use Rattle.code_meaning.specs.Sizes.{frame_words, AreWithin, IsWithin}
-use Rattle.verifier_soundness.specs.Fits.{kind_of, kinds_of, frame_kinds, BelowFits, FitsConfig, with_prelude}
+use Rattle.verifier_soundness.specs.Fits.{kind_of, kinds_of, frame_kinds, BelowFits, FitsConfig}
 use Rattle.verifier_soundness.specs.Laws.{FramesAreWithin}
 use Rattle.verifier_soundness.proofs.Standing.{begins_fit}
 use Rattle.verifier_soundness.proofs.Runs.{well_shaped}
@@ -53,11 +53,11 @@ module _ (c : CodeUnder) (most : ℕ) (words : FrameWords most c) where
       let b : length (g.params ++ g.locals) + 0 ≤ most = kinds_within g (record { function = k; line = 0; locals = g.params ++ g.locals; stack = [] }) fits in
       omega (arith, b, length-append g.params g.locals)
 
-  locals_in : IsWellShapedCode c.allow c.code.functions → (text : Owner) (k : ℕ) (g : FunCode) → slice_get (code_in (with_prelude c.code.functions []) text) k ≡ Some g → length g.locals ≤ most
+  locals_in : IsWellShapedCode c.allow c.code.functions → (text : Owner) (k : ℕ) (g : FunCode) → slice_get (code_in (codes_of c.code.functions []) text) k ≡ Some g → length g.locals ≤ most
   locals_in well Script k g is = locals_within well k g is
   locals_in well Prelude k g is = let wrong : None ≡ Some g = is in cc
 
-  pub is_within : (limits : Limits) (at : Config) → IsWellShapedCode c.allow c.code.functions → FitsConfig c.allow c.code.functions limits at → IsWithin most limits.depth (with_prelude c.code.functions []) at
+  pub is_within : (limits : Limits) (at : Config) → IsWellShapedCode c.allow c.code.functions → FitsConfig c.allow c.code.functions limits at → IsWithin most limits.depth (codes_of c.code.functions []) at
   is_within limits at well fits =
       record {
         frames = (top_within fits.function at.top fits.top, below_within at.below fits.function.result fits.below);

@@ -34,9 +34,9 @@ use Rattle.verifier.specs.Shaped.{IsWellShapedCode}
 use Rattle.run_state.specs.World.{World, Limits, acts_in, allowed_in}
 use Rattle.code_meaning.specs.declared.word.Word.TheVariants.{I, J, R}
 use Rattle.code_meaning.specs.Words.{calculation, unboxed, bit}
-use Rattle.code_meaning.specs.Machine.{Frame, Config, Next, to_line, on_outcome, on_thrown, on_type, is_written, plain_act, numbered_act, quoted_act, typed_act, cast_act, member_act, act, acts, lines_of, step, on_call, code_in, function_of}
+use Rattle.code_meaning.specs.Machine.{Frame, Config, Next, to_line, on_outcome, on_thrown, on_type, is_written, plain_act, numbered_act, quoted_act, typed_act, cast_act, member_act, act, acts, lines_of, step, on_call, code_in, function_of, codes_of}
 use Rattle.verifier_soundness.specs.Rows.{plain_has_row, numbered_has_row, quoting_has_row, typed_has_row, has_row, HaveRows}
-use Rattle.verifier_soundness.specs.Fits.{kinds_of, frame_kinds, FitsConfig, with_prelude}
+use Rattle.verifier_soundness.specs.Fits.{kinds_of, frame_kinds, FitsConfig}
 use Rattle.verifier_soundness.proofs.Words.{on_one_int, on_one_long, on_one_reference, on_two_references}
 use Rattle.verifier_soundness.proofs.Operators.{calculates}
 use Rattle.verifier_soundness.proofs.Casts.{cast_is}
@@ -56,7 +56,7 @@ module _ (allow : AllowList) (code prelude : List FunCode) (limits : Limits) (we
   abbrev At : Instruction → Type 0
   At instruction = StandsIn allow code function (frame_kinds f) instruction
 
-  plain_moves : (p : Plain) → plain_has_row p ≡ true → At (i.Plain p) → Moved (plain_act (with_prelude code prelude) limits p f below w)
+  plain_moves : (p : Plain) → plain_has_row p ≡ true → At (i.Plain p) → Moved (plain_act (codes_of code prelude) limits p f below w)
   unfolding effect_of flow_of left_by
   plain_moves plain.Null row s = puts allow code prelude limits well function f below w (i.Plain plain.Null) s here (R v.Null) refl s.leaves
   plain_moves plain.Pop row s = copies allow code prelude limits well function f below w (i.Plain plain.Pop) s here plain.Pop copying.Drop pops refl s.leaves
@@ -81,14 +81,14 @@ module _ (allow : AllowList) (code prelude : List FunCode) (limits : Limits) (we
       (λ a stack kinds. next_with allow code prelude limits well function f below w (i.Plain plain.IntToChar) s here (I (pos (low_bits 16 a)) ∷ stack) refl kinds)
   plain_moves plain.Ret row s = return_moves allow code prelude limits well function f below w s.left here s.leaves
   plain_moves plain.Concat row s =
-      on_two_references Moved (slot.R ∷ []) s.left f.stack (λ b a stack. on_outcome (with_prelude code prelude) limits (acts_in w (effect w.store (concatenated w.store.objects a b))) R f below w stack) s.leaves
+      on_two_references Moved (slot.R ∷ []) s.left f.stack (λ b a stack. on_outcome (codes_of code prelude) limits (acts_in w (effect w.store (concatenated w.store.objects a b))) R f below w stack) s.leaves
       (λ b a stack kinds. effect_moves allow code prelude limits well function f below w (i.Plain plain.Concat) s here R slot.R stack
       (effect w.store (concatenated w.store.objects a b)) refl kinds (whole_is (effect w.store (concatenated w.store.objects a b))))
   plain_moves plain.Same row s =
       on_two_references Moved (slot.I ∷ []) s.left f.stack (λ b a stack. to_line f below w (suc f.line) (I (bit (is_same a b)) ∷ stack)) s.leaves
       (λ b a stack kinds. next_with allow code prelude limits well function f below w (i.Plain plain.Same) s here (I (bit (is_same a b)) ∷ stack) refl kinds)
   plain_moves plain.Equal row s =
-      on_two_references Moved (slot.I ∷ []) s.left f.stack (λ b a stack. on_outcome (with_prelude code prelude) limits (acts_in w (effect w.store (equal w.store.objects a b))) unboxed f below w stack) s.leaves
+      on_two_references Moved (slot.I ∷ []) s.left f.stack (λ b a stack. on_outcome (codes_of code prelude) limits (acts_in w (effect w.store (equal w.store.objects a b))) unboxed f below w stack) s.leaves
       (λ b a stack kinds. effect_moves allow code prelude limits well function f below w (i.Plain plain.Equal) s here unboxed slot.I stack
       (effect w.store (equal w.store.objects a b)) refl kinds (equal_is w.store a b))
   plain_moves plain.ArrayLength row s = absurd (false≢true row)
@@ -98,14 +98,14 @@ module _ (allow : AllowList) (code prelude : List FunCode) (limits : Limits) (we
   plain_moves plain.Has row s = absurd (false≢true row)
   plain_moves plain.Next row s = absurd (false≢true row)
   plain_moves plain.Throw row s =
-      on_one_reference Moved [] s.left f.stack (λ value stack. on_thrown (with_prelude code prelude) limits (acts_in w (thrown w.store value)) f below w) s.leaves
+      on_one_reference Moved [] s.left f.stack (λ value stack. on_thrown (codes_of code prelude) limits (acts_in w (thrown w.store value)) f below w) s.leaves
       (λ value stack kinds. throw_moves allow code prelude limits well function f below w here (thrown w.store value) (thrown_is w.store value))
 
   local_is : (k : ℕ) → slice_get (kinds_of f.locals) k ≡ local_kind function k
   unfolding local_kind
   local_is k = ap (λ ks. slice_get ks k) here.fits.locals
 
-  numbered_moves : (n : Numbered) (k : ℕ) → numbered_has_row n ≡ true → At (i.Numbered n k) → Moved (numbered_act (with_prelude code prelude) limits n k f below w)
+  numbered_moves : (n : Numbered) (k : ℕ) → numbered_has_row n ≡ true → At (i.Numbered n k) → Moved (numbered_act (codes_of code prelude) limits n k f below w)
   unfolding effect_of flow_of left_by
   numbered_moves numbered.Load k row s = loads_local allow code prelude limits well function f below w (i.Numbered numbered.Load k) s here k (local_kind function k) refl (local_is k) s.leaves
   numbered_moves numbered.Store k row s = stores_local allow code prelude limits well function f below w (i.Numbered numbered.Store k) s here k (local_kind function k) refl (local_is k) s.leaves
@@ -114,37 +114,37 @@ module _ (allow : AllowList) (code prelude : List FunCode) (limits : Limits) (we
   numbered_moves numbered.IfNotZero k row s = branches_at_others allow code prelude limits well function f below w (i.Numbered numbered.IfNotZero k) s here k refl s.leaves
   numbered_moves numbered.Loop k row s = loops allow code prelude limits well function f below w (i.Numbered numbered.Loop k) s here k refl s.leaves
   numbered_moves numbered.Call k row s =
-      subst (λ text. Moved (on_call (with_prelude code prelude) limits (slice_get (code_in (with_prelude code prelude) text) k) k f below w)) (sym here.text)
+      subst (λ text. Moved (on_call (codes_of code prelude) limits (slice_get (code_in (codes_of code prelude) text) k) k f below w)) (sym here.text)
       (call_moves allow code prelude limits well function f below w (i.Numbered numbered.Call k) s here k (slice_get code k) refl refl s.leaves)
   numbered_moves numbered.IfNull k row s = branches_at_null allow code prelude limits well function f below w (i.Numbered numbered.IfNull k) s here k refl s.leaves
   numbered_moves numbered.List k row s = absurd (false≢true row)
   numbered_moves numbered.Map k row s = absurd (false≢true row)
 
-  quoted_moves : (q : Quoting) (text : List ℕ) → quoting_has_row q ≡ true → At (i.Quoted q text) → Moved (quoted_act (with_prelude code prelude) limits q text f below w)
+  quoted_moves : (q : Quoting) (text : List ℕ) → quoting_has_row q ≡ true → At (i.Quoted q text) → Moved (quoted_act (codes_of code prelude) limits q text f below w)
   unfolding effect_of flow_of left_by
   quoted_moves quoting.Constant text row s = puts allow code prelude limits well function f below w (i.Quoted quoting.Constant text) s here (R (v.Str (units text))) refl s.leaves
   quoted_moves quoting.GetName text row s = absurd (false≢true row)
   quoted_moves quoting.PutName text row s = absurd (false≢true row)
 
-  typed_moves : (t : Typed) (of : List ℕ) → typed_has_row t of ≡ true → At (i.Typed t of) → Moved (on_type (type_of_full of) (λ of. typed_act (with_prelude code prelude) limits t of f below w))
+  typed_moves : (t : Typed) (of : List ℕ) → typed_has_row t of ≡ true → At (i.Typed t of) → Moved (on_type (type_of_full of) (λ of. typed_act (codes_of code prelude) limits t of f below w))
   unfolding effect_of flow_of left_by
   typed_moves typed.IsA of row s =
-      type_is Moved (type_of_full of) (λ of. typed_act (with_prelude code prelude) limits typed.IsA of f below w) row
+      type_is Moved (type_of_full of) (λ of. typed_act (codes_of code prelude) limits typed.IsA of f below w) row
       (λ is. on_one_reference Moved (slot.I ∷ []) s.left f.stack (λ value stack. to_line f below w (suc f.line) (I (bit (is_instance w.store.objects value is)) ∷ stack)) s.leaves
       (λ value stack kinds. next_with allow code prelude limits well function f below w (i.Typed typed.IsA of) s here (I (bit (is_instance w.store.objects value is)) ∷ stack) refl kinds))
   typed_moves typed.LoadElement of row s = absurd (false≢true row)
   typed_moves typed.StoreElement of row s = absurd (false≢true row)
 
-  cast_moves : (to : List ℕ) (way : Way) → is_some (type_of_full to) ≡ true → At (i.Cast to way) → Moved (on_type (type_of_full to) (λ to. cast_act (with_prelude code prelude) limits to (is_written way) f below w))
+  cast_moves : (to : List ℕ) (way : Way) → is_some (type_of_full to) ≡ true → At (i.Cast to way) → Moved (on_type (type_of_full to) (λ to. cast_act (codes_of code prelude) limits to (is_written way) f below w))
   unfolding effect_of flow_of left_by
   cast_moves to way row s =
-      type_is Moved (type_of_full to) (λ to. cast_act (with_prelude code prelude) limits to (is_written way) f below w) row
+      type_is Moved (type_of_full to) (λ to. cast_act (codes_of code prelude) limits to (is_written way) f below w) row
       (λ is. on_one_reference Moved (slot.R ∷ []) s.left f.stack
-      (λ value stack. on_outcome (with_prelude code prelude) limits (acts_in w (effect w.store (cast_at_run_time w.store.objects value is (is_written way)))) R f below w stack) s.leaves
+      (λ value stack. on_outcome (codes_of code prelude) limits (acts_in w (effect w.store (cast_at_run_time w.store.objects value is (is_written way)))) R f below w stack) s.leaves
       (λ value stack kinds. effect_moves allow code prelude limits well function f below w (i.Cast to way) s here R slot.R stack
       (effect w.store (cast_at_run_time w.store.objects value is (is_written way))) refl kinds (whole_is (effect w.store (cast_at_run_time w.store.objects value is (is_written way))))))
 
-  act_moves : (instruction : Instruction) → has_row allow instruction ≡ true → At instruction → Moved (act (with_prelude code prelude) limits instruction f below w)
+  act_moves : (instruction : Instruction) → has_row allow instruction ≡ true → At instruction → Moved (act (codes_of code prelude) limits instruction f below w)
   unfolding effect_of flow_of left_by
   act_moves (i.Plain p) row s = plain_moves p row s
   act_moves (i.Arithmetic o width) row s =
@@ -155,7 +155,7 @@ module _ (allow : AllowList) (code prelude : List FunCode) (limits : Limits) (we
   act_moves (i.Boxing p) row s = boxes allow code prelude limits well function f below w (i.Boxing p) s here p refl s.leaves
   act_moves (i.Unboxing p way) row s =
       on_one_reference Moved (kind_of_primitive p ∷ []) s.left f.stack
-      (λ value stack. on_outcome (with_prelude code prelude) limits (acts_in w (effect w.store (cast_at_run_time w.store.objects value (ty.Prim p) (is_written way)))) unboxed f below w stack) s.leaves
+      (λ value stack. on_outcome (codes_of code prelude) limits (acts_in w (effect w.store (cast_at_run_time w.store.objects value (ty.Prim p) (is_written way)))) unboxed f below w stack) s.leaves
       (λ value stack kinds. effect_moves allow code prelude limits well function f below w (i.Unboxing p way) s here unboxed (kind_of_primitive p) stack
       (effect w.store (cast_at_run_time w.store.objects value (ty.Prim p) (is_written way))) refl kinds (cast_is p w.store value (is_written way)))
   act_moves (i.Dynamic o) row s = absurd (false≢true row)
@@ -165,13 +165,13 @@ module _ (allow : AllowList) (code prelude : List FunCode) (limits : Limits) (we
   act_moves (i.Sized t of n) row s = absurd (false≢true row)
   act_moves (i.DefCall word n) row s = absurd (false≢true row)
   act_moves (i.Invoke m) row s =
-      subst (λ (list : AllowList). Moved (member_act (with_prelude code prelude) limits (method_of list m) f below w)) (sym (ap (allowed_in limits) here.text ∙ under))
+      subst (λ (list : AllowList). Moved (member_act (codes_of code prelude) limits (method_of list m) f below w)) (sym (ap (allowed_in limits) here.text ∙ under))
       (invoked_moves allow code prelude limits well function f below (i.Invoke m) s refl w here m (method_of allow m) refl row s.leaves)
   act_moves (i.New m) row s =
-      subst (λ (list : AllowList). Moved (member_act (with_prelude code prelude) limits (constructor_of list m) f below w)) (sym (ap (allowed_in limits) here.text ∙ under))
+      subst (λ (list : AllowList). Moved (member_act (codes_of code prelude) limits (constructor_of list m) f below w)) (sym (ap (allowed_in limits) here.text ∙ under))
       (made_moves allow code prelude limits well function f below (i.New m) s refl w here m (constructor_of allow m) refl row s.leaves)
   act_moves (i.Field m) row s =
-      subst (λ (list : AllowList). Moved (member_act (with_prelude code prelude) limits (field_of list m) f below w)) (sym (ap (allowed_in limits) here.text ∙ under))
+      subst (λ (list : AllowList). Moved (member_act (codes_of code prelude) limits (field_of list m) f below w)) (sym (ap (allowed_in limits) here.text ∙ under))
       (read_moves allow code prelude limits well function f below (i.Field m) s refl w here m (field_of allow m) refl row s.leaves)
   act_moves (i.Lambda interface k n) row s = absurd (false≢true row)
   act_moves (i.Ref interface of word) row s = absurd (false≢true row)
@@ -179,11 +179,11 @@ module _ (allow : AllowList) (code prelude : List FunCode) (limits : Limits) (we
 
 -- A configuration that fits takes a step to one that fits, of which less is left, or ends.
 pub step_moves : (allow : AllowList) (code prelude : List FunCode) (limits : Limits) → IsWellShapedCode allow code → limits.allowed ≡ allow → HaveRows allow code → (c : Config) → FitsConfig allow code limits c
-    → Moves allow code limits (left_of code limits c) (step (with_prelude code prelude) limits c)
+    → Moves allow code limits (left_of code limits c) (step (codes_of code prelude) limits c)
 step_moves allow code prelude limits well under rows c fits =
     let here : Here allow code limits fits.function c.top c.below c.world = record { fits = fits.top; due = fits.due; text = fits.text; belows = fits.below; within = fits.within; reached = fits.reached } in
     let st = standing allow code fits.function (frame_kinds c.top) well fits.top in
     let row = rows.each c.top.fun c.top.line fits.function st.instruction fits.top.is st.is in
-    let there : slice_get (lines_of (with_prelude code prelude) limits (function_of (with_prelude code prelude) c.top)) c.top.line ≡ Some st.instruction = ap (λ o. slice_get (lines_of (with_prelude code prelude) limits o) c.top.line) (function_is code prelude c.top fits.function fits.text fits.top.is) ∙ st.is in
-    subst (λ o. Moves allow code limits (left_of code limits c) (acts (with_prelude code prelude) limits o c.top c.below c.world)) (sym there)
+    let there : slice_get (lines_of (codes_of code prelude) limits (function_of (codes_of code prelude) c.top)) c.top.line ≡ Some st.instruction = ap (λ o. slice_get (lines_of (codes_of code prelude) limits o) c.top.line) (function_is code prelude c.top fits.function fits.text fits.top.is) ∙ st.is in
+    subst (λ o. Moves allow code limits (left_of code limits c) (acts (codes_of code prelude) limits o c.top c.below c.world)) (sym there)
     (act_moves allow code prelude limits well fits.function c.top c.below c.world here under st.instruction row st.stands)

@@ -17,8 +17,8 @@ use Rattle.verifier.specs.Shaped.{IsWellShapedCode}
 use Rattle.run_state.specs.World.{World, Limits, Outcome, Given, Raised, Full, acts_in}
 use Rattle.code_meaning.specs.declared.word.Word.{Word}
 use Rattle.code_meaning.specs.declared.word.Word.TheVariants as word
-use Rattle.code_meaning.specs.Machine.{Frame, Next, Goes, traps_at, traps_of, is_instance, lands, unwind, on_outcome, on_thrown, depth_of, function_of}
-use Rattle.verifier_soundness.specs.Fits.{ReachesAllowed, kind_of, kinds_of, frame_kinds, BelowFits, with_prelude}
+use Rattle.code_meaning.specs.Machine.{Frame, Next, Goes, traps_at, traps_of, is_instance, lands, unwind, on_outcome, on_thrown, depth_of, function_of, codes_of}
+use Rattle.verifier_soundness.specs.Fits.{ReachesAllowed, kind_of, kinds_of, frame_kinds, BelowFits}
 use Rattle.verifier_soundness.proofs.Casts.{EffectIs}
 use Rattle.verifier_soundness.proofs.References.{GivesNothing}
 use Rattle.verifier_soundness.proofs.Standing.{StandsIn, Catches, catches_fit}
@@ -75,17 +75,17 @@ module _ (allow : AllowList) (code prelude : List FunCode) (limits : Limits) (we
   caught_in : (from : ℕ) (function : FunCode) (f : Frame) (below : List Frame) (id : ℕ) (w : World) (further : Next) → Catching function f below w
       → ((to : ℕ) → f.line < to → weight (tick_worth code limits) w.ticks (lines_in code f.fun) to (lines_below code below) < from)
       → Moves allow code limits from further
-      → Moves allow code limits from (lands (traps_of (function_of (with_prelude code prelude) f) f.line) f.text f.fun f.locals f.turns f.due below id w further)
+      → Moves allow code limits from (lands (traps_of (function_of (codes_of code prelude) f) f.line) f.text f.fun f.locals f.turns f.due below id w further)
   caught_in from function f below id w further c less more =
       subst (λ o. Moves allow code limits from (lands (traps_of o f.line) f.text f.fun f.locals f.turns f.due below id w further)) (sym (function_is code prelude f function c.text c.is))
       (caught from function f below id w further c less more function.traps (catches_fit allow code function (frame_kinds f) (well.each f.fun function c.is) c.is c.locals))
 
   -- through the frames below, from one that had lines left
   caught_below : (lines line ticks under : ℕ) → line < lines → (fs : List Frame) (result : Option Slot) (w : World) (id : ℕ) → w.ticks ≡ ticks → lines_below code fs ≤ under → BelowFits allow code fs result → depth_of fs ≤ limits.depth → ReachesAllowed allow w
-      → Moves allow code limits (weight (tick_worth code limits) ticks lines line under) (unwind (with_prelude code prelude) fs id w)
+      → Moves allow code limits (weight (tick_worth code limits) ticks lines line under) (unwind (codes_of code prelude) fs id w)
   caught_below lines line ticks under h [] result w id same most fit within reached = reached
   caught_below lines line ticks under h (f ∷ fs) result w id same most fit within reached =
-      caught_in (weight (tick_worth code limits) ticks lines line under) fit.0 f fs id w (unwind (with_prelude code prelude) fs id w)
+      caught_in (weight (tick_worth code limits) ticks lines line under) fit.0 f fs id w (unwind (codes_of code prelude) fs id w)
       (record { is = fit.1.is; locals = fit.1.locals; due = fit.2; text = fit.3; belows = fit.4; within = omega (arith, within); reached = reached })
       (λ to later. less_than (below_is_less (tick_worth code limits) ticks w.ticks lines line (lines_in code f.fun) f.line to (lines_below code fs) same h later)
       (heavier (ticks) (tick_worth code limits) lines line (lines_below code (f ∷ fs)) under most))
@@ -102,10 +102,10 @@ module _ (allow : AllowList) (code prelude : List FunCode) (limits : Limits) (we
 
   -- from an instruction
   pub thrown : (function : FunCode) (f : Frame) (below : List Frame) (w w' : World) (id : ℕ) → Here allow code limits function f below w → GoesTo allow code limits w w'
-      → Moves allow code limits (left_at code limits f below w) (unwind (with_prelude code prelude) (f ∷ below) id w')
+      → Moves allow code limits (left_at code limits f below w) (unwind (codes_of code prelude) (f ∷ below) id w')
   thrown function f below w w' id here same =
       let lines = lines_are allow code limits function (frame_kinds f) here.fits in
-      caught_in (left_at code limits f below w) function f below id w' (unwind (with_prelude code prelude) below id w')
+      caught_in (left_at code limits f below w) function f below id w' (unwind (codes_of code prelude) below id w')
       (record { is = here.fits.is; locals = here.fits.locals; due = here.due; text = here.text; belows = here.belows; within = here.within; reached = same.reached })
       (λ to later. later_is_less (tick_worth code limits) w.ticks w'.ticks (lines_in code f.fun) f.line to (lines_below code below) same.ticks lines later)
       (caught_below (lines_in code f.fun) f.line w.ticks (lines_below code below) lines below function.result w' id same.ticks (omega arith) here.belows here.within same.reached)
@@ -125,7 +125,7 @@ module _ (allow : AllowList) (code prelude : List FunCode) (limits : Limits) (we
 
   outcome_moves : (function : FunCode) (f : Frame) (below : List Frame) (w : World) (i : Instruction) (s : StandsIn allow code function (frame_kinds f) i) → Here allow code limits function f below w
       → (to : Value → Word) (k : Slot) (stack : List Word) (o : Outcome Value) → flow_of i ≡ flow.GoesOn → k ∷ kinds_of stack ≡ s.left → OutcomeIs to k w o
-      → Moves allow code limits (left_at code limits f below w) (on_outcome (with_prelude code prelude) limits o to f below w stack)
+      → Moves allow code limits (left_at code limits f below w) (on_outcome (codes_of code prelude) limits o to f below w stack)
   outcome_moves function f below w i s here to k stack (Given value w') goes kinds is =
       goes_next allow code limits function f below w w' i s here (to value ∷ stack) is.1 goes (ap (λ k. k ∷ kinds_of stack) is.0 ∙ kinds)
   outcome_moves function f below w i s here to k stack (Raised id w') goes kinds is = thrown function f below w w' id here is
@@ -133,7 +133,7 @@ module _ (allow : AllowList) (code prelude : List FunCode) (limits : Limits) (we
 
   pub effect_moves : (function : FunCode) (f : Frame) (below : List Frame) (w : World) (i : Instruction) (s : StandsIn allow code function (frame_kinds f) i) → Here allow code limits function f below w
       → (to : Value → Word) (k : Slot) (stack : List Word) (e : Effect) → flow_of i ≡ flow.GoesOn → k ∷ kinds_of stack ≡ s.left → EffectIs to k e
-      → Moves allow code limits (left_at code limits f below w) (on_outcome (with_prelude code prelude) limits (acts_in w e) to f below w stack)
+      → Moves allow code limits (left_at code limits f below w) (on_outcome (codes_of code prelude) limits (acts_in w e) to f below w stack)
   effect_moves function f below w i s here to k stack e goes kinds is = outcome_moves function f below w i s here to k stack (acts_in w e) goes kinds (acts_so to k w e here.reached is)
 
   -- ---- what is thrown as it is
@@ -150,11 +150,11 @@ module _ (allow : AllowList) (code prelude : List FunCode) (limits : Limits) (we
   throws_so w NoRoom reached nothing = tt
 
   throw_moves_on : (function : FunCode) (f : Frame) (below : List Frame) (w : World) → Here allow code limits function f below w → (o : Outcome Value) → OutcomeThrows w o
-      → Moves allow code limits (left_at code limits f below w) (on_thrown (with_prelude code prelude) limits o f below w)
+      → Moves allow code limits (left_at code limits f below w) (on_thrown (codes_of code prelude) limits o f below w)
   throw_moves_on function f below w here (Given value w') is = is
   throw_moves_on function f below w here (Raised id w') is = thrown function f below w w' id here is
   throw_moves_on function f below w here Full is = here.reached
 
   pub throw_moves : (function : FunCode) (f : Frame) (below : List Frame) (w : World) → Here allow code limits function f below w → (e : Effect) → GivesNothing e
-      → Moves allow code limits (left_at code limits f below w) (on_thrown (with_prelude code prelude) limits (acts_in w e) f below w)
+      → Moves allow code limits (left_at code limits f below w) (on_thrown (codes_of code prelude) limits (acts_in w e) f below w)
   throw_moves function f below w here e nothing = throw_moves_on function f below w here (acts_in w e) (throws_so w e here.reached nothing)

@@ -4,8 +4,8 @@ use Rattle.pl_code.specs.declared.code.FunCode.{FunCode}
 use Rattle.allowlist.specs.Allow.{AllowList}
 use Rattle.run_state.specs.World.{Limits, End}
 use Rattle.code_meaning.specs.declared.word.Word.{Word}
-use Rattle.code_meaning.specs.Machine.{Next, Ends, after}
-use Rattle.verifier_soundness.specs.Fits.{FitsEnd, with_prelude}
+use Rattle.code_meaning.specs.Machine.{Next, Ends, after, codes_of}
+use Rattle.verifier_soundness.specs.Fits.{FitsEnd}
 
 -- the lines of the longest function
 abbrev pub longest : List FunCode → ℕ
@@ -19,5 +19,5 @@ most_steps code limits ticks = (ticks + 1) * (limits.depth + 1) * longest code
 -- It has ended after so many steps, in an end that fits.
 pub record EndsWithin (allow : AllowList) (code prelude : List FunCode) (limits : Limits) (steps : ℕ) (from : Next) : Type 0 where
   pub end : End (Option Word)
-  pub ends : after (with_prelude code prelude) limits steps from ≡ Ends end
+  pub ends : after (codes_of code prelude) limits steps from ≡ Ends end
   pub fits : FitsEnd allow code end

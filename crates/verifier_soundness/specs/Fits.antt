@@ -23,10 +23,6 @@ kinds_of words = map kind_of words
 abbrev pub frame_kinds : Frame → FrameKinds
 frame_kinds f = record { function = f.fun; line = f.line; locals = kinds_of f.locals; stack = kinds_of f.stack }
 
--- the code of a run: this of the script, and any of the prelude
-abbrev pub with_prelude : List FunCode → List FunCode → Codes
-with_prelude code prelude = record { script = code; prelude = prelude }
-
 -- the kinds of what function 0 takes
 abbrev pub main_params : List FunCode → List Slot
 main_params [] = []

@@ -8,23 +8,23 @@ use Rattle.verifier.specs.Fits.{FitBelow}
 use Rattle.verifier.specs.Verified.{CodeUnder, IsSound, FrameWords}
 use Rattle.run_state.specs.World.{World, Limits, allowed_in}
 use Rattle.code_meaning.specs.declared.word.Word.{Word}
-use Rattle.code_meaning.specs.Machine.{Frame, Config, Next, Goes, Stuck, start, act, after, Codes}
+use Rattle.code_meaning.specs.Machine.{Frame, Config, Next, Goes, Stuck, start, act, after, Codes, codes_of}
 use Rattle.code_meaning.specs.Sizes.{IsWithin}
 use Rattle.verifier_soundness.specs.Rows.{has_row, names_member, HaveRows}
-use Rattle.verifier_soundness.specs.Fits.{kinds_of, frame_kinds, ReachesAllowed, FitsConfig, FitsNext, with_prelude}
+use Rattle.verifier_soundness.specs.Fits.{kinds_of, frame_kinds, ReachesAllowed, FitsConfig, FitsNext}
 use Rattle.verifier_soundness.specs.Bounds.{most_steps, EndsWithin}
 
 -- Where a run begins on words of the kinds of function 0's parameters it fits, where no members but of the list were reached before.
 abbrev pub StartsFit : Type 0
 StartsFit =
     (c : CodeUnder) (prelude : List FunCode) (limits : Limits) (f : FunCode) (words : List Word) (w : World) → IsSound c → slice_get c.code.functions 0 ≡ Some f
-    → kinds_of words ≡ f.params → ReachesAllowed c.allow w → FitsNext c.allow c.code.functions limits (start (with_prelude c.code.functions prelude) words w)
+    → kinds_of words ≡ f.params → ReachesAllowed c.allow w → FitsNext c.allow c.code.functions limits (start (codes_of c.code.functions prelude) words w)
 
 -- A run that fits goes on fitting, however many steps it takes, until it ends: it is never stuck, and reaches members of the list alone.
 abbrev pub NeverStuck : Type 0
 NeverStuck =
     (c : CodeUnder) (prelude : List FunCode) (limits : Limits) (from : Next) (steps : ℕ) → IsSound c → limits.allowed ≡ c.allow → HaveRows c.allow c.code.functions
-    → FitsNext c.allow c.code.functions limits from → FitsNext c.allow c.code.functions limits (after (with_prelude c.code.functions prelude) limits steps from)
+    → FitsNext c.allow c.code.functions limits from → FitsNext c.allow c.code.functions limits (after (codes_of c.code.functions prelude) limits steps from)
 
 -- A run that fits ends: within a bound that the ticks that are left, the limit of depth and the longest function give.
 abbrev pub RunsEnd : Type 0
@@ -38,7 +38,7 @@ abbrev pub StartsEnd : Type 0
 StartsEnd =
     (c : CodeUnder) (prelude : List FunCode) (limits : Limits) (f : FunCode) (words : List Word) (w : World) → IsSound c → limits.allowed ≡ c.allow
     → HaveRows c.allow c.code.functions → slice_get c.code.functions 0 ≡ Some f → kinds_of words ≡ f.params → ReachesAllowed c.allow w
-    → EndsWithin c.allow c.code.functions prelude limits (most_steps c.code.functions limits w.ticks) (start (with_prelude c.code.functions prelude) words w)
+    → EndsWithin c.allow c.code.functions prelude limits (most_steps c.code.functions limits w.ticks) (start (codes_of c.code.functions prelude) words w)
 
 -- The frames below the top of a configuration that fits are such that verified code goes on with them.
 abbrev pub FramesFit : Type 0
@@ -50,7 +50,7 @@ FramesFit =
 abbrev pub FramesAreWithin : Type 0
 FramesAreWithin =
     (c : CodeUnder) (limits : Limits) (most : ℕ) (at : Config) → IsSound c → FrameWords most c → FitsConfig c.allow c.code.functions limits at
-    → IsWithin most limits.depth (with_prelude c.code.functions []) at
+    → IsWithin most limits.depth (codes_of c.code.functions []) at
 
 -- What has no row is stuck wherever it stands: the rows that are listed are all. Of a member of the list this is not said: the call of one
 -- that has no row may throw, since its receiver is null, or end for want of ticks, before what the member does is asked.
