@@ -87,7 +87,7 @@ impl<'c> Activation<'c> {
     {
         let (slots, last) = match executable.code().functions.get(0) {
             Some(main) => (main.locals.as_slice(), Step::Goes),
-            None => (&[] as &[Slot], Step::Ends(RunEnd::Stuck)),
+            None => (&[] as &[Slot], Step::Stuck),
         };
         let words = words_at_start(executable.frame(), limits.depth);
         let run = configuration(executable.arguments(), heap, args, slots, limits, words)?;
@@ -115,9 +115,9 @@ impl<'c> Activation<'c> {
             let Ran { last, steps } = run_on(&mut self.run, self.executable, &rules, q);
             self.last = last;
             self.steps = self.steps.saturating_add(steps);
-            turn_of(&self.last)
+            turn_of(self.last)
         } else {
-            turn_of(&self.last)
+            turn_of(self.last)
         }
     }
 
@@ -137,13 +137,14 @@ impl<'c> Activation<'c> {
             world,
             words: _words,
             values: _values,
+            end,
         } = run;
         let World {
             heap,
             ticks,
             reached,
         } = world;
-        match last.into_end() {
+        match last.end(end) {
             Some(end) => Some(RunOutcome {
                 end,
                 heap,
@@ -184,16 +185,18 @@ fn configuration(
         },
         words,
         values,
+        end: RunEnd::Stuck,
     })
 }
 
 // What comes of a turn whose last instruction came to this.
-fn turn_of(last: &Step) -> Turn
-    ensures { result ≡ turn_of last.now }
+fn turn_of(last: Step) -> Turn
+    ensures { result ≡ turn_of last }
 {
     match last {
         Step::Goes => Turn::More,
-        Step::Ends(_) => Turn::Done,
+        Step::Ends => Turn::Done,
+        Step::Stuck => Turn::Done,
         Step::NoMemory => Turn::NoMemory,
     }
 }

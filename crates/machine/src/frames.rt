@@ -100,6 +100,7 @@ impl Frames {
     }
 
     /// Puts an operand on the newest frame's.
+    #[inline(always)]
     #[tactic(auto)]
     pub fn push(&mut self, word: Word) -> Result<(), AllocError>
         ensures stack { OnOk result (self.new.top.stack ≡ word ∷ self.old.top.stack) }
@@ -117,6 +118,7 @@ impl Frames {
     }
 
     /// Takes the newest frame's upper operand.
+    #[inline(always)]
     pub fn pop(&mut self) -> Option<Word>
         ensures stack { MatchOption result ((self.old.top.stack ≡ []) × (self.new.top.stack ≡ [])) (λ word. self.old.top.stack ≡ word ∷ self.new.top.stack) }
         ensures top { self.new.top ≡ with_stack self.old.top self.new.top.stack }
@@ -133,6 +135,7 @@ impl Frames {
     }
 
     /// The local of this number in the newest frame.
+    #[inline(always)]
     pub fn local(&self, number: usize) -> Option<&Word>
         ensures { option_copied result ≡ slice_get self.now.top.locals number }
     {
@@ -143,6 +146,7 @@ impl Frames {
     }
 
     /// Writes a local of the newest frame. Where there is none of this number nothing changes.
+    #[inline(always)]
     #[tactic(auto, using(crate::proofs::Places::written, crate::proofs::Places::stack_stays, crate::proofs::Places::rest_stays))]
     pub fn store(&mut self, number: usize, word: Word)
         ensures top { self.new.top ≡ with_words self.old.top self.new.top.locals self.new.top.stack }
@@ -172,6 +176,7 @@ impl Frames {
     }
 
     /// Sets the line of the newest frame.
+    #[inline(always)]
     pub fn set_line(&mut self, line: usize)
         ensures top { self.new.top ≡ at_line self.old.top line }
         ensures below { self.new.below ≡ self.old.below }
@@ -182,6 +187,7 @@ impl Frames {
     }
 
     /// Sets how many turns the newest frame has had.
+    #[inline(always)]
     pub fn set_turns(&mut self, turns: u64)
         ensures top { self.new.top ≡ with_turns self.old.top turns }
         ensures below { self.new.below ≡ self.old.below }
@@ -192,6 +198,7 @@ impl Frames {
     }
 
     /// The function of the newest frame.
+    #[inline(always)]
     pub fn fun(&self) -> u32
         ensures { result ≡ self.now.top.fun }
     {
@@ -199,6 +206,7 @@ impl Frames {
     }
 
     /// In which text the function of the newest frame stands.
+    #[inline(always)]
     pub fn text(&self) -> Owner
         ensures { result ≡ self.now.top.text }
     {
@@ -206,6 +214,7 @@ impl Frames {
     }
 
     /// The function of this number, in the code of the newest frame's text. The prelude has no code yet.
+    #[inline(always)]
     pub fn function_at<'c>(&self, code: &'c LinkedCode, number: u32) -> Option<&'c FunCode>
         ensures { option_copied result ≡ slice_get (code_in (codes_of code.now.functions) self.now.top.text) number }
     {
@@ -227,6 +236,7 @@ impl Frames {
     }
 
     /// The line of the newest frame.
+    #[inline(always)]
     pub fn line(&self) -> usize
         ensures { result ≡ self.now.top.line }
     {
@@ -234,6 +244,7 @@ impl Frames {
     }
 
     /// How many turns the newest frame has had.
+    #[inline(always)]
     pub fn turns(&self) -> u64
         ensures { result ≡ self.now.top.turns }
     {
@@ -241,6 +252,7 @@ impl Frames {
     }
 
     /// How many frames there are below the newest one.
+    #[inline(always)]
     #[tactic(auto, using(crate::proofs::Places::frames_below))]
     pub fn depth(&self) -> usize
         ensures { result ≡ depth_of self.now.below }
@@ -269,6 +281,7 @@ impl Frames {
     }
 
     /// Whether the newest frame has so many operands.
+    #[inline(always)]
     #[tactic(auto, using(crate::proofs::Entering::height_is))]
     pub fn has(&self, count: usize) -> bool
         ensures { result ≡ nat_le count (length self.now.top.stack) }
@@ -277,6 +290,7 @@ impl Frames {
     }
 
     /// The words are those of the frames: nothing else lies among them. (This does nothing. Its contract is a law.)
+    #[inline(always)]
     #[tactic(auto, using(crate::proofs::Places::all_counted))]
     pub fn are_counted(&self)
         ensures { self.now.count ≡ words_in (self.now.top ∷ self.now.below) }
