@@ -45,6 +45,23 @@ pub struct Frames {
     room_words: usize,
 }
 
+/// Memory for words and for frames, without any of them.
+#[derive(Drop)]
+pub struct FrameMemory {
+    below: Vec<Held>,
+    words: Vec<Word>,
+}
+
+impl FrameMemory {
+    /// None yet.
+    pub fn new(alloc: Global) -> FrameMemory {
+        FrameMemory {
+            below: Vec::new(alloc),
+            words: Vec::new(alloc),
+        }
+    }
+}
+
 impl Model for Frames {
     ghost use Rattle.std.specs.Prelude.{◌∷◌, ◌≤◌, length, reverse, take};
     ghost use Rattle.std.specs.Vec.{vec_capacity};
@@ -63,10 +80,10 @@ impl Model for Frames {
 
 impl Frames {
     /// A first frame, of the script's function 0, with these locals, and behind them the others. There is memory for so many frames
-    /// below another, and for so many words.
+    /// below another, and for so many words: that which is given, and what it lacks is taken.
     #[tactic(auto, using(crate::proofs::Places::all_locals, crate::proofs::Places::no_words))]
     pub fn start(
-        alloc: Global,
+        memory: FrameMemory,
         args: Elements<Word>,
         slots: &[Slot],
         depth: usize,
@@ -78,8 +95,16 @@ impl Frames {
         ensures depth { IfOk result (λ frames. depth ≤ frames.depth) }
     {
         let room_words = words;
-        let mut words = args.into_vec();
+        let mut args = args.into_vec();
+        let FrameMemory {
+            mut below,
+            mut words,
+        } = memory;
+        below.clear();
+        below.reserve(depth)?;
+        words.clear();
         words.reserve(room_words)?;
+        words.append(&mut args)?;
         push_starts(&mut words, slots)?;
         let locals = words.len();
         let top = Held {
@@ -92,11 +117,25 @@ impl Frames {
         };
         Ok(Frames {
             top,
-            below: Vec::with_capacity(alloc, depth)?,
+            below,
             words,
             room_frames: depth,
             room_words,
         })
+    }
+
+    /// The memory of all frames, which are dropped.
+    pub fn into_memory(self) -> FrameMemory {
+        let Frames {
+            top: _top,
+            mut below,
+            mut words,
+            room_frames: _room_frames,
+            room_words: _room_words,
+        } = self;
+        below.clear();
+        words.clear();
+        FrameMemory { below, words }
     }
 
     /// Puts an operand on the newest frame's.
