@@ -10,7 +10,8 @@ use Rattle.machine.specs.declared.configuration.RunEnd.{RunEnd}
 use Rattle.machine.specs.declared.configuration.RunEnd.TheVariants as end
 use Rattle.machine.specs.declared.configuration.Step.{Step}
 use Rattle.machine.specs.declared.configuration.Step.TheVariants as said
-use Rattle.machine.specs.Seen.{world_of, limits_of, ended, goes, codes_of}
+use Rattle.task_core.specs.declared.task.Turn.TheVariants as turn
+use Rattle.machine.specs.Seen.{world_of, limits_of, ended, end_in, goes, codes_of}
 use Rattle.machine.specs.Activations.{Activation, now_of, counted, later, is_over, turn_of, Turned}
 use Rattle.machine.proofs.Reaching.{stays, none_taken}
 
@@ -23,15 +24,30 @@ over end.Stuck w = refl
 not_more : (steps : ℕ) → steps < 2 ^ 64 → steps ≡ counted (steps + 0)
 not_more steps h = omega (arith)
 
+at_end : (code : List FunCode) (limits : Limits) (allow : AllowList) (frame q : ℕ) (e : RunEnd) (w : World) (steps : ℕ) → steps < 2 ^ 64
+    → (a : Activation) → a ≡ record { code = code; limits = limits; allow = allow; frame = frame; now = Some (ended e w); steps = steps } → Turned q a a turn.Done
+at_end code limits allow frame q e w steps fits a is =
+    let at : ℕ → Option Next → Activation = λ n now. record { code = code; limits = limits; allow = allow; frame = frame; now = now; steps = n } in
+    let same : at steps (Some (ended e w)) ≡ later q (at steps (Some (ended e w))) =
+    ap (λ n. at steps (Some n)) (sym (stays (codes_of code) (limits_of limits allow) q e w))
+    ∙ ap (λ n. at n (Some (after (codes_of code) (limits_of limits allow) q (ended e w)))) (not_more steps fits ∙ ap (λ k. counted (steps + k)) (sym (none_taken (codes_of code) (limits_of limits allow) q e w))) in
+    subst (λ a. Turned q a a turn.Done) (sym is) (same, over e w)
+
 -- more instructions leave it as it is
 pub still : (code : List FunCode) (limits : Limits) (allow : AllowList) (frame q : ℕ) (c : Configuration) (last : Step) (steps : ℕ) → goes last ≡ false → steps < 2 ^ 64
     → (a : Activation) → a ≡ record { code = code; limits = limits; allow = allow; frame = frame; now = now_of last c; steps = steps } → Turned q a a (turn_of last)
 still code limits allow frame q c said.Goes steps none fits a is = absurd (cc)
 still code limits allow frame q c said.NoMemory steps none fits a is = subst (λ a. Turned q a a (turn_of said.NoMemory)) (sym is) refl
-still code limits allow frame q c (said.Ends e) steps none fits a is =
-    let w = world_of c.world in
-    let at : ℕ → Option Next → Activation = λ n now. record { code = code; limits = limits; allow = allow; frame = frame; now = now; steps = n } in
-    let same : at steps (Some (ended e w)) ≡ later q (at steps (Some (ended e w))) =
-    ap (λ n. at steps (Some n)) (sym (stays (codes_of code) (limits_of limits allow) q e w))
-    ∙ ap (λ n. at n (Some (after (codes_of code) (limits_of limits allow) q (ended e w)))) (not_more steps fits ∙ ap (λ k. counted (steps + k)) (sym (none_taken (codes_of code) (limits_of limits allow) q e w))) in
-    subst (λ a. Turned q a a (turn_of (said.Ends e))) (sym is) (same, over e w)
+still code limits allow frame q c said.Ends steps none fits a is = at_end code limits allow frame q c.end (world_of c.world) steps fits a is
+still code limits allow frame q c said.Stuck steps none fits a is = at_end code limits allow frame q end.Stuck (world_of c.world) steps fits a is
+
+-- where a run has ended, it stands there
+pub left_by : (last : Step) (c : Configuration) (e : RunEnd) → Some e ≡ end_in last c.end → now_of last c ≡ Some (ended e (world_of c.world))
+left_by said.Goes c e h = absurd (cc)
+left_by said.Ends c e h =
+    let same : c.end ≡ e = cc in
+    ap (λ e. Some (ended e (world_of c.world))) same
+left_by said.Stuck c e h =
+    let same : end.Stuck ≡ e = cc in
+    ap (λ e. Some (ended e (world_of c.world))) same
+left_by said.NoMemory c e h = absurd (cc)

@@ -14,7 +14,8 @@ use Rattle.machine.specs.Seen.{configuration_of, limits_of, room_of, goes, codes
 
 pub has_turned : (last : Step) → HasMemory last → HasTurned (turn_of last)
 has_turned said.Goes h = tt
-has_turned (said.Ends e) h = tt
+has_turned said.Ends h = tt
+has_turned said.Stuck h = tt
 has_turned said.NoMemory h = h
 
 module _ (code : List FunCode) (limits : Limits) (allow : AllowList) (frame q : ℕ) (c : Configuration) (last : Step) (steps : ℕ) where
@@ -32,7 +33,8 @@ module _ (code : List FunCode) (limits : Limits) (allow : AllowList) (frame q : 
       } where
         begins : (last : Step) → goes last ≡ true → (next : Next) → now_of last c ≡ Some next → Goes (configuration_of c) ≡ next
         begins said.Goes going next stands = cc
-        begins (said.Ends e) going next stands = absurd (cc)
+        begins said.Ends going next stands = absurd (cc)
+        begins said.Stuck going next stands = absurd (cc)
         begins said.NoMemory going next stands = absurd (cc)
 
   -- one that has ended finds what it needs
@@ -42,5 +44,6 @@ module _ (code : List FunCode) (limits : Limits) (allow : AllowList) (frame q : 
       by_last last none s.next s.stands where
         by_last : (last : Step) → goes last ≡ false → (next : Next) → now_of last c ≡ Some next → HasTurned (turn_of last)
         by_last said.Goes none next stands = tt
-        by_last (said.Ends e) none next stands = tt
+        by_last said.Ends none next stands = tt
+        by_last said.Stuck none next stands = tt
         by_last said.NoMemory none next stands = absurd (cc)

@@ -3,7 +3,6 @@ pub mod Calling
 pub mod Counting
 pub mod Ended
 pub mod Turning
-pub mod Numbers
 pub mod Rows
 pub mod Reaching
 pub mod Given

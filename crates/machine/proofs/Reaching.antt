@@ -57,15 +57,21 @@ module _ (codes : Codes) (limits : Limits) where
   none_taken (suc m) (end.Limit which) w = refl
   none_taken (suc m) end.Stuck w = refl
 
+  -- the steps that are left stay at the end
+  stopped : (k count : ℕ) (from c : Configuration) (e : RunEnd) (w : World) → k < count → Reached k from c → step codes limits (configuration_of c) ≡ ended e w
+      → (after codes limits count (Goes (configuration_of from)) ≡ ended e w) × (k + 1 ≡ steps_taken codes limits count (Goes (configuration_of from)))
+  stopped k count from c e w h r comes =
+      let m = count - k - 1 in
+      let here : k + suc m ≡ count = the_rest k count h in (
+        ap (λ n. after codes limits n (Goes (configuration_of from))) (sym here) ∙ r.leads (suc m) ∙ ap (after codes limits m) comes ∙ stays m e w,
+        sym (ap (λ n. steps_taken codes limits n (Goes (configuration_of from))) (sym here) ∙ r.taken (suc m) ∙ ap (λ n. k + suc (steps_taken codes limits m n)) comes ∙ ap (λ n. k + suc n) (none_taken m e w)),
+      )
+
   pub finishes : (k count : ℕ) (from c d : Configuration) (last : Step) → k < count → Reached k from c → Comes (step codes limits (configuration_of c)) last d → goes last ≡ false → RanTo codes limits count from last (k + 1) d
   finishes k count from c d said.Goes h r comes other = absurd (cc)
   finishes k count from c d said.NoMemory h r comes other = tt
-  finishes k count from c d (said.Ends e) h r comes other =
-      let m = count - k - 1 in
-      let here : k + suc m ≡ count = the_rest k count h in (
-        ap (λ n. after codes limits n (Goes (configuration_of from))) (sym here) ∙ r.leads (suc m) ∙ ap (after codes limits m) comes ∙ stays m e (world_of d.world),
-        sym (ap (λ n. steps_taken codes limits n (Goes (configuration_of from))) (sym here) ∙ r.taken (suc m) ∙ ap (λ n. k + suc (steps_taken codes limits m n)) comes ∙ ap (λ n. k + suc n) (none_taken m e (world_of d.world))),
-      )
+  finishes k count from c d said.Ends h r comes other = stopped k count from c d.end (world_of d.world) h r comes
+  finishes k count from c d said.Stuck h r comes other = stopped k count from c end.Stuck (world_of d.world) h r comes
 
   pub all_taken : (count : ℕ) (from c : Configuration) → Reached count from c → RanTo codes limits count from said.Goes count c
   all_taken count from c r = (
@@ -75,5 +81,6 @@ module _ (codes : Codes) (limits : Limits) where
 
 pub went : (next : Next) (last : Step) (c : Configuration) → goes last ≡ true → Comes next last c → next ≡ Goes (configuration_of c)
 went next said.Goes c e h = h
-went next (said.Ends r) c e h = absurd (cc)
+went next said.Ends c e h = absurd (cc)
+went next said.Stuck c e h = absurd (cc)
 went next said.NoMemory c e h = absurd (cc)

@@ -18,12 +18,14 @@ is_answered told a.NoMemory h none = none h
 
 has_memory : (old new : Store) (said : Step) → HasMemory said → OnlyToMake old new said
 has_memory old new step.Goes h = tt
-has_memory old new (step.Ends end) h = tt
+has_memory old new step.Ends h = tt
+has_memory old new step.Stuck h = tt
 has_memory old new step.NoMemory h = absurd h
 
 pub nothing_made : (old new : Store) (said : Step) → new ≡ old → OnlyToMake old new said
 nothing_made old new step.Goes e = tt
-nothing_made old new (step.Ends end) e = tt
+nothing_made old new step.Ends e = tt
+nothing_made old new step.Stuck e = tt
 nothing_made old new step.NoMemory e = e
 
 -- what was made goes on, and what was not leaves all as it was

@@ -30,7 +30,8 @@ pub record Activation : Type 0 where
 
 abbrev pub now_of : Step → Configuration → Option Next
 now_of step.Goes c = Some (Goes (configuration_of c))
-now_of (step.Ends end) c = Some (ended end (world_of c.world))
+now_of step.Ends c = Some (ended c.end (world_of c.world))
+now_of step.Stuck c = Some Stuck
 now_of step.NoMemory c = None
 
 abbrev pub counted : ℕ → ℕ
@@ -78,7 +79,8 @@ HasTurned turn.NoMemory = ⊥
 
 abbrev pub turn_of : Step → Turn
 turn_of step.Goes = turn.More
-turn_of (step.Ends end) = turn.Done
+turn_of step.Ends = turn.Done
+turn_of step.Stuck = turn.Done
 turn_of step.NoMemory = turn.NoMemory
 
 -- What is left of an activation that has ended; nothing of another.

@@ -30,7 +30,8 @@ use Rattle.allowlist.specs.declared.table.TheConstants.{MEMBER_COUNT}
 -- the step was not given up for want of memory
 abbrev pub HasMemory : Step → Type 0
 HasMemory step.Goes = Unit {0}
-HasMemory (step.Ends end) = Unit {0}
+HasMemory step.Ends = Unit {0}
+HasMemory step.Stuck = Unit {0}
 HasMemory step.NoMemory = ⊥
 
 -- A step was given up for want of memory only where nothing was made: what was thrown once goes on.

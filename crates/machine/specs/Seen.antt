@@ -64,13 +64,16 @@ ended end.Stuck w = Stuck
 
 abbrev pub goes : Step → Bool
 goes step.Goes = true
-goes (step.Ends end) = false
+goes step.Ends = false
+goes step.Stuck = false
 goes step.NoMemory = false
 
-abbrev pub end_in : Step → Option held_end.RunEnd
-end_in step.Goes = None
-end_in (step.Ends end) = Some end
-end_in step.NoMemory = None
+-- how a run has ended, if it has: as its configuration tells, or stuck
+abbrev pub end_in : Step → held_end.RunEnd → Option held_end.RunEnd
+end_in step.Goes told = None
+end_in step.Ends told = Some told
+end_in step.Stuck told = Some end.Stuck
+end_in step.NoMemory told = None
 
 -- the word that a run gives, if it gives one
 abbrev pub given_word : held_end.RunEnd → Option Word
@@ -80,7 +83,8 @@ given_word other = None
 -- what comes of a step is what the machine says, unless there was no memory
 abbrev pub Comes : Next → Step → Configuration → Type 0
 Comes next step.Goes c = next ≡ Goes (configuration_of c)
-Comes next (step.Ends end) c = next ≡ ended end (world_of c.world)
+Comes next step.Ends c = next ≡ ended c.end (world_of c.world)
+Comes next step.Stuck c = next ≡ Stuck
 Comes next step.NoMemory c = Unit {0}
 
 -- ---- what lies on the top of a stack

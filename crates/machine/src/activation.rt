@@ -10,6 +10,7 @@ ghost use Rattle.machine.specs.Seen.{codes_of, configuration_of};
 use crate::configuration::{Configuration, Limits, RunEnd, Step, World};
 use crate::executable::Executable;
 use crate::frames::Frames;
+use crate::memory::RunMemory;
 use crate::reached::Reached;
 use crate::reserve::{frames_at_start, words_at_start};
 use crate::rules::Rules;
@@ -48,6 +49,13 @@ pub struct RunOutcome {
     pub reached: Elements<u32>,
 }
 
+/// What a run leaves, and its memory for the next one.
+#[derive(Drop)]
+pub struct Finished {
+    pub outcome: Option<RunOutcome>,
+    pub memory: RunMemory,
+}
+
 impl<'c> Model for Activation<'c> {
     ghost use Rattle.machine.specs.Activations.{Activation, now_of};
     ghost use Rattle.machine.specs.Rooms.{FitsAtStart, IsEnough};
@@ -76,7 +84,6 @@ impl<'c> Activation<'c> {
     /// # Errors
     ///
     /// Want of memory.
-    #[tactic(auto, using(crate::proofs::Spaces::enough_at_start))]
     pub fn start(
         executable: &'c Executable,
         heap: Heap,
@@ -85,12 +92,39 @@ impl<'c> Activation<'c> {
     ) -> Result<Activation<'c>, AllocError>
         ensures { IfOk result (λ a. a ≡ record { code = executable.now.code.functions; limits = limits; allow = executable.now.allow; frame = executable.now.frame; now = Some (start (codes_of executable.now.code.functions) args (record { store = heap; ticks = limits.ticks; reached = [] })); steps = 0 }) }
     {
+        let memory = RunMemory::new(heap.alloc());
+        Activation::start_in(executable, memory, heap, args, limits)
+    }
+
+    /// The same in the memory that an earlier run has left, which may have been of other code: only what it lacks is taken.
+    ///
+    /// # Errors
+    ///
+    /// Want of memory. The memory that was given is given back to the system then.
+    #[tactic(auto, using(crate::proofs::Spaces::enough_at_start))]
+    pub fn start_in(
+        executable: &'c Executable,
+        memory: RunMemory,
+        heap: Heap,
+        args: Elements<Word>,
+        limits: Limits,
+    ) -> Result<Activation<'c>, AllocError>
+        ensures { IfOk result (λ a. a ≡ record { code = executable.now.code.functions; limits = limits; allow = executable.now.allow; frame = executable.now.frame; now = Some (start (codes_of executable.now.code.functions) args (record { store = heap; ticks = limits.ticks; reached = [] })); steps = 0 }) }
+    {
         let (slots, last) = match executable.code().functions.get(0) {
             Some(main) => (main.locals.as_slice(), Step::Goes),
-            None => (&[] as &[Slot], Step::Ends(RunEnd::Stuck)),
+            None => (&[] as &[Slot], Step::Stuck),
         };
         let words = words_at_start(executable.frame(), limits.depth);
-        let run = configuration(executable.arguments(), heap, args, slots, limits, words)?;
+        let run = configuration(
+            memory,
+            executable.arguments(),
+            heap,
+            args,
+            slots,
+            limits,
+            words,
+        )?;
         Ok(Activation {
             executable,
             limits,
@@ -115,9 +149,9 @@ impl<'c> Activation<'c> {
             let Ran { last, steps } = run_on(&mut self.run, self.executable, &rules, q);
             self.last = last;
             self.steps = self.steps.saturating_add(steps);
-            turn_of(&self.last)
+            turn_of(self.last)
         } else {
-            turn_of(&self.last)
+            turn_of(self.last)
         }
     }
 
@@ -137,13 +171,14 @@ impl<'c> Activation<'c> {
             world,
             words: _words,
             values: _values,
+            end,
         } = run;
         let World {
             heap,
             ticks,
             reached,
         } = world;
-        match last.into_end() {
+        match last.end(end) {
             Some(end) => Some(RunOutcome {
                 end,
                 heap,
@@ -154,10 +189,57 @@ impl<'c> Activation<'c> {
             None => None,
         }
     }
+
+    /// The same, and the memory that the run had, for the next one.
+    pub fn finish(self) -> Finished
+        ensures { Leaves self.entry result.outcome }
+    {
+        let Activation {
+            executable: _,
+            limits,
+            run,
+            last,
+            steps,
+        } = self;
+        let Configuration {
+            frames,
+            world,
+            words,
+            values,
+            end,
+        } = run;
+        let World {
+            heap,
+            ticks,
+            reached,
+        } = world;
+        let memory = RunMemory {
+            frames: frames.into_memory(),
+            taken: words.into_memory(),
+            values: values.into_memory(),
+        };
+        match last.end(end) {
+            Some(end) => Finished {
+                outcome: Some(RunOutcome {
+                    end,
+                    heap,
+                    ticks: limits.ticks.saturating_sub(ticks),
+                    steps,
+                    reached: reached.into_elements(),
+                }),
+                memory,
+            },
+            None => Finished {
+                outcome: None,
+                memory,
+            },
+        }
+    }
 }
 
 // Where a run begins, with memory for so many words of its frames, and of calls of members.
 fn configuration(
+    memory: RunMemory,
     arguments: usize,
     heap: Heap,
     args: Elements<Word>,
@@ -170,10 +252,15 @@ fn configuration(
     ensures calls { IfOk result (λ c. (c.words.room ≡ arguments) × (c.values.room ≡ arguments) × (c.world.reached.room ≡ MEMBER_COUNT)) }
 {
     let alloc = heap.alloc();
+    let RunMemory {
+        frames,
+        taken,
+        values,
+    } = memory;
     let depth = frames_at_start(limits.depth);
-    let frames = Frames::start(alloc, args, slots, depth, words)?;
-    let words = Words::with_room(alloc, arguments)?;
-    let values = Values::with_room(alloc, arguments)?;
+    let frames = Frames::start(frames, args, slots, depth, words)?;
+    let words = Words::with_room(taken, arguments)?;
+    let values = Values::with_room(values, arguments)?;
     let reached = Reached::with_room(alloc, MEMBER_COUNT as usize)?;
     Ok(Configuration {
         frames,
@@ -184,16 +271,18 @@ fn configuration(
         },
         words,
         values,
+        end: RunEnd::Stuck,
     })
 }
 
 // What comes of a turn whose last instruction came to this.
-fn turn_of(last: &Step) -> Turn
-    ensures { result ≡ turn_of last.now }
+fn turn_of(last: Step) -> Turn
+    ensures { result ≡ turn_of last }
 {
     match last {
         Step::Goes => Turn::More,
-        Step::Ends(_) => Turn::Done,
+        Step::Ends => Turn::Done,
+        Step::Stuck => Turn::Done,
         Step::NoMemory => Turn::NoMemory,
     }
 }

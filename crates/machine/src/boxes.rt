@@ -14,7 +14,7 @@ ghost use Rattle.number_ops.specs.Outcomes.{WantsMemory};
 ghost use Rattle.machine.specs.Sparing.{CastSpares, OnReference, OnValue};
 ghost use Rattle.machine.specs.Memory.{HasMemory};
 
-use crate::configuration::{Configuration, RunEnd, Step};
+use crate::configuration::{Configuration, Step};
 use crate::linked_code::LinkedCode;
 use crate::rules::Rules;
 use crate::throwing::answered;
@@ -35,9 +35,9 @@ pub fn box_number(run: &mut Configuration, primitive: Primitive) -> Step
     match run.frames.pop() {
         Some(word) => match boxed(primitive, &word) {
             Some(value) => run.push(Word::R(value)),
-            None => Step::Ends(RunEnd::Stuck),
+            None => Step::Stuck,
         },
-        None => Step::Ends(RunEnd::Stuck),
+        None => Step::Stuck,
     }
 }
 
@@ -88,7 +88,7 @@ pub fn unbox(
 {
     match run.frames.pop() {
         Some(word) => unbox_word(run, code, limits, &word, primitive, way),
-        None => Step::Ends(RunEnd::Stuck),
+        None => Step::Stuck,
     }
 }
 
@@ -110,7 +110,7 @@ fn unbox_word(
             let answer = cast(&mut run.world.heap, value, primitive, way);
             answered(run, code, limits, answer)
         }
-        _ => Step::Ends(RunEnd::Stuck),
+        _ => Step::Stuck,
     }
 }
 

@@ -26,7 +26,7 @@ pub fn call(run: &mut Configuration, code: &LinkedCode, limits: &Rules<'_>, numb
 {
     match run.frames.function_at(code, number) {
         Some(function) => call_function(run, code, limits, function, number),
-        None => Step::Ends(RunEnd::Stuck),
+        None => Step::Stuck,
     }
 }
 
@@ -43,10 +43,13 @@ fn call_function(
     ensures room { room_of run.new ≡ room_of run.old }
 {
     if !run.frames.has(function.params.len()) {
-        return Step::Ends(RunEnd::Stuck);
+        return Step::Stuck;
     }
     match count_call(&mut run.world, limits, run.frames.depth()) {
-        Some(which) => Step::Ends(RunEnd::Limit(which)),
+        Some(which) => {
+            run.end = RunEnd::Limit(which);
+            Step::Ends
+        }
         None => push_frame(run, number, function),
     }
 }
@@ -105,10 +108,10 @@ pub fn ret(run: &mut Configuration, code: &LinkedCode, limits: &Rules<'_>) -> St
             None => give_back(run, code, limits, None),
             Some(_) => match run.frames.pop() {
                 Some(word) => give_back(run, code, limits, Some(word)),
-                None => Step::Ends(RunEnd::Stuck),
+                None => Step::Stuck,
             },
         },
-        None => Step::Ends(RunEnd::Stuck),
+        None => Step::Stuck,
     }
 }
 
@@ -128,6 +131,7 @@ fn give_back(
             None => run.goes_on(),
         }
     } else {
-        Step::Ends(RunEnd::Result(word))
+        run.end = RunEnd::Result(word);
+        Step::Ends
     }
 }

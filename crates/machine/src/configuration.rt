@@ -42,6 +42,8 @@ pub struct Configuration {
     pub words: Words,
     /// What a call of a member is called with. Each call fills it anew.
     pub values: Values,
+    /// How the run has ended, once an instruction has said that it ends. Before, nothing is said of it.
+    pub end: RunEnd,
 }
 
 /// How a run ends.
@@ -81,43 +83,36 @@ impl RunEnd {
     }
 }
 
-/// What comes of an instruction.
+/// What comes of an instruction. It lies in a register: how a run ends stands in its configuration.
+#[derive(Clone, Copy)]
 pub enum Step {
     /// The run goes on.
     Goes,
-    Ends(RunEnd),
+    /// The run has ended as its configuration tells.
+    Ends,
+    /// No instruction fits where the run stands.
+    Stuck,
     /// There was no memory. Nothing is said of the run.
     NoMemory,
 }
 
-impl Drop for Step {
-    fn drop(self) {
-        match self {
-            Step::Goes => {}
-            Step::Ends(_end) => {}
-            Step::NoMemory => {}
-        }
-    }
-}
-
 impl Step {
     /// Whether the run goes on.
-    pub(crate) fn goes(&self) -> bool
-        ensures { result ≡ goes self.now }
+    #[inline(always)]
+    pub(crate) fn goes(self) -> bool
+        ensures { result ≡ goes self }
     {
-        match self {
-            Step::Goes => true,
-            _ => false,
-        }
+        matches!(self, Step::Goes)
     }
 
-    /// The end, where the run has ended.
-    pub(crate) fn into_end(self) -> Option<RunEnd>
-        ensures { result ≡ end_in self }
+    /// The end, where the run has ended: this one, if the configuration tells it.
+    pub(crate) fn end(self, told: RunEnd) -> Option<RunEnd>
+        ensures { result ≡ end_in self told }
     {
         match self {
             Step::Goes => None,
-            Step::Ends(end) => Some(end),
+            Step::Ends => Some(told),
+            Step::Stuck => Some(RunEnd::Stuck),
             Step::NoMemory => None,
         }
     }
@@ -125,6 +120,7 @@ impl Step {
 
 impl Configuration {
     // On to the next line. No code has so many lines that there is no number for it.
+    #[inline(always)]
     pub(crate) fn goes_on(&mut self) -> Step
         ensures exact { Comes (to_line self.old.frames.top self.old.frames.below (world_of self.old.world) (suc self.old.frames.top.line) self.old.frames.top.stack) result self.new }
         ensures memory { suc self.old.frames.top.line < 2 ^ 64 → HasMemory result }
@@ -141,6 +137,7 @@ impl Configuration {
     }
 
     // Puts a word on the stack, and on to the next line.
+    #[inline(always)]
     pub(crate) fn push(&mut self, word: Word) -> Step
         ensures exact { Comes (to_line self.old.frames.top self.old.frames.below (world_of self.old.world) (suc self.old.frames.top.line) (word ∷ self.old.frames.top.stack)) result self.new }
         ensures memory { self.old.frames.count < self.old.frames.words → suc self.old.frames.top.line < 2 ^ 64 → HasMemory result }
@@ -154,6 +151,7 @@ impl Configuration {
     }
 
     // To a line.
+    #[inline(always)]
     pub(crate) fn goes_to(&mut self, line: u32) -> Step
         ensures exact { Comes (to_line self.old.frames.top self.old.frames.below (world_of self.old.world) line self.old.frames.top.stack) result self.new }
         ensures memory { HasMemory result }

@@ -8,6 +8,7 @@ use object_values::Value;
 use std::alloc::AllocError;
 
 /// The same word once more. A text is copied, which takes memory; nothing else does.
+#[inline(always)]
 pub fn copy_of(word: &Word) -> Result<Word, AllocError>
     ensures copy { IfOk result (λ copy. copy ≡ word.now) }
     ensures memory { is_text word.now ≡ false → IsOk result }

@@ -135,6 +135,7 @@ impl Executable {
     }
 
     /// The code, with the handlers of its functions.
+    #[inline(always)]
     pub(crate) fn linked(&self) -> &LinkedCode
         ensures { result.now ≡ self.now.code }
     {
@@ -163,6 +164,7 @@ impl Executable {
     }
 
     /// The instruction at which the newest frame stands. Where there is one, there is a number for the next line.
+    #[inline(always)]
     pub(crate) fn instruction(&self, frames: &Frames) -> Option<&Instruction>
         ensures instruction { option_copied result ≡ instruction_at self.now frames.now.top }
         ensures next { OnSome result (suc frames.now.top.line < 2 ^ 64) }

@@ -45,6 +45,23 @@ pub struct Frames {
     room_words: usize,
 }
 
+/// Memory for words and for frames, without any of them.
+#[derive(Drop)]
+pub struct FrameMemory {
+    below: Vec<Held>,
+    words: Vec<Word>,
+}
+
+impl FrameMemory {
+    /// None yet.
+    pub fn new(alloc: Global) -> FrameMemory {
+        FrameMemory {
+            below: Vec::new(alloc),
+            words: Vec::new(alloc),
+        }
+    }
+}
+
 impl Model for Frames {
     ghost use Rattle.std.specs.Prelude.{◌∷◌, ◌≤◌, length, reverse, take};
     ghost use Rattle.std.specs.Vec.{vec_capacity};
@@ -63,10 +80,10 @@ impl Model for Frames {
 
 impl Frames {
     /// A first frame, of the script's function 0, with these locals, and behind them the others. There is memory for so many frames
-    /// below another, and for so many words.
+    /// below another, and for so many words: that which is given, and what it lacks is taken.
     #[tactic(auto, using(crate::proofs::Places::all_locals, crate::proofs::Places::no_words))]
     pub fn start(
-        alloc: Global,
+        memory: FrameMemory,
         args: Elements<Word>,
         slots: &[Slot],
         depth: usize,
@@ -78,8 +95,16 @@ impl Frames {
         ensures depth { IfOk result (λ frames. depth ≤ frames.depth) }
     {
         let room_words = words;
-        let mut words = args.into_vec();
+        let mut args = args.into_vec();
+        let FrameMemory {
+            mut below,
+            mut words,
+        } = memory;
+        below.clear();
+        below.reserve(depth)?;
+        words.clear();
         words.reserve(room_words)?;
+        words.append(&mut args)?;
         push_starts(&mut words, slots)?;
         let locals = words.len();
         let top = Held {
@@ -92,14 +117,29 @@ impl Frames {
         };
         Ok(Frames {
             top,
-            below: Vec::with_capacity(alloc, depth)?,
+            below,
             words,
             room_frames: depth,
             room_words,
         })
     }
 
+    /// The memory of all frames, which are dropped.
+    pub fn into_memory(self) -> FrameMemory {
+        let Frames {
+            top: _top,
+            mut below,
+            mut words,
+            room_frames: _room_frames,
+            room_words: _room_words,
+        } = self;
+        below.clear();
+        words.clear();
+        FrameMemory { below, words }
+    }
+
     /// Puts an operand on the newest frame's.
+    #[inline(always)]
     #[tactic(auto)]
     pub fn push(&mut self, word: Word) -> Result<(), AllocError>
         ensures stack { OnOk result (self.new.top.stack ≡ word ∷ self.old.top.stack) }
@@ -117,6 +157,7 @@ impl Frames {
     }
 
     /// Takes the newest frame's upper operand.
+    #[inline(always)]
     pub fn pop(&mut self) -> Option<Word>
         ensures stack { MatchOption result ((self.old.top.stack ≡ []) × (self.new.top.stack ≡ [])) (λ word. self.old.top.stack ≡ word ∷ self.new.top.stack) }
         ensures top { self.new.top ≡ with_stack self.old.top self.new.top.stack }
@@ -133,6 +174,7 @@ impl Frames {
     }
 
     /// The local of this number in the newest frame.
+    #[inline(always)]
     pub fn local(&self, number: usize) -> Option<&Word>
         ensures { option_copied result ≡ slice_get self.now.top.locals number }
     {
@@ -143,6 +185,7 @@ impl Frames {
     }
 
     /// Writes a local of the newest frame. Where there is none of this number nothing changes.
+    #[inline(always)]
     #[tactic(auto, using(crate::proofs::Places::written, crate::proofs::Places::stack_stays, crate::proofs::Places::rest_stays))]
     pub fn store(&mut self, number: usize, word: Word)
         ensures top { self.new.top ≡ with_words self.old.top self.new.top.locals self.new.top.stack }
@@ -172,6 +215,7 @@ impl Frames {
     }
 
     /// Sets the line of the newest frame.
+    #[inline(always)]
     pub fn set_line(&mut self, line: usize)
         ensures top { self.new.top ≡ at_line self.old.top line }
         ensures below { self.new.below ≡ self.old.below }
@@ -182,6 +226,7 @@ impl Frames {
     }
 
     /// Sets how many turns the newest frame has had.
+    #[inline(always)]
     pub fn set_turns(&mut self, turns: u64)
         ensures top { self.new.top ≡ with_turns self.old.top turns }
         ensures below { self.new.below ≡ self.old.below }
@@ -192,6 +237,7 @@ impl Frames {
     }
 
     /// The function of the newest frame.
+    #[inline(always)]
     pub fn fun(&self) -> u32
         ensures { result ≡ self.now.top.fun }
     {
@@ -199,6 +245,7 @@ impl Frames {
     }
 
     /// In which text the function of the newest frame stands.
+    #[inline(always)]
     pub fn text(&self) -> Owner
         ensures { result ≡ self.now.top.text }
     {
@@ -206,6 +253,7 @@ impl Frames {
     }
 
     /// The function of this number, in the code of the newest frame's text. The prelude has no code yet.
+    #[inline(always)]
     pub fn function_at<'c>(&self, code: &'c LinkedCode, number: u32) -> Option<&'c FunCode>
         ensures { option_copied result ≡ slice_get (code_in (codes_of code.now.functions) self.now.top.text) number }
     {
@@ -227,6 +275,7 @@ impl Frames {
     }
 
     /// The line of the newest frame.
+    #[inline(always)]
     pub fn line(&self) -> usize
         ensures { result ≡ self.now.top.line }
     {
@@ -234,6 +283,7 @@ impl Frames {
     }
 
     /// How many turns the newest frame has had.
+    #[inline(always)]
     pub fn turns(&self) -> u64
         ensures { result ≡ self.now.top.turns }
     {
@@ -241,6 +291,7 @@ impl Frames {
     }
 
     /// How many frames there are below the newest one.
+    #[inline(always)]
     #[tactic(auto, using(crate::proofs::Places::frames_below))]
     pub fn depth(&self) -> usize
         ensures { result ≡ depth_of self.now.below }
@@ -269,6 +320,7 @@ impl Frames {
     }
 
     /// Whether the newest frame has so many operands.
+    #[inline(always)]
     #[tactic(auto, using(crate::proofs::Entering::height_is))]
     pub fn has(&self, count: usize) -> bool
         ensures { result ≡ nat_le count (length self.now.top.stack) }
@@ -277,6 +329,7 @@ impl Frames {
     }
 
     /// The words are those of the frames: nothing else lies among them. (This does nothing. Its contract is a law.)
+    #[inline(always)]
     #[tactic(auto, using(crate::proofs::Places::all_counted))]
     pub fn are_counted(&self)
         ensures { self.now.count ≡ words_in (self.now.top ∷ self.now.below) }

@@ -17,6 +17,7 @@ use object_heap::Which;
 use pl_code::Numbered;
 
 /// An instruction with a number.
+#[inline(always)]
 #[tactic(auto, using(crate::proofs::Rows::no_int))]
 pub fn numbered(
     run: &mut Configuration,
@@ -37,24 +38,25 @@ pub fn numbered(
         Numbered::IfZero => match pop_int(&mut run.frames) {
             Some(0) => run.goes_to(number),
             Some(_) => run.goes_on(),
-            None => Step::Ends(RunEnd::Stuck),
+            None => Step::Stuck,
         },
         Numbered::IfNotZero => match pop_int(&mut run.frames) {
             Some(0) => run.goes_on(),
             Some(_) => run.goes_to(number),
-            None => Step::Ends(RunEnd::Stuck),
+            None => Step::Stuck,
         },
         Numbered::IfNull => jump_if_null(run, number),
         Numbered::Loop => match run.frames.function_at(code, run.frames.fun()) {
             Some(function) => repeat(run, code, limits, function.loops, number),
-            None => Step::Ends(RunEnd::Stuck),
+            None => Step::Stuck,
         },
         Numbered::Call => call(run, code, limits, number),
-        _ => Step::Ends(RunEnd::Stuck),
+        _ => Step::Stuck,
     }
 }
 
 // The local of this number goes on the stack. A copy of a text takes memory.
+#[inline(always)]
 fn load(run: &mut Configuration, number: u32) -> Step
     ensures exact { Comes (on_local (slice_get run.old.frames.top.locals number) (λ word. to_line run.old.frames.top run.old.frames.below (world_of run.old.world) (suc run.old.frames.top.line) (word ∷ run.old.frames.top.stack))) result run.new }
     ensures memory { run.old.frames.count < run.old.frames.words → LocalBare (slice_get run.old.frames.top.locals number) → suc run.old.frames.top.line < 2 ^ 64 → HasMemory result }
@@ -65,10 +67,11 @@ fn load(run: &mut Configuration, number: u32) -> Step
             Ok(word) => run.push(word),
             Err(_) => Step::NoMemory,
         },
-        None => Step::Ends(RunEnd::Stuck),
+        None => Step::Stuck,
     }
 }
 
+#[inline(always)]
 fn store(run: &mut Configuration, number: u32) -> Step
     ensures exact { Comes (on_top run.old.frames.top.stack (λ word stack. Goes (record { top = record { text = run.old.frames.top.text; fun = run.old.frames.top.fun; line = suc run.old.frames.top.line; locals = slice_set run.old.frames.top.locals number word; stack = stack; turns = run.old.frames.top.turns; due = run.old.frames.top.due }; below = run.old.frames.below; world = world_of run.old.world }))) result run.new }
     ensures memory { suc run.old.frames.top.line < 2 ^ 64 → HasMemory result }
@@ -79,11 +82,12 @@ fn store(run: &mut Configuration, number: u32) -> Step
             run.frames.store(number as usize, word);
             run.goes_on()
         }
-        None => Step::Ends(RunEnd::Stuck),
+        None => Step::Stuck,
     }
 }
 
 // A turn of a loop where the number on the stack is not 0.
+#[inline(always)]
 fn repeat(
     run: &mut Configuration,
     code: &LinkedCode,
@@ -99,11 +103,12 @@ fn repeat(
     match pop_int(&mut run.frames) {
         Some(0) => run.goes_on(),
         Some(_) => turn(run, code, limits, limited, line),
-        None => Step::Ends(RunEnd::Stuck),
+        None => Step::Stuck,
     }
 }
 
 // A turn of a loop, which goes back to a line. Where the function has a limit of turns, it is tried before the ticks.
+#[inline(always)]
 #[tactic(auto, unfolding(run_state::specs::World::take_turn, run_state::specs::World::pay_tick))]
 fn turn(
     run: &mut Configuration,
@@ -119,10 +124,12 @@ fn turn(
 {
     let turns = run.frames.turns();
     if limited && turns >= limits.loops() {
-        return Step::Ends(RunEnd::Limit(Which::Loop));
+        run.end = RunEnd::Limit(Which::Loop);
+        return Step::Ends;
     }
     if run.world.ticks == 0 {
-        return Step::Ends(RunEnd::Limit(Which::Ticks));
+        run.end = RunEnd::Limit(Which::Ticks);
+        return Step::Ends;
     }
     run.world.ticks -= 1;
     run.frames.set_turns(turns + 1);

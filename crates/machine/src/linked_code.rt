@@ -51,6 +51,7 @@ impl LinkedCode {
     }
 
     /// The function of a number.
+    #[inline(always)]
     pub fn function(&self, number: u32) -> Option<&FunCode>
         ensures { option_copied result ≡ slice_get self.now.functions number }
     {

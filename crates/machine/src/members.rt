@@ -44,7 +44,7 @@ pub fn named(run: &mut Configuration, executable: &Executable, limits: &Rules<'_
             limits,
             member.number(),
         ),
-        _ => Step::Ends(RunEnd::Stuck),
+        _ => Step::Stuck,
     }
 }
 
@@ -78,7 +78,7 @@ fn call_member(
 {
     match words_of(&mut run.frames, &mut run.words, called) {
         Ok(true) => call_with(run, code, limits, number, called),
-        Ok(false) => Step::Ends(RunEnd::Stuck),
+        Ok(false) => Step::Stuck,
         Err(_) => Step::NoMemory,
     }
 }
@@ -161,7 +161,7 @@ fn call_on(
     ensures room { room_of run.new ≡ room_of run.old }
 {
     match receiving {
-        Receiving::Unfit => Step::Ends(RunEnd::Stuck),
+        Receiving::Unfit => Step::Stuck,
         Receiving::OnNull => on_null(run, code, limits, called),
         Receiving::Receives => pay_and_act(run, code, limits, number, called),
         Receiving::Reads => {
@@ -201,7 +201,10 @@ fn pay_and_act(
 {
     match pay_member(&mut run.world, run.frames.text(), number) {
         Ok(None) => act(run, code, limits, number, called),
-        Ok(Some(which)) => Step::Ends(RunEnd::Limit(which)),
+        Ok(Some(which)) => {
+            run.end = RunEnd::Limit(which);
+            Step::Ends
+        }
         Err(_) => Step::NoMemory,
     }
 }
@@ -221,6 +224,6 @@ fn act(
 {
     match member_calls::call(number, &mut run.world.heap, run.values.as_slice()) {
         Some(answer) => answered_as(run, code, limits, &called.result, answer),
-        None => Step::Ends(RunEnd::Stuck),
+        None => Step::Stuck,
     }
 }

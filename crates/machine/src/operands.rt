@@ -11,7 +11,7 @@ ghost use Rattle.machine.specs.Sparing.{CopySpares, OneBare, PlainSpares, TwoBar
 ghost use Rattle.machine.specs.Memory.{HasMemory, IsCopied};
 
 use crate::calls::ret;
-use crate::configuration::{Configuration, RunEnd, Step};
+use crate::configuration::{Configuration, Step};
 use crate::copies::copy_of;
 use crate::frames::Frames;
 use crate::linked_code::LinkedCode;
@@ -24,6 +24,7 @@ use object_values::Value;
 use pl_code::Plain;
 
 /// An instruction without operands.
+#[inline(always)]
 #[tactic(auto, using(crate::proofs::Rows::no_int, crate::proofs::Rows::no_long))]
 pub fn plain(run: &mut Configuration, code: &LinkedCode, limits: &Rules<'_>, kind: Plain) -> Step
     ensures exact { Comes (plain_act (codes_of code.now.functions) (limits_in limits.now) kind run.old.frames.top run.old.frames.below (world_of run.old.world)) result run.new }
@@ -34,23 +35,23 @@ pub fn plain(run: &mut Configuration, code: &LinkedCode, limits: &Rules<'_>, kin
         Plain::Null => run.push(Word::R(Value::Null)),
         Plain::IntToLong => match pop_int(&mut run.frames) {
             Some(a) => run.push(Word::J(i64::from(a))),
-            None => Step::Ends(RunEnd::Stuck),
+            None => Step::Stuck,
         },
         Plain::LongToInt => match pop_long(&mut run.frames) {
             Some(a) => run.push(Word::I(low_int(a))),
-            None => Step::Ends(RunEnd::Stuck),
+            None => Step::Stuck,
         },
         Plain::IntToByte => match pop_int(&mut run.frames) {
             Some(a) => run.push(Word::I(i32::from(low_byte(a)))),
-            None => Step::Ends(RunEnd::Stuck),
+            None => Step::Stuck,
         },
         Plain::IntToShort => match pop_int(&mut run.frames) {
             Some(a) => run.push(Word::I(i32::from(low_short(a)))),
-            None => Step::Ends(RunEnd::Stuck),
+            None => Step::Stuck,
         },
         Plain::IntToChar => match pop_int(&mut run.frames) {
             Some(a) => run.push(Word::I(i32::from(low_char(a)))),
-            None => Step::Ends(RunEnd::Stuck),
+            None => Step::Stuck,
         },
         Plain::Ret => ret(run, code, limits),
         Plain::Concat => pair(run, code, limits, Pairing::Concat),
@@ -62,6 +63,7 @@ pub fn plain(run: &mut Configuration, code: &LinkedCode, limits: &Rules<'_>, kin
 }
 
 /// Takes an int off a stack. What is left where there is none is of no account.
+#[inline(always)]
 pub fn pop_int(frames: &mut Frames) -> Option<i32>
     ensures stack { MatchOption result (int_of frames.old.top.stack ≡ None) (λ a. frames.old.top.stack ≡ I a ∷ frames.new.top.stack) }
     ensures room { frames.old.count ≤ frames.old.words → MatchOption result (Unit {0}) (λ a. frames.new.count < frames.new.words) }
@@ -74,6 +76,7 @@ pub fn pop_int(frames: &mut Frames) -> Option<i32>
 }
 
 /// Takes a long off a stack. What is left where there is none is of no account.
+#[inline(always)]
 pub fn pop_long(frames: &mut Frames) -> Option<i64>
     ensures stack { MatchOption result (long_of frames.old.top.stack ≡ None) (λ a. frames.old.top.stack ≡ J a ∷ frames.new.top.stack) }
     ensures room { frames.old.count ≤ frames.old.words → MatchOption result (Unit {0}) (λ a. frames.new.count < frames.new.words) }
@@ -101,7 +104,7 @@ fn copy(run: &mut Configuration, kind: Plain) -> Step
 {
     match copied(&mut run.frames, kind) {
         Copying::Done => run.goes_on(),
-        Copying::Stuck => Step::Ends(RunEnd::Stuck),
+        Copying::Stuck => Step::Stuck,
         Copying::NoMemory => Step::NoMemory,
     }
 }
@@ -121,6 +124,7 @@ fn copied(frames: &mut Frames, kind: Plain) -> Copying
     }
 }
 
+#[inline(always)]
 fn pop(frames: &mut Frames) -> Copying
     ensures stack { Copies (spec.copied plains.Pop frames.old.top.stack) frames.new.top.stack result }
     ensures memory { IsCopied result }

@@ -1,7 +1,7 @@
 //! Operators on numbers.
-ghost use Rattle.std.specs.Prelude.{◌≡◌, ◌≤◌, ◌<◌, ◌^◌, suc};
+ghost use Rattle.std.specs.Prelude.{◌≡◌, ◌≤◌, ◌<◌, ◌^◌, Some, suc};
 ghost use Rattle.std.specs.Int.{w32, w64};
-ghost use Rattle.arithmetic.specs.Operators.{of_type, as_long};
+ghost use Rattle.arithmetic.specs.Operators.{of_type, some_of, truth};
 ghost use Rattle.arithmetic.specs.declared.operator.Num.TheVariants as n;
 ghost use Rattle.code_meaning.specs.Machine.{on_calculation};
 ghost use Rattle.code_meaning.specs.Words as words;
@@ -11,13 +11,14 @@ ghost use Rattle.machine.specs.Rows.{CalculatesTo, calculated_of};
 ghost use Rattle.machine.specs.Sparing.{NoZero};
 ghost use Rattle.machine.specs.Memory.{HasMemory, HasRoom};
 
-use crate::configuration::{Configuration, RunEnd, Step};
+use crate::configuration::{Configuration, Step};
 use crate::frames::Frames;
 use crate::linked_code::LinkedCode;
 use crate::operands::{pop_int, pop_long};
 use crate::rules::Rules;
 use crate::throwing::throw_zero_divisor;
-use arithmetic::{Num, Op, arith};
+use arithmetic::casts::low_int;
+use arithmetic::{Num, int, long};
 use code_meaning::Word;
 use pl_code::{ArithmeticOp, Width};
 
@@ -31,6 +32,7 @@ pub enum Operated {
 }
 
 /// An operator on numbers of a width.
+#[inline(always)]
 pub fn arithmetic(
     run: &mut Configuration,
     code: &LinkedCode,
@@ -43,12 +45,13 @@ pub fn arithmetic(
     ensures room { room_of run.new ≡ room_of run.old }
 {
     match calculated(&mut run.frames, op, width) {
-        Operated::NoRow => Step::Ends(RunEnd::Stuck),
+        Operated::NoRow => Step::Stuck,
         Operated::Number(number) => run.push(word_of(number)),
         Operated::ZeroDivisor => throw_zero_divisor(run, code, limits),
     }
 }
 
+#[inline(always)]
 fn word_of(number: Num) -> Word
     ensures { result ≡ words.word_of number }
 {
@@ -58,6 +61,7 @@ fn word_of(number: Num) -> Word
     }
 }
 
+#[inline(always)]
 fn calculated(frames: &mut Frames, op: ArithmeticOp, width: Width) -> Operated
     ensures stack { CalculatesTo (words.calculation op width frames.old.top.stack) frames.new.top.stack result }
     ensures room { frames.old.count ≤ frames.old.words → HasRoom result frames.new }
@@ -69,38 +73,42 @@ fn calculated(frames: &mut Frames, op: ArithmeticOp, width: Width) -> Operated
     }
 }
 
+#[inline(always)]
 fn ints(frames: &mut Frames, op: ArithmeticOp) -> Operated
     ensures stack { CalculatesTo (words.ints_of op frames.old.top.stack) frames.new.top.stack result }
     ensures room { frames.old.count ≤ frames.old.words → HasRoom result frames.new }
     ensures only { OnlyStack frames.old frames.new }
 {
     if takes_one(op) {
-        one_int(frames, op_of(op))
+        one_int(frames, op)
     } else {
-        two_ints(frames, op_of(op))
+        two_ints(frames, op)
     }
 }
 
+#[inline(always)]
 fn longs(frames: &mut Frames, op: ArithmeticOp) -> Operated
     ensures stack { CalculatesTo (words.longs_of op frames.old.top.stack) frames.new.top.stack result }
     ensures room { frames.old.count ≤ frames.old.words → HasRoom result frames.new }
     ensures only { OnlyStack frames.old frames.new }
 {
     if takes_one(op) {
-        one_long(frames, op_of(op))
+        one_long(frames, op)
     } else if is_shift(op) {
-        long_and_int(frames, op_of(op))
+        long_and_int(frames, op)
     } else {
-        two_longs(frames, op_of(op))
+        two_longs(frames, op)
     }
 }
 
+#[inline(always)]
 fn takes_one(op: ArithmeticOp) -> bool
     ensures { result ≡ words.takes_one op }
 {
     matches!(op, ArithmeticOp::Neg | ArithmeticOp::Not)
 }
 
+#[inline(always)]
 fn is_shift(op: ArithmeticOp) -> bool
     ensures { result ≡ words.is_shift op }
 {
@@ -110,9 +118,10 @@ fn is_shift(op: ArithmeticOp) -> bool
     )
 }
 
+#[inline(always)]
 #[tactic(auto, using(crate::proofs::Rows::not_one_int))]
-fn one_int(frames: &mut Frames, op: Op) -> Operated
-    ensures stack { CalculatesTo (words.one_int op frames.old.top.stack) frames.new.top.stack result }
+fn one_int(frames: &mut Frames, op: ArithmeticOp) -> Operated
+    ensures stack { CalculatesTo (words.one_int (words.op_of op) frames.old.top.stack) frames.new.top.stack result }
     ensures room { frames.old.count ≤ frames.old.words → HasRoom result frames.new }
     ensures only { OnlyStack frames.old frames.new }
 {
@@ -122,9 +131,10 @@ fn one_int(frames: &mut Frames, op: Op) -> Operated
     }
 }
 
+#[inline(always)]
 #[tactic(auto, using(crate::proofs::Rows::not_two_ints, crate::proofs::Rows::one_of_two_ints))]
-fn two_ints(frames: &mut Frames, op: Op) -> Operated
-    ensures stack { CalculatesTo (words.two_ints op frames.old.top.stack) frames.new.top.stack result }
+fn two_ints(frames: &mut Frames, op: ArithmeticOp) -> Operated
+    ensures stack { CalculatesTo (words.two_ints (words.op_of op) frames.old.top.stack) frames.new.top.stack result }
     ensures room { frames.old.count ≤ frames.old.words → HasRoom result frames.new }
     ensures only { OnlyStack frames.old frames.new }
 {
@@ -137,48 +147,52 @@ fn two_ints(frames: &mut Frames, op: Op) -> Operated
     }
 }
 
+#[inline(always)]
 #[tactic(auto, using(crate::proofs::Rows::not_one_long))]
-fn one_long(frames: &mut Frames, op: Op) -> Operated
-    ensures stack { CalculatesTo (words.one_long op frames.old.top.stack) frames.new.top.stack result }
+fn one_long(frames: &mut Frames, op: ArithmeticOp) -> Operated
+    ensures stack { CalculatesTo (words.one_long (words.op_of op) frames.old.top.stack) frames.new.top.stack result }
     ensures room { frames.old.count ≤ frames.old.words → HasRoom result frames.new }
     ensures only { OnlyStack frames.old frames.new }
 {
     match pop_long(frames) {
-        Some(a) => given(on_longs(op, a, Num::Long(a))),
+        Some(a) => given(on_longs(op, a, a)),
         None => Operated::NoRow,
     }
 }
 
+#[inline(always)]
 #[tactic(auto, using(crate::proofs::Rows::no_shift, crate::proofs::Rows::half_shift))]
-fn long_and_int(frames: &mut Frames, op: Op) -> Operated
-    ensures stack { CalculatesTo (words.long_and_int op frames.old.top.stack) frames.new.top.stack result }
+fn long_and_int(frames: &mut Frames, op: ArithmeticOp) -> Operated
+    ensures stack { CalculatesTo (words.long_and_int (words.op_of op) frames.old.top.stack) frames.new.top.stack result }
     ensures room { frames.old.count ≤ frames.old.words → HasRoom result frames.new }
     ensures only { OnlyStack frames.old frames.new }
 {
     match pop_int(frames) {
         Some(b) => match pop_long(frames) {
-            Some(a) => given(on_longs(op, a, Num::Int(b))),
+            Some(a) => given(on_longs(op, a, i64::from(b))),
             None => Operated::NoRow,
         },
         None => Operated::NoRow,
     }
 }
 
+#[inline(always)]
 #[tactic(auto, using(crate::proofs::Rows::not_two_longs, crate::proofs::Rows::one_of_two_longs))]
-fn two_longs(frames: &mut Frames, op: Op) -> Operated
-    ensures stack { CalculatesTo (words.two_longs op frames.old.top.stack) frames.new.top.stack result }
+fn two_longs(frames: &mut Frames, op: ArithmeticOp) -> Operated
+    ensures stack { CalculatesTo (words.two_longs (words.op_of op) frames.old.top.stack) frames.new.top.stack result }
     ensures room { frames.old.count ≤ frames.old.words → HasRoom result frames.new }
     ensures only { OnlyStack frames.old frames.new }
 {
     match pop_long(frames) {
         Some(b) => match pop_long(frames) {
-            Some(a) => given(on_longs(op, a, Num::Long(b))),
+            Some(a) => given(on_longs(op, a, b)),
             None => Operated::NoRow,
         },
         None => Operated::NoRow,
     }
 }
 
+#[inline(always)]
 fn given(number: Option<Num>) -> Operated
     ensures { result ≡ calculated_of number }
 {
@@ -188,49 +202,89 @@ fn given(number: Option<Num>) -> Operated
     }
 }
 
-#[tactic(auto, using(crate::proofs::Numbers::of_ints))]
-fn on_ints(op: Op, a: i32, b: i32) -> Option<Num>
-    ensures { result ≡ of_type n.Int w32 op a b }
+#[inline(always)]
+fn truth_of(holds: bool) -> Option<Num>
+    ensures { result ≡ Some (truth holds) }
 {
-    match arith(op, Num::Int(a), Num::Int(b)) {
-        Ok(number) => Some(number),
-        Err(_) => None,
+    if holds {
+        Some(Num::Int(1))
+    } else {
+        Some(Num::Int(0))
     }
 }
 
-// The right operand of a shift is an int.
-#[tactic(auto, using(crate::proofs::Numbers::of_longs))]
-fn on_longs(op: Op, a: i64, b: Num) -> Option<Num>
-    ensures { result ≡ of_type n.Long w64 op a (as_long b) }
+#[inline(always)]
+fn some_int(number: Option<i32>) -> Option<Num>
+    ensures { result ≡ some_of n.Int number }
 {
-    match arith(op, Num::Long(a), b) {
-        Ok(number) => Some(number),
-        Err(_) => None,
+    match number {
+        Some(number) => Some(Num::Int(number)),
+        None => None,
     }
 }
 
-fn op_of(op: ArithmeticOp) -> Op
-    ensures { result ≡ words.op_of op }
+#[inline(always)]
+fn some_long(number: Option<i64>) -> Option<Num>
+    ensures { result ≡ some_of n.Long number }
+{
+    match number {
+        Some(number) => Some(Num::Long(number)),
+        None => None,
+    }
+}
+
+// An operator on ints. The operator is chosen here alone.
+#[inline(always)]
+fn on_ints(op: ArithmeticOp, a: i32, b: i32) -> Option<Num>
+    ensures { result ≡ of_type n.Int w32 (words.op_of op) a b }
 {
     match op {
-        ArithmeticOp::Add => Op::Add,
-        ArithmeticOp::Sub => Op::Sub,
-        ArithmeticOp::Mul => Op::Mul,
-        ArithmeticOp::Div => Op::Div,
-        ArithmeticOp::Rem => Op::Rem,
-        ArithmeticOp::And => Op::And,
-        ArithmeticOp::Or => Op::Or,
-        ArithmeticOp::Xor => Op::Xor,
-        ArithmeticOp::Neg => Op::Neg,
-        ArithmeticOp::Not => Op::Not,
-        ArithmeticOp::Shl => Op::Shl,
-        ArithmeticOp::Shr => Op::Shr,
-        ArithmeticOp::Ushr => Op::Ushr,
-        ArithmeticOp::Lt => Op::Lt,
-        ArithmeticOp::Le => Op::Le,
-        ArithmeticOp::Gt => Op::Gt,
-        ArithmeticOp::Ge => Op::Ge,
-        ArithmeticOp::Eq => Op::Eq,
-        ArithmeticOp::Ne => Op::Ne,
+        ArithmeticOp::Add => Some(Num::Int(int::sum(a, b))),
+        ArithmeticOp::Sub => Some(Num::Int(int::difference(a, b))),
+        ArithmeticOp::Mul => Some(Num::Int(int::product(a, b))),
+        ArithmeticOp::Div => some_int(int::quotient(a, b)),
+        ArithmeticOp::Rem => some_int(int::remainder(a, b)),
+        ArithmeticOp::And => Some(Num::Int(int::and(a, b))),
+        ArithmeticOp::Or => Some(Num::Int(int::or(a, b))),
+        ArithmeticOp::Xor => Some(Num::Int(int::xor(a, b))),
+        ArithmeticOp::Neg => Some(Num::Int(int::negation(a))),
+        ArithmeticOp::Not => Some(Num::Int(int::complement(a))),
+        ArithmeticOp::Shl => Some(Num::Int(int::left_shift(a, b))),
+        ArithmeticOp::Shr => Some(Num::Int(int::right_shift(a, b))),
+        ArithmeticOp::Ushr => Some(Num::Int(int::unsigned_shift(a, b))),
+        ArithmeticOp::Lt => truth_of(a < b),
+        ArithmeticOp::Le => truth_of(a <= b),
+        ArithmeticOp::Gt => truth_of(b < a),
+        ArithmeticOp::Ge => truth_of(b <= a),
+        ArithmeticOp::Eq => truth_of(a == b),
+        ArithmeticOp::Ne => truth_of(a != b),
+    }
+}
+
+// An operator on longs. The right operand of a shift is an int, and is cast to one.
+#[inline(always)]
+fn on_longs(op: ArithmeticOp, a: i64, b: i64) -> Option<Num>
+    ensures { result ≡ of_type n.Long w64 (words.op_of op) a b }
+{
+    match op {
+        ArithmeticOp::Add => Some(Num::Long(long::sum(a, b))),
+        ArithmeticOp::Sub => Some(Num::Long(long::difference(a, b))),
+        ArithmeticOp::Mul => Some(Num::Long(long::product(a, b))),
+        ArithmeticOp::Div => some_long(long::quotient(a, b)),
+        ArithmeticOp::Rem => some_long(long::remainder(a, b)),
+        ArithmeticOp::And => Some(Num::Long(long::and(a, b))),
+        ArithmeticOp::Or => Some(Num::Long(long::or(a, b))),
+        ArithmeticOp::Xor => Some(Num::Long(long::xor(a, b))),
+        ArithmeticOp::Neg => Some(Num::Long(long::negation(a))),
+        ArithmeticOp::Not => Some(Num::Long(long::complement(a))),
+        ArithmeticOp::Shl => Some(Num::Long(long::left_shift(a, low_int(b)))),
+        ArithmeticOp::Shr => Some(Num::Long(long::right_shift(a, low_int(b)))),
+        ArithmeticOp::Ushr => Some(Num::Long(long::unsigned_shift(a, low_int(b)))),
+        ArithmeticOp::Lt => truth_of(a < b),
+        ArithmeticOp::Le => truth_of(a <= b),
+        ArithmeticOp::Gt => truth_of(b < a),
+        ArithmeticOp::Ge => truth_of(b <= a),
+        ArithmeticOp::Eq => truth_of(a == b),
+        ArithmeticOp::Ne => truth_of(a != b),
     }
 }

@@ -7,7 +7,7 @@ ghost use Rattle.machine.specs.Sparing.{OnReference, OnValues};
 ghost use Rattle.machine.specs.Memory.{HasMemory, PairSpares};
 ghost use Rattle.machine.specs.Rows.{null_in, on_pair, on_references, paired, text_act};
 
-use crate::configuration::{Configuration, RunEnd, Step};
+use crate::configuration::{Configuration, Step};
 use crate::linked_code::LinkedCode;
 use crate::rules::Rules;
 use crate::throwing::{answered, answered_whole};
@@ -31,7 +31,7 @@ pub fn quoted(
 {
     match kind {
         Quoting::Constant => constant(run, text),
-        _ => Step::Ends(RunEnd::Stuck),
+        _ => Step::Stuck,
     }
 }
 
@@ -65,9 +65,9 @@ pub fn pair(run: &mut Configuration, code: &LinkedCode, limits: &Rules<'_>, kind
     match run.frames.pop() {
         Some(upper) => match run.frames.pop() {
             Some(lower) => pair_words(run, code, limits, kind, &lower, &upper),
-            None => Step::Ends(RunEnd::Stuck),
+            None => Step::Stuck,
         },
-        None => Step::Ends(RunEnd::Stuck),
+        None => Step::Stuck,
     }
 }
 
@@ -87,9 +87,9 @@ fn pair_words(
     match upper {
         Word::R(b) => match lower {
             Word::R(a) => pair_values(run, code, limits, kind, a, b),
-            _ => Step::Ends(RunEnd::Stuck),
+            _ => Step::Stuck,
         },
-        _ => Step::Ends(RunEnd::Stuck),
+        _ => Step::Stuck,
     }
 }
 
@@ -128,9 +128,9 @@ pub fn jump_if_null(run: &mut Configuration, line: u32) -> Step
         Some(word) => match null_in(&word) {
             Some(true) => run.goes_to(line),
             Some(false) => run.goes_on(),
-            None => Step::Ends(RunEnd::Stuck),
+            None => Step::Stuck,
         },
-        None => Step::Ends(RunEnd::Stuck),
+        None => Step::Stuck,
     }
 }
 

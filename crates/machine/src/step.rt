@@ -8,7 +8,7 @@ ghost use Rattle.machine.specs.Sparing.{InstructionSpares, Spares};
 ghost use Rattle.machine.specs.Runs.{CountsFit};
 
 use crate::boxes::{box_number, unbox};
-use crate::configuration::{Configuration, RunEnd, Step};
+use crate::configuration::{Configuration, Step};
 use crate::executable::Executable;
 use crate::jumps::numbered;
 use crate::members::named;
@@ -21,6 +21,7 @@ use code_meaning::Word;
 use pl_code::Instruction;
 
 /// Does the instruction at the line of the newest frame.
+#[inline(always)]
 pub fn step(run: &mut Configuration, executable: &Executable, limits: &Rules<'_>) -> Step
     requires allowed { limits.now.allowed ≡ executable.now.allow }
     requires counts { CountsFit (configuration_of run.old) }
@@ -30,10 +31,11 @@ pub fn step(run: &mut Configuration, executable: &Executable, limits: &Rules<'_>
 {
     match executable.instruction(&run.frames) {
         Some(instruction) => execute(run, executable, limits, instruction),
-        None => Step::Ends(RunEnd::Stuck),
+        None => Step::Stuck,
     }
 }
 
+#[inline(always)]
 fn execute(
     run: &mut Configuration,
     executable: &Executable,
@@ -62,6 +64,6 @@ fn execute(
         Instruction::Invoke(_) => named(run, executable, limits),
         Instruction::New(_) => named(run, executable, limits),
         Instruction::Field(_) => named(run, executable, limits),
-        _ => Step::Ends(RunEnd::Stuck),
+        _ => Step::Stuck,
     }
 }

@@ -44,7 +44,10 @@ pub fn answered(
     match answer {
         Answer::Value(value) => run.push(unboxed(value)),
         Answer::Thrown(id) => unwind(run, code, id),
-        Answer::Room => Step::Ends(RunEnd::Limit(Which::Room)),
+        Answer::Room => {
+            run.end = RunEnd::Limit(Which::Room);
+            Step::Ends
+        }
         Answer::NoMemory => Step::NoMemory,
     }
 }
@@ -63,7 +66,10 @@ pub fn answered_whole(
     match answer {
         Answer::Value(value) => run.push(Word::R(value)),
         Answer::Thrown(id) => unwind(run, code, id),
-        Answer::Room => Step::Ends(RunEnd::Limit(Which::Room)),
+        Answer::Room => {
+            run.end = RunEnd::Limit(Which::Room);
+            Step::Ends
+        }
         Answer::NoMemory => Step::NoMemory,
     }
 }
@@ -84,7 +90,10 @@ pub fn answered_as(
     match answer {
         Answer::Value(value) => run.push(given_as(of, value)),
         Answer::Thrown(id) => unwind(run, code, id),
-        Answer::Room => Step::Ends(RunEnd::Limit(Which::Room)),
+        Answer::Room => {
+            run.end = RunEnd::Limit(Which::Room);
+            Step::Ends
+        }
         Answer::NoMemory => Step::NoMemory,
     }
 }
@@ -152,7 +161,7 @@ pub fn throw_top(run: &mut Configuration, code: &LinkedCode, limits: &Rules<'_>)
 {
     match run.frames.pop() {
         Some(word) => throw_word(run, code, limits, &word),
-        None => Step::Ends(RunEnd::Stuck),
+        None => Step::Stuck,
     }
 }
 
@@ -167,7 +176,7 @@ fn throw_word(run: &mut Configuration, code: &LinkedCode, limits: &Rules<'_>, wo
             let answer = throw_value(&mut run.world.heap, value);
             answered_throw(run, code, limits, answer)
         }
-        _ => Step::Ends(RunEnd::Stuck),
+        _ => Step::Stuck,
     }
 }
 
@@ -183,9 +192,12 @@ fn answered_throw(
     ensures room { room_of run.new ≡ room_of run.old }
 {
     match answer {
-        Answer::Value(_value) => Step::Ends(RunEnd::Stuck),
+        Answer::Value(_value) => Step::Stuck,
         Answer::Thrown(id) => unwind(run, code, id),
-        Answer::Room => Step::Ends(RunEnd::Limit(Which::Room)),
+        Answer::Room => {
+            run.end = RunEnd::Limit(Which::Room);
+            Step::Ends
+        }
         Answer::NoMemory => Step::NoMemory,
     }
 }
@@ -202,7 +214,8 @@ fn unwind(run: &mut Configuration, code: &LinkedCode, id: u32) -> Step
             Some(line) => return land(run, line, id),
             None => {
                 if !run.frames.leave() {
-                    return Step::Ends(RunEnd::Thrown(id));
+                    run.end = RunEnd::Thrown(id);
+                    return Step::Ends;
                 }
             }
         }

@@ -14,7 +14,7 @@ ghost use Rattle.machine.specs.Memory.{HasMemory};
 ghost use Rattle.machine.specs.Seen.{Comes, room_of, with_stack, world_of, codes_of, limits_in};
 
 use crate::boxes::is_written;
-use crate::configuration::{Configuration, RunEnd, Step};
+use crate::configuration::{Configuration, Step};
 use crate::executable::{Executable, Link};
 use crate::linked_code::LinkedCode;
 use crate::rules::Rules;
@@ -32,7 +32,7 @@ pub fn cast(run: &mut Configuration, executable: &Executable, limits: &Rules<'_>
 {
     match executable.link(&run.frames) {
         Some(Link::Type(to)) => cast_top(run, executable.linked(), limits, to, way),
-        _ => Step::Ends(RunEnd::Stuck),
+        _ => Step::Stuck,
     }
 }
 
@@ -49,7 +49,7 @@ fn cast_top(
 {
     match run.frames.pop() {
         Some(word) => cast_word(run, code, limits, &word, to, way),
-        None => Step::Ends(RunEnd::Stuck),
+        None => Step::Stuck,
     }
 }
 
@@ -72,7 +72,7 @@ fn cast_word(
             let answer = to_type(&mut run.world.heap, value, to, is_written(way));
             answered_whole(run, code, limits, answer)
         }
-        _ => Step::Ends(RunEnd::Stuck),
+        _ => Step::Stuck,
     }
 }
 
@@ -89,7 +89,7 @@ pub fn typed(
 {
     match executable.link(&run.frames) {
         Some(Link::Type(of)) => typed_by(run, executable.linked(), limits, kind, of),
-        _ => Step::Ends(RunEnd::Stuck),
+        _ => Step::Stuck,
     }
 }
 
@@ -106,7 +106,7 @@ fn typed_by(
 {
     match kind {
         Typed::IsA => instance(run, of),
-        _ => Step::Ends(RunEnd::Stuck),
+        _ => Step::Stuck,
     }
 }
 
@@ -118,7 +118,7 @@ fn instance(run: &mut Configuration, of: &Ty) -> Step
 {
     match run.frames.pop() {
         Some(word) => instance_word(run, &word, of),
-        None => Step::Ends(RunEnd::Stuck),
+        None => Step::Stuck,
     }
 }
 
@@ -133,6 +133,6 @@ fn instance_word(run: &mut Configuration, word: &Word, of: &Ty) -> Step
             let is = is_instance(&run.world.heap, value, of);
             run.push(Word::I(i32::from(is)))
         }
-        _ => Step::Ends(RunEnd::Stuck),
+        _ => Step::Stuck,
     }
 }

@@ -2,7 +2,7 @@
 ghost use Rattle.std.specs.Prelude.{◌≡◌, ◌<◌, [], ◌∷◌, ◌++◌, length, OnOk, IsOk, IfOk};
 
 use object_values::Value;
-use std::alloc::{AllocError, Global};
+use std::alloc::AllocError;
 use std::marker::Model;
 
 /// The arguments of a call in order, which contracts see as their list, with how many there is memory for.
@@ -29,15 +29,25 @@ impl Model for Values {
 }
 
 impl Values {
-    /// No arguments, and memory for so many.
-    pub fn with_room(alloc: Global, room: usize) -> Result<Values, AllocError>
+    /// No arguments, and memory for so many: that of these, which are dropped, and what it lacks is taken.
+    pub fn with_room(items: Vec<Value>, room: usize) -> Result<Values, AllocError>
         ensures empty { IfOk result (λ values. values.items ≡ []) }
         ensures room { IfOk result (λ values. values.room ≡ room) }
     {
-        Ok(Values {
-            items: Vec::with_capacity(alloc, room)?,
-            room,
-        })
+        let mut items = items;
+        items.clear();
+        items.reserve(room)?;
+        Ok(Values { items, room })
+    }
+
+    /// The memory of the arguments, which are dropped.
+    pub fn into_memory(self) -> Vec<Value> {
+        let Values {
+            mut items,
+            room: _room,
+        } = self;
+        items.clear();
+        items
     }
 
     pub fn as_slice(&self) -> &[Value]

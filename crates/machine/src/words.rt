@@ -2,7 +2,7 @@
 ghost use Rattle.std.specs.Prelude.{◌≡◌, ◌≤◌, ◌<◌, [], ◌∷◌, length, MatchOption, OnOk, IsOk, IfOk};
 
 use code_meaning::Word;
-use std::alloc::{AllocError, Global};
+use std::alloc::AllocError;
 use std::marker::Model;
 
 /// Words, the top first, which contracts see as their list from the top down, with how many there is memory for.
@@ -29,15 +29,25 @@ impl Model for Words {
 }
 
 impl Words {
-    /// No words, and memory for so many words.
-    pub fn with_room(alloc: Global, room: usize) -> Result<Words, AllocError>
+    /// No words, and memory for so many: that of these, which are dropped, and what it lacks is taken.
+    pub fn with_room(items: Vec<Word>, room: usize) -> Result<Words, AllocError>
         ensures empty { IfOk result (λ words. words.items ≡ []) }
         ensures room { IfOk result (λ words. words.room ≡ room) }
     {
-        Ok(Words {
-            items: Vec::with_capacity(alloc, room)?,
-            room,
-        })
+        let mut items = items;
+        items.clear();
+        items.reserve(room)?;
+        Ok(Words { items, room })
+    }
+
+    /// The memory of the words, which are dropped.
+    pub fn into_memory(self) -> Vec<Word> {
+        let Words {
+            mut items,
+            room: _room,
+        } = self;
+        items.clear();
+        items
     }
 
     /// How many words there are.
