@@ -1,2 +1,7 @@
 mod Fitting
+pub mod Floats
 mod Growing
+mod Naming
+mod Returning
+mod Stepping
+mod Walking

@@ -1,2 +1,4 @@
 pub mod Binding
+pub mod Giving
 pub mod Laws
+pub mod Returning

@@ -1,4 +1,4 @@
-//! Why a JSON value is not bound.
+//! Why a JSON value is not bound, and why a value is not given as JSON.
 
 ghost use Rattle.std.specs.Prelude.{◌≡◌};
 
@@ -22,5 +22,35 @@ impl From<AllocError> for NumErr {
 
     fn from(_error: AllocError) -> NumErr {
         NumErr::NoMemory
+    }
+}
+
+/// Why a value is not given as JSON: the first fault of a walk from the front, and at one node in the order depth, size, kind.
+#[derive(Clone, Copy, Debug, PartialEq, Eq, thiserror::Error)]
+pub enum GiveErr {
+    /// A map has a key that is no text, or two keys of one UTF-8 form.
+    #[error("a key of a map is no name of its own")]
+    Key,
+    /// A value stands deeper than 100, the given one being at depth 1.
+    #[error("a value stands deeper than 100")]
+    Depth,
+    /// There are more than 1,000,000 values; keys of maps are not counted.
+    #[error("there are more than 1,000,000 values")]
+    Size,
+    /// An entry, an iterator, a builder, a function value or an exception has no JSON form.
+    #[error("a value has no JSON form")]
+    Kind,
+    /// Memory ran out.
+    #[error("out of memory")]
+    NoMemory,
+}
+
+impl From<AllocError> for GiveErr {
+    ghost use Rattle.json_bridge.specs.declared.error.GiveErr.TheVariants.{NoMemory};
+
+    ghost from_gives = { λ _ e. e ≡ NoMemory };
+
+    fn from(_error: AllocError) -> GiveErr {
+        GiveErr::NoMemory
     }
 }

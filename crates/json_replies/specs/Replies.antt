@@ -1,20 +1,19 @@
 -- Replies and refusals as JSON, and their lines.
-use Rattle.std.specs.Prelude.{ℕ, ◌++◌, ◌&&◌, Bool, List, [], ◌∷◌, Option, Some, None, codes, is_some, nat_le, nat_lt, if◌then◌else◌, slice_get}
-use Rattle.serde_json.specs.Data.{Data, null, boolean, number, string, object, unsigned, member, no_members}
-use Rattle.serde_json.specs.Find.{get, of_integer}
+use Rattle.std.specs.Prelude.{ℕ, ◌++◌, ◌&&◌, Bool, List, [], ◌∷◌, Option, Some, None, Result, Ok, Err, codes, is_some, nat_le, nat_lt, if◌then◌else◌, slice_get}
+use Rattle.serde_json.specs.Data.{Data, null, number, string, object, unsigned, member, no_members}
+use Rattle.serde_json.specs.Find.{get}
 use Rattle.serde_json.specs.Written.{compact_text}
 use Rattle.pl_units.specs.Utf16.{bytes}
 use Rattle.pl_types.specs.Classes.{short_name}
 use Rattle.pl_types.specs.Refusals.{rule_name}
 use Rattle.pl_types.specs.declared.refusal.Refusal.{Refusal}
-use Rattle.object_values.specs.declared.value.Value.{Value}
-use Rattle.object_values.specs.declared.value.Value.TheVariants as v
 use Rattle.object_values.specs.declared.object.Object.{Object}
 use Rattle.object_values.specs.declared.object.Object.TheVariants as o
 use Rattle.object_heap.specs.declared.outcome.Which.{Which}
 use Rattle.object_heap.specs.declared.outcome.Which.TheVariants as which
 use Rattle.object_heap.specs.declared.outcome.End.{End}
 use Rattle.object_heap.specs.declared.outcome.End.TheVariants as e
+use Rattle.json_bridge.specs.Giving.{Fault, Key, Depth, Size, Kind, given_of}
 
 -- an object with one key
 abbrev pub only : List ℕ → Data → Data
@@ -26,21 +25,17 @@ kind_reply kind = only (codes "error") (only (codes "kind") (string kind))
 
 -- ---- results
 
--- A value as JSON. A char and a text are strings of UTF-8, with U+FFFD for an unpaired surrogate. A reference has no JSON yet.
-abbrev pub json_of : Value → Option Data
-json_of v.Null = Some null
-json_of (v.Bool flag) = Some (boolean flag)
-json_of (v.Byte a) = Some (number (of_integer a))
-json_of (v.Short a) = Some (number (of_integer a))
-json_of (v.Char unit) = Some (string (bytes (unit ∷ [])))
-json_of (v.Int a) = Some (number (of_integer a))
-json_of (v.Long a) = Some (number (of_integer a))
-json_of (v.Str text) = Some (string (bytes text))
-json_of (v.Ref id) = None
+-- the kind of a fault of a result
+abbrev pub fault_kind : Fault → List ℕ
+fault_kind Key = codes "result-key"
+fault_kind Depth = codes "result-depth"
+fault_kind Size = codes "result-size"
+fault_kind Kind = codes "result-kind"
 
-abbrev pub result_reply : Option Data → Data
-result_reply (Some d) = only (codes "result") d
-result_reply None = kind_reply (codes "result-kind")
+-- a result is told by its JSON form, or by the kind of its first fault
+abbrev pub result_reply : Result Data Fault → Data
+result_reply (Ok d) = only (codes "result") d
+result_reply (Err fault) = kind_reply (fault_kind fault)
 
 -- ---- errors
 
@@ -69,7 +64,7 @@ limit_kind which.Room = codes "limit-room"
 
 -- the reply to a run that ended so and left these objects
 abbrev pub reply_of : End → List Object → Data
-reply_of (e.Value value) objects = result_reply (json_of value)
+reply_of (e.Value value) objects = result_reply (given_of objects value)
 reply_of (e.Thrown id) objects = thrown_by (slice_get objects id)
 reply_of (e.Limit which) objects = kind_reply (limit_kind which)
 

@@ -15,7 +15,7 @@ pub fn reply_of(alloc: Global, end: &End, heap: &Heap) -> Result<Json, AllocErro
     ensures { IfOk result (λ reply. view reply ≡ reply_of end.now heap.now.objects) }
 {
     match end {
-        End::Value(value) => result_reply(alloc, value),
+        End::Value(value) => result_reply(alloc, heap, value),
         End::Thrown(id) => thrown_by(alloc, heap.get(*id)),
         End::Limit(which) => kind_reply(alloc, limit_kind(*which)),
     }
