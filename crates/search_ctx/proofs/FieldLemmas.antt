@@ -1,0 +1,45 @@
+-- Fields in a hash table: what an insertion gives, and where a name is found.
+use Rattle.std.proofs.Common.{◌≡◌, ℕ, ◌+◌, Bool, true, false, cond, not, List, [], ◌∷◌, map, length, refl, ap, ◌∙◌, string_bytes, String, Global, nat_lt, Some, None, suc}
+use Rattle.std.specs.List.{position, prefix_len}
+use Rattle.std.specs.Map.{keys_of}
+use Rattle.std.specs.Prelude.{if◌then◌else◌}
+use Rattle.std.specs.Str.{bytes_eq}
+use Rattle.std.specs.String.{string_eq}
+use Rattle.indexmap.specs.IndexMap.{insert_entry}
+use Rattle.job_file.specs.declared.mapping.FieldKind.{FieldKind}
+use Rattle.job_file.specs.Answers.{fields_view}
+use Rattle.search_ctx.specs.Fields.{with_field, place_of}
+
+pub field_inserted : (es : List (String Global × FieldKind)) (name : String Global) (kind : FieldKind)
+    → fields_view (insert_entry string_eq es name kind) ≡ with_field (fields_view es) (string_bytes name) kind
+field_inserted [] name kind = refl
+field_inserted (e ∷ es) name kind = by_case (bytes_eq (string_bytes name) (string_bytes e.0)) (field_inserted es name kind) where
+  by_case : (b : Bool) → fields_view (insert_entry string_eq es name kind) ≡ with_field (fields_view es) (string_bytes name) kind
+      → fields_view (if b then (e.0, kind) ∷ es else e ∷ insert_entry string_eq es name kind)
+      ≡ (if b then (string_bytes e.0, kind) ∷ fields_view es else (string_bytes e.0, e.1) ∷ with_field (fields_view es) (string_bytes name) kind)
+  by_case true h = refl
+  by_case false h = ap (λ rest. (string_bytes e.0, e.1) ∷ rest) h
+
+-- the names of fields by their bytes
+abbrev bytes_of : List (String Global) → List (List ℕ)
+bytes_of names = map string_bytes names
+
+prefix_by_bytes : (test : List ℕ → Bool) (names : List (String Global)) → prefix_len (λ name. test (string_bytes name)) names ≡ prefix_len test (bytes_of names)
+prefix_by_bytes test [] = refl
+prefix_by_bytes test (name ∷ names) = ap (λ (n : ℕ). cond (test (string_bytes name)) (1 + n) 0) (prefix_by_bytes test names)
+
+length_by_bytes : (names : List (String Global)) → length names ≡ length (bytes_of names)
+length_by_bytes [] = refl
+length_by_bytes (name ∷ names) = ap (λ (n : ℕ). suc n) (length_by_bytes names)
+
+names_of_fields : (es : List (String Global × FieldKind)) → bytes_of (keys_of es) ≡ map (λ (field : List ℕ × FieldKind). field.0) (fields_view es)
+names_of_fields [] = refl
+names_of_fields (e ∷ es) = ap (λ rest. string_bytes e.0 ∷ rest) (names_of_fields es)
+
+found_at : (m n count total : ℕ) → m ≡ n → count ≡ total → cond (nat_lt m count) (Some m) None ≡ cond (nat_lt n total) (Some n) None
+found_at m n count total e f = cc
+
+pub place_found : (name : List ℕ) (es : List (String Global × FieldKind)) → position (λ key. bytes_eq name (string_bytes key)) (keys_of es) ≡ place_of name (fields_view es)
+place_found name es =
+    found_at _ _ _ _ (prefix_by_bytes (λ other. not (bytes_eq name other)) (keys_of es)) (length_by_bytes (keys_of es))
+    ∙ ap (position (bytes_eq name)) (names_of_fields es)

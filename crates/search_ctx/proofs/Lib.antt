@@ -1,0 +1,4 @@
+mod FieldLemmas
+mod Fitting
+mod Sorting
+mod Taking

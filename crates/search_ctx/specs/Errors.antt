@@ -1,0 +1,15 @@
+-- What an error of a part is for a line.
+use Rattle.json_bridge.specs.declared.error.NumErr.{NumErr}
+use Rattle.json_bridge.specs.declared.error.NumErr.TheVariants as n
+use Rattle.search_ctx.specs.declared.error.DocErr.{DocErr}
+use Rattle.search_ctx.specs.declared.error.DocErr.TheVariants as d
+use Rattle.search_ctx.specs.declared.error.BindErr.{BindErr}
+use Rattle.search_ctx.specs.declared.error.BindErr.TheVariants as b
+
+abbrev pub bind_of_number : NumErr → BindErr
+bind_of_number n.Number = b.Number
+bind_of_number n.NoMemory = b.NoMemory
+
+abbrev pub bind_of_doc : DocErr → BindErr
+bind_of_doc d.Field = b.Field
+bind_of_doc d.NoMemory = b.NoMemory

@@ -1,0 +1,19 @@
+-- The fields that a script sees of a document: their names and kinds, and at which place a name stands among them.
+use Rattle.std.specs.Prelude.{ℕ, List, [], ◌∷◌, Option, map, if◌then◌else◌}
+use Rattle.std.specs.List.{position}
+use Rattle.std.specs.Str.{bytes_eq}
+use Rattle.job_file.specs.declared.mapping.FieldKind.{FieldKind}
+
+-- with a kind under a name: a name that is there keeps its place, and a new one goes last
+abbrev pub with_field : List (List ℕ × FieldKind) → List ℕ → FieldKind → List (List ℕ × FieldKind)
+with_field [] name kind = (name, kind) ∷ []
+with_field (field ∷ fields) name kind = if bytes_eq name field.0 then (field.0, kind) ∷ fields else field ∷ with_field fields name kind
+
+-- each of these fields in turn goes to those that are there
+abbrev pub with_fields : List (List ℕ × FieldKind) → List (List ℕ × FieldKind) → List (List ℕ × FieldKind)
+with_fields fields [] = fields
+with_fields fields (field ∷ more) = with_fields (with_field fields field.0 field.1) more
+
+-- the place of the field of this name, if there is one
+abbrev pub place_of : List ℕ → List (List ℕ × FieldKind) → Option ℕ
+place_of name fields = position (bytes_eq name) (map (λ (field : List ℕ × FieldKind). field.0) fields)

@@ -1,0 +1,23 @@
+-- What placing and binding keep: where the heap fits a program or a code, it fits it afterwards, and so do the values.
+use Rattle.std.specs.Prelude.{ℕ, List, length, Result, Ok, Err}
+use Rattle.serde_json.specs.Data.{Data}
+use Rattle.object_values.specs.declared.object.Object.{Object}
+use Rattle.object_heap.specs.Fits.{Rules, ValueFits, AllFit, Fits}
+use Rattle.job_file.specs.declared.mapping.FieldKind.{FieldKind}
+use Rattle.search_ctx.specs.declared.values.FieldValues.{FieldValues}
+use Rattle.search_ctx.specs.declared.line.SearchKind.{SearchKind}
+use Rattle.search_ctx.specs.Placing.{doc_placed}
+use Rattle.search_ctx.specs.Lines.{Start, Fault, bound_document}
+
+abbrev pub PlacingFits : Type 0
+PlacingFits = (rules : Rules) (objects : List Object) (fields : List (List ℕ × FieldKind)) (doc : List FieldValues) → Fits rules objects
+    → Fits rules (doc_placed objects fields doc).objects × ValueFits (length (doc_placed objects fields doc).objects) (doc_placed objects fields doc).value
+
+-- the store of a start fits, and its arguments are values of that store
+abbrev pub StartFits : Rules → Result Start Fault → Type 0
+StartFits rules (Ok start) = Fits rules start.store.objects × AllFit (length start.store.objects) start.args
+StartFits rules (Err fault) = Unit {0}
+
+abbrev pub LinesFit : Type 0
+LinesFit = (rules : Rules) (kind : SearchKind) (fields : List (List ℕ × FieldKind)) (params : Data) (room : ℕ) (d : Data)
+    → StartFits rules (bound_document kind fields params room d)

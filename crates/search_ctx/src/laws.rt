@@ -1,0 +1,18 @@
+//! Laws on what placing and binding keep.
+
+ghost use Rattle.search_ctx.specs.Laws.{LinesFit, PlacingFits};
+
+use json_bridge::binding_keeps_fit;
+
+/// A law that callers may cite: a heap that fits a program or a code fits it after the doc values of a document are placed in
+/// it, and so does the map `doc`.
+pub fn placing_keeps_fit()
+    ensures { PlacingFits }
+{}
+
+/// A law that callers may cite: what a line is bound to fits every program and code, the arguments among it.
+pub fn lines_fit()
+    ensures { LinesFit }
+{
+    binding_keeps_fit();
+}

@@ -1,0 +1,21 @@
+//! Contexts over documents: the doc values of a document, and what a line of input is bound to.
+#![tactic(auto)]
+
+mod doc;
+mod error;
+mod fields;
+mod laws;
+mod line;
+mod placing;
+mod values;
+mod walk;
+mod words;
+
+pub use doc::FieldDoc;
+pub use error::{BindErr, DocErr};
+pub use fields::Fields;
+pub use laws::{lines_fit, placing_keeps_fit};
+pub use line::{Bound, SearchKind, bind_line};
+pub use placing::place_doc;
+pub use values::FieldValues;
+pub use words::Words;

@@ -1,0 +1,225 @@
+//! What a line of input is bound to.
+
+ghost use Rattle.std.specs.Prelude.{◌≡◌, ◌∷◌, Some, None, Err, option_map, IfOk, IfErr};
+ghost use Rattle.std.specs.Str.{IsUtf8};
+ghost use Rattle.serde_json.specs.Read.{read};
+ghost use Rattle.serde_json.specs.View.{view, items_view, members_view};
+ghost use Rattle.job_file.specs.Values.{has_whole_numbers, items_have_whole_numbers, members_have_whole_numbers};
+ghost use Rattle.search_ctx.specs.declared.error.DocErr.TheVariants as doc_err;
+ghost use Rattle.search_ctx.specs.Lines.{Answered, bound_document, bound_line, score_args, score_in, score_of, search_of, search_view, syntax};
+ghost use Rattle.search_ctx.specs.declared.line.SearchKind.TheVariants as k;
+
+use crate::doc::FieldDoc;
+use crate::error::{BindErr, DocErr};
+use crate::fields::Fields;
+use crate::placing::place_doc;
+use crate::walk::SCORE_KEY;
+use json_bridge::bind;
+use object_heap::Heap;
+use object_values::{Elements, Value};
+use serde_json::{Map, Value as Json};
+use std::alloc::{AllocError, Global};
+
+/// A context over documents.
+#[derive(Clone, Copy, Debug, PartialEq, Eq)]
+pub enum SearchKind {
+    /// Whether a document is taken: with `params` and `doc`.
+    Filter,
+    /// The score of a document: with `params`, `doc` and `_score`.
+    Score,
+    /// A value of a document: with `params` and `doc`.
+    Field,
+}
+
+/// With what a run over a line starts.
+pub struct Bound {
+    /// The store, with all the room that a run has.
+    pub heap: Heap,
+    /// The values of the context's variables, in their order.
+    pub args: Elements<Value>,
+}
+
+impl Drop for Bound {
+    fn drop(self) {
+        let Bound {
+            heap: _heap,
+            args: _args,
+        } = self;
+    }
+}
+
+/// The doc values of a document, and its score where the context has one.
+struct Search {
+    doc: FieldDoc,
+    score: Option<i64>,
+}
+
+impl Drop for Search {
+    fn drop(self) {
+        let Search {
+            doc: _doc,
+            score: _,
+        } = self;
+    }
+}
+
+/// Whether each number in a value is a whole one of 64 bits with a sign.
+#[cycle(numbers)]
+fn has_whole_numbers(value: &Json) -> bool
+    ensures { result ≡ has_whole_numbers (view value.now) }
+{
+    match value {
+        Json::Number(number) => number.is_i64(),
+        Json::Array(items) => items_have_whole_numbers(items),
+        Json::Object(members) => members_have_whole_numbers(members),
+        _ => true,
+    }
+}
+
+/// The same of each item.
+#[cycle(numbers)]
+fn items_have_whole_numbers(items: &Vec<Json>) -> bool
+    ensures { result ≡ items_have_whole_numbers (items_view items.now.items) }
+{
+    for item in items {
+        if !has_whole_numbers(item) {
+            return false;
+        }
+    }
+    true
+}
+
+/// The same of the value of each member.
+#[cycle(numbers)]
+fn members_have_whole_numbers(members: &Map<String, Json>) -> bool
+    ensures { result ≡ members_have_whole_numbers (members_view members.now.entries) }
+{
+    for (_name, member) in members.iter() {
+        if !has_whole_numbers(member) {
+            return false;
+        }
+    }
+    true
+}
+
+/// The score that a value says: a whole number from 0.
+fn score_in(json: &Json) -> Option<i64>
+    ensures { result ≡ score_in (view json.now) }
+{
+    match json.as_i64() {
+        Some(score) => if 0 <= score { Some(score) } else { None },
+        None => None,
+    }
+}
+
+/// The score of a document: 1 where it says none.
+fn score_of(json: Option<&Json>) -> Option<i64>
+    ensures { result ≡ score_of (option_map (λ json. view json.now) json.entry) }
+{
+    match json {
+        Some(json) => score_in(json),
+        None => Some(1),
+    }
+}
+
+/// What a context takes of a document.
+fn search_of(
+    alloc: Global,
+    kind: SearchKind,
+    fields: &Fields,
+    line: &Json,
+) -> Result<Search, DocErr>
+    ensures search { IfOk result (λ search. search_of kind fields.now (view line.now) ≡ Some (search_view search)) }
+    ensures error { IfErr result (λ e. (e ≡ doc_err.Field) → (search_of kind fields.now (view line.now) ≡ None)) }
+{
+    match kind {
+        SearchKind::Score => scored_search(alloc, fields, line),
+        SearchKind::Filter | SearchKind::Field => Ok(Search {
+            doc: fields.doc(alloc, line)?,
+            score: None,
+        }),
+    }
+}
+
+/// The same for the context score.
+fn scored_search(alloc: Global, fields: &Fields, line: &Json) -> Result<Search, DocErr>
+    ensures search { IfOk result (λ search. search_of k.Score fields.now (view line.now) ≡ Some (search_view search)) }
+    ensures error { IfErr result (λ e. (e ≡ doc_err.Field) → (search_of k.Score fields.now (view line.now) ≡ None)) }
+{
+    let Some(members) = line.as_object() else {
+        return Err(DocErr::Field);
+    };
+    let Some(score) = score_of(line.get(SCORE_KEY)) else {
+        return Err(DocErr::Field);
+    };
+    Ok(Search {
+        doc: FieldDoc::of_unscored(alloc, fields, members)?,
+        score: Some(score),
+    })
+}
+
+/// The start for a document.
+fn bind_document(
+    alloc: Global,
+    kind: SearchKind,
+    fields: &Fields,
+    params: &Json,
+    line: &Json,
+    room: u64,
+) -> Result<Bound, BindErr>
+    ensures { Answered result (bound_document kind fields.now (view params.now) room (view line.now)) }
+{
+    if !has_whole_numbers(line) {
+        return Err(BindErr::Number);
+    }
+    let mut heap = Heap::new(alloc, room);
+    let params = bind(&mut heap, params, true)?;
+    let search = search_of(alloc, kind, fields, line)?;
+    let doc = place_doc(&mut heap, fields, &search.doc)?;
+    let args = args_of(alloc, params, doc, search.score)?;
+    Ok(Bound { heap, args })
+}
+
+/// The values of a context's variables.
+fn args_of(
+    alloc: Global,
+    params: Value,
+    doc: Value,
+    score: Option<i64>,
+) -> Result<Elements<Value>, AllocError>
+    ensures { IfOk result (λ args. args ≡ params ∷ doc ∷ score_args score) }
+{
+    let mut args = Elements::new(alloc);
+    args.push(params)?;
+    args.push(doc)?;
+    if let Some(score) = score {
+        args.push(Value::Long(score))?;
+    }
+    Ok(args)
+}
+
+/// Binds a line of input in a context: a fresh heap with `params`, which nothing may change, and then `doc`, and the values of
+/// the context's variables. Of the causes why not the first is answered: `Syntax` where `serde_json` does not read the line,
+/// `Number` where some number of it or of `params` is no whole one of 64 bits with a sign, `Field` where it is no object, a value
+/// stands at a field that does not take it or, in the context score, `_score` is no number from 0. What is bound takes nothing
+/// from the room.
+pub fn bind_line(
+    alloc: Global,
+    kind: SearchKind,
+    fields: &Fields,
+    params: &Json,
+    line: &[u8],
+    room: u64,
+) -> Result<Bound, BindErr>
+    ensures text { IsUtf8 line.now → Answered result (bound_line kind fields.now (view params.now) room (read line.now)) }
+    ensures bytes { ¬ IsUtf8 line.now → Answered result (Err syntax) }
+{
+    match Json::from_slice(alloc, line) {
+        Ok(json) => bind_document(alloc, kind, fields, params, &json, room),
+        Err(error) => if error.is_memory() {
+            Err(BindErr::NoMemory)
+        } else {
+            Err(BindErr::Syntax)
+        },
+    }
+}
