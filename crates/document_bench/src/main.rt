@@ -2,8 +2,10 @@
 //! With `lines` it prints the documents, so that others can be measured over the same bytes. With no argument it does nothing.
 #![tactic(auto)]
 
+use job_file::Mapping;
 use json_bridge::{bind, give};
 use object_heap::Heap;
+use search_ctx::{Fields, SearchKind, bind_line};
 use serde_json::Value as Json;
 use std::alloc::{AllocError, Global};
 use std::rt::Clock;
@@ -16,12 +18,44 @@ const TIMES: u32 = 5;
 
 const ROOM: u64 = 16_000_000;
 
+const MAPPING: &str = "{\"n\":\"long\",\"tag\":\"keyword\"}";
+
+/// What is made once for all documents.
+struct Job {
+    alloc: Global,
+    fields: Fields,
+    params: Json,
+}
+
+impl Drop for Job {
+    fn drop(self) {
+        let Job {
+            alloc: _,
+            fields: _fields,
+            params: _params,
+        } = self;
+    }
+}
+
+// None where the mapping is bad or memory fails.
+fn job_of(alloc: Global) -> Option<Job> {
+    let mapping = Json::from_slice(alloc, MAPPING.as_bytes()).ok()?;
+    let mapping = Mapping::read(alloc, &mapping).ok()?;
+    Some(Job {
+        alloc,
+        fields: Fields::new(alloc, &mapping).ok()?,
+        params: Json::Null,
+    })
+}
+
 /// How far a document is taken.
 #[derive(Clone, Copy)]
 enum Part {
     Read,
     Bound,
     Answered,
+    /// The start of a run over it, with doc values of both its fields.
+    Started,
 }
 
 fn name(part: Part) -> &'static str {
@@ -29,6 +63,7 @@ fn name(part: Part) -> &'static str {
         Part::Read => "read",
         Part::Bound => "read and bound",
         Part::Answered => "read, bound, given back and written",
+        Part::Started => "read, and its doc values bound",
     }
 }
 
@@ -67,23 +102,43 @@ fn is_answered(heap: &mut Heap, json: &Json) -> bool {
     }
 }
 
-// Whether a line comes so far.
-fn comes(alloc: Global, part: Part, line: &str) -> bool {
-    let Ok(json) = Json::from_slice(alloc, line.as_bytes()) else {
-        return false;
-    };
+// Whether a document that is read comes so far.
+fn goes_on(alloc: Global, part: Part, json: &Json) -> bool {
     let mut heap = Heap::new(alloc, ROOM);
     match part {
-        Part::Read => true,
-        Part::Bound => bind(&mut heap, &json, false).is_ok(),
-        Part::Answered => is_answered(&mut heap, &json),
+        Part::Bound => bind(&mut heap, json, false).is_ok(),
+        Part::Answered => is_answered(&mut heap, json),
+        _ => true,
     }
 }
 
-fn come_often(alloc: Global, part: Part, lines: &[String]) -> u32 {
+fn is_started(job: &Job, line: &str) -> bool {
+    bind_line(
+        job.alloc,
+        SearchKind::Filter,
+        &job.fields,
+        &job.params,
+        line.as_bytes(),
+        ROOM,
+    )
+    .is_ok()
+}
+
+// Whether a line comes so far.
+fn comes(job: &Job, part: Part, line: &str) -> bool {
+    match part {
+        Part::Started => is_started(job, line),
+        _ => match Json::from_slice(job.alloc, line.as_bytes()) {
+            Ok(json) => goes_on(job.alloc, part, &json),
+            Err(_) => false,
+        },
+    }
+}
+
+fn come_often(job: &Job, part: Part, lines: &[String]) -> u32 {
     let mut done = 0u32;
     for line in lines {
-        if comes(alloc, part, line.as_str()) {
+        if comes(job, part, line.as_str()) {
             done = done.saturating_add(1);
         }
     }
@@ -93,7 +148,7 @@ fn come_often(alloc: Global, part: Part, lines: &[String]) -> u32 {
 // The least of some runs, in nanoseconds a document.
 fn least(
     rt: &impl Clock,
-    alloc: Global,
+    job: &Job,
     part: Part,
     lines: &[String],
 ) -> io::Result<(u128, u32)> {
@@ -101,15 +156,15 @@ fn least(
     let mut done = 0;
     for _ in 0..TIMES {
         let start = Instant::now(rt)?;
-        done = come_often(alloc, part, lines);
+        done = come_often(job, part, lines);
         least = least.min(start.elapsed(rt)?.as_nanos() / u128::from(DOCUMENTS));
     }
     Ok((least, done))
 }
 
-fn measure(rt: &(impl Clock + Print), alloc: Global, lines: &[String]) -> io::Result<()> {
-    for part in [Part::Read, Part::Bound, Part::Answered] {
-        let (spent, done) = least(rt, alloc, part, lines)?;
+fn measure(rt: &(impl Clock + Print), job: &Job, lines: &[String]) -> io::Result<()> {
+    for part in [Part::Read, Part::Bound, Part::Answered, Part::Started] {
+        let (spent, done) = least(rt, job, part, lines)?;
         let name = name(part);
         println!(rt; "{name}: {spent} ns ({done} of {DOCUMENTS})")?;
     }
@@ -131,8 +186,11 @@ fn main(rt: HostRuntime) -> io::Result<()> {
     let Ok(lines) = documents(rt.alloc()) else {
         return println!(rt; "no memory");
     };
+    let Some(job) = job_of(rt.alloc()) else {
+        return println!(rt; "no job");
+    };
     match word.as_str() {
         "lines" => print_all(&rt, &lines),
-        _ => measure(&rt, rt.alloc(), &lines),
+        _ => measure(&rt, &job, &lines),
     }
 }
