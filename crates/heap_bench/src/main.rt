@@ -43,7 +43,7 @@ const TIMES: u32 = 1_000_000;
 // What the pages say of memory rests on this.
 const _: () = prove!(size_of::<Object>() == 56);
 
-const _: () = prove!(size_of::<Value>() == 32);
+const _: () = prove!(size_of::<Value>() == 24);
 
 fn number(turn: u32) -> Value {
     Value::Long(i64::from(turn))
