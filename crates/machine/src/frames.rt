@@ -150,6 +150,10 @@ impl Frames {
         ensures depth { self.new.depth ≡ self.old.depth }
         ensures full { OnErr result (self.old.words ≤ self.old.count) }
     {
+        if self.words.len() < self.words.capacity() {
+            self.words.push_reserved(word);
+            return Ok(());
+        }
         match self.words.push(word) {
             Ok(()) => Ok(()),
             Err(_) => Err(AllocError),

@@ -13,6 +13,7 @@ use crate::linked_code::LinkedCode;
 use crate::operands::pop_int;
 use crate::references::jump_if_null;
 use crate::rules::Rules;
+use code_meaning::Word;
 use object_heap::Which;
 use pl_code::Numbered;
 
@@ -78,11 +79,31 @@ fn store(run: &mut Configuration, number: u32) -> Step
     ensures room { room_of run.new ≡ room_of run.old }
 {
     match run.frames.pop() {
-        Some(word) => {
-            run.frames.store(number as usize, word);
+        Some(word) => put(run, number as usize, word),
+        None => Step::Stuck,
+    }
+}
+
+// Writes a word that was taken off the stack into a local. Of a number no more is read and written than the number itself.
+#[inline(always)]
+fn put(run: &mut Configuration, number: usize, word: Word) -> Step
+    ensures exact { Comes (Goes (record { top = record { text = run.old.frames.top.text; fun = run.old.frames.top.fun; line = suc run.old.frames.top.line; locals = slice_set run.old.frames.top.locals number word; stack = run.old.frames.top.stack; turns = run.old.frames.top.turns; due = run.old.frames.top.due }; below = run.old.frames.below; world = world_of run.old.world })) result run.new }
+    ensures memory { suc run.old.frames.top.line < 2 ^ 64 → HasMemory result }
+    ensures room { room_of run.new ≡ room_of run.old }
+{
+    match &word {
+        Word::I(a) => {
+            run.frames.store(number, Word::I(*a));
             run.goes_on()
         }
-        None => Step::Stuck,
+        Word::J(a) => {
+            run.frames.store(number, Word::J(*a));
+            run.goes_on()
+        }
+        Word::R(_) => {
+            run.frames.store(number, word);
+            run.goes_on()
+        }
     }
 }
 
