@@ -1,9 +1,10 @@
 //! The pass: items until none is left.
 
-ghost use Rattle.std.specs.Prelude.{◌∷◌};
+ghost use Rattle.std.specs.Prelude.{◌∷◌, ◌<◌, OnOk};
 ghost use Rattle.typing_worklist.specs.Going.{Goes};
 ghost use Rattle.typing_worklist.specs.Items.{item_of};
 ghost use Rattle.typing_worklist.specs.Machine as spec;
+ghost use Rattle.typing_worklist.specs.Weights.{weights};
 
 use crate::{done, planned, reached};
 use allowlist::Allow;
@@ -22,7 +23,8 @@ fn step<'a>(
     worklist: &mut Worklist<'a>,
     item: WorkItem<'a>,
 ) -> Result<(), Fail>
-    ensures { Goes (spec.run allow.now headers.now (item_of item.entry ∷ worklist.old) config.old) result (spec.run allow.now headers.now worklist.new config.new) }
+    ensures goes { Goes (spec.run allow.now headers.now (item_of item.entry ∷ worklist.old) config.old) result (spec.run allow.now headers.now worklist.new config.new) }
+    ensures falls { OnOk result (weights worklist.new < weights (item_of item.entry ∷ worklist.old)) }
 {
     match item {
         WorkItem::Expression(e) => return planned::expression(allow, headers, config, worklist, e),
@@ -45,7 +47,7 @@ fn step<'a>(
     }
 }
 
-/// Does items until none is left. More of them than a number counts want memory first.
+/// Does items until none is left: with each, what is left weighs less.
 #[tactic(auto, using(typing_worklist::proofs::Runs::run_none))]
 pub fn run<'a>(
     alloc: Global,
@@ -56,11 +58,8 @@ pub fn run<'a>(
 ) -> Result<(), Fail>
     ensures { Goes (spec.run allow.now headers.now worklist.old config.old) result (spec.ended config.new) }
 {
-    for _ in 0..u64::MAX {
-        let Some(item) = worklist.pop() else {
-            return Ok(());
-        };
+    while let Some(item) = worklist.pop() {
         step(alloc, allow, headers, config, worklist, item)?;
     }
-    Err(Fail::NoMemory)
+    Ok(())
 }

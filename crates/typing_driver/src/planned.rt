@@ -1,9 +1,10 @@
 //! What is put in the place of items, before those that are left.
 
-ghost use Rattle.std.specs.Prelude.{◌∷◌};
+ghost use Rattle.std.specs.Prelude.{◌∷◌, ◌<◌, OnOk};
 ghost use Rattle.typing_worklist.specs.Going.{Goes};
 ghost use Rattle.typing_worklist.specs.Items.{expression_item, statement_item, loop_item, declaration_item, catch_item, unbuilt_item};
 ghost use Rattle.typing_worklist.specs.Machine.{run};
+ghost use Rattle.typing_worklist.specs.Weights.{weights};
 
 use allowlist::Allow;
 use pl_types::Fail;
@@ -15,7 +16,7 @@ use typing_worklist::{
 };
 
 /// Goes on with an expression.
-#[tactic(auto, using(typing_worklist::proofs::Families::expression_planned))]
+#[tactic(auto, using(typing_worklist::proofs::Families::expression_planned, typing_worklist::proofs::Lighter::expression_lighter))]
 pub fn expression<'a>(
     _allow: &Allow,
     _headers: &[Header],
@@ -23,14 +24,15 @@ pub fn expression<'a>(
     worklist: &mut Worklist<'a>,
     item: ExpressionItem<'a>,
 ) -> Result<(), Fail>
-    ensures { Goes (run _allow.now _headers.now (expression_item item.entry ∷ worklist.old) config.now) result (run _allow.now _headers.now worklist.new config.now) }
+    ensures goes { Goes (run _allow.now _headers.now (expression_item item.entry ∷ worklist.old) config.now) result (run _allow.now _headers.now worklist.new config.now) }
+    ensures falls { OnOk result (weights worklist.new < weights (expression_item item.entry ∷ worklist.old)) }
 {
     expressions::plan(config, worklist, item)?;
     Ok(())
 }
 
 /// Goes on with a statement, or a part of one.
-#[tactic(auto, using(typing_worklist::proofs::Families::statement_planned))]
+#[tactic(auto, using(typing_worklist::proofs::Families::statement_planned, typing_worklist::proofs::Lighter::statement_lighter))]
 pub fn statement<'a>(
     _allow: &Allow,
     _headers: &[Header],
@@ -38,14 +40,15 @@ pub fn statement<'a>(
     worklist: &mut Worklist<'a>,
     item: StatementItem<'a>,
 ) -> Result<(), Fail>
-    ensures { Goes (run _allow.now _headers.now (statement_item item.entry ∷ worklist.old) config.now) result (run _allow.now _headers.now worklist.new config.now) }
+    ensures goes { Goes (run _allow.now _headers.now (statement_item item.entry ∷ worklist.old) config.now) result (run _allow.now _headers.now worklist.new config.now) }
+    ensures falls { OnOk result (weights worklist.new < weights (statement_item item.entry ∷ worklist.old)) }
 {
     statements::plan(config, worklist, item)?;
     Ok(())
 }
 
 /// Goes on with a loop, or a part of one.
-#[tactic(auto, using(typing_worklist::proofs::Families::loop_part_planned))]
+#[tactic(auto, using(typing_worklist::proofs::Families::loop_part_planned, typing_worklist::proofs::Lighter::loop_lighter))]
 pub fn loop_part<'a>(
     _allow: &Allow,
     _headers: &[Header],
@@ -53,14 +56,15 @@ pub fn loop_part<'a>(
     worklist: &mut Worklist<'a>,
     item: LoopItem<'a>,
 ) -> Result<(), Fail>
-    ensures { Goes (run _allow.now _headers.now (loop_item item.entry ∷ worklist.old) config.now) result (run _allow.now _headers.now worklist.new config.now) }
+    ensures goes { Goes (run _allow.now _headers.now (loop_item item.entry ∷ worklist.old) config.now) result (run _allow.now _headers.now worklist.new config.now) }
+    ensures falls { OnOk result (weights worklist.new < weights (loop_item item.entry ∷ worklist.old)) }
 {
     loops::plan(config, worklist, item)?;
     Ok(())
 }
 
 /// Goes on with a declaration, or a part of one.
-#[tactic(auto, using(typing_worklist::proofs::Families::declaration_planned))]
+#[tactic(auto, using(typing_worklist::proofs::Families::declaration_planned, typing_worklist::proofs::Lighter::declaration_lighter))]
 pub fn declaration<'a>(
     _allow: &Allow,
     _headers: &[Header],
@@ -68,14 +72,15 @@ pub fn declaration<'a>(
     worklist: &mut Worklist<'a>,
     item: DeclarationItem<'a>,
 ) -> Result<(), Fail>
-    ensures { Goes (run _allow.now _headers.now (declaration_item item.entry ∷ worklist.old) config.now) result (run _allow.now _headers.now worklist.new config.now) }
+    ensures goes { Goes (run _allow.now _headers.now (declaration_item item.entry ∷ worklist.old) config.now) result (run _allow.now _headers.now worklist.new config.now) }
+    ensures falls { OnOk result (weights worklist.new < weights (declaration_item item.entry ∷ worklist.old)) }
 {
     declarations::plan(config, worklist, item)?;
     Ok(())
 }
 
 /// Goes on with the catches of a `try`.
-#[tactic(auto, using(typing_worklist::proofs::Families::catch_planned))]
+#[tactic(auto, using(typing_worklist::proofs::Families::catch_planned, typing_worklist::proofs::Lighter::catch_lighter))]
 pub fn catch<'a>(
     _allow: &Allow,
     _headers: &[Header],
@@ -83,14 +88,15 @@ pub fn catch<'a>(
     worklist: &mut Worklist<'a>,
     item: CatchItem<'a>,
 ) -> Result<(), Fail>
-    ensures { Goes (run _allow.now _headers.now (catch_item item.entry ∷ worklist.old) config.now) result (run _allow.now _headers.now worklist.new config.now) }
+    ensures goes { Goes (run _allow.now _headers.now (catch_item item.entry ∷ worklist.old) config.now) result (run _allow.now _headers.now worklist.new config.now) }
+    ensures falls { OnOk result (weights worklist.new < weights (catch_item item.entry ∷ worklist.old)) }
 {
     catches::plan(config, worklist, item)?;
     Ok(())
 }
 
 /// Goes on with parts of what is not built.
-#[tactic(auto, using(typing_worklist::proofs::Families::unbuilt_planned))]
+#[tactic(auto, using(typing_worklist::proofs::Families::unbuilt_planned, typing_worklist::proofs::Lighter::unbuilt_lighter))]
 pub fn unbuilt<'a>(
     _allow: &Allow,
     _headers: &[Header],
@@ -98,7 +104,8 @@ pub fn unbuilt<'a>(
     worklist: &mut Worklist<'a>,
     item: UnbuiltItem<'a>,
 ) -> Result<(), Fail>
-    ensures { Goes (run _allow.now _headers.now (unbuilt_item item.entry ∷ worklist.old) _config.now) result (run _allow.now _headers.now worklist.new _config.now) }
+    ensures goes { Goes (run _allow.now _headers.now (unbuilt_item item.entry ∷ worklist.old) _config.now) result (run _allow.now _headers.now worklist.new _config.now) }
+    ensures falls { OnOk result (weights worklist.new < weights (unbuilt_item item.entry ∷ worklist.old)) }
 {
     unbuilt::plan(worklist, item)?;
     Ok(())

@@ -1,9 +1,10 @@
 //! What is behind a statement that is typed.
 
-ghost use Rattle.std.specs.Prelude.{◌∷◌};
+ghost use Rattle.std.specs.Prelude.{◌∷◌, ◌<◌, OnOk};
 ghost use Rattle.typing_worklist.specs.Going.{Goes};
 ghost use Rattle.typing_worklist.specs.Item as j;
 ghost use Rattle.typing_worklist.specs.Machine.{run};
+ghost use Rattle.typing_worklist.specs.Weights.{weights};
 
 use allowlist::Allow;
 use pl_tree::Statement;
@@ -27,7 +28,8 @@ pub fn behind<'a>(
     in_main: bool,
     after: bool,
 ) -> Result<(), Fail>
-    ensures { Goes (run _allow.now _headers.now (j.Reached all.now at place in_main after ∷ worklist.old) config.old) result (run _allow.now _headers.now worklist.new config.new) }
+    ensures goes { Goes (run _allow.now _headers.now (j.Reached all.now at place in_main after ∷ worklist.old) config.old) result (run _allow.now _headers.now worklist.new config.new) }
+    ensures falls { OnOk result (weights worklist.new < weights (j.Reached all.now at place in_main after ∷ worklist.old)) }
 {
     let x = take_top(&mut config.steps)?;
     let x = reached(after, place, x)?;

@@ -57,7 +57,7 @@ drop_end zero (x ∷ all) is = absurd cc
 drop_end (suc i) [] is = refl
 drop_end (suc i) (x ∷ all) is = drop_end i all is
 
-drop_one : {A : Type 0} (i : ℕ) (all : List A) (one : A) → slice_get all i ≡ Some one → drop i all ≡ one ∷ drop (i + 1) all
+pub drop_one : {A : Type 0} (i : ℕ) (all : List A) (one : A) → slice_get all i ≡ Some one → drop i all ≡ one ∷ drop (i + 1) all
 drop_one i all one is = drop_at i all one is ∙ ap (λ n. one ∷ drop n all) (sym (add-one i))
 
 module _ (allow : AllowList) (hs : List Header) where

@@ -8,3 +8,5 @@ pub mod Begins
 pub mod Runs
 pub mod Opened
 pub mod Families
+pub mod Weighed
+pub mod Lighter

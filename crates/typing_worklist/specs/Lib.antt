@@ -4,3 +4,4 @@ pub mod Folds
 pub mod Machine
 pub mod Plans
 pub mod Going
+pub mod Weights
