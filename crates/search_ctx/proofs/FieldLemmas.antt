@@ -1,6 +1,6 @@
 -- Fields in a hash table: what an insertion gives, and where a name is found.
-use Rattle.std.proofs.Common.{◌≡◌, ℕ, ◌+◌, Bool, true, false, cond, not, List, [], ◌∷◌, map, length, refl, ap, ◌∙◌, string_bytes, String, Global, nat_lt, Some, None, suc}
-use Rattle.std.specs.List.{position, prefix_len}
+use Rattle.std.proofs.Common.{◌≡◌, ℕ, ◌+◌, Bool, true, false, cond, not, List, [], ◌∷◌, map, length, refl, ap, ◌∙◌, string_bytes, String, Global, nat_lt, Some, None, suc, ◌++◌, append_assoc, append-nil, sym}
+use Rattle.std.specs.List.{position, prefix_len, AllByRecursion}
 use Rattle.std.specs.Map.{keys_of}
 use Rattle.std.specs.Prelude.{if◌then◌else◌}
 use Rattle.std.specs.Str.{bytes_eq}
@@ -8,7 +8,8 @@ use Rattle.std.specs.String.{string_eq}
 use Rattle.indexmap.specs.IndexMap.{insert_entry}
 use Rattle.job_file.specs.declared.mapping.FieldKind.{FieldKind}
 use Rattle.job_file.specs.Answers.{fields_view}
-use Rattle.search_ctx.specs.Fields.{with_field, place_of}
+use Rattle.search_ctx.specs.Fields.{with_field, with_fields, place_of, IsNewName, HasDistinctNames}
+use Rattle.search_ctx.specs.Laws.{FieldsStay}
 
 pub field_inserted : (es : List (String Global × FieldKind)) (name : String Global) (kind : FieldKind)
     → fields_view (insert_entry string_eq es name kind) ≡ with_field (fields_view es) (string_bytes name) kind
@@ -43,3 +44,36 @@ pub place_found : (name : List ℕ) (es : List (String Global × FieldKind)) →
 place_found name es =
     found_at _ _ _ _ (prefix_by_bytes (λ other. not (bytes_eq name other)) (keys_of es)) (length_by_bytes (keys_of es))
     ∙ ap (position (bytes_eq name)) (names_of_fields es)
+
+-- ---- names that are new
+
+new_last : (done : List (List ℕ × FieldKind)) (name : List ℕ) (kind : FieldKind) → IsNewName name done → with_field done name kind ≡ done ++ (name, kind) ∷ []
+new_last [] name kind h = refl
+new_last (field ∷ done) name kind h = rw h.0 (ap (λ rest. field ∷ rest) (new_last done name kind h.1))
+
+-- no field of the one list has the name of one of the other
+abbrev AllNew : List (List ℕ × FieldKind) → List (List ℕ × FieldKind) → Type 0
+AllNew done fields = AllByRecursion (λ (field : List ℕ × FieldKind). IsNewName field.0 done) fields
+
+new_behind : (name : List ℕ) (done : List (List ℕ × FieldKind)) (field : List ℕ × FieldKind) → IsNewName name done → bytes_eq name field.0 ≡ false
+    → IsNewName name (done ++ field ∷ [])
+new_behind name [] field h e = (e, tt)
+new_behind name (one ∷ done) field h e = (h.0, new_behind name done field h.1 e)
+
+all_new_behind : (done : List (List ℕ × FieldKind)) (field : List ℕ × FieldKind) (fields : List (List ℕ × FieldKind)) → AllNew done fields
+    → AllByRecursion (λ (other : List ℕ × FieldKind). bytes_eq other.0 field.0 ≡ false) fields → AllNew (done ++ field ∷ []) fields
+all_new_behind done field [] h e = tt
+all_new_behind done field (other ∷ fields) h e = (new_behind other.0 done field h.0 e.0, all_new_behind done field fields h.1 e.1)
+
+all_last : (done fields : List (List ℕ × FieldKind)) → AllNew done fields → HasDistinctNames fields → with_fields done fields ≡ done ++ fields
+all_last done [] h d = sym (append-nil done)
+all_last done (field ∷ fields) h d =
+    ap (λ front. with_fields front fields) (new_last done field.0 field.1 h.0)
+    ∙ all_last (done ++ field ∷ []) fields (all_new_behind done field fields h.1 d.0) d.1 ∙ append_assoc done (field ∷ []) fields
+
+none_there : (fields : List (List ℕ × FieldKind)) → AllNew [] fields
+none_there [] = tt
+none_there (field ∷ fields) = (tt, none_there fields)
+
+pub fields_same : FieldsStay
+fields_same fields d = all_last [] fields (none_there fields) d

@@ -1,6 +1,6 @@
 -- The fields that a script sees of a document: their names and kinds, and at which place a name stands among them.
-use Rattle.std.specs.Prelude.{ℕ, List, [], ◌∷◌, Option, map, if◌then◌else◌}
-use Rattle.std.specs.List.{position}
+use Rattle.std.specs.Prelude.{◌≡◌, ℕ, false, List, [], ◌∷◌, Option, map, if◌then◌else◌}
+use Rattle.std.specs.List.{position, AllByRecursion}
 use Rattle.std.specs.Str.{bytes_eq}
 use Rattle.job_file.specs.declared.mapping.FieldKind.{FieldKind}
 
@@ -17,3 +17,12 @@ with_fields fields (field ∷ more) = with_fields (with_field fields field.0 fie
 -- the place of the field of this name, if there is one
 abbrev pub place_of : List ℕ → List (List ℕ × FieldKind) → Option ℕ
 place_of name fields = position (bytes_eq name) (map (λ (field : List ℕ × FieldKind). field.0) fields)
+
+-- no field has this name
+abbrev pub IsNewName : List ℕ → List (List ℕ × FieldKind) → Type 0
+IsNewName name fields = AllByRecursion (λ (field : List ℕ × FieldKind). bytes_eq name field.0 ≡ false) fields
+
+-- no name stands twice
+abbrev pub HasDistinctNames : List (List ℕ × FieldKind) → Type 0
+HasDistinctNames [] = Unit {0}
+HasDistinctNames (field ∷ fields) = AllByRecursion (λ (other : List ℕ × FieldKind). bytes_eq other.0 field.0 ≡ false) fields × HasDistinctNames fields

@@ -1,11 +1,13 @@
--- What placing and binding keep: where the heap fits a program or a code, it fits it afterwards, and so do the values.
-use Rattle.std.specs.Prelude.{ℕ, List, length, Result, Ok, Err}
+-- What placing and binding keep: where the heap fits a program or a code, it fits it afterwards, and so do the values. And fields
+-- with names of their own, as those of a mapping that is read, stand as they are given.
+use Rattle.std.specs.Prelude.{◌≡◌, ℕ, List, [], length, Result, Ok, Err}
 use Rattle.serde_json.specs.Data.{Data}
 use Rattle.object_values.specs.declared.object.Object.{Object}
 use Rattle.object_heap.specs.Fits.{Rules, ValueFits, AllFit, Fits}
 use Rattle.job_file.specs.declared.mapping.FieldKind.{FieldKind}
 use Rattle.search_ctx.specs.declared.values.FieldValues.{FieldValues}
 use Rattle.search_ctx.specs.declared.line.SearchKind.{SearchKind}
+use Rattle.search_ctx.specs.Fields.{HasDistinctNames, with_fields}
 use Rattle.search_ctx.specs.Placing.{doc_placed}
 use Rattle.search_ctx.specs.Lines.{Start, Fault, bound_document}
 
@@ -21,3 +23,6 @@ StartFits rules (Err fault) = Unit {0}
 abbrev pub LinesFit : Type 0
 LinesFit = (rules : Rules) (kind : SearchKind) (fields : List (List ℕ × FieldKind)) (params : Data) (room : ℕ) (d : Data)
     → StartFits rules (bound_document kind fields params room d)
+
+abbrev pub FieldsStay : Type 0
+FieldsStay = (fields : List (List ℕ × FieldKind)) → HasDistinctNames fields → with_fields [] fields ≡ fields

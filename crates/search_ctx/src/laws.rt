@@ -1,6 +1,6 @@
-//! Laws on what placing and binding keep.
+//! Laws on what placing and binding keep, and on the fields of a mapping.
 
-ghost use Rattle.search_ctx.specs.Laws.{LinesFit, PlacingFits};
+ghost use Rattle.search_ctx.specs.Laws.{FieldsStay, LinesFit, PlacingFits};
 
 use json_bridge::binding_keeps_fit;
 
@@ -16,3 +16,8 @@ pub fn lines_fit()
 {
     binding_keeps_fit();
 }
+
+/// A law that callers may cite: where no name stands twice in a mapping, its fields are the mapping's.
+pub fn fields_stay()
+    ensures { FieldsStay }
+{}
