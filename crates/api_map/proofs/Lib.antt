@@ -1,0 +1,4 @@
+pub mod Keeping
+pub mod Needing
+pub mod Settling
+pub mod Steps
