@@ -47,71 +47,11 @@ use Rattle.api_map.specs.Maps as maps
 use Rattle.api_map.specs.Members as members
 use Rattle.api_map.specs.Outcomes.{followed_by, has_key, not_simple, says, unsupported, with_key, too_deep, too_large}
 use Rattle.api_map.specs.Searching.{compared_with, first_from, where_equal, where_found}
+use Rattle.api_map.specs.Whole as whole
+use Rattle.api_map.specs.Sources.{source_at}
+use Rattle.api_map.proofs.Choosing.{says_fits, field_fits, if_fits, key_fits, equal_fits, search_fits, one_fits, two_fit, three_fit, value_there, object_there}
+use Rattle.api_map.proofs.KeepingWhole.{added_all_fits, map_of_fits, put_all_fits, set_of_fits}
 use Rattle.api_map.proofs.Settling.{OutcomeFits, now_fits}
-
--- exceptions
-says_fits : (rules : Rules) (objects : List Object) (raised : Raised) (message : List ℕ) → OutcomeFits rules objects (says raised message)
-unfolding says
-says_fits rules objects raised message = tt
-
-field_fits : (rules : Rules) (objects : List Object) (walk : Text) → OutcomeFits rules objects (followed_by walk maps.no_field)
-unfolding maps.no_field
-field_fits rules objects (Wrote text visits) = tt
-field_fits rules objects TooDeep = says_fits rules objects raised.IllegalState _
-field_fits rules objects TooLarge = says_fits rules objects raised.IllegalState _
-
--- choices
-if_fits : (rules : Rules) (objects : List Object) (test : Bool) (told other : Outcome) → OutcomeFits rules objects told → OutcomeFits rules objects other → OutcomeFits rules objects (if test then told else other)
-if_fits rules objects true told other h k = h
-if_fits rules objects false told other h k = k
-
-tested_fits : (rules : Rules) (objects : List Object) (test : Bool) (told : Outcome) → (test ≡ true → OutcomeFits rules objects told) → OutcomeFits rules objects (if test then told else not_simple)
-tested_fits rules objects true told h = h refl
-tested_fits rules objects false told h = says_fits rules objects raised.IllegalArgument _
-
-key_fits : (rules : Rules) (objects : List Object) (key : Value) (told : Outcome) → (is_simple key ≡ true → OutcomeFits rules objects told) → OutcomeFits rules objects (with_key key told)
-key_fits rules objects key told h = tested_fits rules objects (is_simple key) told h
-
-equal_fits : (rules : Rules) (objects : List Object) (is : Compared) (same other : Outcome) → OutcomeFits rules objects same → OutcomeFits rules objects other → OutcomeFits rules objects (where_equal is same other)
-equal_fits rules objects c.Same same other h k = h
-equal_fits rules objects c.Other same other h k = k
-equal_fits rules objects c.Deep same other h k = says_fits rules objects raised.IllegalState _
-equal_fits rules objects c.Large same other h k = says_fits rules objects raised.IllegalState _
-
-search_fits : (rules : Rules) (objects : List Object) (found : Found) (told : ℕ → Outcome) (none : Outcome) → ((at : ℕ) → OutcomeFits rules objects (told at)) → OutcomeFits rules objects none
-    → OutcomeFits rules objects (where_found found told none)
-search_fits rules objects (f.At at) told none h k = h at
-search_fits rules objects f.Nowhere told none h k = k
-search_fits rules objects f.Deep told none h k = says_fits rules objects raised.IllegalState _
-search_fits rules objects f.Large told none h k = says_fits rules objects raised.IllegalState _
-
--- arguments
-one_fits : {A : Type 0} → (rules : Rules) (objects : List Object) (f : A → Outcome) (a : Option A) → ((x : A) → a ≡ Some x → OutcomeFits rules objects (f x)) → OutcomeFits rules objects (with_one f a)
-one_fits rules objects f None h = tt
-one_fits rules objects f (Some x) h = h x refl
-
-two_fit : {A B : Type 0} → (rules : Rules) (objects : List Object) (f : A → B → Outcome) (a : Option A) (b : Option B) → ((x : A) (y : B) → a ≡ Some x → b ≡ Some y → OutcomeFits rules objects (f x y))
-    → OutcomeFits rules objects (with_two f a b)
-two_fit rules objects f None b h = tt
-two_fit rules objects f (Some x) None h = tt
-two_fit rules objects f (Some x) (Some y) h = h x y refl refl
-
-three_fit : {A B C : Type 0} → (rules : Rules) (objects : List Object) (f : A → B → C → Outcome) (a : Option A) (b : Option B) (c : Option C)
-    → ((x : A) (y : B) (z : C) → a ≡ Some x → b ≡ Some y → c ≡ Some z → OutcomeFits rules objects (f x y z)) → OutcomeFits rules objects (with_three f a b c)
-three_fit rules objects f None b c h = tt
-three_fit rules objects f (Some x) None c h = tt
-three_fit rules objects f (Some x) (Some y) None h = tt
-three_fit rules objects f (Some x) (Some y) (Some z) h = h x y z refl refl refl
-
-value_there : (n : ℕ) (values : List Value) (at : ℕ) (value : Value) → AllFit n values → slice_get values at ≡ Some value → ValueFits n value
-value_there n [] at value f e = cc
-value_there n (x ∷ values) zero value f e = let same : x ≡ value = cc in subst (ValueFits n) same f.0
-value_there n (x ∷ values) (suc at) value f e = value_there n values at value f.1 e
-
-object_there : (rules : Rules) (ks : List Kind) (objects : List Object) (id : ℕ) (object : Object) → ObjectsFit rules ks objects → slice_get objects id ≡ Some object → ObjectFits rules ks object
-object_there rules ks [] id object f e = cc
-object_there rules ks (x ∷ objects) zero object f e = let same : x ≡ object = cc in subst (ObjectFits rules ks) same f.0
-object_there rules ks (x ∷ objects) (suc id) object f e = object_there rules ks objects id object f.1 e
 
 -- a map that is an argument is a map
 map_passes : (objects : List Object) (at : ℕ) (class : ℕ) (pairs : List (Value × Value)) (guard : Guard) (changes : ℕ) → slice_get objects at ≡ Some (o.Map class pairs guard changes)
@@ -280,6 +220,12 @@ tells_fits rules objects t.Replace arguments f a =
     (λ id key value e k w. again_fits rules objects id key value (value_there (length objects) arguments 2 value a w))
 tells_fits rules objects t.Size arguments f a = one_fits rules objects (maps.size_given objects) (map_at objects arguments 0) (λ id e. tt)
 tells_fits rules objects (t.NewMap class) arguments f a = new_map_fits rules objects class
+tells_fits rules objects t.AddAll arguments f a = one_fits rules objects (whole.added_all objects (source_at objects arguments 1)) (keyed_at objects arguments 0) (λ of e. added_all_fits rules objects (source_at objects arguments 1) of f)
+tells_fits rules objects t.PutAll arguments f a =
+    one_fits rules objects (whole.put_all_of objects (map_at objects arguments 1)) (map_at objects arguments 0) (λ id e. put_all_fits rules objects (object_at arguments 1) id f)
+tells_fits rules objects (t.NewSetOf class) arguments f a = one_fits rules objects (whole.set_of class objects) (source_at objects arguments 0) (λ source e. set_of_fits rules objects class source)
+tells_fits rules objects (t.NewMapOf class) arguments f a =
+    one_fits rules objects (whole.map_of class objects) (map_at objects arguments 0) (λ from e. map_of_fits rules objects class (object_at arguments 0) from f e)
 tells_fits rules objects t.GetKey arguments f a =
     one_fits {A = ℕ × Value} rules objects entries.key_given (entry_at objects arguments 0) (λ entry e. simple_fits (length objects) entry.1 (named_entry rules objects (object_at arguments 0) entry f e))
 tells_fits rules objects t.GetValue arguments f a = one_fits {A = ℕ × Value} rules objects (entries.value_given objects) (entry_at objects arguments 0) (λ entry e. now_fits rules objects entry.0 entry.1 f)

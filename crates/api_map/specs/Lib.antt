@@ -8,3 +8,5 @@ pub mod Maps
 pub mod Members
 pub mod Outcomes
 pub mod Searching
+pub mod Sources
+pub mod Whole

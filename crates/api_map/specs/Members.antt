@@ -15,6 +15,7 @@ use Rattle.api_map.specs.Entries as entries
 use Rattle.api_map.specs.Making as making
 use Rattle.api_map.specs.Maps as maps
 use Rattle.api_map.specs.Outcomes.{nothing}
+use Rattle.api_map.specs.Whole as whole
 
 -- what a member comes to that takes nothing out under a key
 abbrev pub tells : List Object → Telling → List Value → Outcome
@@ -36,6 +37,10 @@ tells objects t.PutIfAbsent arguments = maps.put_if_absent objects arguments
 tells objects t.Replace arguments = maps.replace objects arguments
 tells objects t.Size arguments = maps.size objects arguments
 tells objects (t.NewMap class) arguments = making.new_map class
+tells objects t.AddAll arguments = whole.add_all objects arguments
+tells objects t.PutAll arguments = whole.put_all objects arguments
+tells objects (t.NewSetOf class) arguments = whole.new_set_of class objects arguments
+tells objects (t.NewMapOf class) arguments = whole.new_map_of class objects arguments
 tells objects t.GetKey arguments = entries.get_key objects arguments
 tells objects t.GetValue arguments = entries.get_value objects arguments
 tells objects t.SetValue arguments = entries.set_value objects arguments
@@ -51,22 +56,24 @@ does objects m.RemovePair arguments = maps.remove_pair objects arguments
 -- the constructors of sets and the members of Map from 125, and the constructors of maps and the members of Map.Entry from 159
 unfoldable pub of_collections : List (Option Member)
 of_collections =
-    Some (m.Tells t.Add) ∷ None ∷ Some (m.Tells t.ClearCollection) ∷ Some (m.Tells t.Contains) ∷ None ∷ Some (m.Tells t.IsEmptyCollection)
+    Some (m.Tells t.Add) ∷ Some (m.Tells t.AddAll) ∷ Some (m.Tells t.ClearCollection) ∷ Some (m.Tells t.Contains) ∷ None ∷ Some (m.Tells t.IsEmptyCollection)
     ∷ Some m.RemoveElement ∷ None ∷ None ∷ Some (m.Tells t.SizeOfCollection)
     ∷ []
 
 unfoldable pub of_maps : List (Option Member)
 of_maps =
-    Some (m.Tells (t.NewSet set.Hash)) ∷ None ∷ Some (m.Tells (t.NewSet set.LinkedHash)) ∷ None
+    Some (m.Tells (t.NewSet set.Hash)) ∷ Some (m.Tells (t.NewSetOf set.Hash))
+    ∷ Some (m.Tells (t.NewSet set.LinkedHash)) ∷ Some (m.Tells (t.NewSetOf set.LinkedHash))
     ∷ Some (m.Tells t.Clear) ∷ Some (m.Tells t.ContainsKey) ∷ Some (m.Tells t.ContainsValue) ∷ Some (m.Tells (t.View part.Entries))
     ∷ Some (m.Tells t.Get) ∷ Some (m.Tells t.GetOrDefault) ∷ Some (m.Tells t.IsEmpty) ∷ Some (m.Tells (t.View part.Keys))
-    ∷ Some (m.Tells t.Put) ∷ None ∷ Some (m.Tells t.PutIfAbsent) ∷ Some m.Remove ∷ Some m.RemovePair
+    ∷ Some (m.Tells t.Put) ∷ Some (m.Tells t.PutAll) ∷ Some (m.Tells t.PutIfAbsent) ∷ Some m.Remove ∷ Some m.RemovePair
     ∷ Some (m.Tells t.Replace) ∷ Some (m.Tells t.Size) ∷ Some (m.Tells (t.View part.Values))
     ∷ []
 
 unfoldable pub of_entries : List (Option Member)
 of_entries =
-    Some (m.Tells (t.NewMap map.Hash)) ∷ None ∷ Some (m.Tells (t.NewMap map.LinkedHash)) ∷ None
+    Some (m.Tells (t.NewMap map.Hash)) ∷ Some (m.Tells (t.NewMapOf map.Hash))
+    ∷ Some (m.Tells (t.NewMap map.LinkedHash)) ∷ Some (m.Tells (t.NewMapOf map.LinkedHash))
     ∷ Some (m.Tells t.GetKey) ∷ Some (m.Tells t.GetValue) ∷ Some (m.Tells t.SetValue)
     ∷ []
 

@@ -14,7 +14,9 @@ mod outcome;
 mod paying;
 mod removing;
 mod searching;
+mod sources;
 mod values;
+mod whole;
 
 pub use laws::members_keep_fit;
 pub use member::call;

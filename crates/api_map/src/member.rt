@@ -9,7 +9,7 @@ ghost use Rattle.api_map.specs.Members.{does, does_numbered, numbered};
 use crate::making::{MapClass, SetClass};
 use crate::outcome::Outcome;
 use crate::removing::{remove, remove_element, remove_pair};
-use crate::{collections, entries, making, maps};
+use crate::{collections, entries, making, maps, whole};
 use object_heap::{Answer, Heap};
 use object_values::{Part, Value};
 
@@ -34,6 +34,10 @@ pub enum Telling {
     Replace,
     Size,
     NewMap(MapClass),
+    AddAll,
+    PutAll,
+    NewSetOf(SetClass),
+    NewMapOf(MapClass),
     GetKey,
     GetValue,
     SetValue,
@@ -70,6 +74,10 @@ fn tells(heap: &Heap, member: Telling, args: &[Value]) -> Outcome
         Telling::Replace => maps::replace(heap, args),
         Telling::Size => maps::size(heap, args),
         Telling::NewMap(class) => making::new_map(heap, class),
+        Telling::AddAll => whole::add_all(heap, args),
+        Telling::PutAll => whole::put_all(heap, args),
+        Telling::NewSetOf(class) => whole::new_set_of(class, heap, args),
+        Telling::NewMapOf(class) => whole::new_map_of(class, heap, args),
         Telling::GetKey => entries::get_key(heap, args),
         Telling::GetValue => entries::get_value(heap, args),
         Telling::SetValue => entries::set_value(heap, args),
@@ -79,7 +87,7 @@ fn tells(heap: &Heap, member: Telling, args: &[Value]) -> Outcome
 /// The members of Collection in the order of their numbers in the catalogue, from 97.
 static OF_COLLECTIONS: [Option<Member>; 10] = [
     Some(Member::Tells(Telling::Add)),
-    None,
+    Some(Member::Tells(Telling::AddAll)),
     Some(Member::Tells(Telling::ClearCollection)),
     Some(Member::Tells(Telling::Contains)),
     None,
@@ -93,9 +101,9 @@ static OF_COLLECTIONS: [Option<Member>; 10] = [
 /// The constructors of sets, and the members of Map, from 125.
 static OF_MAPS: [Option<Member>; 20] = [
     Some(Member::Tells(Telling::NewSet(SetClass::Hash))),
-    None,
+    Some(Member::Tells(Telling::NewSetOf(SetClass::Hash))),
     Some(Member::Tells(Telling::NewSet(SetClass::LinkedHash))),
-    None,
+    Some(Member::Tells(Telling::NewSetOf(SetClass::LinkedHash))),
     Some(Member::Tells(Telling::Clear)),
     Some(Member::Tells(Telling::ContainsKey)),
     Some(Member::Tells(Telling::ContainsValue)),
@@ -105,7 +113,7 @@ static OF_MAPS: [Option<Member>; 20] = [
     Some(Member::Tells(Telling::IsEmpty)),
     Some(Member::Tells(Telling::View(Part::Keys))),
     Some(Member::Tells(Telling::Put)),
-    None,
+    Some(Member::Tells(Telling::PutAll)),
     Some(Member::Tells(Telling::PutIfAbsent)),
     Some(Member::Remove),
     Some(Member::RemovePair),
@@ -117,9 +125,9 @@ static OF_MAPS: [Option<Member>; 20] = [
 /// The constructors of maps, and the members of Map.Entry, from 159.
 static OF_ENTRIES: [Option<Member>; 7] = [
     Some(Member::Tells(Telling::NewMap(MapClass::Hash))),
-    None,
+    Some(Member::Tells(Telling::NewMapOf(MapClass::Hash))),
     Some(Member::Tells(Telling::NewMap(MapClass::LinkedHash))),
-    None,
+    Some(Member::Tells(Telling::NewMapOf(MapClass::LinkedHash))),
     Some(Member::Tells(Telling::GetKey)),
     Some(Member::Tells(Telling::GetValue)),
     Some(Member::Tells(Telling::SetValue)),
