@@ -1,0 +1,127 @@
+-- What the members come to that take whole collections and maps fits the store.
+use Rattle.std.proofs.Common.{◌≡◌, ℕ, ◌-◌, Bool, true, false, Option, Some, None, List, [], ◌∷◌, length, refl, sym, subst, slice_get, if◌then◌else◌}
+use Rattle.pl_types.specs.declared.classes.TheConstants.{MAP, SET}
+use Rattle.pl_types.specs.Classes.{class_is_below, lineage_of, parents_of, class_row, class_table}
+use Rattle.object_values.specs.declared.object.Guard.{Guard}
+use Rattle.object_values.specs.declared.object.Object.{Object}
+use Rattle.object_values.specs.declared.object.Object.TheVariants as o
+use Rattle.object_values.specs.declared.value.Value.{Value}
+use Rattle.object_values.specs.declared.value.Value.TheVariants as v
+use Rattle.object_values.specs.Pairs.{HasDistinctKeys, with_pair}
+use Rattle.object_values.specs.Values.{is_simple}
+use Rattle.object_heap.specs.Fits.{Rules, Fits, KeysFit, ObjectsFit, PairsFit, kinds}
+use Rattle.object_heap.specs.Parts.{asked, guard_of, object_pairs, pairs_of}
+use Rattle.object_heap.proofs.PairLemmas.{distinct_with, keys_with, pairs_with}
+use Rattle.api_map.specs.declared.arguments.Keyed.{Keyed}
+use Rattle.api_map.specs.declared.arguments.Keyed.TheVariants as keyed
+use Rattle.api_map.specs.declared.making.MapClass.{MapClass}
+use Rattle.api_map.specs.declared.making.MapClass.TheVariants as map
+use Rattle.api_map.specs.declared.making.SetClass.{SetClass}
+use Rattle.api_map.specs.declared.making.SetClass.TheVariants as set
+use Rattle.api_map.specs.declared.outcome.Outcome.{Outcome}
+use Rattle.api_map.specs.declared.sources.Source.{Source}
+use Rattle.api_map.specs.Arguments.{if_map, map_named, with_one}
+use Rattle.api_map.specs.Guards.{is_open, may_put_all, takes_puts}
+use Rattle.api_map.specs.Making.{number_of_map, number_of_set}
+use Rattle.api_map.specs.Outcomes.{unsupported}
+use Rattle.api_map.specs.Sources.{all_simple, are_keys, elements, has_entries, with_keys, with_pairs}
+use Rattle.api_map.specs.Whole as whole
+use Rattle.api_map.proofs.Choosing.{if_fits, object_there, one_fits, tested_fits}
+use Rattle.api_map.proofs.Settling.{OutcomeFits}
+
+both_simple : (test : Bool) (rest : Bool) → (if test then rest else false) ≡ true → (test ≡ true) × (rest ≡ true)
+both_simple true rest h = (refl, h)
+both_simple false rest h = cc
+
+keys_fit : (pairs : List (Value × Value)) (keys : List Value) → all_simple keys ≡ true → KeysFit pairs → KeysFit (with_keys pairs keys)
+keys_fit pairs [] h f = f
+keys_fit pairs (key ∷ keys) h f = let both = both_simple (is_simple key) (all_simple keys) h in keys_fit (with_pair pairs key v.Null) keys both.1 (keys_with pairs key both.0 f)
+
+keys_distinct : (pairs : List (Value × Value)) (keys : List Value) → HasDistinctKeys pairs → HasDistinctKeys (with_keys pairs keys)
+keys_distinct pairs [] f = f
+keys_distinct pairs (key ∷ keys) f = keys_distinct (with_pair pairs key v.Null) keys (distinct_with pairs key v.Null f)
+
+pairs_fit : (n : ℕ) (pairs more : List (Value × Value)) → PairsFit n more → PairsFit n pairs → PairsFit n (with_pairs pairs more)
+pairs_fit n pairs [] h f = f
+pairs_fit n pairs (pair ∷ more) h f = pairs_fit n (with_pair pairs pair.0 pair.1) more h.2 (pairs_with n pairs pair.0 pair.1 h.0 h.1 f)
+
+pairs_distinct : (pairs more : List (Value × Value)) → HasDistinctKeys pairs → HasDistinctKeys (with_pairs pairs more)
+pairs_distinct pairs [] f = f
+pairs_distinct pairs (pair ∷ more) f = pairs_distinct (with_pair pairs pair.0 pair.1) more (distinct_with pairs pair.0 pair.1 f)
+
+-- where elements are keys, they are simple
+not_first : (test rest : Bool) → (if test then false else rest) ≡ true → rest ≡ true
+not_first true rest h = cc
+not_first false rest h = h
+
+simple_elements : (objects : List Object) (source : Source) → are_keys objects source ≡ true → all_simple (elements objects source) ≡ true
+simple_elements objects source h = not_first (has_entries objects source) (all_simple (elements objects source)) h
+
+-- a map that is an argument has pairs that fit
+found_pairs : (rules : Rules) (objects : List Object) (at id : ℕ) (found : Option Object) → ObjectsFit rules (kinds objects) objects → slice_get objects at ≡ found → if_map at found ≡ Some id
+    → PairsFit (length (kinds objects)) (pairs_of objects id) × HasDistinctKeys (pairs_of objects id)
+found_pairs rules objects at id None f e h = cc
+found_pairs rules objects at id (Some (o.Map class pairs guard changes)) f e h =
+    let same : at ≡ id = cc in
+    let fit = object_there rules (kinds objects) objects at (o.Map class pairs guard changes) f e in
+    subst (λ (n : ℕ). PairsFit (length (kinds objects)) (pairs_of objects n) × HasDistinctKeys (pairs_of objects n)) same
+    (subst (λ (there : Option Object). PairsFit (length (kinds objects)) (asked object_pairs [] there) × HasDistinctKeys (asked object_pairs [] there)) (sym e)
+    (fit.1, fit.2))
+found_pairs rules objects at id (Some object) f e h = cc
+
+named_pairs : (rules : Rules) (objects : List Object) (named : Option ℕ) (id : ℕ) → Fits rules objects → map_named objects named ≡ Some id
+    → PairsFit (length (kinds objects)) (pairs_of objects id) × HasDistinctKeys (pairs_of objects id)
+named_pairs rules objects None id f h = cc
+named_pairs rules objects (Some at) id f h = found_pairs rules objects at id (slice_get objects at) f.each refl h
+
+set_grown_fits : (rules : Rules) (objects : List Object) (id : ℕ) (keys : List Value) (found : Option Object) → ObjectsFit rules (kinds objects) objects → all_simple keys ≡ true → slice_get objects id ≡ found
+    → OutcomeFits rules objects (whole.set_grown id keys found)
+set_grown_fits rules objects id keys None f h e = tt
+set_grown_fits rules objects id keys (Some (o.Set class items guard changes)) f h e =
+    let there = object_there rules (kinds objects) objects id (o.Set class items guard changes) f e in ((there.0, keys_fit items keys h there.1, keys_distinct items keys there.2), tt)
+set_grown_fits rules objects id keys (Some object) f h e = tt
+
+added_from_fits : (rules : Rules) (objects : List Object) (id : ℕ) (source : Source) → Fits rules objects → OutcomeFits rules objects (whole.added_from objects id source)
+added_from_fits rules objects id source f =
+    tested_fits rules objects (are_keys objects source) (whole.set_grown id (elements objects source) (slice_get objects id))
+    (λ are. set_grown_fits rules objects id (elements objects source) (slice_get objects id) f.each (simple_elements objects source are) refl)
+
+pub added_all_fits : (rules : Rules) (objects : List Object) (source : Option Source) (of : Keyed) → Fits rules objects → OutcomeFits rules objects (whole.added_all objects source of)
+added_all_fits rules objects source (keyed.Set id) f =
+    if_fits rules objects (is_open (guard_of objects id)) (with_one (whole.added_from objects id) source) unsupported (one_fits rules objects (whole.added_from objects id) source (λ from e. added_from_fits rules objects id from f)) tt
+added_all_fits rules objects source (keyed.View map part) f = tt
+
+map_grown_fits : (rules : Rules) (objects : List Object) (id : ℕ) (more : List (Value × Value)) (found : Option Object) → ObjectsFit rules (kinds objects) objects → PairsFit (length (kinds objects)) more
+    → slice_get objects id ≡ found → OutcomeFits rules objects (whole.map_grown id more found)
+map_grown_fits rules objects id more None f h e = tt
+map_grown_fits rules objects id more (Some (o.Map class pairs guard changes)) f h e =
+    let there = object_there rules (kinds objects) objects id (o.Map class pairs guard changes) f e in ((there.0, pairs_fit (length (kinds objects)) pairs more h there.1, pairs_distinct pairs more there.2), tt)
+map_grown_fits rules objects id more (Some object) f h e = tt
+
+put_from_fits : (rules : Rules) (objects : List Object) (named : Option ℕ) (id from : ℕ) → Fits rules objects → map_named objects named ≡ Some from → OutcomeFits rules objects (whole.put_from objects id from)
+put_from_fits rules objects named id from f e =
+    if_fits rules objects (may_put_all (guard_of objects id) (pairs_of objects from)) (whole.map_grown id (pairs_of objects from) (slice_get objects id)) unsupported
+    (map_grown_fits rules objects id (pairs_of objects from) (slice_get objects id) f.each (named_pairs rules objects named from f e).0 refl) tt
+
+pub put_all_fits : (rules : Rules) (objects : List Object) (named : Option ℕ) (id : ℕ) → Fits rules objects → OutcomeFits rules objects (whole.put_all_of objects (map_named objects named) id)
+put_all_fits rules objects named id f =
+    if_fits rules objects (takes_puts (guard_of objects id)) (with_one (whole.put_from objects id) (map_named objects named)) unsupported
+    (one_fits rules objects (whole.put_from objects id) (map_named objects named) (λ from e. put_from_fits rules objects named id from f e)) tt
+
+set_class : (class : SetClass) → class_is_below (number_of_set class) SET ≡ true
+unfolding class_is_below lineage_of parents_of class_row class_table
+set_class set.Hash = refl
+set_class set.LinkedHash = refl
+
+map_class : (class : MapClass) → class_is_below (number_of_map class) MAP ≡ true
+unfolding class_is_below lineage_of parents_of class_row class_table
+map_class map.Hash = refl
+map_class map.LinkedHash = refl
+
+pub set_of_fits : (rules : Rules) (objects : List Object) (class : SetClass) (source : Source) → OutcomeFits rules objects (whole.set_of class objects source)
+set_of_fits rules objects class source =
+    tested_fits rules objects (are_keys objects source) (whole.set_made class objects source)
+    (λ are. (set_class class, keys_fit [] (elements objects source) (simple_elements objects source are) tt, keys_distinct [] (elements objects source) tt))
+
+pub map_of_fits : (rules : Rules) (objects : List Object) (class : MapClass) (named : Option ℕ) (from : ℕ) → Fits rules objects → map_named objects named ≡ Some from → OutcomeFits rules objects (whole.map_of class objects from)
+map_of_fits rules objects class named from f e = let pairs = named_pairs rules objects named from f e in (map_class class, pairs.0, pairs.1)

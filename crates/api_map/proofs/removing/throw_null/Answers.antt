@@ -1,0 +1,10 @@
+use Rattle.std.proofs.Common.{refl, subst, sym}
+use Rattle.api_map.specs.declared.outcome.Outcome.{Outcome}
+use Rattle.api_map.specs.Outcomes as spec
+use Rattle.api_map.specs.Outcomes.{Tells}
+use Rattle.api_map.proofs.removing.throw_null.Goals as goal
+
+pub returns : goal.returns
+returns c =
+    let told = subst (λ (said : Outcome). Tells spec.null_error said) (sym c.null_error.ensures) refl in
+    record { does = c.settle.ensures.does spec.null_error told; memory = c.settle.ensures.memory spec.null_error told }

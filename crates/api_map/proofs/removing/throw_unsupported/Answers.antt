@@ -1,0 +1,10 @@
+use Rattle.std.proofs.Common.{refl, subst, sym}
+use Rattle.api_map.specs.declared.outcome.Outcome.{Outcome}
+use Rattle.api_map.specs.Outcomes as spec
+use Rattle.api_map.specs.Outcomes.{Tells}
+use Rattle.api_map.proofs.removing.throw_unsupported.Goals as goal
+
+pub returns : goal.returns
+returns c =
+    let told = subst (λ (said : Outcome). Tells spec.unsupported said) (sym c.unsupported.ensures) refl in
+    record { does = c.settle.ensures.does spec.unsupported told; memory = c.settle.ensures.memory spec.unsupported told }

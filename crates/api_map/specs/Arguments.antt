@@ -1,0 +1,71 @@
+-- What members come to by the arguments that they have, and what those arguments are.
+use Rattle.std.specs.Prelude.{ℕ, Option, Some, None, List, slice_get}
+use Rattle.object_values.specs.declared.object.Object.{Object}
+use Rattle.object_values.specs.declared.object.Object.TheVariants as o
+use Rattle.object_values.specs.declared.value.Value.{Value}
+use Rattle.member_arguments.specs.Arguments.{object_at, object_in}
+use Rattle.api_map.specs.declared.arguments.Keyed.{Keyed}
+use Rattle.api_map.specs.declared.arguments.Keyed.TheVariants.{Set, View}
+use Rattle.api_map.specs.declared.outcome.Outcome.{Outcome}
+use Rattle.api_map.specs.Outcomes.{null_error}
+
+-- What one argument, two and three come to. Where one of them is null, missing or of another kind a null is thrown
+abbrev pub with_one : {A : Type 0} → (A → Outcome) → Option A → Outcome
+with_one f None = null_error
+with_one f (Some a) = f a
+
+abbrev pub with_two : {A B : Type 0} → (A → B → Outcome) → Option A → Option B → Outcome
+with_two f None b = null_error
+with_two f (Some a) None = null_error
+with_two f (Some a) (Some b) = f a b
+
+abbrev pub with_three : {A B C : Type 0} → (A → B → C → Outcome) → Option A → Option B → Option C → Outcome
+with_three f None b c = null_error
+with_three f (Some a) None c = null_error
+with_three f (Some a) (Some b) None = null_error
+with_three f (Some a) (Some b) (Some c) = f a b c
+
+-- the number of an object that is a map
+abbrev pub if_map : ℕ → Option Object → Option ℕ
+if_map id (Some (o.Map class pairs guard changes)) = Some id
+if_map id found = None
+
+abbrev pub map_named : List Object → Option ℕ → Option ℕ
+map_named objects None = None
+map_named objects (Some id) = if_map id (slice_get objects id)
+
+abbrev pub map_at : List Object → List Value → ℕ → Option ℕ
+map_at objects arguments at = map_named objects (object_at arguments at)
+
+-- an entry: its map and its key
+abbrev pub if_entry : Option Object → Option (ℕ × Value)
+if_entry (Some (o.Entry map key)) = Some (map, key)
+if_entry found = None
+
+abbrev pub entry_named : List Object → Option ℕ → Option (ℕ × Value)
+entry_named objects None = None
+entry_named objects (Some id) = if_entry (slice_get objects id)
+
+abbrev pub entry_of : List Object → Value → Option (ℕ × Value)
+entry_of objects value = entry_named objects (object_in (Some value))
+
+abbrev pub entry_at : List Object → List Value → ℕ → Option (ℕ × Value)
+entry_at objects arguments at = entry_named objects (object_at arguments at)
+
+-- a collection with keys: a set, or a view of a map
+abbrev pub if_keyed : ℕ → Option Object → Option Keyed
+if_keyed id (Some (o.Set class items guard changes)) = Some (Set id)
+if_keyed id (Some (o.View map part)) = Some (View map part)
+if_keyed id found = None
+
+abbrev pub keyed_named : List Object → Option ℕ → Option Keyed
+keyed_named objects None = None
+keyed_named objects (Some id) = if_keyed id (slice_get objects id)
+
+abbrev pub keyed_at : List Object → List Value → ℕ → Option Keyed
+keyed_at objects arguments at = keyed_named objects (object_at arguments at)
+
+-- the set itself, or the map that is shown
+abbrev pub holder_of : Keyed → ℕ
+holder_of (Set id) = id
+holder_of (View map part) = map

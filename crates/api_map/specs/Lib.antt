@@ -1,0 +1,12 @@
+pub mod Arguments
+pub mod Collections
+pub mod Entries
+pub mod Guards
+pub mod Laws
+pub mod Making
+pub mod Maps
+pub mod Members
+pub mod Outcomes
+pub mod Searching
+pub mod Sources
+pub mod Whole

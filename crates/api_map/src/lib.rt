@@ -1,0 +1,22 @@
+//! The members of Map and Map.Entry, the constructors of maps and sets, and the members of Collection of sets and of views of maps.
+#![tactic(auto)]
+
+mod arguments;
+mod collections;
+mod entries;
+mod errors;
+mod guards;
+mod laws;
+mod making;
+mod maps;
+mod member;
+mod outcome;
+mod paying;
+mod removing;
+mod searching;
+mod sources;
+mod values;
+mod whole;
+
+pub use laws::members_keep_fit;
+pub use member::call;
