@@ -1,0 +1,8 @@
+use Rattle.api_list.specs.Members.{does_numbered, numbered}
+use Rattle.api_list.proofs.Keeping.{found_fits}
+use Rattle.api_list.proofs.Settling.{settled}
+use Rattle.api_list.proofs.laws.members_keep_fit.Goals as goal
+
+pub returns : goal.returns
+returns c = λ rules store number arguments f h.
+    settled rules store (does_numbered store.objects number arguments) f (found_fits rules store.objects (numbered number) arguments f h)

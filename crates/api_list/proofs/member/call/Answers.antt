@@ -1,0 +1,13 @@
+use Rattle.std.proofs.Common.{Some}
+use Rattle.object_heap.proofs.Keeping.{answers_fit}
+use Rattle.api_list.specs.Members.{does_found}
+use Rattle.api_list.specs.Outcomes.{effect}
+use Rattle.api_list.proofs.Keeping.{found_fits}
+use Rattle.api_list.proofs.Settling.{settled}
+use Rattle.api_list.proofs.member.call.Goals as goal
+
+pub returns-in-Some-clause-keeps : goal.returns-in-Some-clause-keeps
+returns-in-Some-clause-keeps c = λ rules f h.
+    let told = does_found c.args.heap.now.objects (Some c.in-Some.member) c.args.args.now in
+    answers_fit rules (effect c.args.heap.now told) c.args.heap.now c.called.new.heap c.called.result c.called.ensures.does f
+    (settled rules c.args.heap.now told f (found_fits rules c.args.heap.now.objects (Some c.in-Some.member) c.args.args.now f h))

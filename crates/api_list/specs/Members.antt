@@ -1,0 +1,64 @@
+-- What each member comes to, and their numbers.
+use Rattle.std.specs.Prelude.{ℕ, ◌-◌, nat_lt, Option, Some, None, List, [], ◌∷◌, slice_get, if◌then◌else◌}
+use Rattle.object_values.specs.declared.object.Object.{Object}
+use Rattle.object_values.specs.declared.value.Value.{Value}
+use Rattle.api_list.specs.declared.member.Member.{Member}
+use Rattle.api_list.specs.declared.member.Member.TheVariants as m
+use Rattle.api_list.specs.declared.outcome.Outcome.{Outcome}
+use Rattle.api_list.specs.Lists as lists
+use Rattle.api_list.specs.Making as making
+use Rattle.api_list.specs.Outcomes.{nothing}
+
+-- what a member comes to
+abbrev pub does : List Object → Member → List Value → Outcome
+does objects m.Add arguments = lists.add objects arguments
+does objects m.Clear arguments = lists.clear objects arguments
+does objects m.Contains arguments = lists.contains objects arguments
+does objects m.IsEmpty arguments = lists.is_empty objects arguments
+does objects m.Remove arguments = lists.remove objects arguments
+does objects m.Size arguments = lists.size objects arguments
+does objects m.AddAt arguments = lists.add_at objects arguments
+does objects m.Get arguments = lists.get objects arguments
+does objects m.IndexOf arguments = lists.index_of objects arguments
+does objects m.RemoveAt arguments = lists.remove_at objects arguments
+does objects m.Set arguments = lists.set objects arguments
+does objects m.NewList arguments = making.new_list
+does objects m.EmptyList arguments = making.empty_list
+does objects m.EmptyMap arguments = making.empty_map
+does objects m.SingletonList arguments = making.singleton_list arguments
+
+-- The members in the order of their numbers in the catalogue, with a gap for each that is not built: those of Collection, List and
+-- ArrayList from 97, and those of Collections from 169
+unfoldable pub of_lists : List (Option Member)
+of_lists =
+    Some m.Add ∷ None ∷ Some m.Clear ∷ Some m.Contains ∷ None ∷ Some m.IsEmpty ∷ Some m.Remove ∷ None ∷ None ∷ Some m.Size
+    ∷ None ∷ None ∷ None ∷ None ∷ None ∷ None
+    ∷ Some m.AddAt ∷ None ∷ Some m.Get ∷ Some m.Size ∷ Some m.IndexOf ∷ None ∷ Some m.RemoveAt ∷ None ∷ Some m.Set ∷ None
+    ∷ Some m.NewList
+    ∷ []
+
+unfoldable pub of_makers : List (Option Member)
+of_makers = Some m.EmptyList ∷ Some m.EmptyMap ∷ None ∷ None ∷ None ∷ Some m.SingletonList ∷ []
+
+-- what stands at a place, if it is no gap
+abbrev pub built_in : Option (Option Member) → Option Member
+built_in None = None
+built_in (Some built) = built
+
+abbrev pub member_at : List (Option Member) → ℕ → Option Member
+member_at members at = built_in (slice_get members at)
+
+-- the member of a number, if it is one of these
+unfoldable pub numbered : ℕ → Option Member
+numbered number =
+    if nat_lt number 97 then None
+    else (if nat_lt number 169 then member_at of_lists (number - 97)
+    else member_at of_makers (number - 169))
+
+abbrev pub does_found : List Object → Option Member → List Value → Outcome
+does_found objects None arguments = nothing
+does_found objects (Some member) arguments = does objects member arguments
+
+-- what the member of a number comes to; any other number's is nothing
+abbrev pub does_numbered : List Object → ℕ → List Value → Outcome
+does_numbered objects number arguments = does_found objects (numbered number) arguments

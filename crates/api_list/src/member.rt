@@ -1,0 +1,157 @@
+//! The members by their numbers in the catalogue.
+ghost use Rattle.std.specs.Prelude.{◌≡◌, length};
+ghost use Rattle.object_heap.specs.Effects.{Answers};
+ghost use Rattle.object_heap.specs.Fits.{Rules, Fits, AllFit, AnswerFits};
+ghost use Rattle.api_list.specs.Outcomes.{Tells, WantsMemory, effect};
+ghost use Rattle.api_list.specs.Members as spec;
+ghost use Rattle.api_list.specs.Members.{does, does_numbered, numbered};
+
+use crate::outcome::Outcome;
+use crate::{lists, making};
+use object_heap::{Answer, Heap};
+use object_values::Value;
+
+/// A member.
+#[derive(Clone, Copy)]
+pub enum Member {
+    Add,
+    Clear,
+    Contains,
+    IsEmpty,
+    Remove,
+    Size,
+    AddAt,
+    Get,
+    IndexOf,
+    RemoveAt,
+    Set,
+    NewList,
+    EmptyList,
+    EmptyMap,
+    SingletonList,
+}
+
+fn tells(heap: &Heap, member: Member, args: &[Value]) -> Outcome
+    ensures { Tells (does heap.now.objects member args.now) result }
+{
+    match member {
+        Member::Add => lists::add(heap, args),
+        Member::Clear => lists::clear(heap, args),
+        Member::Contains => lists::contains(heap, args),
+        Member::IsEmpty => lists::is_empty(heap, args),
+        Member::Remove => lists::remove(heap, args),
+        Member::Size => lists::size(heap, args),
+        Member::AddAt => lists::add_at(heap, args),
+        Member::Get => lists::get(heap, args),
+        Member::IndexOf => lists::index_of(heap, args),
+        Member::RemoveAt => lists::remove_at(heap, args),
+        Member::Set => lists::set(heap, args),
+        Member::NewList => making::new_list(heap),
+        Member::EmptyList => making::empty_list(heap),
+        Member::EmptyMap => making::empty_map(heap),
+        Member::SingletonList => making::singleton_list(heap, args),
+    }
+}
+
+/// The members of Collection, List and ArrayList in the order of their numbers in the catalogue, from 97.
+static OF_LISTS: [Option<Member>; 27] = [
+    Some(Member::Add),
+    None,
+    Some(Member::Clear),
+    Some(Member::Contains),
+    None,
+    Some(Member::IsEmpty),
+    Some(Member::Remove),
+    None,
+    None,
+    Some(Member::Size),
+    None,
+    None,
+    None,
+    None,
+    None,
+    None,
+    Some(Member::AddAt),
+    None,
+    Some(Member::Get),
+    Some(Member::Size),
+    Some(Member::IndexOf),
+    None,
+    Some(Member::RemoveAt),
+    None,
+    Some(Member::Set),
+    None,
+    Some(Member::NewList),
+];
+
+/// The members of Collections, from 169.
+static OF_MAKERS: [Option<Member>; 6] = [
+    Some(Member::EmptyList),
+    Some(Member::EmptyMap),
+    None,
+    None,
+    None,
+    Some(Member::SingletonList),
+];
+
+#[tactic(auto, unfolding(crate::specs::Members::of_lists))]
+fn of_lists() -> &'static [Option<Member>]
+    ensures { result.now ≡ spec.of_lists }
+{
+    &OF_LISTS
+}
+
+#[tactic(auto, unfolding(crate::specs::Members::of_makers))]
+fn of_makers() -> &'static [Option<Member>]
+    ensures { result.now ≡ spec.of_makers }
+{
+    &OF_MAKERS
+}
+
+fn member_at(members: &[Option<Member>], at: usize) -> Option<Member>
+    ensures { result ≡ spec.member_at members.now at }
+{
+    match members.get(at) {
+        Some(member) => *member,
+        None => None,
+    }
+}
+
+#[tactic(auto, unfolding(crate::specs::Members::numbered))]
+fn member_of(number: u32) -> Option<Member>
+    ensures { result ≡ numbered number }
+{
+    if number < 97 {
+        None
+    } else if number < 169 {
+        member_at(of_lists(), (number - 97) as usize)
+    } else {
+        member_at(of_makers(), (number - 169) as usize)
+    }
+}
+
+fn called(member: Member, heap: &mut Heap, args: &[Value]) -> Answer
+    ensures does { Answers (effect heap.old (does heap.old.objects member args.now)) heap.old heap.new result }
+    ensures memory { WantsMemory (does heap.old.objects member args.now) result }
+{
+    let told = tells(heap, member, args);
+    told.settle(heap)
+}
+
+/// The call of a member of Collection or List whose receiver is a list, of the constructor of a list, or of a maker of Collections,
+/// by its number in the catalogue. The receiver is the first argument; a constructor and a static member have none. A number that
+/// is no such member's gives null, and an argument that is missing or of another kind counts as null.
+///
+/// `Thrown`: by `docs/CATALOGUE.md`, as the member says. `Room`: the charge is above the room left; it is for a new object its
+/// weight, for an item that is added 1, and nothing for what is written or taken out. `NoMemory`: there was none for what is made
+/// or added, or for a text that is given or written; nothing else takes any.
+pub fn call(number: u32, heap: &mut Heap, args: &[Value]) -> Answer
+    ensures does { Answers (effect heap.old (does_numbered heap.old.objects number args.now)) heap.old heap.new result }
+    ensures memory { WantsMemory (does_numbered heap.old.objects number args.now) result }
+    ensures keeps { (rules : Rules) → Fits rules heap.old.objects → AllFit (length heap.old.objects) args.now → AnswerFits rules heap.new result }
+{
+    match member_of(number) {
+        Some(member) => called(member, heap, args),
+        None => Answer::Value(Value::Null),
+    }
+}
