@@ -72,7 +72,7 @@ fn field_message(alloc: Global, field: &[u16]) -> Result<UText, AllocError>
     message.extend_from_slice(before.units())?;
     message.extend_from_slice(field)?;
     message.extend_from_slice(behind.units())?;
-    Ok(UText::from_units(message))
+    UText::from_units(message)
 }
 
 /// A field that no document has.
