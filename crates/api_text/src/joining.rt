@@ -96,7 +96,9 @@ fn join_values(heap: &Heap, between: &[u16], values: &[Value]) -> Outcome
 {
     let mut out = Vec::new(heap.alloc());
     for at in 0..values.len() {
-        let Some(value) = value_at(values, at) else { unreachable!() };
+        let Some(value) = value_at(values, at) else {
+            unreachable!()
+        };
         match push_value(heap, between, at, value, &mut out) {
             Ok(_) => {}
             Err(cause) => return stopped(heap, cause),
@@ -122,7 +124,9 @@ fn join_pairs(heap: &Heap, between: &[u16], part: Part, pairs: &Pairs) -> Outcom
 {
     let mut out = Vec::new(heap.alloc());
     for at in 0..pairs.len() {
-        let Some((key, value)) = pair_at(pairs, at) else { unreachable!() };
+        let Some((key, value)) = pair_at(pairs, at) else {
+            unreachable!()
+        };
         match push_shown(heap, between, at, part, key, value, &mut out) {
             Ok(_) => {}
             Err(cause) => return stopped(heap, cause),

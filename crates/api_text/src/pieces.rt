@@ -5,7 +5,7 @@ ghost use Rattle.object_values.specs.declared.value.Value.TheVariants as v;
 ghost use Rattle.api_text.specs.Pieces as spec;
 ghost use Rattle.api_text.specs.Writing.{Made, MadeTexts, StopsOne};
 
-use crate::writing::{kept, Stop, Texts, push_piece, write, write_both};
+use crate::writing::{Stop, Texts, kept, push_piece, write, write_both};
 use object_values::{Elements, Value};
 use pl_units::{UText, find_units};
 use std::alloc::Global;

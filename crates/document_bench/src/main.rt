@@ -146,12 +146,7 @@ fn come_often(job: &Job, part: Part, lines: &[String]) -> u32 {
 }
 
 // The least of some runs, in nanoseconds a document.
-fn least(
-    rt: &impl Clock,
-    job: &Job,
-    part: Part,
-    lines: &[String],
-) -> io::Result<(u128, u32)> {
+fn least(rt: &impl Clock, job: &Job, part: Part, lines: &[String]) -> io::Result<(u128, u32)> {
     let mut least = u128::MAX;
     let mut done = 0;
     for _ in 0..TIMES {

@@ -248,7 +248,9 @@ fn items_text(
     let mut rest = visits;
     for at in 0..items.len() {
         separate(out, at)?;
-        let Some(item) = item_at(items, at) else { unreachable!() };
+        let Some(item) = item_at(items, at) else {
+            unreachable!()
+        };
         rest = value_at(heap, levels, item, rest, out)?;
     }
     Ok(rest)
@@ -315,7 +317,9 @@ fn all_pairs_text(
     let mut rest = visits;
     for at in 0..pairs.len() {
         separate(out, at)?;
-        let Some((key, value)) = pair_at(pairs, at) else { unreachable!() };
+        let Some((key, value)) = pair_at(pairs, at) else {
+            unreachable!()
+        };
         rest = shown_text(heap, levels, shown, key, value, rest, out)?;
     }
     Ok(rest)
