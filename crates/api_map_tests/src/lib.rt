@@ -1,0 +1,11 @@
+//! What the clauses of `api_map` do not say: its members against Java's and the language's own rules, by rows of values.
+#![tactic(auto)]
+
+#[cfg(test)]
+mod making;
+#[cfg(test)]
+mod rows;
+#[cfg(test)]
+mod running;
+#[cfg(test)]
+mod sample;
