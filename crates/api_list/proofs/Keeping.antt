@@ -106,7 +106,7 @@ got_fits rules objects list at f =
 -- what is emptied
 list_emptied_fits : (rules : Rules) (objects : List Object) (id class : ℕ) (items : List Value) (changes : ℕ) → class_is_below class LIST ≡ true → OutcomeFits rules objects (lists.list_emptied id class items changes)
 list_emptied_fits rules objects id class [] changes h = tt
-list_emptied_fits rules objects id class (item ∷ items) changes h = ((h, tt), tt)
+list_emptied_fits rules objects id class (item ∷ items) changes h = (h, tt)
 
 emptied_fits : (rules : Rules) (objects : List Object) (id : ℕ) (found : Option Object) → ObjectsFit rules (kinds objects) objects → slice_get objects id ≡ found → OutcomeFits rules objects (lists.emptied id found)
 emptied_fits rules objects id None f e = tt

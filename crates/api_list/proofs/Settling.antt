@@ -27,7 +27,7 @@ OutcomeFits rules objects (outcome.Gives value) = ValueFits (length objects) val
 OutcomeFits rules objects (outcome.New object) = ObjectFits rules (kinds objects) object
 OutcomeFits rules objects (outcome.Inserts id at item value) = ValueFits (length objects) item × ValueFits (length objects) value
 OutcomeFits rules objects (outcome.Writes id at item) = ValueFits (length objects) item × ItemFits rules.typed (kinds objects) item (slice_get objects id)
-OutcomeFits rules objects (outcome.Becomes id object value) = ObjectFits rules (kinds objects) object × ValueFits (length objects) value
+OutcomeFits rules objects (outcome.Empties id object) = ObjectFits rules (kinds objects) object
 OutcomeFits rules objects told = Unit {0}
 
 class_is : (r : Raised) → class_is_below (number_of r) EXCEPTION ≡ true
@@ -82,8 +82,8 @@ settled rules store (outcome.Writes id at item) f h =
 settled rules store (outcome.Cuts id at) f h =
     (cut_fits rules store.objects id at f, still_fits store.objects id (with_removed at) (list_item_now store.objects id at) (place_fits (length store.objects) (list_items_of store.objects id) at (list_items_fit rules store.objects id f)))
 settled rules store (outcome.Drops id at) f h = (cut_fits rules store.objects id at f, tt)
-settled rules store (outcome.Becomes id object value) f h =
-    after_fits rules store (with_change store.objects id (renewed_by object)) 0 (λ paid. e.Gives value paid)
-    (λ room. (renew_fits rules store.objects id object f h.0, still_fits store.objects id (renewed_by object) value h.1))
+settled rules store (outcome.Empties id object) f h =
+    after_fits rules store (with_change store.objects id (renewed_by object)) 0 (λ paid. e.Gives v.Null paid)
+    (λ room. (renew_fits rules store.objects id object f h, tt))
 settled rules store (outcome.Throws raised message) f h = throws_fits rules store (number_of raised) message f (class_is raised)
 settled rules store outcome.NoMemory f h = (f, tt)

@@ -11,7 +11,7 @@ use Rattle.object_heap.specs.Parts.{guard_of, items_of}
 use Rattle.member_arguments.specs.Arguments.{int_at}
 use Rattle.api_list.specs.declared.outcome.Raised.TheVariants as raised
 use Rattle.api_list.specs.declared.outcome.Outcome.{Outcome}
-use Rattle.api_list.specs.declared.outcome.Outcome.TheVariants.{Gives, Inserts, Writes, Cuts, Drops, Becomes}
+use Rattle.api_list.specs.declared.outcome.Outcome.TheVariants.{Gives, Inserts, Writes, Cuts, Drops, Empties}
 use Rattle.api_list.specs.Arguments.{list_at, with_one, with_two, with_three}
 use Rattle.api_list.specs.Guards.{is_open}
 use Rattle.api_list.specs.Outcomes.{flag, says, unsupported}
@@ -99,7 +99,7 @@ emptiness_given objects list = flag (length (items_of objects list) == 0)
 
 -- with no items: one change where there were some
 abbrev pub empty_list : ℕ → ℕ → ℕ → Outcome
-empty_list id class changes = Becomes id (o.List class [] g.Open (changed changes)) v.Null
+empty_list id class changes = Empties id (o.List class [] g.Open (changed changes))
 
 abbrev pub list_emptied : ℕ → ℕ → List Value → ℕ → Outcome
 list_emptied id class [] changes = Gives v.Null

@@ -49,7 +49,7 @@ effect store (outcome.Inserts id at item value) = gives_paid store (with_change 
 effect store (outcome.Writes id at item) = Gives (item_now store.objects id at) (changed_freely store id (with_item at item))
 effect store (outcome.Cuts id at) = Gives (list_item_now store.objects id at) (changed_freely store id (with_removed at))
 effect store (outcome.Drops id at) = Gives (v.Bool true) (changed_freely store id (with_removed at))
-effect store (outcome.Becomes id object value) = gives_paid store (with_change store.objects id (renewed_by object)) value
+effect store (outcome.Empties id object) = gives_paid store (with_change store.objects id (renewed_by object)) v.Null
 effect store (outcome.Throws raised message) = throws store (number_of raised) message
 effect store outcome.NoMemory = Gives v.Null store
 
@@ -57,13 +57,14 @@ abbrev pub is_text : Value → Bool
 is_text (v.Str text) = true
 is_text value = false
 
--- What is given is there already, and what is taken out is let go: nothing is made for it. A text that is given or written is
+-- What is given is there already, and what is taken out or emptied is let go: nothing is made for it. A text that is given or written is
 -- copied
 abbrev pub NeedsMemory : Outcome → Type 0
 NeedsMemory (outcome.Gives value) = is_text value ≡ true
 NeedsMemory (outcome.Writes id at item) = is_text item ≡ true
 NeedsMemory (outcome.Cuts id at) = ⊥
 NeedsMemory (outcome.Drops id at) = ⊥
+NeedsMemory (outcome.Empties id object) = ⊥
 NeedsMemory told = Unit {0}
 
 -- What a function of a member says is the outcome. It may say that there is no memory where something is made or copied
@@ -75,7 +76,7 @@ Tells told (outcome.Inserts id at item value) = told ≡ outcome.Inserts id at i
 Tells told (outcome.Writes id at item) = told ≡ outcome.Writes id at item
 Tells told (outcome.Cuts id at) = told ≡ outcome.Cuts id at
 Tells told (outcome.Drops id at) = told ≡ outcome.Drops id at
-Tells told (outcome.Becomes id object value) = told ≡ outcome.Becomes id object value
+Tells told (outcome.Empties id object) = told ≡ outcome.Empties id object
 Tells told (outcome.Throws raised message) = told ≡ outcome.Throws raised message
 
 -- a call answers want of memory only where something is made or copied
@@ -106,6 +107,11 @@ too_deep = says raised.IllegalState (codes "value nested too deeply")
 
 abbrev pub too_large : Outcome
 too_large = says raised.IllegalState (codes "value too large to walk")
+
+-- Whatever is answered, it is no want of memory
+abbrev pub MakesNothing : Answer → Type 0
+MakesNothing a.NoMemory = ⊥
+MakesNothing answer = Unit {0}
 
 -- a value is answered
 abbrev pub IsGiven : Answer → Type 0

@@ -205,7 +205,7 @@ fn empty_list(heap: &Heap, id: u32, class: u32, changes: u64) -> Outcome
         guard: Guard::Open,
         changes: changes.wrapping_add(1),
     };
-    Outcome::Becomes(id, object, Value::Null)
+    Outcome::Empties(id, object)
 }
 
 fn list_emptied(heap: &Heap, id: u32, class: u32, items: &[Value], changes: u64) -> Outcome

@@ -51,8 +51,8 @@ pub enum Outcome {
     Cuts(u32, usize),
     /// The item at a place is taken out; the value is true.
     Drops(u32, usize),
-    /// An object takes the place of another of its kind and class; and the value.
-    Becomes(u32, Object, Value),
+    /// An object without elements takes the place of another of its kind and class; the value is null.
+    Empties(u32, Object),
     /// An exception with a message or none is thrown.
     Throws(Raised, Option<UText>),
     /// There was no memory.
@@ -68,7 +68,7 @@ impl Drop for Outcome {
             Outcome::Writes(_list, _at, _item) => {}
             Outcome::Cuts(_list, _at) => {}
             Outcome::Drops(_list, _at) => {}
-            Outcome::Becomes(_id, _object, _value) => {}
+            Outcome::Empties(_id, _object) => {}
             Outcome::Throws(_raised, _message) => {}
             Outcome::NoMemory => {}
         }
@@ -88,7 +88,7 @@ impl Outcome {
             Outcome::Writes(list, at, item) => write(heap, list, at, item),
             Outcome::Cuts(list, at) => cut(heap, list, at),
             Outcome::Drops(list, at) => drop_at(heap, list, at),
-            Outcome::Becomes(id, object, value) => renew(heap, id, object, value),
+            Outcome::Empties(id, object) => renew(heap, id, object),
             Outcome::Throws(raised, message) => throw(heap, raised.number(), message),
             Outcome::NoMemory => Answer::NoMemory,
         }

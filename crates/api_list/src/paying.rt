@@ -4,7 +4,7 @@ ghost use Rattle.object_heap.specs.Objects.{renewed_by, with_inserted, with_item
 ghost use Rattle.object_heap.specs.Store.{with_change};
 ghost use Rattle.std.specs.Prelude.{true};
 ghost use Rattle.object_values.specs.declared.value.Value.TheVariants as v;
-ghost use Rattle.api_list.specs.Outcomes.{changed_freely, gives_new, item_now, list_item_now, IsGiven};
+ghost use Rattle.api_list.specs.Outcomes.{changed_freely, gives_new, item_now, list_item_now, IsGiven, MakesNothing};
 
 use object_heap::{Answer, Heap, HeapErr};
 use object_values::{Object, Value};
@@ -71,14 +71,14 @@ pub fn drop_at(heap: &mut Heap, list: u32, at: usize) -> Answer
     Answer::Value(Value::Bool(true))
 }
 
-/// Replaces an object by one of its kind and class, which costs what it grows by.
-pub fn renew(heap: &mut Heap, id: u32, object: Object, value: Value) -> Answer
-    ensures { Answers (gives_paid heap.old (with_change heap.old.objects id (renewed_by object)) value) heap.old heap.new result }
+/// Replaces an object by one of its kind and class, which costs what it grows by, and gives null. It takes no memory.
+pub fn renew(heap: &mut Heap, id: u32, object: Object) -> Answer
+    ensures does { Answers (gives_paid heap.old (with_change heap.old.objects id (renewed_by object)) v.Null) heap.old heap.new result }
+    ensures memory { MakesNothing result }
 {
     if heap.renew(id, object) {
-        Answer::Value(value)
+        Answer::Value(Value::Null)
     } else {
-        drop(value);
         Answer::Room
     }
 }
