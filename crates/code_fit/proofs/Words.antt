@@ -1,5 +1,5 @@
 -- Words that fit: they go on fitting as objects are added, and so do copies of them and the values that are made of them.
-use Rattle.std.proofs.Common.{ℕ, zero, suc, ℤ, ◌≤◌, List, [], ◌∷◌, ◌++◌, Option, Some, None, arith}
+use Rattle.std.proofs.Common.{ℕ, zero, suc, ℤ, ◌≤◌, List, [], ◌∷◌, ◌++◌, Option, Some, None}
 use Rattle.std.specs.Prelude.{map, slice_get, slice_set}
 use Rattle.pl_types.specs.declared.primitive.Primitive.{Primitive}
 use Rattle.pl_types.specs.declared.primitive.Primitive.TheVariants as prim
@@ -21,20 +21,10 @@ use Rattle.code_meaning.specs.declared.word.Word.TheVariants.{I, J, R}
 use Rattle.code_meaning.specs.Machine.{Frame, take_words, copied}
 use Rattle.code_meaning.specs.Members.{Receiving, Unfit, OnNull, Receives, Reads, reference_in, taken_layer, taken_all, before, receives, receives_on, received_by, received, given_layer, given_as}
 use Rattle.code_meaning.specs.Words.{start_of, word_of, boxed, boxed_int, boxed_long, unboxed, plain_value}
+use Rattle.run_fit.proofs.Values.{value_grows}
 use Rattle.code_fit.specs.Moments.{WordFits, WordsFit, FramesFit}
 
 -- ---- more objects
-
-pub value_grows : (n m : ℕ) → n ≤ m → (value : Value) → ValueFits n value → ValueFits m value
-value_grows n m h v.Null f = tt
-value_grows n m h (v.Bool a) f = tt
-value_grows n m h (v.Byte a) f = tt
-value_grows n m h (v.Short a) f = tt
-value_grows n m h (v.Char a) f = tt
-value_grows n m h (v.Int a) f = tt
-value_grows n m h (v.Long a) f = tt
-value_grows n m h (v.Str a) f = tt
-value_grows n m h (v.Ref id) f = omega (arith, h, f)
 
 pub word_grows : (n m : ℕ) → n ≤ m → (word : Word) → WordFits n word → WordFits m word
 word_grows n m h (I a) f = tt

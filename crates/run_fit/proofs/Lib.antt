@@ -1,3 +1,4 @@
 pub mod Leaving
 pub mod Counted
+pub mod Values
 pub mod Effects
