@@ -1,0 +1,413 @@
+-- Each instruction keeps a run within its rules.
+use Rattle.std.proofs.Common.{◌≡◌, ℕ, ℤ, zero, suc, Bool, true, false, List, [], ◌∷◌, Option, Some, None, sym, subst}
+use Rattle.std.specs.Prelude.{slice_get, map, length, pos, negsuc, if◌then◌else◌}
+use Rattle.pl_types.specs.declared.ty.Ty.{Ty}
+use Rattle.pl_types.specs.declared.ty.Ty.TheVariants as ty
+use Rattle.pl_types.specs.Texts.{type_of_full}
+use Rattle.object_values.specs.declared.object.Object.{Object}
+use Rattle.object_values.specs.declared.value.Value.{Value}
+use Rattle.object_values.specs.declared.value.Value.TheVariants as v
+use Rattle.object_heap.specs.Effects.{Effect}
+use Rattle.object_heap.specs.Fits.{Rules, Fits, ValueFits, AllFit, ThrownFits}
+use Rattle.object_heap.specs.Store.{Store}
+use Rattle.allowlist.specs.declared.member.MemberType.{MemberType}
+use Rattle.allowlist.specs.Index.{member_at}
+use Rattle.instruction_types.specs.Members.{method_of, constructor_of, field_of}
+use Rattle.member_calls.specs.Laws.{StillThere}
+use Rattle.member_calls.specs.Members.{does}
+use Rattle.number_ops.specs.Outcomes.{effect, zero_divisor, null_error, says}
+use Rattle.number_ops.specs.Casts.{cast_at_run_time}
+use Rattle.number_ops.specs.Operators.{concatenated}
+use Rattle.number_ops.specs.Relations.{equal, thrown}
+use Rattle.pl_code.specs.declared.kinds.ArithmeticOp.{ArithmeticOp}
+use Rattle.pl_code.specs.declared.kinds.Width.{Width}
+use Rattle.pl_code.specs.declared.kinds.Plain.{Plain}
+use Rattle.pl_code.specs.declared.kinds.Plain.TheVariants as plain
+use Rattle.pl_code.specs.declared.kinds.Numbered.{Numbered}
+use Rattle.pl_code.specs.declared.kinds.Numbered.TheVariants as numbered
+use Rattle.pl_code.specs.declared.kinds.Quoting.{Quoting}
+use Rattle.pl_code.specs.declared.kinds.Quoting.TheVariants as quoting
+use Rattle.pl_code.specs.declared.kinds.Typed.{Typed}
+use Rattle.pl_code.specs.declared.kinds.Typed.TheVariants as typed
+use Rattle.pl_code.specs.declared.kinds.Slot.{Slot}
+use Rattle.pl_code.specs.declared.kinds.Width.TheVariants as width
+use Rattle.pl_code.specs.declared.code.FunCode.{FunCode}
+use Rattle.pl_code.specs.declared.code.Instruction.{Instruction}
+use Rattle.pl_code.specs.declared.code.Instruction.TheVariants as i
+use Rattle.run_state.specs.World.{World, Limits, Outcome, Given, Raised, Full, acts_in, Counted, Counts, Passes, allowed_in, take_turn, enter, pay_member}
+use Rattle.run_fit.specs.Laws.{DoneFits}
+use Rattle.run_fit.specs.Worlds.{WorldFits, count_in, OutcomeFits}
+use Rattle.run_fit.proofs.Counted.{SameStore, turn_keeps, call_keeps, member_keeps}
+use Rattle.run_fit.proofs.Effects.{beginnings_fit, outcomes_fit, casts_fit, concatenation_fits, equality_fits, members_fit, throwing_fits}
+use Rattle.code_meaning.specs.declared.word.Word.{Word}
+use Rattle.code_meaning.specs.declared.word.Word.TheVariants.{I, J, R}
+use Rattle.code_meaning.specs.Members.{Receiving, Unfit, OnNull, Receives, Reads, count_of, given_as, received}
+use Rattle.code_meaning.specs.Words.{Calculation, NoRow, Calculates, boxed, calculation, unboxed, word_of, start_of, takes_one, is_shift, one_int, two_ints, one_long, two_longs, long_and_int, op_of}
+use Rattle.arithmetic.specs.declared.operator.Op.{Op}
+use Rattle.code_meaning.specs.Machine.{Codes, code_in, function_of, Frame, Next, Goes, Ends, Stuck, Handlers, is_instance, lands, traps_of, unwind, on_top, on_int, on_long, on_reference, on_type, on_value, on_local, on_stack, on_words, on_loops, unless_zero, if_null, to_line, take_words, copied, pushed, depth_of, is_written, on_outcome, on_thrown, on_calculation, gives_back, returns, returns_of, on_turn, on_enter, on_call, on_act, on_paid, on_received, plain_act, numbered_act, quoted_act, typed_act, member_act, act, acts, lines_of, step, start_at, after}
+use Rattle.code_fit.specs.Laws.{StartsFit, StepsFit, RunsFit}
+use Rattle.code_fit.specs.Moments.{WordFits, WordsFit, FramesFit, ResultFits, NextFits}
+use Rattle.code_fit.proofs.Words.{frames_grow, words_grow, words_join, starts_fit, words_set, FoundFits, word_at, CopiedFit, pop_fits, dup_fits, dup2_fits, dupx1_fits, dupx2_fits, TakenFit, take_fits, unboxed_fits, number_fits, given_fits, MadeFits, boxed_fits, ReceivingFits, received_fits}
+
+-- ---- the operands of a calculation
+
+abbrev CalculationFits : ℕ → Calculation → Type 0
+CalculationFits n NoRow = Unit {0}
+CalculationFits n (Calculates given stack) = WordsFit n stack
+
+one_int_fits : (n : ℕ) (o : Op) (stack : List Word) → WordsFit n stack → CalculationFits n (one_int o stack)
+one_int_fits n o [] f = tt
+one_int_fits n o (I a ∷ stack) f = f.1
+one_int_fits n o (J a ∷ stack) f = tt
+one_int_fits n o (R a ∷ stack) f = tt
+
+two_ints_fit : (n : ℕ) (o : Op) (stack : List Word) → WordsFit n stack → CalculationFits n (two_ints o stack)
+two_ints_fit n o [] f = tt
+two_ints_fit n o (I b ∷ []) f = tt
+two_ints_fit n o (I b ∷ I a ∷ stack) f = f.1.1
+two_ints_fit n o (I b ∷ J a ∷ stack) f = tt
+two_ints_fit n o (I b ∷ R a ∷ stack) f = tt
+two_ints_fit n o (J b ∷ stack) f = tt
+two_ints_fit n o (R b ∷ stack) f = tt
+
+one_long_fits : (n : ℕ) (o : Op) (stack : List Word) → WordsFit n stack → CalculationFits n (one_long o stack)
+one_long_fits n o [] f = tt
+one_long_fits n o (I a ∷ stack) f = tt
+one_long_fits n o (J a ∷ stack) f = f.1
+one_long_fits n o (R a ∷ stack) f = tt
+
+long_and_int_fits : (n : ℕ) (o : Op) (stack : List Word) → WordsFit n stack → CalculationFits n (long_and_int o stack)
+long_and_int_fits n o [] f = tt
+long_and_int_fits n o (I b ∷ []) f = tt
+long_and_int_fits n o (I b ∷ I a ∷ stack) f = tt
+long_and_int_fits n o (I b ∷ J a ∷ stack) f = f.1.1
+long_and_int_fits n o (I b ∷ R a ∷ stack) f = tt
+long_and_int_fits n o (J b ∷ stack) f = tt
+long_and_int_fits n o (R b ∷ stack) f = tt
+
+two_longs_fit : (n : ℕ) (o : Op) (stack : List Word) → WordsFit n stack → CalculationFits n (two_longs o stack)
+two_longs_fit n o [] f = tt
+two_longs_fit n o (J b ∷ []) f = tt
+two_longs_fit n o (J b ∷ I a ∷ stack) f = tt
+two_longs_fit n o (J b ∷ J a ∷ stack) f = f.1.1
+two_longs_fit n o (J b ∷ R a ∷ stack) f = tt
+two_longs_fit n o (I b ∷ stack) f = tt
+two_longs_fit n o (R b ∷ stack) f = tt
+
+chosen : (n : ℕ) (test : Bool) (x y : Calculation) → CalculationFits n x → CalculationFits n y → CalculationFits n (if test then x else y)
+chosen n true x y f g = f
+chosen n false x y f g = g
+
+operands_fit : (n : ℕ) (o : ArithmeticOp) (w : Width) (stack : List Word) → WordsFit n stack → CalculationFits n (calculation o w stack)
+operands_fit n o width.Int stack f = chosen n (takes_one o) _ _ (one_int_fits n (op_of o) stack f) (two_ints_fit n (op_of o) stack f)
+operands_fit n o width.Long stack f =
+    chosen n (takes_one o) _ _ (one_long_fits n (op_of o) stack f)
+    (chosen n (is_shift o) _ _ (long_and_int_fits n (op_of o) stack f) (two_longs_fit n (op_of o) stack f))
+
+-- ---- steps
+
+module _ (rules : Rules) (before : List Object) where
+  abbrev N : Next → Type 0
+  N n = NextFits rules before n
+
+  -- a moment: its world, and its frames
+  abbrev Here : World → List Frame → Type 0
+  Here w fs = WorldFits rules before w × FramesFit (count_in w) fs
+
+  same_store : (w after : World) → after.store ≡ w.store → WorldFits rules before w → WorldFits rules before after
+  same_store w after e h = record { fits = subst (λ (s : Store). Fits rules s.objects) (sym e) h.fits; there = subst (λ (s : Store). StillThere before s.objects) (sym e) h.there }
+
+  same_frames : (w after : World) (fs : List Frame) → after.store ≡ w.store → Here w fs → Here after fs
+  same_frames w after fs e h = (same_store w after e h.0, subst (λ (s : Store). FramesFit (length s.objects) fs) (sym e) h.1)
+
+  same_words : (w after : World) (words : List Word) → after.store ≡ w.store → WordsFit (count_in w) words → WordsFit (count_in after) words
+  same_words w after words e h = subst (λ (s : Store). WordsFit (length s.objects) words) (sym e) h
+
+  line_fits : (f : Frame) (below : List Frame) (w : World) (line : ℕ) (stack : List Word) → Here w (f ∷ below) → WordsFit (count_in w) stack → N (to_line f below w line stack)
+  line_fits f below w line stack h s = record { world = h.0; frames = ((h.1.0.0, s), h.1.1) }
+
+  top_fits : (n : ℕ) (stack : List Word) (next : Word → List Word → Next) → WordsFit n stack → ((word : Word) (rest : List Word) → WordFits n word → WordsFit n rest → N (next word rest))
+      → N (on_top stack next)
+  top_fits n [] next f k = tt
+  top_fits n (word ∷ stack) next f k = k word stack f.0 f.1
+
+  int_fits : (word : Word) (next : ℤ → Next) → ((a : ℤ) → N (next a)) → N (on_int word next)
+  int_fits (I a) next k = k a
+  int_fits (J a) next k = tt
+  int_fits (R value) next k = tt
+
+  long_fits : (word : Word) (next : ℤ → Next) → ((a : ℤ) → N (next a)) → N (on_long word next)
+  long_fits (I a) next k = tt
+  long_fits (J a) next k = k a
+  long_fits (R value) next k = tt
+
+  reference_fits : (n : ℕ) (word : Word) (next : Value → Next) → WordFits n word → ((value : Value) → ValueFits n value → N (next value)) → N (on_reference word next)
+  reference_fits n (I a) next f k = tt
+  reference_fits n (J a) next f k = tt
+  reference_fits n (R value) next f k = k value f
+
+  type_fits : (o : Option Ty) (next : Ty → Next) → ((of : Ty) → N (next of)) → N (on_type o next)
+  type_fits None next k = tt
+  type_fits (Some of) next k = k of
+
+  value_fits : (n : ℕ) (o : Option Value) (next : Value → Next) → MadeFits n o → ((value : Value) → ValueFits n value → N (next value)) → N (on_value o next)
+  value_fits n None next f k = tt
+  value_fits n (Some value) next f k = k value f
+
+  local_fits : (n : ℕ) (o : Option Word) (next : Word → Next) → FoundFits n o → ((word : Word) → WordFits n word → N (next word)) → N (on_local o next)
+  local_fits n None next f k = tt
+  local_fits n (Some word) next f k = k word f
+
+  stack_fits : (n : ℕ) (o : Option (List Word)) (next : List Word → Next) → CopiedFit n o → ((stack : List Word) → WordsFit n stack → N (next stack)) → N (on_stack o next)
+  stack_fits n None next f k = tt
+  stack_fits n (Some stack) next f k = k stack f
+
+  words_fit : (n : ℕ) (o : Option (List Word × List Word)) (next : List Word → List Word → Next) → TakenFit n o
+      → ((words stack : List Word) → WordsFit n words → WordsFit n stack → N (next words stack)) → N (on_words o next)
+  words_fit n None next f k = tt
+  words_fit n (Some p) next f k = k p.0 p.1 f.0 f.1
+
+  either_fits : (a : ℤ) (first second : Next) → N first → N second → N (unless_zero a first second)
+  either_fits (pos zero) first second x y = y
+  either_fits (pos (suc a)) first second x y = x
+  either_fits (negsuc a) first second x y = x
+
+  null_fits : (value : Value) (first second : Next) → N first → N second → N (if_null value first second)
+  null_fits v.Null first second x y = x
+  null_fits (v.Bool a) first second x y = y
+  null_fits (v.Byte a) first second x y = y
+  null_fits (v.Short a) first second x y = y
+  null_fits (v.Char a) first second x y = y
+  null_fits (v.Int a) first second x y = y
+  null_fits (v.Long a) first second x y = y
+  null_fits (v.Str a) first second x y = y
+  null_fits (v.Ref a) first second x y = y
+
+  module _ (codes : Codes) (limits : Limits) where
+    loops_fit : (o : Option FunCode) (next : Bool → Next) → ((limited : Bool) → N (next limited)) → N (on_loops codes limits o next)
+    loops_fit None next k = tt
+    loops_fit (Some g) next k = k g.loops
+
+    -- ---- what is thrown
+
+    lands_fit : (hs : Handlers) (f : Frame) (fs : List Frame) (id : ℕ) (w : World) (further : Next) → Here w (f ∷ fs) → ThrownFits w.store.objects id → N further
+        → N (lands hs f.text f.fun f.locals f.turns f.due fs id w further)
+    lands_fit [] f fs id w further h t k = k
+    lands_fit (x ∷ xs) f fs id w further h t k = by_test (lands_fit xs f fs id w further h t k) (is_instance x.class id w) where
+      by_test : N (lands xs f.text f.fun f.locals f.turns f.due fs id w further) → (b : Bool)
+          → N (if b then Goes (record { top = record { text = f.text; fun = f.fun; line = x.at; locals = f.locals; stack = R (v.Ref id) ∷ []; turns = f.turns; due = f.due }; below = fs; world = w }) else lands xs f.text f.fun f.locals f.turns f.due fs id w further)
+      by_test rest true = record { world = h.0; frames = ((h.1.0.0, (t.0, tt)), h.1.1) }
+      by_test rest false = rest
+
+    unwind_fits : (fs : List Frame) (id : ℕ) (w : World) → Here w fs → ThrownFits w.store.objects id → N (unwind codes fs id w)
+    unwind_fits [] id w h t = (h.0, t)
+    unwind_fits (f ∷ fs) id w h t = lands_fit (traps_of (function_of codes f) f.line) f fs id w (unwind codes fs id w) h t (unwind_fits fs id w (h.0, h.1.1) t)
+
+    outcome_fits : (o : Outcome Value) (word : Value → Word) → ((n : ℕ) (value : Value) → ValueFits n value → WordFits n (word value)) → (f : Frame) (below : List Frame) (w : World) (stack : List Word)
+        → Here w (f ∷ below) → WordsFit (count_in w) stack → OutcomeFits rules before (count_in w) o → N (on_outcome codes limits o word f below w stack)
+    outcome_fits (Given value w') word k f below w stack h s g =
+        line_fits f below w' (suc f.line) (word value ∷ stack) (g.0, frames_grow (count_in w) (count_in w') g.1 (f ∷ below) h.1) (k (count_in w') value g.2, words_grow (count_in w) (count_in w') g.1 stack s)
+    outcome_fits (Raised id w') word k f below w stack h s g = unwind_fits (f ∷ below) id w' (g.0, frames_grow (count_in w) (count_in w') g.1 (f ∷ below) h.1) g.2
+    outcome_fits Full word k f below w stack h s g = h.0
+
+    thrown_fits : (o : Outcome Value) (f : Frame) (below : List Frame) (w : World) → Here w (f ∷ below) → OutcomeFits rules before (count_in w) o → N (on_thrown codes limits o f below w)
+    thrown_fits (Given value w') f below w h g = tt
+    thrown_fits (Raised id w') f below w h g = unwind_fits (f ∷ below) id w' (g.0, frames_grow (count_in w) (count_in w') g.1 (f ∷ below) h.1) g.2
+    thrown_fits Full f below w h g = h.0
+
+    -- ---- members
+
+    act_fits : (o : Option Effect) (t : MemberType) (f : Frame) (below : List Frame) (w : World) (stack : List Word) → Here w (f ∷ below) → WordsFit (count_in w) stack → DoneFits rules before w o
+        → N (on_act codes limits o t f below w stack)
+    act_fits None t f below w stack h s g = tt
+    act_fits (Some e) t f below w stack h s g = outcome_fits (acts_in w e) (given_as t.result) (given_fits t.result) f below w stack h s g
+
+    paid_fits : (c : Counted) (number : ℕ) (arguments : List Value) (t : MemberType) (f : Frame) (below : List Frame) (w : World) (stack : List Word) → Here w (f ∷ below) → WordsFit (count_in w) stack
+        → AllFit (count_in w) arguments → SameStore w c → N (on_paid codes limits c number arguments t f below stack)
+    paid_fits (Passes limit w') number arguments t f below w stack h s g p = same_store w w' p h.0
+    paid_fits (Counts w') number arguments t f below w stack h s g p =
+        act_fits (does limits.host number arguments w'.store) t f below w' stack (same_frames w w' (f ∷ below) p h) (same_words w w' stack p s)
+        (members_fit rules before w' limits.host number arguments (same_store w w' p h.0) (subst (λ (x : Store). AllFit (length x.objects) arguments) (sym p) g))
+
+    received_act_fits : (r : Receiving) (number : ℕ) (t : MemberType) (f : Frame) (below : List Frame) (w : World) (stack : List Word) → Here w (f ∷ below) → WordsFit (count_in w) stack
+        → ReceivingFits (count_in w) r → N (on_received codes limits r number t f below w stack)
+    received_act_fits Unfit number t f below w stack h s g = tt
+    received_act_fits OnNull number t f below w stack h s g =
+        outcome_fits (acts_in w (effect w.store null_error)) (given_as t.result) (given_fits t.result) f below w stack h s (outcomes_fit rules before w null_error h.0 tt)
+    received_act_fits (Receives arguments) number t f below w stack h s g =
+        paid_fits (pay_member f.text number w) number arguments t f below w stack h s g (member_keeps f.text number w)
+    received_act_fits Reads number t f below w stack h s g =
+        act_fits (does limits.host number [] w.store) t f below w stack h s (members_fit rules before w limits.host number [] h.0 tt)
+
+    zero_fits : (w : World) → WorldFits rules before w → OutcomeFits rules before (count_in w) (acts_in w (effect w.store zero_divisor))
+    unfolding says
+    zero_fits w h = outcomes_fit rules before w zero_divisor h tt
+
+    -- ---- in a frame
+
+    module _ (f : Frame) (below : List Frame) (w : World) (here : Here w (f ∷ below)) where
+      abbrev count : ℕ
+      count = count_in w
+
+      member_fits : (o : Option ℕ) → N (member_act codes limits o f below w)
+      member_fits None = tt
+      member_fits (Some number) =
+          words_fit count (take_words (count_of (member_at number)) f.stack []) _ (take_fits count (count_of (member_at number)) f.stack [] here.1.0.1 tt)
+          (λ words stack g s. received_act_fits (received (member_at number) words) number (member_at number) f below w stack here s (received_fits count (member_at number) words g))
+
+      calculation_fits : (c : Calculation) → CalculationFits count c → N (on_calculation codes limits c f below w)
+      calculation_fits NoRow s = tt
+      calculation_fits (Calculates None stack) s = outcome_fits (acts_in w (effect w.store zero_divisor)) unboxed unboxed_fits f below w stack here s (zero_fits w here.0)
+      calculation_fits (Calculates (Some number) stack) s = line_fits f below w (suc f.line) (word_of number ∷ stack) here (number_fits count number, s)
+
+      pushed_fits : (result : Option Word) (stack : List Word) → ResultFits count result → WordsFit count stack → WordsFit count (pushed result stack)
+      pushed_fits None stack r s = s
+      pushed_fits (Some word) stack r s = (r, s)
+
+      gives_fit : (fs : List Frame) (due : List Ty) (result : Option Word) → FramesFit count fs → ResultFits count result → N (gives_back codes limits fs due result w)
+      gives_fit [] due result h r = (here.0, r)
+      gives_fit (g ∷ fs) [] result h r = line_fits g fs w (suc g.line) (pushed result g.stack) (here.0, h) (pushed_fits result g.stack r h.0.1)
+      gives_fit (g ∷ fs) (to ∷ more) result h r = tt
+
+      returns_fit : (kind : Option Slot) → N (returns_of codes limits kind f.stack (λ result. gives_back codes limits below f.due result w))
+      returns_fit None = gives_fit below f.due None here.1.1 tt
+      returns_fit (Some kind) = top_fits count f.stack _ here.1.0.1 (λ word rest g s. gives_fit below f.due (Some word) here.1.1 g)
+
+      return_fits : (o : Option FunCode) → N (returns codes limits o f.stack (λ result. gives_back codes limits below f.due result w))
+      return_fits None = tt
+      return_fits (Some g) = returns_fit g.result
+
+      turn_fits : (c : Counted) (to : ℕ) (stack : List Word) → WordsFit count stack → SameStore w c → N (on_turn codes limits c to f below w stack)
+      turn_fits (Passes limit w') to stack s p = same_store w w' p here.0
+      turn_fits (Counts w') to stack s p =
+          let h = same_frames w w' (f ∷ below) p here in
+          record { world = h.0; frames = ((h.1.0.0, same_words w w' stack p s), h.1.1) }
+
+      enter_fits : (c : Counted) (k : ℕ) (g : FunCode) (args stack : List Word) → WordsFit count args → WordsFit count stack → SameStore w c → N (on_enter codes limits c k g [] f below w args stack)
+      enter_fits (Passes limit w') k g args stack a s p = same_store w w' p here.0
+      enter_fits (Counts w') k g args stack a s p =
+          let h = same_frames w w' (f ∷ below) p here in
+          record { world = h.0; frames = ((words_join (count_in w') args (map start_of g.locals) (same_words w w' args p a) (starts_fit (count_in w') g.locals), tt), ((h.1.0.0, same_words w w' stack p s), h.1.1)) }
+
+      call_fits : (o : Option FunCode) (k : ℕ) → N (on_call codes limits o k f below w)
+      call_fits None k = tt
+      call_fits (Some g) k =
+          words_fit count _ _ (take_fits count (length g.params) f.stack [] here.1.0.1 tt)
+          (λ args stack a s. enter_fits (enter limits (depth_of below) w) k g args stack a s (call_keeps limits (depth_of below) w))
+
+      on_one : (next : Value → List Word → Next) → ((value : Value) (stack : List Word) → ValueFits count value → WordsFit count stack → N (next value stack))
+          → N (on_top f.stack (λ word stack. on_reference word (λ value. next value stack)))
+      on_one next k = top_fits count f.stack _ here.1.0.1 (λ word stack g s. reference_fits count word _ g (λ value x. k value stack x s))
+
+      on_two : (next : Value → Value → List Word → Next) → ((a b : Value) (stack : List Word) → WordsFit count stack → N (next a b stack))
+          → N (on_top f.stack (λ upper rest. on_reference upper (λ b. on_top rest (λ lower stack. on_reference lower (λ a. next a b stack)))))
+      on_two next k =
+          top_fits count f.stack _ here.1.0.1 (λ upper rest g s. reference_fits count upper _ g (λ b x.
+          top_fits count rest _ s (λ lower stack g' s'. reference_fits count lower _ g' (λ a y. k a b stack s'))))
+
+      on_number : (next : ℤ → List Word → Next) → ((a : ℤ) (stack : List Word) → WordsFit count stack → N (next a stack)) → N (on_top f.stack (λ word stack. on_int word (λ a. next a stack)))
+      on_number next k = top_fits count f.stack _ here.1.0.1 (λ word stack g s. int_fits word _ (λ a. k a stack s))
+
+      to : (line : ℕ) (stack : List Word) → WordsFit count stack → N (to_line f below w line stack)
+      to line stack s = line_fits f below w line stack here s
+
+      copies_fit : (o : Option (List Word)) → CopiedFit count o → N (on_stack o (λ stack. to_line f below w (suc f.line) stack))
+      copies_fit o g = stack_fits count o _ g (λ stack s. to (suc f.line) stack s)
+
+      plain_fits : (p : Plain) → N (plain_act codes limits p f below w)
+      plain_fits plain.Null = to (suc f.line) (R v.Null ∷ f.stack) (tt, here.1.0.1)
+      plain_fits plain.Pop = copies_fit (copied plain.Pop f.stack) (pop_fits count f.stack here.1.0.1)
+      plain_fits plain.Dup = copies_fit (copied plain.Dup f.stack) (dup_fits count f.stack here.1.0.1)
+      plain_fits plain.Dup2 = copies_fit (copied plain.Dup2 f.stack) (dup2_fits count f.stack here.1.0.1)
+      plain_fits plain.DupX1 = copies_fit (copied plain.DupX1 f.stack) (dupx1_fits count f.stack here.1.0.1)
+      plain_fits plain.DupX2 = copies_fit (copied plain.DupX2 f.stack) (dupx2_fits count f.stack here.1.0.1)
+      plain_fits plain.IntToLong = on_number _ (λ a stack s. to _ _ (tt, s))
+      plain_fits plain.LongToInt = top_fits count f.stack _ here.1.0.1 (λ word stack g s. long_fits word _ (λ a. to _ _ (tt, s)))
+      plain_fits plain.IntToByte = on_number _ (λ a stack s. to _ _ (tt, s))
+      plain_fits plain.IntToShort = on_number _ (λ a stack s. to _ _ (tt, s))
+      plain_fits plain.IntToChar = on_number _ (λ a stack s. to _ _ (tt, s))
+      plain_fits plain.Concat =
+          on_two _ (λ a b stack s. outcome_fits (acts_in w (effect w.store (concatenated w.store.objects a b))) R (λ n value x. x) f below w stack here s (concatenation_fits rules before w a b here.0))
+      plain_fits plain.Same = on_two _ (λ a b stack s. to _ _ (tt, s))
+      plain_fits plain.Equal =
+          on_two _ (λ a b stack s. outcome_fits (acts_in w (effect w.store (equal w.store.objects a b))) unboxed unboxed_fits f below w stack here s (equality_fits rules before w a b here.0))
+      plain_fits plain.ArrayLength = tt
+      plain_fits plain.GetIndex = tt
+      plain_fits plain.PutIndex = tt
+      plain_fits plain.Iter = tt
+      plain_fits plain.Has = tt
+      plain_fits plain.Next = tt
+      plain_fits plain.Throw = on_one _ (λ value stack x s. thrown_fits (acts_in w (thrown w.store value)) f below w here (throwing_fits rules before w value here.0))
+      plain_fits plain.Ret = return_fits (function_of codes f)
+
+      numbered_fits : (n : Numbered) (k : ℕ) → N (numbered_act codes limits n k f below w)
+      numbered_fits numbered.Load k = local_fits count (slice_get f.locals k) _ (word_at count f.locals k here.1.0.0) (λ word g. to (suc f.line) (word ∷ f.stack) (g, here.1.0.1))
+      numbered_fits numbered.Store k =
+          top_fits count f.stack _ here.1.0.1 (λ word stack g s. record { world = here.0; frames = ((words_set count f.locals k word here.1.0.0 g, s), here.1.1) })
+      numbered_fits numbered.Goto k = to k f.stack here.1.0.1
+      numbered_fits numbered.IfZero k = on_number _ (λ a stack s. either_fits a _ _ (to _ _ s) (to _ _ s))
+      numbered_fits numbered.IfNotZero k = on_number _ (λ a stack s. either_fits a _ _ (to _ _ s) (to _ _ s))
+      numbered_fits numbered.IfNull k = on_one _ (λ value stack x s. null_fits value _ _ (to _ _ s) (to _ _ s))
+      numbered_fits numbered.Loop k =
+          loops_fit (function_of codes f) _ (λ limited. on_number _ (λ a stack s.
+          either_fits a _ _ (turn_fits (take_turn limits limited f.turns w) k stack s (turn_keeps limits limited f.turns w)) (to _ _ s)))
+      numbered_fits numbered.Call k = call_fits (slice_get (code_in codes f.text) k) k
+      numbered_fits numbered.List k = tt
+      numbered_fits numbered.Map k = tt
+
+      quoted_fits : (q : Quoting) (text : List ℕ) → N (quoted_act codes limits q text f below w)
+      quoted_fits quoting.Constant text = to _ _ (tt, here.1.0.1)
+      quoted_fits quoting.GetName text = tt
+      quoted_fits quoting.PutName text = tt
+
+      typed_fits : (t : Typed) (of : Ty) → N (typed_act codes limits t of f below w)
+      typed_fits typed.IsA of = on_one _ (λ value stack x s. to _ _ (tt, s))
+      typed_fits typed.LoadElement of = tt
+      typed_fits typed.StoreElement of = tt
+
+      act_fits_here : (instruction : Instruction) → N (act codes limits instruction f below w)
+      act_fits_here (i.Plain p) = plain_fits p
+      act_fits_here (i.Arithmetic o width) = calculation_fits (calculation o width f.stack) (operands_fit count o width f.stack here.1.0.1)
+      act_fits_here (i.Int a) = to _ _ (tt, here.1.0.1)
+      act_fits_here (i.Long a) = to _ _ (tt, here.1.0.1)
+      act_fits_here (i.Numbered n k) = numbered_fits n k
+      act_fits_here (i.Boxing p) =
+          top_fits count f.stack _ here.1.0.1 (λ word stack g s. value_fits count (boxed p word) _ (boxed_fits count p word) (λ value x. to (suc f.line) (R value ∷ stack) (x, s)))
+      act_fits_here (i.Unboxing p way) =
+          on_one _ (λ value stack x s. outcome_fits (acts_in w (effect w.store (cast_at_run_time w.store.objects value (ty.Prim p) (is_written way)))) unboxed unboxed_fits f below w stack here s
+          (casts_fit rules before w value (ty.Prim p) (is_written way) here.0 x))
+      act_fits_here (i.Dynamic o) = tt
+      act_fits_here (i.Quoted q text) = quoted_fits q text
+      act_fits_here (i.Cast of way) =
+          type_fits (type_of_full of) _ (λ to. on_one _ (λ value stack x s.
+          outcome_fits (acts_in w (effect w.store (cast_at_run_time w.store.objects value to (is_written way)))) R (λ n value x. x) f below w stack here s (casts_fit rules before w value to (is_written way) here.0 x)))
+      act_fits_here (i.Typed t of) = type_fits (type_of_full of) _ (λ of. typed_fits t of)
+      act_fits_here (i.Sized t of n) = tt
+      act_fits_here (i.DefCall word n) = tt
+      act_fits_here (i.Invoke method) = member_fits (method_of (allowed_in limits f.text) method)
+      act_fits_here (i.New constructor) = member_fits (constructor_of (allowed_in limits f.text) constructor)
+      act_fits_here (i.Field field) = member_fits (field_of (allowed_in limits f.text) field)
+      act_fits_here (i.Lambda interface k n) = tt
+      act_fits_here (i.Ref interface of word) = tt
+      act_fits_here (i.NewRef interface of) = tt
+
+      acts_fit : (o : Option Instruction) → N (acts codes limits o f below w)
+      acts_fit None = tt
+      acts_fit (Some instruction) = act_fits_here instruction
+
+pub steps_fit : StepsFit
+steps_fit rules before codes limits c h =
+    acts_fit rules before codes limits c.top c.below c.world (h.world, h.frames) (slice_get (lines_of codes limits (function_of codes c.top)) c.top.line)
+
+pub runs_fit : RunsFit
+runs_fit rules before codes limits zero n h = h
+runs_fit rules before codes limits (suc k) (Goes c) h = runs_fit rules before codes limits k (step codes limits c) (steps_fit rules before codes limits c h)
+runs_fit rules before codes limits (suc k) (Ends r) h = h
+runs_fit rules before codes limits (suc k) Stuck h = tt
+
+start_fits : (rules : Rules) (o : Option FunCode) (words : List Word) (w : World) → Fits rules w.store.objects → WordsFit (count_in w) words → NextFits rules w.store.objects (start_at o words w)
+start_fits rules None words w f h = tt
+start_fits rules (Some g) words w f h = record { world = beginnings_fit rules w f; frames = ((words_join (count_in w) words (map start_of g.locals) h (starts_fit (count_in w) g.locals), tt), tt) }
+
+pub starts_fit_all : StartsFit
+starts_fit_all rules codes words w f h = start_fits rules (slice_get codes.script 0) words w f h

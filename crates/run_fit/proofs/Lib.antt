@@ -1,0 +1,4 @@
+pub mod Leaving
+pub mod Counted
+pub mod Values
+pub mod Effects

@@ -1,0 +1,6 @@
+//! What a run keeps of the store: the objects fit, and those with which it began are still there, each of its kind.
+#![tactic(auto)]
+
+mod laws;
+
+pub use laws::effects_fit;
