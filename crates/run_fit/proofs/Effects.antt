@@ -28,10 +28,10 @@ use Rattle.member_calls.proofs.Leaving as leaving
 use Rattle.run_state.specs.World.{World, acts_in}
 use Rattle.run_fit.specs.Laws.{BeginningsFit, ToldFits, OutcomesFit, CastsFit, ConcatenationFits, EqualityFits, DoneFits, MembersFit, ThrowingFits}
 use Rattle.run_fit.specs.Worlds.{WorldFits, count_in, OutcomeFits}
-use Rattle.run_fit.proofs.Leaving.{there_refl, there_trans, there_count, outcome_leaves}
+use Rattle.run_fit.proofs.Leaving.{there_trans, there_count}
 
 pub beginnings_fit : BeginningsFit
-beginnings_fit rules w f = record { fits = f; there = there_refl w.store.objects }
+beginnings_fit rules w f = record { fits = f; there = leaving.there_refl w.store.objects }
 
 world_on : (rules : Rules) (before : List Object) (w after : World) → WorldFits rules before w → Fits rules after.store.objects → EffectLeaves w.store.objects (Gives v.Null after.store)
     → WorldFits rules before after
@@ -56,7 +56,7 @@ told_fits count told.NoMemory h = tt
 -- what an operator or a cast says is the outcome
 settled : (rules : Rules) (before : List Object) (w : World) (o : Told) → WorldFits rules before w → numbers.OutcomeFits (count_in w) o
     → OutcomeFits rules before (count_in w) (acts_in w (effect w.store o))
-settled rules before w o h f = effect_fits rules before w (effect w.store o) h (numbers.settled rules w.store o h.fits f) (outcome_leaves w.store o)
+settled rules before w o h f = effect_fits rules before w (effect w.store o) h (numbers.settled rules w.store o h.fits f) (leaving.number_leaves w.store o)
 
 pub outcomes_fit : OutcomesFit
 outcomes_fit rules before w o h f = settled rules before w o h (told_fits (count_in w) o f)
@@ -127,7 +127,7 @@ thrown_if_fits rules before w id (Some (o.Iter over cursor seen last)) e h = no_
 thrown_if_fits rules before w id (Some (o.Builder units)) e h = no_exception_fits rules before w h
 thrown_if_fits rules before w id (Some (o.Fun iface target captures)) e h = no_exception_fits rules before w h
 thrown_if_fits rules before w id (Some (o.Exc class message)) e h =
-    effect_fits rules before w (Throws id w.store) h (h.fits, exception_there rules (kinds w.store.objects) w.store.objects h.fits.each id class message e) (there_refl w.store.objects)
+    effect_fits rules before w (Throws id w.store) h (h.fits, exception_there rules (kinds w.store.objects) w.store.objects h.fits.each id class message e) (leaving.there_refl w.store.objects)
 
 pub throwing_fits : ThrowingFits
 unfolding thrown
