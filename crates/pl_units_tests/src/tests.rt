@@ -96,9 +96,20 @@ fn parts(rt: HostRuntime) -> Result<(), Fail> {
     assert!(rt; again.at(2) == 0xDE00);
     let none = UText::empty(rt.alloc());
     assert!(rt; none.is_empty() && none.share()?.is_empty() && none.is(&whole.sub(0, 0)?));
-    // A share copies no unit: both are the same slice.
-    let shared = whole.share()?;
-    assert!(rt; shared.units().as_ptr() == whole.units().as_ptr());
+    Ok(())
+}
+
+/// A text of so many units is shared as often as here in no time, since no unit is copied.
+#[test]
+fn shares(rt: HostRuntime) -> Result<(), Fail> {
+    let mut units = Vec::new(rt.alloc());
+    units.resize(1_000_000, 97)?;
+    let whole = UText::from_units(units)?;
+    let mut shared = whole.share()?;
+    for _ in 0..100_000 {
+        shared = shared.share()?;
+    }
+    assert!(rt; shared.len() == 1_000_000 && shared.is(&whole));
     Ok(())
 }
 
