@@ -2,6 +2,7 @@ pub mod Answering
 pub mod Calling
 pub mod Counting
 pub mod Ended
+pub mod Fitted
 pub mod Turning
 pub mod Rows
 pub mod Reaching

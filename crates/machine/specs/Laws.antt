@@ -1,8 +1,11 @@
 -- What holds of all activations.
-use Rattle.std.specs.Prelude.{◌≡◌, ℕ, ◌+◌, ◌≤◌, Option, Some}
+use Rattle.std.specs.Prelude.{◌≡◌, ℕ, ◌+◌, ◌≤◌, List, Option, Some}
 use Rattle.run_state.specs.World.{End}
 use Rattle.code_meaning.specs.declared.word.Word.{Word}
 use Rattle.code_meaning.specs.Machine.{Next, Ends, after}
+use Rattle.object_values.specs.declared.object.Object.{Object}
+use Rattle.object_heap.specs.Fits.{Rules}
+use Rattle.machine.specs.Fitting.{NowFits}
 use Rattle.machine.specs.Seen.{limits_of, codes_of}
 use Rattle.machine.specs.Activations.{Activation, later}
 
@@ -15,3 +18,7 @@ abbrev pub ComesToItsEnd : Type 0
 ComesToItsEnd =
     (a : Activation) (from : Next) (steps q : ℕ) (end : End (Option Word))
     → a.now ≡ Some from → after (codes_of a.code) (limits_of a.limits a.allow) steps from ≡ Ends end → steps ≤ q → (later q a).now ≡ Some (Ends end)
+
+-- Turns keep the fit of the heap and of the words.
+abbrev pub TurnsFit : Type 0
+TurnsFit = (rules : Rules) (before : List Object) (q : ℕ) (a : Activation) → NowFits rules before a.now → NowFits rules before (later q a).now

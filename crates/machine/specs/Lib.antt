@@ -9,4 +9,5 @@ pub mod Links
 pub mod Sparing
 pub mod Runs
 pub mod Activations
+pub mod Fitting
 pub mod Laws

@@ -1,5 +1,8 @@
 //! A run of code that stops between any two instructions and goes on.
-ghost use Rattle.std.specs.Prelude.{◌≡◌, ◌≤◌, ◌++◌, [], map, min, Some, IfOk};
+ghost use Rattle.std.specs.Prelude.{◌≡◌, ◌≤◌, ◌++◌, [], List, map, min, Some, IfOk, IfSome};
+ghost use Rattle.object_heap.specs.Fits.{Rules as HeapRules};
+ghost use Rattle.object_values.specs.declared.object.Object.{Object as HeapObject};
+ghost use Rattle.machine.specs.Fitting.{LeavesFit, NowFits};
 ghost use Rattle.machine.specs.Rooms.{most_at_start};
 ghost use Rattle.object_values.specs.declared.object.Owner.TheVariants.{Script};
 ghost use Rattle.code_meaning.specs.Machine.{start};
@@ -156,8 +159,12 @@ impl<'c> Activation<'c> {
     }
 
     /// What the run leaves, once it has ended.
+    #[tactic(auto, using(crate::proofs::Fitted::left_fits))]
     pub fn outcome(self) -> Option<RunOutcome>
-        ensures { Leaves self.entry result }
+        ensures leaves { Leaves self.entry result }
+        // Where the start fits, each moment does (`code_fits`), and so does what is left: the heap, with each object of the start of its kind
+        // and of its class, and the end in it.
+        ensures fit { (rules : HeapRules) (before : List HeapObject) → NowFits rules before self.entry.now → IfSome result (LeavesFit rules before) }
     {
         let Activation {
             executable: _,

@@ -3,6 +3,7 @@ pub mod Stages
 pub mod Placed
 pub mod Compiled
 pub mod Ends
+pub mod Fitting
 pub mod Left
 pub mod Runs
 pub mod Words

@@ -2,6 +2,8 @@
 use Rattle.std.specs.Prelude.{◌≡◌, ℕ, List, map, Result, Ok}
 use Rattle.pl_types.specs.declared.refusal.Refusal.{Refusal}
 use Rattle.object_values.specs.declared.value.Value.{Value}
+use Rattle.object_heap.specs.Fits.{Rules, Fits, ValueFits, AllFit}
+use Rattle.run_fit.specs.Worlds.{EndFits, count_in}
 use Rattle.allowlist.specs.Allow.{AllowList}
 use Rattle.run_state.specs.World.{World, Limits, End}
 use Rattle.typing_rules.specs.declared.header.ContextTypes.{ContextTypes}
@@ -31,3 +33,9 @@ ProgramsEnd =
 -- .. and in one way.
 abbrev pub ProgramsEndOnce : Type 0
 ProgramsEndOnce = (p : Program) (limits : Limits) (args : List Value) (w : World) (end other : End Value) → RunsTo p limits args w end → RunsTo p limits args w other → end ≡ other
+
+-- .. Where the objects and the arguments fit, so does the end: the objects fit, those of the start are still there, each of its kind and
+-- of its class, and what is given or thrown is there.
+abbrev pub ProgramsFit : Type 0
+ProgramsFit = (rules : Rules) (p : Program) (limits : Limits) (args : List Value) (w : World) (end : End Value) → Fits rules w.store.objects → AllFit (count_in w) args → RunsTo p limits args w end
+    → EndFits ValueFits rules w.store.objects end

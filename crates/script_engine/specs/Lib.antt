@@ -2,5 +2,6 @@ pub mod Stages
 pub mod Programs
 pub mod Compiling
 pub mod Ends
+pub mod Fitting
 pub mod Running
 pub mod Laws

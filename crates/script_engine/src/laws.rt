@@ -1,15 +1,17 @@
 //! What holds of all texts and of their programs.
-ghost use Rattle.script_engine.specs.Laws.{TextsAreAnswered, TextsAreAnsweredOnce, ProgramsEnd, ProgramsEndOnce};
+ghost use Rattle.script_engine.specs.Laws.{TextsAreAnswered, TextsAreAnsweredOnce, ProgramsEnd, ProgramsEndOnce, ProgramsFit};
 
 use pl_grammar_laws::grammar_laws;
 use pl_lexer::each_text_has_one_reading;
 
-/// A text is a program or is refused by one rule, and the run of its program comes to one end.
+/// A text is a program or is refused by one rule, and the run of its program comes to one end, which fits where
+/// its start does.
 pub fn script_laws()
     ensures answered { TextsAreAnswered }
     ensures answered_once { TextsAreAnsweredOnce }
     ensures ends { ProgramsEnd }
     ensures ends_once { ProgramsEndOnce }
+    ensures fit { ProgramsFit }
 {
     each_text_has_one_reading();
     grammar_laws();

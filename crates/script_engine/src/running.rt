@@ -1,6 +1,10 @@
 //! Runs of scripts.
 
-ghost use Rattle.std.specs.Prelude.{◌≡◌, IfOk, IsOk, Some, slice_get};
+ghost use Rattle.std.specs.Prelude.{◌≡◌, IfOk, IsOk, List, Some, length, slice_get};
+ghost use Rattle.object_heap.specs.Fits.{AllFit, Fits, Rules};
+ghost use Rattle.object_values.specs.declared.object.Object.{Object};
+ghost use Rattle.machine.specs.Fitting.{NowFits};
+ghost use Rattle.script_engine.specs.Fitting.{LeavesFit};
 ghost use Rattle.verifier_soundness.specs.Rows.{HaveRows};
 ghost use Rattle.verified_machine.specs.Tasks.{ending, SparesMemory};
 ghost use Rattle.script_engine.specs.Running.{RunsAsItsProgram, LeftOf, Comes, IsEnd, TakesArguments, begun, value_of, word_in, words_in, end_left, params_of};
@@ -129,9 +133,11 @@ impl Script {
     /// # Errors
     ///
     /// Want of memory; none where no instruction of the run takes any.
-    #[tactic(auto, using(crate::proofs::Left::fitting_end, crate::proofs::Left::comes_from))]
+    #[tactic(auto, using(crate::proofs::Left::fitting_end, crate::proofs::Left::comes_from, crate::proofs::Fitting::left_from))]
     pub fn finish(&self, activation: VerifiedActivation<'_>) -> Result<Outcome, AllocError>
         ensures comes { IfOk result (Comes self.now.result (ending activation.entry.run)) }
+        // Where the start fits, so does what is left.
+        ensures heap { (rules : Rules) (before : List Object) → NowFits rules before activation.entry.run.now → IfOk result (LeavesFit rules before) }
         ensures memory { SparesMemory activation.entry.run → IsOk result }
     {
         let ran = activation.finish()?;
@@ -149,7 +155,10 @@ impl Script {
     pub fn run(&self, heap: Heap, args: Vec<Value>, limits: Limits) -> Result<Outcome, AllocError>
         requires rows { HaveRows self.now.executable.allow self.now.executable.code.functions }
         requires args { TakesArguments self.now args.items }
-        ensures { IfOk result (RunsAsItsProgram self.now heap args.items limits) }
+        ensures program { IfOk result (RunsAsItsProgram self.now heap args.items limits) }
+        // Where the heap and the arguments fit, so do the heap and the end that are left, by the same rules: those of the code, and those of
+        // the program. A number that is thrown is an exception's, and each object is still there, of its kind and of its class.
+        ensures heap { (rules : Rules) → Fits rules heap.objects → AllFit (length heap.objects) args.items → IfOk result (LeavesFit rules heap.objects) }
     {
         programs_end();
         let activation = self.start(heap, args, limits)?;

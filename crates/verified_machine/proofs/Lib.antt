@@ -1,3 +1,4 @@
 mod Resting
 mod Outcomes
 pub mod Finishing
+pub mod Fitted

@@ -1,5 +1,8 @@
 //! A run of verified code, which takes turns and ends.
-ghost use Rattle.std.specs.Prelude.{◌≡◌, ◌≤◌, [], Some, IfOk, IfSome, IsOk, IsTrue, OnOk};
+ghost use Rattle.std.specs.Prelude.{◌≡◌, ◌≤◌, [], List, Some, IfOk, IfSome, IsOk, IsTrue, OnOk};
+ghost use Rattle.object_heap.specs.Fits.{Rules};
+ghost use Rattle.object_values.specs.declared.object.Object.{Object};
+ghost use Rattle.machine.specs.Fitting.{LeavesFit, NowFits};
 ghost use Rattle.code_meaning.specs.Machine.{start};
 ghost use Rattle.machine.specs.Seen.{limits_of, codes_of};
 ghost use Rattle.machine.specs.Activations.{HasTurned, Leaves, Turned, is_over};
@@ -151,10 +154,12 @@ impl<'c> VerifiedActivation<'c> {
     /// # Errors
     ///
     /// Want of memory.
-    #[tactic(auto, using(crate::proofs::Finishing::left_by, crate::proofs::Finishing::fits_still))]
+    #[tactic(auto, using(crate::proofs::Finishing::left_by, crate::proofs::Finishing::fits_still, crate::proofs::Fitted::ending_fits))]
     pub fn finish(mut self) -> Result<RunOutcome, AllocError>
         ensures alone { IfOk result (λ left. ending self.entry.run ≡ Some left) }
         ensures fitting { IfOk result (LeavesFitting self.entry) }
+        // Where the start fits, so does what is left, as with [`VerifiedActivation::outcome`].
+        ensures heap { (rules : Rules) (before : List Object) → NowFits rules before self.entry.run.now → IfOk result (LeavesFit rules before) }
         ensures memory { SparesMemory self.entry.run → IsOk result }
     {
         self.run_out()?;
@@ -165,9 +170,13 @@ impl<'c> VerifiedActivation<'c> {
     }
 
     /// What the run leaves, once it has ended: what it would have come to alone.
+    #[tactic(auto, using(crate::proofs::Fitted::left_under))]
     pub fn outcome(self) -> Option<RunOutcome>
         ensures leaves { Leaves self.entry.run result }
         ensures fitting { IfSome result (LeavesFitting self.entry) }
+        // Where the start fits, each moment does (`code_fits`), and so does what is left: the heap, with each object of the start of its kind
+        // and of its class, and the end in it: a word that names what is there, or an exception.
+        ensures heap { (rules : Rules) (before : List Object) → NowFits rules before self.entry.run.now → IfSome result (LeavesFit rules before) }
         ensures alone { rest self.entry.run ≡ 0 → result ≡ ending self.entry.run }
     {
         self.run.outcome()

@@ -4,6 +4,7 @@ use Rattle.program_typing.specs.Types.{HaveAll}
 use Rattle.program_typing.specs.Agreeing.{types_in}
 use Rattle.script_engine.proofs.Compiled.{formed_from, variables_from}
 use Rattle.script_engine.proofs.Ends.{ends_some, ends_once}
+use Rattle.script_engine.proofs.Fitting.{programs_fit}
 use Rattle.script_engine.proofs.Texts.{text_once, text_some}
 use Rattle.script_engine.proofs.laws.script_laws.Goals as goal
 
@@ -19,3 +20,6 @@ returns-clause-ends c allow context text p good is limits allowed args have =
 
 pub returns-clause-ends_once : goal.returns-clause-ends_once
 returns-clause-ends_once c = ends_once
+
+pub returns-clause-fit : goal.returns-clause-fit
+returns-clause-fit c = programs_fit

@@ -8,11 +8,11 @@ pub returns-clause-fitting : goal.returns-clause-fitting
 returns-clause-fitting c =
     let here : RunUnder = record { run = c.self.inside.run; allow = c.self.inside.code.now.allow } in
     let same : here ≡ c.args.self = c.self.view_is in
-    subst (λ (r : RunUnder). IfSome c.outcome.result (LeavesFitting r)) same (leaves_fitting here c.outcome.result c.self.invariant.0 c.outcome.ensures)
+    subst (λ (r : RunUnder). IfSome c.outcome.result (LeavesFitting r)) same (leaves_fitting here c.outcome.result c.self.invariant.0 c.outcome.ensures.leaves)
 
 pub returns-clause-alone : goal.returns-clause-alone
 returns-clause-alone c =
     let here : RunUnder = record { run = c.self.inside.run; allow = c.self.inside.code.now.allow } in
     let same : here ≡ c.args.self = c.self.view_is in
     subst (λ (r : RunUnder). rest r.run ≡ 0 → c.outcome.result ≡ ending r.run) same
-    (λ none. leaves_ending c.self.inside.code.now.allow c.self.inside.run c.outcome.result c.self.invariant.0 none c.outcome.ensures)
+    (λ none. leaves_ending c.self.inside.code.now.allow c.self.inside.run c.outcome.result c.self.invariant.0 none c.outcome.ensures.leaves)

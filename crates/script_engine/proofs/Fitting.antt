@@ -1,0 +1,143 @@
+-- What a run of a script leaves fits, where its start does.
+use Rattle.std.proofs.Common.{◌≡◌, ℕ, List, [], ◌∷◌, Option, Some, None, sym, subst, ap}
+use Rattle.std.specs.Prelude.{slice_get, length, unwrap_or}
+use Rattle.pl_types.specs.declared.ty.Ty.{Ty, out-Ty}
+use Rattle.pl_types.specs.declared.ty.Ty.TheOpen.{Ty-F}
+use Rattle.object_values.specs.declared.object.Object.{Object}
+use Rattle.object_values.specs.declared.object.Owner.TheVariants.{Script as script_text}
+use Rattle.object_values.specs.declared.value.Value.{Value}
+use Rattle.object_values.specs.declared.value.Value.TheVariants as v
+use Rattle.object_heap.specs.Fits.{Rules, Fits, ValueFits, AllFit}
+use Rattle.object_heap.specs.Store.{Store}
+use Rattle.object_heap.specs.declared.outcome.End as left_end
+use Rattle.object_heap.specs.declared.outcome.End.TheVariants as l
+use Rattle.object_heap.specs.declared.outcome.Outcome.{Outcome}
+use Rattle.pl_code.specs.declared.code.FunCode.{FunCode}
+use Rattle.pl_code.specs.declared.kinds.Slot.{Slot}
+use Rattle.pl_code.specs.declared.kinds.Slot.TheVariants as slot
+use Rattle.member_calls.specs.Laws.{StillThere}
+use Rattle.run_state.specs.World.{World, Limits as run_limits, End, Result, Uncaught, Limited}
+use Rattle.run_fit.specs.Worlds.{EndFits, WorldFits, count_in}
+use Rattle.run_fit.proofs.Effects.{beginnings_fit}
+use Rattle.code_meaning.specs.declared.word.Word.{Word}
+use Rattle.code_meaning.specs.declared.word.Word.TheVariants.{I, J, R}
+use Rattle.code_meaning.specs.Words.{boxed, plain_value}
+use Rattle.code_fit.specs.Moments.{WordFits, WordsFit, ResultFits}
+use Rattle.code_fit.proofs.Words.{MadeFits, unboxed_fits, boxed_fits, plain_fits}
+use Rattle.code_fit.proofs.Steps.{starts_fit_all}
+use Rattle.source_meaning.specs.Programs.{fun_of}
+use Rattle.source_meaning.specs.Tree.{Fun}
+use Rattle.source_meaning.specs.Meaning.{Env, Out, Done, Thrown, Over, More, Flow, entry, returned, meaning}
+use Rattle.source_meaning.specs.Operating.{in_box}
+use Rattle.source_fit.specs.Outs.{OutFits, FlowFits}
+use Rattle.source_fit.proofs.Values as source
+use Rattle.source_fit.proofs.Meanings.{meanings_fit}
+use Rattle.typed_tree.specs.declared.program.Program.{Program}
+use Rattle.machine.specs.declared.configuration.Limits.{Limits}
+use Rattle.machine.specs.declared.configuration.RunEnd.{RunEnd}
+use Rattle.machine.specs.declared.configuration.RunEnd.TheVariants as r
+use Rattle.machine.specs.declared.activation.RunOutcome as run_outcome
+use Rattle.machine.specs.Activations.{Activation}
+use Rattle.machine.specs.Fitting as machine
+use Rattle.machine.specs.Seen.{codes_of}
+use Rattle.script_engine.specs.declared.compiling.Script.{Script}
+use Rattle.script_engine.specs.Ends.{alone, given, given_layer, end_of, end_with, end_in, RunsTo}
+use Rattle.script_engine.specs.Fitting.{EndFits as LeftEndFits, LeavesFit}
+use Rattle.script_engine.specs.Laws.{ProgramsFit}
+use Rattle.script_engine.specs.Running.{word_in, words_in, params_of, value_by, value_of, end_left, LeftOf, world_at, begun}
+
+-- ---- where it begins
+
+word_fits : (n : ℕ) (kind : Slot) (value : Value) → ValueFits n value → WordFits n (word_in kind value)
+word_fits n slot.R value f = f
+word_fits n slot.I value f = unboxed_fits n value f
+word_fits n slot.J value f = unboxed_fits n value f
+
+words_fit : (n : ℕ) (kinds : List Slot) (values : List Value) → AllFit n values → WordsFit n (words_in kinds values)
+words_fit n [] values f = tt
+words_fit n (kind ∷ kinds) [] f = tt
+words_fit n (kind ∷ kinds) (value ∷ values) f = (word_fits n kind value f.0, words_fit n kinds values f.1)
+
+pub began_fits : (script : Script) (store : Store) (args : List Value) (limits : Limits) (a : Activation) → a ≡ begun script store args limits → (rules : Rules) → Fits rules store.objects
+    → AllFit (length store.objects) args → machine.NowFits rules store.objects a.now
+began_fits script store args limits a is rules f g =
+    subst (λ (x : Activation). machine.NowFits rules store.objects x.now) (sym is)
+    (starts_fit_all rules (codes_of script.executable.code.functions) (words_in (params_of (slice_get script.executable.code.functions 0)) args) (world_at store limits) f
+    (words_fit (length store.objects) (params_of (slice_get script.executable.code.functions 0)) args g))
+
+-- ---- what it leaves
+
+made_or_null : (n : ℕ) (value : Option Value) → MadeFits n value → ValueFits n (unwrap_or value v.Null)
+made_or_null n None f = tt
+made_or_null n (Some value) f = f
+
+value_fits : (n : ℕ) (layer : Ty-F Ty) (word : Option Word) → ResultFits n word → ValueFits n (value_by layer word)
+value_fits n layer None f = tt
+value_fits n Ty-F.Void (Some word) f = plain_fits n word f
+value_fits n Ty-F.Null (Some word) f = plain_fits n word f
+value_fits n Ty-F.Def (Some word) f = plain_fits n word f
+value_fits n (Ty-F.Prim p) (Some word) f = made_or_null n (boxed p word) (boxed_fits n p word)
+value_fits n (Ty-F.Class class) (Some word) f = plain_fits n word f
+value_fits n (Ty-F.Array elem) (Some word) f = plain_fits n word f
+
+some_end : (a b : left_end.End) → Some a ≡ Some b → a ≡ b
+some_end a b e = cc
+
+left_with : (rules : Rules) (before : List Object) (heap : Store) (o : Outcome) (end : left_end.End) → o.heap ≡ heap → o.end ≡ end → Fits rules heap.objects → StillThere before heap.objects
+    → LeftEndFits heap.objects end → LeavesFit rules before o
+left_with rules before heap o end same is f t e = record {
+  fits = subst (λ (s : Store). Fits rules s.objects) (sym same) f;
+  there = subst (λ (s : Store). StillThere before s.objects) (sym same) t;
+  end = subst (λ (s : Store). LeftEndFits s.objects o.end) (sym same) (subst (λ x. LeftEndFits heap.objects x) (sym is) e);
+}
+
+left_by_end : (of : Ty) (end : RunEnd) (heap : Store) (reached : List ℕ) (o : Outcome) → end_left of end ≡ Some o.end → o.heap ≡ heap
+    → (rules : Rules) (before : List Object) → machine.EndFits rules before (record { store = heap; ticks = 0; reached = reached }) end → LeavesFit rules before o
+left_by_end of (r.Result word) heap reached o is same rules before h =
+    left_with rules before heap o (l.Value (value_of of word)) same (sym (some_end _ o.end is)) h.0.fits h.0.there (value_fits (length heap.objects) (out-Ty of) word h.1)
+left_by_end of (r.Thrown id) heap reached o is same rules before h = left_with rules before heap o (l.Thrown id) same (sym (some_end _ o.end is)) h.0.fits h.0.there h.1
+left_by_end of (r.Limit which) heap reached o is same rules before h = left_with rules before heap o (l.Limit which) same (sym (some_end _ o.end is)) h.fits h.there tt
+left_by_end of r.Stuck heap reached o is same rules before h = absurd (cc)
+
+pub left_from : (of : Ty) (ran : run_outcome.RunOutcome) (o : Outcome) → LeftOf of ran o → (rules : Rules) (before : List Object) → machine.LeavesFit rules before ran → LeavesFit rules before o
+left_from of ran o is rules before h = left_by_end of ran.end ran.heap ran.reached o is.end is.heap rules before h
+
+-- ---- its program
+
+given_layer_fits : (n : ℕ) (layer : Ty-F Ty) (value : Value) → ValueFits n value → ValueFits n (given_layer layer value)
+given_layer_fits n Ty-F.Void value f = tt
+given_layer_fits n Ty-F.Null value f = f
+given_layer_fits n Ty-F.Def value f = f
+given_layer_fits n (Ty-F.Prim p) value f = either (in_box p value) (source.in_box_fits n p value) where
+  either : (boxed : Option Value) → source.MadeFits n boxed → ValueFits n (unwrap_or boxed value)
+  either None g = f
+  either (Some boxed) g = g
+given_layer_fits n (Ty-F.Class class) value f = f
+given_layer_fits n (Ty-F.Array elem) value f = f
+
+-- an end that fits, if it is one
+abbrev EndsFit : Rules → List Object → Option (End Value) → Type 0
+EndsFit rules before None = Unit {0}
+EndsFit rules before (Some end) = EndFits ValueFits rules before end
+
+ends_with : (rules : Rules) (before : List Object) (of : Ty) (value : Option Value) (w : World) → WorldFits rules before w → source.MadeFits (count_in w) value → EndsFit rules before (end_with of value w)
+ends_with rules before of None w h f = tt
+ends_with rules before of (Some value) w h f = (h, given_layer_fits (count_in w) (out-Ty of) value f)
+
+ends_of : (rules : Rules) (before : List Object) (n : ℕ) (of : Ty) (o : Out Flow) → OutFits FlowFits rules before n o → EndsFit rules before (end_of of o)
+ends_of rules before n of (Done flow s e) h = ends_with rules before of (returned of flow) s.world h.0.0 (source.returned_fits (count_in s.world) of flow h.2)
+ends_of rules before n of (Thrown id s e) h = (h.0.0, h.2)
+ends_of rules before n of (Over limit w) h = h
+ends_of rules before n of More h = tt
+
+ends_in : (rules : Rules) (p : Program) (limits : run_limits) (bound : ℕ) (main : Fun) (e : Option Env) (w : World) → Fits rules w.store.objects → source.EntryFits (count_in w) e
+    → EndsFit rules w.store.objects (end_in p limits bound main e w)
+ends_in rules p limits bound main None w f g = tt
+ends_in rules p limits bound main (Some e) w f g =
+    ends_of rules w.store.objects (count_in w) main.result _
+    ((meanings_fit rules w.store.objects (alone p) limits bound).stmts main.body (record { text = script_text; depth = 0 }) (record { world = w; turns = 0 }) e (beginnings_fit rules w f, g))
+
+pub programs_fit : ProgramsFit
+programs_fit rules p limits args w end f g run =
+    subst (EndsFit rules w.store.objects) run.is
+    (ends_in rules p limits run.bound (fun_of p.main) (entry (fun_of p.main).params args []) w f (source.entry_fits (count_in w) (fun_of p.main).params args [] g tt))
