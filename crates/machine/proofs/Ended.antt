@@ -11,7 +11,7 @@ use Rattle.machine.specs.declared.configuration.RunEnd.TheVariants as end
 use Rattle.machine.specs.declared.configuration.Step.{Step}
 use Rattle.machine.specs.declared.configuration.Step.TheVariants as said
 use Rattle.task_core.specs.declared.task.Turn.TheVariants as turn
-use Rattle.machine.specs.Seen.{world_of, limits_of, ended, end_in, goes, codes_of}
+use Rattle.machine.specs.Seen.{world_of, limits_of, ended, end_in, goes, codes_alone}
 use Rattle.machine.specs.Activations.{Activation, now_of, counted, later, is_over, turn_of, Turned}
 use Rattle.machine.proofs.Reaching.{stays, none_taken}
 
@@ -29,8 +29,8 @@ at_end : (code : List FunCode) (limits : Limits) (allow : AllowList) (frame q : 
 at_end code limits allow frame q e w steps fits a is =
     let at : ℕ → Option Next → Activation = λ n now. record { code = code; limits = limits; allow = allow; frame = frame; now = now; steps = n } in
     let same : at steps (Some (ended e w)) ≡ later q (at steps (Some (ended e w))) =
-    ap (λ n. at steps (Some n)) (sym (stays (codes_of code) (limits_of limits allow) q e w))
-    ∙ ap (λ n. at n (Some (after (codes_of code) (limits_of limits allow) q (ended e w)))) (not_more steps fits ∙ ap (λ k. counted (steps + k)) (sym (none_taken (codes_of code) (limits_of limits allow) q e w))) in
+    ap (λ n. at steps (Some n)) (sym (stays (codes_alone code) (limits_of limits allow) q e w))
+    ∙ ap (λ n. at n (Some (after (codes_alone code) (limits_of limits allow) q (ended e w)))) (not_more steps fits ∙ ap (λ k. counted (steps + k)) (sym (none_taken (codes_alone code) (limits_of limits allow) q e w))) in
     subst (λ a. Turned q a a turn.Done) (sym is) (same, over e w)
 
 -- more instructions leave it as it is

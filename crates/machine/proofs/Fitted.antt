@@ -9,7 +9,7 @@ use Rattle.code_fit.specs.Moments.{NextFits}
 use Rattle.code_fit.proofs.Steps.{runs_fit}
 use Rattle.machine.specs.Activations.{Activation, Leaves, later}
 use Rattle.machine.specs.Fitting.{NowFits, EndFits, LeavesFit}
-use Rattle.machine.specs.Seen.{ended, codes_of, limits_of}
+use Rattle.machine.specs.Seen.{ended, codes_alone, limits_of}
 use Rattle.machine.specs.declared.activation.RunOutcome.{RunOutcome}
 use Rattle.machine.specs.declared.configuration.RunEnd.{RunEnd}
 use Rattle.machine.specs.declared.configuration.RunEnd.TheVariants as end
@@ -29,6 +29,6 @@ left_fits a (Some o) l rules before h = end_fits rules before o.heap l.0 o.reach
 -- a turn keeps it
 pub later_fits : (rules : Rules) (before : List Object) (q : ℕ) (a : Activation) → NowFits rules before a.now → NowFits rules before (later q a).now
 later_fits rules before q a h = now_fits a.now h where
-  now_fits : (now : Option Next) → NowFits rules before now → NowFits rules before (option_map (after (codes_of a.code) (limits_of a.limits a.allow) q) now)
+  now_fits : (now : Option Next) → NowFits rules before now → NowFits rules before (option_map (after (codes_alone a.code) (limits_of a.limits a.allow) q) now)
   now_fits None f = tt
-  now_fits (Some next) f = runs_fit rules before (codes_of a.code) (limits_of a.limits a.allow) q next f
+  now_fits (Some next) f = runs_fit rules before (codes_alone a.code) (limits_of a.limits a.allow) q next f

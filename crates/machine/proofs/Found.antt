@@ -10,7 +10,7 @@ use Rattle.machine.specs.declared.configuration.Step.TheVariants as said
 use Rattle.machine.specs.Activations.{Activation, now_of, turn_of, HasTurned, SparesFor}
 use Rattle.machine.specs.Memory.{HasMemory, RunSpares}
 use Rattle.machine.specs.Rooms.{FitsAtStart, IsEnough}
-use Rattle.machine.specs.Seen.{configuration_of, limits_of, room_of, goes, codes_of}
+use Rattle.machine.specs.Seen.{configuration_of, limits_of, room_of, goes, codes_alone}
 
 pub has_turned : (last : Step) → HasMemory last → HasTurned (turn_of last)
 has_turned said.Goes h = tt
@@ -23,13 +23,13 @@ module _ (code : List FunCode) (limits : Limits) (allow : AllowList) (frame q : 
   at = record { code = code; limits = limits; allow = allow; frame = frame; now = now_of last c; steps = steps }
 
   -- what an activation spares, its run spares
-  pub run_spares : goes last ≡ true → (FitsAtStart frame limits.depth → IsEnough frame limits.depth (room_of c)) → (a : Activation) → a ≡ at → SparesFor q a → RunSpares (codes_of code) (limits_of limits allow) frame q c
+  pub run_spares : goes last ≡ true → (FitsAtStart frame limits.depth → IsEnough frame limits.depth (room_of c)) → (a : Activation) → a ≡ at → SparesFor q a → RunSpares (codes_alone code) (limits_of limits allow) frame q c
   run_spares going enough a is spares =
       let s : SparesFor q at = subst (SparesFor q) is spares in
       let same : Goes (configuration_of c) ≡ s.next = begins last going s.next s.stands in
       record {
         enough = enough s.fits;
-        spares = λ k there less leads. s.spares k there less (subst (λ n. after (codes_of code) (limits_of limits allow) k n ≡ Goes there) same leads);
+        spares = λ k there less leads. s.spares k there less (subst (λ n. after (codes_alone code) (limits_of limits allow) k n ≡ Goes there) same leads);
       } where
         begins : (last : Step) → goes last ≡ true → (next : Next) → now_of last c ≡ Some next → Goes (configuration_of c) ≡ next
         begins said.Goes going next stands = cc

@@ -12,7 +12,7 @@ use Rattle.run_state.specs.World.{World, Limits, allowed_in}
 use Rattle.code_meaning.specs.Machine.{Frame, Next, act, typed_act, cast_act, member_act, on_type, is_written, code_in}
 use Rattle.machine.specs.Links.{Executable, instruction_at, link_at, link_of, type_link, member_link, type_in, member_in, lines_in}
 use Rattle.machine.specs.Sparing.{InstructionSpares, MemberSpares, CastSpares, OnType, OnValue}
-use Rattle.machine.specs.Seen.{codes_of}
+use Rattle.machine.specs.Seen.{codes_alone}
 use Rattle.object_values.specs.declared.object.Owner.{Owner}
 use Rattle.object_values.specs.declared.object.Owner.TheVariants.{Script, Prelude}
 use Rattle.allowlist.specs.Allow.{AllowList}
@@ -30,7 +30,7 @@ module _ (e : Executable) (limits : Limits) (line : Instruction) (f : Frame) (sa
   -- it stands in the script's text, so that its members are those of the script
   allows : allowed_in limits f.text ≡ limits.allowed
   allows = by_text f.text there where
-    by_text : (text : Owner) → slice_get (lines_in (slice_get (code_in (codes_of e.code.functions) text) f.fun)) f.line ≡ Some line → allowed_in limits text ≡ limits.allowed
+    by_text : (text : Owner) → slice_get (lines_in (slice_get (code_in (codes_alone e.code.functions) text) f.fun)) f.line ≡ Some line → allowed_in limits text ≡ limits.allowed
     by_text Script is = refl
     by_text Prelude is = absurd (cc)
 
@@ -60,22 +60,22 @@ module _ (e : Executable) (limits : Limits) (line : Instruction) (f : Frame) (sa
   -- what such an instruction does is what its link makes of it
   module _ (below : List Frame) (w : World) where
     abbrev acts : Instruction → Next
-    acts line = act (codes_of e.code.functions) limits line f below w
+    acts line = act (codes_alone e.code.functions) limits line f below w
 
-    pub typed_acts : (kind : Typed) (of : List ℕ) → line ≡ i.Typed kind of → acts line ≡ on_type (type_in (link_at e f)) (λ of. typed_act (codes_of e.code.functions) limits kind of f below w)
-    typed_acts kind of is = ap acts is ∙ ap (λ o. on_type o (λ of. typed_act (codes_of e.code.functions) limits kind of f below w)) (sym (typed_names kind of is))
+    pub typed_acts : (kind : Typed) (of : List ℕ) → line ≡ i.Typed kind of → acts line ≡ on_type (type_in (link_at e f)) (λ of. typed_act (codes_alone e.code.functions) limits kind of f below w)
+    typed_acts kind of is = ap acts is ∙ ap (λ o. on_type o (λ of. typed_act (codes_alone e.code.functions) limits kind of f below w)) (sym (typed_names kind of is))
 
-    pub cast_acts : (to : List ℕ) (way : Way) → line ≡ i.Cast to way → acts line ≡ on_type (type_in (link_at e f)) (λ to. cast_act (codes_of e.code.functions) limits to (is_written way) f below w)
-    cast_acts to way is = ap acts is ∙ ap (λ o. on_type o (λ to. cast_act (codes_of e.code.functions) limits to (is_written way) f below w)) (sym (cast_names to way is))
+    pub cast_acts : (to : List ℕ) (way : Way) → line ≡ i.Cast to way → acts line ≡ on_type (type_in (link_at e f)) (λ to. cast_act (codes_alone e.code.functions) limits to (is_written way) f below w)
+    cast_acts to way is = ap acts is ∙ ap (λ o. on_type o (λ to. cast_act (codes_alone e.code.functions) limits to (is_written way) f below w)) (sym (cast_names to way is))
 
-    pub method_acts : (method : List ℕ) → line ≡ i.Invoke method → acts line ≡ member_act (codes_of e.code.functions) limits (member_in (link_at e f)) f below w
-    method_acts method is = ap acts is ∙ ap (λ (list : AllowList). member_act (codes_of e.code.functions) limits (method_of list method) f below w) allows ∙ ap (λ o. member_act (codes_of e.code.functions) limits o f below w) (sym (method_names method is))
+    pub method_acts : (method : List ℕ) → line ≡ i.Invoke method → acts line ≡ member_act (codes_alone e.code.functions) limits (member_in (link_at e f)) f below w
+    method_acts method is = ap acts is ∙ ap (λ (list : AllowList). member_act (codes_alone e.code.functions) limits (method_of list method) f below w) allows ∙ ap (λ o. member_act (codes_alone e.code.functions) limits o f below w) (sym (method_names method is))
 
-    pub constructor_acts : (constructor : List ℕ) → line ≡ i.New constructor → acts line ≡ member_act (codes_of e.code.functions) limits (member_in (link_at e f)) f below w
-    constructor_acts constructor is = ap acts is ∙ ap (λ (list : AllowList). member_act (codes_of e.code.functions) limits (constructor_of list constructor) f below w) allows ∙ ap (λ o. member_act (codes_of e.code.functions) limits o f below w) (sym (constructor_names constructor is))
+    pub constructor_acts : (constructor : List ℕ) → line ≡ i.New constructor → acts line ≡ member_act (codes_alone e.code.functions) limits (member_in (link_at e f)) f below w
+    constructor_acts constructor is = ap acts is ∙ ap (λ (list : AllowList). member_act (codes_alone e.code.functions) limits (constructor_of list constructor) f below w) allows ∙ ap (λ o. member_act (codes_alone e.code.functions) limits o f below w) (sym (constructor_names constructor is))
 
-    pub field_acts : (field : List ℕ) → line ≡ i.Field field → acts line ≡ member_act (codes_of e.code.functions) limits (member_in (link_at e f)) f below w
-    field_acts field is = ap acts is ∙ ap (λ (list : AllowList). member_act (codes_of e.code.functions) limits (field_of list field) f below w) allows ∙ ap (λ o. member_act (codes_of e.code.functions) limits o f below w) (sym (field_names field is))
+    pub field_acts : (field : List ℕ) → line ≡ i.Field field → acts line ≡ member_act (codes_alone e.code.functions) limits (member_in (link_at e f)) f below w
+    field_acts field is = ap acts is ∙ ap (λ (list : AllowList). member_act (codes_alone e.code.functions) limits (field_of list field) f below w) allows ∙ ap (λ o. member_act (codes_alone e.code.functions) limits o f below w) (sym (field_names field is))
 
   -- and it spares memory where that does
   module _ (objects : List Object) where

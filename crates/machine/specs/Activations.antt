@@ -13,7 +13,7 @@ use Rattle.machine.specs.declared.configuration.Limits.{Limits}
 use Rattle.machine.specs.declared.configuration.Step.{Step}
 use Rattle.machine.specs.declared.configuration.Step.TheVariants as step
 use Rattle.machine.specs.declared.activation.RunOutcome.{RunOutcome}
-use Rattle.machine.specs.Seen.{configuration_of, limits_of, world_of, ended, codes_of}
+use Rattle.machine.specs.Seen.{configuration_of, limits_of, world_of, ended, codes_alone}
 use Rattle.machine.specs.Runs.{steps_taken}
 
 pub record Activation : Type 0 where
@@ -39,11 +39,11 @@ counted n = min n (2 ^ 64 - 1)
 
 abbrev pub steps_from : Activation → ℕ → Option Next → ℕ
 steps_from a q None = a.steps
-steps_from a q (Some n) = counted (a.steps + steps_taken (codes_of a.code) (limits_of a.limits a.allow) q n)
+steps_from a q (Some n) = counted (a.steps + steps_taken (codes_alone a.code) (limits_of a.limits a.allow) q n)
 
 -- an activation after so many instructions more
 abbrev pub later : ℕ → Activation → Activation
-later q a = record { code = a.code; limits = a.limits; allow = a.allow; frame = a.frame; now = option_map (after (codes_of a.code) (limits_of a.limits a.allow) q) a.now; steps = steps_from a q a.now }
+later q a = record { code = a.code; limits = a.limits; allow = a.allow; frame = a.frame; now = option_map (after (codes_alone a.code) (limits_of a.limits a.allow) q) a.now; steps = steps_from a q a.now }
 
 abbrev pub goes : Option Next → Bool
 goes None = false
@@ -69,7 +69,7 @@ pub record SparesFor (q : ℕ) (a : Activation) : Type 0 where
   pub next : Next
   pub stands : a.now ≡ Some next
   pub fits : FitsAtStart a.frame a.limits.depth
-  pub spares : (k : ℕ) (c : Config) → k < q → after (codes_of a.code) (limits_of a.limits a.allow) k next ≡ Goes c → Spares (codes_of a.code) a.allow c × IsWithin a.frame a.limits.depth (codes_of a.code) c
+  pub spares : (k : ℕ) (c : Config) → k < q → after (codes_alone a.code) (limits_of a.limits a.allow) k next ≡ Goes c → Spares (codes_alone a.code) a.allow c × IsWithin a.frame a.limits.depth (codes_alone a.code) c
 
 -- a turn found memory
 abbrev pub HasTurned : Turn → Type 0

@@ -6,7 +6,7 @@ use Rattle.code_meaning.specs.Machine.{Next, Ends, after}
 use Rattle.object_values.specs.declared.object.Object.{Object}
 use Rattle.object_heap.specs.Fits.{Rules}
 use Rattle.machine.specs.Fitting.{NowFits}
-use Rattle.machine.specs.Seen.{limits_of, codes_of}
+use Rattle.machine.specs.Seen.{limits_of, codes_alone}
 use Rattle.machine.specs.Activations.{Activation, later}
 
 -- Turns add up: how the instructions are cut into turns makes no difference.
@@ -17,7 +17,7 @@ TurnsAdd = (a : Activation) (first second : ℕ) → later (first + second) a �
 abbrev pub ComesToItsEnd : Type 0
 ComesToItsEnd =
     (a : Activation) (from : Next) (steps q : ℕ) (end : End (Option Word))
-    → a.now ≡ Some from → after (codes_of a.code) (limits_of a.limits a.allow) steps from ≡ Ends end → steps ≤ q → (later q a).now ≡ Some (Ends end)
+    → a.now ≡ Some from → after (codes_alone a.code) (limits_of a.limits a.allow) steps from ≡ Ends end → steps ≤ q → (later q a).now ≡ Some (Ends end)
 
 -- Turns keep the fit of the heap and of the words.
 abbrev pub TurnsFit : Type 0

@@ -11,7 +11,7 @@ use Rattle.pl_code.specs.declared.code.Instruction.{Instruction}
 use Rattle.pl_code.specs.declared.code.Instruction.TheVariants as i
 use Rattle.machine.specs.declared.executable.Link.{Link}
 use Rattle.machine.specs.declared.executable.Link.TheVariants as link
-use Rattle.machine.specs.Seen.{codes_of}
+use Rattle.machine.specs.Seen.{codes_alone}
 
 abbrev pub type_link : Option Ty → Link
 type_link None = link.Nothing
@@ -57,7 +57,7 @@ pub record Executable : Type 0 where
 
 -- the instruction at which a frame stands
 abbrev pub instruction_at : Executable → Frame → Option Instruction
-instruction_at e f = slice_get (lines_in (function_of (codes_of e.code.functions) f)) f.line
+instruction_at e f = slice_get (lines_in (function_of (codes_alone e.code.functions) f)) f.line
 
 -- what it names
 abbrev pub link_at : Executable → Frame → Option Link

@@ -8,7 +8,7 @@ use Rattle.pl_code.specs.declared.code.FunCode.{FunCode}
 use Rattle.run_state.specs.World.{World, Limit, Loop, Depth, Ticks, Room, Limits, Result, Uncaught, Limited}
 use Rattle.code_meaning.specs.declared.word.Word.{Word}
 use Rattle.code_meaning.specs.declared.word.Word.TheVariants.{I, J}
-use Rattle.code_meaning.specs.Machine.{Config, Next, Goes, Ends, Stuck, Codes}
+use Rattle.code_meaning.specs.Machine.{Config, Next, Goes, Ends, Stuck, Codes, codes_of}
 pub use Rattle.machine.specs.Frames.{with_stack}
 use Rattle.machine.specs.Rooms as rooms
 use Rattle.machine.specs.declared.configuration.World as held_world
@@ -30,8 +30,8 @@ abbrev pub room_of : Configuration → rooms.Room
 room_of c = record { words = c.frames.words; frames = c.frames.depth; taken = c.words.room; values = c.values.room; reached = c.world.reached.room }
 
 -- the code of a run: the prelude has none yet, so that all frames stand in the script's text
-abbrev pub codes_of : List FunCode → Codes
-codes_of functions = record { script = functions; prelude = [] }
+abbrev pub codes_alone : List FunCode → Codes
+codes_alone functions = codes_of functions []
 
 -- what a run may take, and the members that it may call
 pub record Rules : Type 0 where

@@ -8,7 +8,7 @@ ghost use Rattle.object_values.specs.declared.object.Owner.TheVariants.{Script};
 ghost use Rattle.code_meaning.specs.Machine.{start};
 ghost use Rattle.code_meaning.specs.Words.{start_of};
 ghost use Rattle.machine.specs.Activations.{HasTurned, Leaves, SparesFor, Turned, turn_of};
-ghost use Rattle.machine.specs.Seen.{codes_of, configuration_of};
+ghost use Rattle.machine.specs.Seen.{codes_alone, configuration_of};
 
 use crate::configuration::{Configuration, Limits, RunEnd, Step, World};
 use crate::executable::Executable;
@@ -93,7 +93,7 @@ impl<'c> Activation<'c> {
         args: Elements<Word>,
         limits: Limits,
     ) -> Result<Activation<'c>, AllocError>
-        ensures { IfOk result (λ a. a ≡ record { code = executable.now.code.functions; limits = limits; allow = executable.now.allow; frame = executable.now.frame; now = Some (start (codes_of executable.now.code.functions) args (record { store = heap; ticks = limits.ticks; reached = [] })); steps = 0 }) }
+        ensures { IfOk result (λ a. a ≡ record { code = executable.now.code.functions; limits = limits; allow = executable.now.allow; frame = executable.now.frame; now = Some (start (codes_alone executable.now.code.functions) args (record { store = heap; ticks = limits.ticks; reached = [] })); steps = 0 }) }
     {
         let memory = RunMemory::new(heap.alloc());
         Activation::start_in(executable, memory, heap, args, limits)
@@ -112,7 +112,7 @@ impl<'c> Activation<'c> {
         args: Elements<Word>,
         limits: Limits,
     ) -> Result<Activation<'c>, AllocError>
-        ensures { IfOk result (λ a. a ≡ record { code = executable.now.code.functions; limits = limits; allow = executable.now.allow; frame = executable.now.frame; now = Some (start (codes_of executable.now.code.functions) args (record { store = heap; ticks = limits.ticks; reached = [] })); steps = 0 }) }
+        ensures { IfOk result (λ a. a ≡ record { code = executable.now.code.functions; limits = limits; allow = executable.now.allow; frame = executable.now.frame; now = Some (start (codes_alone executable.now.code.functions) args (record { store = heap; ticks = limits.ticks; reached = [] })); steps = 0 }) }
     {
         let (slots, last) = match executable.code().functions.get(0) {
             Some(main) => (main.locals.as_slice(), Step::Goes),
@@ -166,35 +166,11 @@ impl<'c> Activation<'c> {
         // and of its class, and the end in it.
         ensures fit { (rules : HeapRules) (before : List HeapObject) → NowFits rules before self.entry.now → IfSome result (LeavesFit rules before) }
     {
-        let Activation {
-            executable: _,
-            limits,
-            run,
-            last,
-            steps,
-        } = self;
-        let Configuration {
-            frames: _frames,
-            world,
-            words: _words,
-            values: _values,
-            end,
-        } = run;
-        let World {
-            heap,
-            ticks,
-            reached,
-        } = world;
-        match last.end(end) {
-            Some(end) => Some(RunOutcome {
-                end,
-                heap,
-                ticks: limits.ticks.saturating_sub(ticks),
-                steps,
-                reached: reached.into_elements(),
-            }),
-            None => None,
-        }
+        let Finished {
+            outcome,
+            memory: _memory,
+        } = self.finish();
+        outcome
     }
 
     /// The same, and the memory that the run had, for the next one.

@@ -9,7 +9,7 @@ ghost use Rattle.code_meaning.specs.Words as words;
 ghost use Rattle.code_meaning.specs.declared.word.Word.{Word};
 ghost use Rattle.code_meaning.specs.declared.word.Word.TheVariants.{R};
 ghost use Rattle.code_meaning.specs.Machine.{on_top, on_value, on_reference, on_outcome, to_line, is_written};
-ghost use Rattle.machine.specs.Seen.{Comes, room_of, with_stack, world_of, codes_of, limits_in};
+ghost use Rattle.machine.specs.Seen.{Comes, room_of, with_stack, world_of, codes_alone, limits_in};
 ghost use Rattle.number_ops.specs.Outcomes.{WantsMemory};
 ghost use Rattle.machine.specs.Sparing.{CastSpares, OnReference, OnValue};
 ghost use Rattle.machine.specs.Memory.{HasMemory};
@@ -82,7 +82,7 @@ pub fn unbox(
     primitive: Primitive,
     way: Way,
 ) -> Step
-    ensures exact { Comes (on_top run.old.frames.top.stack (λ word stack. on_reference word (λ value. on_outcome (codes_of code.now.functions) (limits_in limits.now) (acts_in (world_of run.old.world) (effect run.old.world.heap (cast_at_run_time run.old.world.heap.objects value (ty.Prim primitive) (is_written way)))) words.unboxed run.old.frames.top run.old.frames.below (world_of run.old.world) stack))) result run.new }
+    ensures exact { Comes (on_top run.old.frames.top.stack (λ word stack. on_reference word (λ value. on_outcome (codes_alone code.now.functions) (limits_in limits.now) (acts_in (world_of run.old.world) (effect run.old.world.heap (cast_at_run_time run.old.world.heap.objects value (ty.Prim primitive) (is_written way)))) words.unboxed run.old.frames.top run.old.frames.below (world_of run.old.world) stack))) result run.new }
     ensures memory { OnValue run.old.frames.top.stack (CastSpares run.old.world.heap.objects (ty.Prim primitive) (is_written way)) → run.old.frames.count ≤ run.old.frames.words → suc run.old.frames.top.line < 2 ^ 64 → HasMemory result }
     ensures room { room_of run.new ≡ room_of run.old }
 {
@@ -101,7 +101,7 @@ fn unbox_word(
     primitive: Primitive,
     way: Way,
 ) -> Step
-    ensures exact { (stack : List Word) → Comes (on_reference word.now (λ value. on_outcome (codes_of code.now.functions) (limits_in limits.now) (acts_in (world_of run.old.world) (effect run.old.world.heap (cast_at_run_time run.old.world.heap.objects value (ty.Prim primitive) (is_written way)))) words.unboxed (with_stack run.old.frames.top stack) run.old.frames.below (world_of run.old.world) run.old.frames.top.stack)) result run.new }
+    ensures exact { (stack : List Word) → Comes (on_reference word.now (λ value. on_outcome (codes_alone code.now.functions) (limits_in limits.now) (acts_in (world_of run.old.world) (effect run.old.world.heap (cast_at_run_time run.old.world.heap.objects value (ty.Prim primitive) (is_written way)))) words.unboxed (with_stack run.old.frames.top stack) run.old.frames.below (world_of run.old.world) run.old.frames.top.stack)) result run.new }
     ensures memory { OnReference word.now (CastSpares run.old.world.heap.objects (ty.Prim primitive) (is_written way)) → run.old.frames.count < run.old.frames.words → suc run.old.frames.top.line < 2 ^ 64 → HasMemory result }
     ensures room { room_of run.new ≡ room_of run.old }
 {

@@ -6,7 +6,7 @@ ghost use Rattle.code_meaning.specs.Words as words;
 ghost use Rattle.code_meaning.specs.declared.word.Word.{Word};
 ghost use Rattle.code_meaning.specs.Machine as spec;
 ghost use Rattle.code_meaning.specs.Machine.{Goes, depth_of, code_in, function_of};
-ghost use Rattle.machine.specs.Seen.{Comes, room_of, with_stack, world_of, codes_of, limits_in};
+ghost use Rattle.machine.specs.Seen.{Comes, room_of, with_stack, world_of, codes_alone, limits_in};
 ghost use Rattle.machine.specs.Rows.{CountsTo};
 ghost use Rattle.machine.specs.Memory.{CallFinds, HasMemory, RoomFor};
 
@@ -20,8 +20,8 @@ use pl_code::{FunCode, Slot};
 
 /// Calls the function of this number.
 pub fn call(run: &mut Configuration, code: &LinkedCode, limits: &Rules<'_>, number: u32) -> Step
-    ensures exact { Comes (spec.on_call (codes_of code.now.functions) (limits_in limits.now) (slice_get (code_in (codes_of code.now.functions) run.old.frames.top.text) number) number run.old.frames.top run.old.frames.below (world_of run.old.world)) result run.new }
-    ensures memory { CallFinds limits.now.depth (slice_get (code_in (codes_of code.now.functions) run.old.frames.top.text) number) run.old.frames → suc run.old.frames.top.line < 2 ^ 64 → HasMemory result }
+    ensures exact { Comes (spec.on_call (codes_alone code.now.functions) (limits_in limits.now) (slice_get (code_in (codes_alone code.now.functions) run.old.frames.top.text) number) number run.old.frames.top run.old.frames.below (world_of run.old.world)) result run.new }
+    ensures memory { CallFinds limits.now.depth (slice_get (code_in (codes_alone code.now.functions) run.old.frames.top.text) number) run.old.frames → suc run.old.frames.top.line < 2 ^ 64 → HasMemory result }
     ensures room { room_of run.new ≡ room_of run.old }
 {
     match run.frames.function_at(code, number) {
@@ -38,7 +38,7 @@ fn call_function(
     function: &FunCode,
     number: u32,
 ) -> Step
-    ensures exact { Comes (spec.on_call (codes_of code.now.functions) (limits_in limits.now) (Some function.now) number run.old.frames.top run.old.frames.below (world_of run.old.world)) result run.new }
+    ensures exact { Comes (spec.on_call (codes_alone code.now.functions) (limits_in limits.now) (Some function.now) number run.old.frames.top run.old.frames.below (world_of run.old.world)) result run.new }
     ensures memory { CallFinds limits.now.depth (Some function.now) run.old.frames → suc run.old.frames.top.line < 2 ^ 64 → HasMemory result }
     ensures room { room_of run.new ≡ room_of run.old }
 {
@@ -99,7 +99,7 @@ fn push_frame(run: &mut Configuration, number: u32, function: &FunCode) -> Step
 
 /// Returns.
 pub fn ret(run: &mut Configuration, code: &LinkedCode, limits: &Rules<'_>) -> Step
-    ensures exact { Comes (spec.returns (codes_of code.now.functions) (limits_in limits.now) (function_of (codes_of code.now.functions) run.old.frames.top) run.old.frames.top.stack (λ result. spec.gives_back (codes_of code.now.functions) (limits_in limits.now) run.old.frames.below run.old.frames.top.due result (world_of run.old.world))) result run.new }
+    ensures exact { Comes (spec.returns (codes_alone code.now.functions) (limits_in limits.now) (function_of (codes_alone code.now.functions) run.old.frames.top) run.old.frames.top.stack (λ result. spec.gives_back (codes_alone code.now.functions) (limits_in limits.now) run.old.frames.below run.old.frames.top.due result (world_of run.old.world))) result run.new }
     ensures memory { run.old.frames.count ≤ run.old.frames.words → HasMemory result }
     ensures room { room_of run.new ≡ room_of run.old }
 {
@@ -121,7 +121,7 @@ fn give_back(
     limits: &Rules<'_>,
     word: Option<Word>,
 ) -> Step
-    ensures exact { Comes (spec.gives_back (codes_of code.now.functions) (limits_in limits.now) run.old.frames.below run.old.frames.top.due word (world_of run.old.world)) result run.new }
+    ensures exact { Comes (spec.gives_back (codes_alone code.now.functions) (limits_in limits.now) run.old.frames.below run.old.frames.top.due word (world_of run.old.world)) result run.new }
     ensures memory { RoomFor word run.old.frames → HasMemory result }
     ensures room { room_of run.new ≡ room_of run.old }
 {

@@ -9,7 +9,7 @@ ghost use Rattle.machine.specs.Frames.{Enters, Leaves, at_line, with_turns};
 ghost use Rattle.machine.specs.Frames.{with_stack, with_words};
 ghost use Rattle.object_values.specs.declared.object.Owner.TheVariants.{Script};
 ghost use Rattle.machine.specs.Handlers.{linked_traps};
-ghost use Rattle.machine.specs.Seen.{codes_of};
+ghost use Rattle.machine.specs.Seen.{codes_alone};
 
 use crate::calls::start_of;
 use crate::handlers::Handlers;
@@ -259,7 +259,7 @@ impl Frames {
     /// The function of this number, in the code of the newest frame's text. The prelude has no code yet.
     #[inline(always)]
     pub fn function_at<'c>(&self, code: &'c LinkedCode, number: u32) -> Option<&'c FunCode>
-        ensures { option_copied result ≡ slice_get (code_in (codes_of code.now.functions) self.now.top.text) number }
+        ensures { option_copied result ≡ slice_get (code_in (codes_alone code.now.functions) self.now.top.text) number }
     {
         match self.top.text {
             Owner::Script => code.function(number),
@@ -270,7 +270,7 @@ impl Frames {
     /// The handlers of the newest frame's function.
     #[tactic(auto, using(crate::proofs::Handling::none_there))]
     pub fn handlers<'c>(&self, code: &'c LinkedCode) -> Option<&'c Handlers>
-        ensures { option_copied result ≡ option_map linked_traps (function_of (codes_of code.now.functions) self.now.top) }
+        ensures { option_copied result ≡ option_map linked_traps (function_of (codes_alone code.now.functions) self.now.top) }
     {
         match self.top.text {
             Owner::Script => code.handlers(self.top.fun),

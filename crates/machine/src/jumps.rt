@@ -2,7 +2,7 @@
 ghost use Rattle.std.specs.Prelude.{◌≡◌, ◌<◌, ◌+◌, ◌^◌, ◌∷◌, suc, slice_get, slice_set};
 ghost use Rattle.code_meaning.specs.Machine.{numbered_act, on_local, on_top, on_turn, to_line, Goes, code_in, on_int, unless_zero};
 ghost use Rattle.run_state.specs.World.{take_turn};
-ghost use Rattle.machine.specs.Seen.{Comes, room_of, world_of, codes_of, limits_in};
+ghost use Rattle.machine.specs.Seen.{Comes, room_of, world_of, codes_alone, limits_in};
 ghost use Rattle.machine.specs.Sparing.{LocalBare, NumberedSpares};
 ghost use Rattle.machine.specs.Memory.{CallFinds, HasMemory};
 
@@ -28,8 +28,8 @@ pub fn numbered(
     number: u32,
 ) -> Step
     requires { run.old.frames.top.turns + run.old.world.ticks < 2 ^ 64 }
-    ensures exact { Comes (numbered_act (codes_of code.now.functions) (limits_in limits.now) kind number run.old.frames.top run.old.frames.below (world_of run.old.world)) result run.new }
-    ensures memory { NumberedSpares kind number run.old.frames.top.locals → CallFinds limits.now.depth (slice_get (code_in (codes_of code.now.functions) run.old.frames.top.text) number) run.old.frames → run.old.frames.count < run.old.frames.words → suc run.old.frames.top.line < 2 ^ 64 → HasMemory result }
+    ensures exact { Comes (numbered_act (codes_alone code.now.functions) (limits_in limits.now) kind number run.old.frames.top run.old.frames.below (world_of run.old.world)) result run.new }
+    ensures memory { NumberedSpares kind number run.old.frames.top.locals → CallFinds limits.now.depth (slice_get (code_in (codes_alone code.now.functions) run.old.frames.top.text) number) run.old.frames → run.old.frames.count < run.old.frames.words → suc run.old.frames.top.line < 2 ^ 64 → HasMemory result }
     ensures room { room_of run.new ≡ room_of run.old }
 {
     match kind {
@@ -117,7 +117,7 @@ fn repeat(
     line: u32,
 ) -> Step
     requires { run.old.frames.top.turns + run.old.world.ticks < 2 ^ 64 }
-    ensures exact { Comes (on_top run.old.frames.top.stack (λ word stack. on_int word (λ a. unless_zero a (on_turn (codes_of code.now.functions) (limits_in limits.now) (take_turn (limits_in limits.now) limited run.old.frames.top.turns (world_of run.old.world)) line run.old.frames.top run.old.frames.below (world_of run.old.world) stack) (to_line run.old.frames.top run.old.frames.below (world_of run.old.world) (suc run.old.frames.top.line) stack)))) result run.new }
+    ensures exact { Comes (on_top run.old.frames.top.stack (λ word stack. on_int word (λ a. unless_zero a (on_turn (codes_alone code.now.functions) (limits_in limits.now) (take_turn (limits_in limits.now) limited run.old.frames.top.turns (world_of run.old.world)) line run.old.frames.top run.old.frames.below (world_of run.old.world) stack) (to_line run.old.frames.top run.old.frames.below (world_of run.old.world) (suc run.old.frames.top.line) stack)))) result run.new }
     ensures memory { suc run.old.frames.top.line < 2 ^ 64 → HasMemory result }
     ensures room { room_of run.new ≡ room_of run.old }
 {
@@ -139,7 +139,7 @@ fn turn(
     line: u32,
 ) -> Step
     requires { run.old.frames.top.turns + run.old.world.ticks < 2 ^ 64 }
-    ensures exact { Comes (on_turn (codes_of code.now.functions) (limits_in limits.now) (take_turn (limits_in limits.now) limited run.old.frames.top.turns (world_of run.old.world)) line run.old.frames.top run.old.frames.below (world_of run.old.world) run.old.frames.top.stack) result run.new }
+    ensures exact { Comes (on_turn (codes_alone code.now.functions) (limits_in limits.now) (take_turn (limits_in limits.now) limited run.old.frames.top.turns (world_of run.old.world)) line run.old.frames.top run.old.frames.below (world_of run.old.world) run.old.frames.top.stack) result run.new }
     ensures memory { HasMemory result }
     ensures room { room_of run.new ≡ room_of run.old }
 {

@@ -11,7 +11,7 @@ ghost use Rattle.code_meaning.specs.Members.{Receives, count_of, given_as, recei
 ghost use Rattle.allowlist.specs.Index.{member_at};
 ghost use Rattle.machine.specs.Memory.{HasMemory, HasSpace, OnlyToMake};
 ghost use Rattle.code_meaning.specs.Machine as spec;
-ghost use Rattle.machine.specs.Seen.{Comes, room_of, with_stack, world_of, codes_of, limits_in};
+ghost use Rattle.machine.specs.Seen.{Comes, room_of, with_stack, world_of, codes_alone, limits_in};
 ghost use Rattle.machine.specs.Rows.{beside};
 ghost use Rattle.machine.specs.Members.{filled, receiving_of};
 ghost use Rattle.pl_types.specs.Host.{no_host};
@@ -33,8 +33,8 @@ use std::alloc::AllocError;
 
 /// What the member does that the instruction names: a method is called, a value made by a constructor, or a field read.
 pub fn named(run: &mut Configuration, executable: &Executable, limits: &Rules<'_>) -> Step
-    ensures exact { Comes (spec.member_act (codes_of executable.now.code.functions) (limits_in limits.now) (member_in (link_at executable.now run.old.frames.top)) run.old.frames.top run.old.frames.below (world_of run.old.world)) result run.new }
-    ensures memory { MemberSpares (member_in (link_at executable.now run.old.frames.top)) run.old.frames.top.stack run.old.world.heap.objects → HasSpace (codes_of executable.now.code.functions) limits.now.depth run.old → suc run.old.frames.top.line < 2 ^ 64 → HasMemory result }
+    ensures exact { Comes (spec.member_act (codes_alone executable.now.code.functions) (limits_in limits.now) (member_in (link_at executable.now run.old.frames.top)) run.old.frames.top run.old.frames.below (world_of run.old.world)) result run.new }
+    ensures memory { MemberSpares (member_in (link_at executable.now run.old.frames.top)) run.old.frames.top.stack run.old.world.heap.objects → HasSpace (codes_alone executable.now.code.functions) limits.now.depth run.old → suc run.old.frames.top.line < 2 ^ 64 → HasMemory result }
     ensures room { room_of run.new ≡ room_of run.old }
 {
     match executable.link(&run.frames) {
@@ -56,8 +56,8 @@ fn call_numbered(
     number: u32,
 ) -> Step
     requires { number < MEMBER_COUNT }
-    ensures exact { Comes (spec.member_act (codes_of code.now.functions) (limits_in limits.now) (Some number) run.old.frames.top run.old.frames.below (world_of run.old.world)) result run.new }
-    ensures memory { CallSpares (spec.take_words (count_of (member_at number)) run.old.frames.top.stack []) (member_at number) number run.old.world.heap.objects → HasSpace (codes_of code.now.functions) limits.now.depth run.old → suc run.old.frames.top.line < 2 ^ 64 → HasMemory result }
+    ensures exact { Comes (spec.member_act (codes_alone code.now.functions) (limits_in limits.now) (Some number) run.old.frames.top run.old.frames.below (world_of run.old.world)) result run.new }
+    ensures memory { CallSpares (spec.take_words (count_of (member_at number)) run.old.frames.top.stack []) (member_at number) number run.old.world.heap.objects → HasSpace (codes_alone code.now.functions) limits.now.depth run.old → suc run.old.frames.top.line < 2 ^ 64 → HasMemory result }
     ensures room { room_of run.new ≡ room_of run.old }
 {
     let called = limits.allow().member_type(number);
@@ -72,7 +72,7 @@ fn call_member(
     called: &MemberType,
 ) -> Step
     requires { number < MEMBER_COUNT }
-    ensures exact { Comes (spec.on_words (spec.take_words (count_of called.now) run.old.frames.top.stack []) (λ words stack. spec.on_received (codes_of code.now.functions) (limits_in limits.now) (received called.now words) number called.now run.old.frames.top run.old.frames.below (world_of run.old.world) stack)) result run.new }
+    ensures exact { Comes (spec.on_words (spec.take_words (count_of called.now) run.old.frames.top.stack []) (λ words stack. spec.on_received (codes_alone code.now.functions) (limits_in limits.now) (received called.now words) number called.now run.old.frames.top run.old.frames.below (world_of run.old.world) stack)) result run.new }
     ensures memory { CallSpares (spec.take_words (count_of called.now) run.old.frames.top.stack []) called.now number run.old.world.heap.objects → count_of called.now ≤ run.old.words.room → count_of called.now ≤ run.old.values.room → MEMBER_COUNT ≤ run.old.world.reached.room → run.old.frames.count < run.old.frames.words → suc run.old.frames.top.line < 2 ^ 64 → HasMemory result }
     ensures room { room_of run.new ≡ room_of run.old }
 {
@@ -136,7 +136,7 @@ fn call_with(
     called: &MemberType,
 ) -> Step
     requires { number < MEMBER_COUNT }
-    ensures exact { (stack : List Word) → Comes (spec.on_received (codes_of code.now.functions) (limits_in limits.now) (received called.now run.old.words.items) number called.now (with_stack run.old.frames.top stack) run.old.frames.below (world_of run.old.world) run.old.frames.top.stack) result run.new }
+    ensures exact { (stack : List Word) → Comes (spec.on_received (codes_alone code.now.functions) (limits_in limits.now) (received called.now run.old.words.items) number called.now (with_stack run.old.frames.top stack) run.old.frames.below (world_of run.old.world) run.old.frames.top.stack) result run.new }
     ensures memory { ReceivingSpares (received called.now run.old.words.items) number run.old.world.heap.objects → length run.old.words.items ≤ run.old.values.room → MEMBER_COUNT ≤ run.old.world.reached.room → run.old.frames.count < run.old.frames.words → suc run.old.frames.top.line < 2 ^ 64 → HasMemory result }
     ensures room { room_of run.new ≡ room_of run.old }
 {
@@ -156,7 +156,7 @@ fn call_on(
     receiving: Receiving,
 ) -> Step
     requires { number < MEMBER_COUNT }
-    ensures exact { (stack : List Word) → Comes (spec.on_received (codes_of code.now.functions) (limits_in limits.now) (receiving_of receiving run.old.values.items) number called.now (with_stack run.old.frames.top stack) run.old.frames.below (world_of run.old.world) run.old.frames.top.stack) result run.new }
+    ensures exact { (stack : List Word) → Comes (spec.on_received (codes_alone code.now.functions) (limits_in limits.now) (receiving_of receiving run.old.values.items) number called.now (with_stack run.old.frames.top stack) run.old.frames.below (world_of run.old.world) run.old.frames.top.stack) result run.new }
     ensures memory { ReceivingSpares (receiving_of receiving run.old.values.items) number run.old.world.heap.objects → MEMBER_COUNT ≤ run.old.world.reached.room → run.old.frames.count < run.old.frames.words → suc run.old.frames.top.line < 2 ^ 64 → HasMemory result }
     ensures room { room_of run.new ≡ room_of run.old }
 {
@@ -179,7 +179,7 @@ fn on_null(
     limits: &Rules<'_>,
     called: &MemberType,
 ) -> Step
-    ensures exact { (stack : List Word) → Comes (spec.on_outcome (codes_of code.now.functions) (limits_in limits.now) (acts_in (world_of run.old.world) (effect run.old.world.heap null_error)) (given_as called.now.result) (with_stack run.old.frames.top stack) run.old.frames.below (world_of run.old.world) run.old.frames.top.stack) result run.new }
+    ensures exact { (stack : List Word) → Comes (spec.on_outcome (codes_alone code.now.functions) (limits_in limits.now) (acts_in (world_of run.old.world) (effect run.old.world.heap null_error)) (given_as called.now.result) (with_stack run.old.frames.top stack) run.old.frames.below (world_of run.old.world) run.old.frames.top.stack) result run.new }
     ensures memory { run.old.frames.count < run.old.frames.words → suc run.old.frames.top.line < 2 ^ 64 → OnlyToMake run.old.world.heap run.new.world.heap result }
     ensures room { room_of run.new ≡ room_of run.old }
 {
@@ -195,7 +195,7 @@ fn pay_and_act(
     called: &MemberType,
 ) -> Step
     requires { number < MEMBER_COUNT }
-    ensures exact { (stack : List Word) → Comes (spec.on_paid (codes_of code.now.functions) (limits_in limits.now) (pay_member run.old.frames.top.text number (world_of run.old.world)) number run.old.values.items called.now (with_stack run.old.frames.top stack) run.old.frames.below run.old.frames.top.stack) result run.new }
+    ensures exact { (stack : List Word) → Comes (spec.on_paid (codes_alone code.now.functions) (limits_in limits.now) (pay_member run.old.frames.top.text number (world_of run.old.world)) number run.old.values.items called.now (with_stack run.old.frames.top stack) run.old.frames.below run.old.frames.top.stack) result run.new }
     ensures memory { (NeedsMemory run.old.world.heap.objects number run.old.values.items → ⊥) → MEMBER_COUNT ≤ run.old.world.reached.room → run.old.frames.count < run.old.frames.words → suc run.old.frames.top.line < 2 ^ 64 → HasMemory result }
     ensures room { room_of run.new ≡ room_of run.old }
 {
@@ -218,7 +218,7 @@ fn act(
     number: u32,
     called: &MemberType,
 ) -> Step
-    ensures exact { (stack : List Word) → Comes (spec.on_act (codes_of code.now.functions) (limits_in limits.now) (does no_host number run.old.values.items run.old.world.heap) called.now (with_stack run.old.frames.top stack) run.old.frames.below (world_of run.old.world) run.old.frames.top.stack) result run.new }
+    ensures exact { (stack : List Word) → Comes (spec.on_act (codes_alone code.now.functions) (limits_in limits.now) (does no_host number run.old.values.items run.old.world.heap) called.now (with_stack run.old.frames.top stack) run.old.frames.below (world_of run.old.world) run.old.frames.top.stack) result run.new }
     ensures memory { (NeedsMemory run.old.world.heap.objects number run.old.values.items → ⊥) → run.old.frames.count < run.old.frames.words → suc run.old.frames.top.line < 2 ^ 64 → HasMemory result }
     ensures room { room_of run.new ≡ room_of run.old }
 {

@@ -5,7 +5,7 @@ ghost use Rattle.code_meaning.specs.declared.word.Word.TheVariants.{I, J};
 ghost use Rattle.code_meaning.specs.Machine as spec;
 ghost use Rattle.code_meaning.specs.Machine.{plain_act, on_stack, to_line};
 ghost use Rattle.machine.specs.Frames.{OnlyStack};
-ghost use Rattle.machine.specs.Seen.{Comes, int_of, long_of, room_of, world_of, codes_of, limits_in};
+ghost use Rattle.machine.specs.Seen.{Comes, int_of, long_of, room_of, world_of, codes_alone, limits_in};
 ghost use Rattle.machine.specs.Rows.{Copies};
 ghost use Rattle.machine.specs.Sparing.{CopySpares, OneBare, PlainSpares, TwoBare, is_text};
 ghost use Rattle.machine.specs.Memory.{HasMemory, IsCopied};
@@ -27,7 +27,7 @@ use pl_code::Plain;
 #[inline(always)]
 #[tactic(auto, using(crate::proofs::Rows::no_int, crate::proofs::Rows::no_long))]
 pub fn plain(run: &mut Configuration, code: &LinkedCode, limits: &Rules<'_>, kind: Plain) -> Step
-    ensures exact { Comes (plain_act (codes_of code.now.functions) (limits_in limits.now) kind run.old.frames.top run.old.frames.below (world_of run.old.world)) result run.new }
+    ensures exact { Comes (plain_act (codes_alone code.now.functions) (limits_in limits.now) kind run.old.frames.top run.old.frames.below (world_of run.old.world)) result run.new }
     ensures memory { PlainSpares kind run.old.frames.top.stack run.old.world.heap.objects → run.old.frames.count + 2 ≤ run.old.frames.words → suc run.old.frames.top.line < 2 ^ 64 → HasMemory result }
     ensures room { room_of run.new ≡ room_of run.old }
 {

@@ -6,7 +6,7 @@ ghost use Rattle.arithmetic.specs.declared.operator.Num.TheVariants as n;
 ghost use Rattle.code_meaning.specs.Machine.{on_calculation};
 ghost use Rattle.code_meaning.specs.Words as words;
 ghost use Rattle.machine.specs.Frames.{OnlyStack};
-ghost use Rattle.machine.specs.Seen.{Comes, room_of, world_of, codes_of, limits_in};
+ghost use Rattle.machine.specs.Seen.{Comes, room_of, world_of, codes_alone, limits_in};
 ghost use Rattle.machine.specs.Rows.{CalculatesTo, calculated_of};
 ghost use Rattle.machine.specs.Sparing.{NoZero};
 ghost use Rattle.machine.specs.Memory.{HasMemory, HasRoom};
@@ -40,7 +40,7 @@ pub fn arithmetic(
     op: ArithmeticOp,
     width: Width,
 ) -> Step
-    ensures exact { Comes (on_calculation (codes_of code.now.functions) (limits_in limits.now) (words.calculation op width run.old.frames.top.stack) run.old.frames.top run.old.frames.below (world_of run.old.world)) result run.new }
+    ensures exact { Comes (on_calculation (codes_alone code.now.functions) (limits_in limits.now) (words.calculation op width run.old.frames.top.stack) run.old.frames.top run.old.frames.below (world_of run.old.world)) result run.new }
     ensures memory { NoZero (words.calculation op width run.old.frames.top.stack) → run.old.frames.count ≤ run.old.frames.words → suc run.old.frames.top.line < 2 ^ 64 → HasMemory result }
     ensures room { room_of run.new ≡ room_of run.old }
 {

@@ -2,7 +2,7 @@
 ghost use Rattle.std.specs.Prelude.{◌≡◌, ◌≤◌, ◌<◌, ◌^◌, List, suc};
 ghost use Rattle.code_meaning.specs.declared.word.Word.{Word};
 ghost use Rattle.code_meaning.specs.Machine.{quoted_act, on_reference, on_top, if_null, to_line};
-ghost use Rattle.machine.specs.Seen.{Comes, room_of, with_stack, world_of, codes_of, limits_in};
+ghost use Rattle.machine.specs.Seen.{Comes, room_of, with_stack, world_of, codes_alone, limits_in};
 ghost use Rattle.machine.specs.Sparing.{OnReference, OnValues};
 ghost use Rattle.machine.specs.Memory.{HasMemory, PairSpares};
 ghost use Rattle.machine.specs.Rows.{null_in, on_pair, on_references, paired, text_act};
@@ -26,7 +26,7 @@ pub fn quoted(
     kind: Quoting,
     text: &Text,
 ) -> Step
-    ensures exact { Comes (quoted_act (codes_of code.now.functions) (limits_in limits.now) kind text.now run.old.frames.top run.old.frames.below (world_of run.old.world)) result run.new }
+    ensures exact { Comes (quoted_act (codes_alone code.now.functions) (limits_in limits.now) kind text.now run.old.frames.top run.old.frames.below (world_of run.old.world)) result run.new }
     ensures room { room_of run.new ≡ room_of run.old }
 {
     match kind {
@@ -58,7 +58,7 @@ pub enum Pairing {
 
 /// An instruction on two references, which are taken off the stack.
 pub fn pair(run: &mut Configuration, code: &LinkedCode, limits: &Rules<'_>, kind: Pairing) -> Step
-    ensures exact { Comes (on_pair run.old.frames.top.stack (λ a b stack. paired (codes_of code.now.functions) (limits_in limits.now) kind a b run.old.frames.top run.old.frames.below (world_of run.old.world) stack)) result run.new }
+    ensures exact { Comes (on_pair run.old.frames.top.stack (λ a b stack. paired (codes_alone code.now.functions) (limits_in limits.now) kind a b run.old.frames.top run.old.frames.below (world_of run.old.world) stack)) result run.new }
     ensures memory { OnValues run.old.frames.top.stack (PairSpares kind run.old.world.heap.objects) → run.old.frames.count ≤ run.old.frames.words → suc run.old.frames.top.line < 2 ^ 64 → HasMemory result }
     ensures room { room_of run.new ≡ room_of run.old }
 {
@@ -80,7 +80,7 @@ fn pair_words(
     lower: &Word,
     upper: &Word,
 ) -> Step
-    ensures exact { (stack : List Word) → Comes (on_references lower.now upper.now (λ a b. paired (codes_of code.now.functions) (limits_in limits.now) kind a b (with_stack run.old.frames.top stack) run.old.frames.below (world_of run.old.world) run.old.frames.top.stack)) result run.new }
+    ensures exact { (stack : List Word) → Comes (on_references lower.now upper.now (λ a b. paired (codes_alone code.now.functions) (limits_in limits.now) kind a b (with_stack run.old.frames.top stack) run.old.frames.below (world_of run.old.world) run.old.frames.top.stack)) result run.new }
     ensures memory { OnReference upper.now (λ b. OnReference lower.now (λ a. PairSpares kind run.old.world.heap.objects a b)) → run.old.frames.count < run.old.frames.words → suc run.old.frames.top.line < 2 ^ 64 → HasMemory result }
     ensures room { room_of run.new ≡ room_of run.old }
 {
@@ -101,7 +101,7 @@ fn pair_values(
     a: &Value,
     b: &Value,
 ) -> Step
-    ensures exact { (stack : List Word) → Comes (paired (codes_of code.now.functions) (limits_in limits.now) kind a.now b.now (with_stack run.old.frames.top stack) run.old.frames.below (world_of run.old.world) run.old.frames.top.stack) result run.new }
+    ensures exact { (stack : List Word) → Comes (paired (codes_alone code.now.functions) (limits_in limits.now) kind a.now b.now (with_stack run.old.frames.top stack) run.old.frames.below (world_of run.old.world) run.old.frames.top.stack) result run.new }
     ensures memory { PairSpares kind run.old.world.heap.objects a.now b.now → run.old.frames.count < run.old.frames.words → suc run.old.frames.top.line < 2 ^ 64 → HasMemory result }
     ensures room { room_of run.new ≡ room_of run.old }
 {

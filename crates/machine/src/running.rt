@@ -2,7 +2,7 @@
 ghost use Rattle.std.specs.Prelude.{◌≡◌, true};
 ghost use Rattle.machine.specs.Memory.{HasMemory, RunSpares};
 ghost use Rattle.machine.specs.Runs.{RanOn, CountsFit};
-ghost use Rattle.machine.specs.Seen.{configuration_of, room_of, codes_of, goes, limits_in};
+ghost use Rattle.machine.specs.Seen.{configuration_of, room_of, codes_alone, goes, limits_in};
 
 use crate::configuration::{Configuration, Step};
 use crate::executable::Executable;
@@ -27,8 +27,8 @@ pub fn run_on(
 ) -> Ran
     requires allowed { limits.now.allowed ≡ executable.now.allow }
     requires counts { CountsFit (configuration_of run.old) }
-    ensures exact { RanOn (codes_of executable.now.code.functions) (limits_in limits.now) count run.old result run.new }
-    ensures memory { RunSpares (codes_of executable.now.code.functions) (limits_in limits.now) executable.now.frame count run.old → HasMemory result.last }
+    ensures exact { RanOn (codes_alone executable.now.code.functions) (limits_in limits.now) count run.old result run.new }
+    ensures memory { RunSpares (codes_alone executable.now.code.functions) (limits_in limits.now) executable.now.frame count run.old → HasMemory result.last }
     ensures counts { goes result.last ≡ true → CountsFit (configuration_of run.new) }
     ensures room { room_of run.new ≡ room_of run.old }
 {

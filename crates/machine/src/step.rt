@@ -3,7 +3,7 @@ ghost use Rattle.code_meaning.specs.Machine.{act, step};
 ghost use Rattle.std.specs.Prelude.{◌≡◌, ◌<◌, ◌+◌, ◌^◌, suc, Some};
 ghost use Rattle.machine.specs.Links.{instruction_at};
 ghost use Rattle.machine.specs.Memory.{HasMemory, HasSpace};
-ghost use Rattle.machine.specs.Seen.{Comes, configuration_of, room_of, world_of, codes_of, limits_in};
+ghost use Rattle.machine.specs.Seen.{Comes, configuration_of, room_of, world_of, codes_alone, limits_in};
 ghost use Rattle.machine.specs.Sparing.{InstructionSpares, Spares};
 ghost use Rattle.machine.specs.Runs.{CountsFit};
 
@@ -25,8 +25,8 @@ use pl_code::Instruction;
 pub fn step(run: &mut Configuration, executable: &Executable, limits: &Rules<'_>) -> Step
     requires allowed { limits.now.allowed ≡ executable.now.allow }
     requires counts { CountsFit (configuration_of run.old) }
-    ensures exact { Comes (step (codes_of executable.now.code.functions) (limits_in limits.now) (configuration_of run.old)) result run.new }
-    ensures memory { Spares (codes_of executable.now.code.functions) limits.now.allowed (configuration_of run.old) → HasSpace (codes_of executable.now.code.functions) limits.now.depth run.old → HasMemory result }
+    ensures exact { Comes (step (codes_alone executable.now.code.functions) (limits_in limits.now) (configuration_of run.old)) result run.new }
+    ensures memory { Spares (codes_alone executable.now.code.functions) limits.now.allowed (configuration_of run.old) → HasSpace (codes_alone executable.now.code.functions) limits.now.depth run.old → HasMemory result }
     ensures room { room_of run.new ≡ room_of run.old }
 {
     match executable.instruction(&run.frames) {
@@ -45,8 +45,8 @@ fn execute(
     requires allowed { limits.now.allowed ≡ executable.now.allow }
     requires counts { run.old.frames.top.turns + run.old.world.ticks < 2 ^ 64 }
     requires instruction { instruction_at executable.now run.old.frames.top ≡ Some instruction.now }
-    ensures exact { Comes (act (codes_of executable.now.code.functions) (limits_in limits.now) instruction.now run.old.frames.top run.old.frames.below (world_of run.old.world)) result run.new }
-    ensures memory { InstructionSpares limits.now.allowed instruction.now run.old.frames.top run.old.world.heap.objects → HasSpace (codes_of executable.now.code.functions) limits.now.depth run.old → suc run.old.frames.top.line < 2 ^ 64 → HasMemory result }
+    ensures exact { Comes (act (codes_alone executable.now.code.functions) (limits_in limits.now) instruction.now run.old.frames.top run.old.frames.below (world_of run.old.world)) result run.new }
+    ensures memory { InstructionSpares limits.now.allowed instruction.now run.old.frames.top run.old.world.heap.objects → HasSpace (codes_alone executable.now.code.functions) limits.now.depth run.old → suc run.old.frames.top.line < 2 ^ 64 → HasMemory result }
     ensures room { room_of run.new ≡ room_of run.old }
 {
     let code = executable.linked();

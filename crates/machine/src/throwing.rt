@@ -11,7 +11,7 @@ ghost use Rattle.code_meaning.specs.declared.word.Word.{Word};
 ghost use Rattle.code_meaning.specs.declared.word.Word.TheVariants.{R};
 ghost use Rattle.code_meaning.specs.Machine as spec;
 ghost use Rattle.code_meaning.specs.Machine.{Next, on_outcome, on_reference, on_thrown, on_top, function_of};
-ghost use Rattle.machine.specs.Seen.{Comes, room_of, with_stack, world_of, codes_of, limits_in};
+ghost use Rattle.machine.specs.Seen.{Comes, room_of, with_stack, world_of, codes_alone, limits_in};
 ghost use Rattle.number_ops.specs.Relations.{is_exception};
 ghost use Rattle.machine.specs.Sparing.{OnReference, OnValue};
 ghost use Rattle.machine.specs.Memory.{HasMemory, IsAnswered, OnlyToMake};
@@ -36,7 +36,7 @@ pub fn answered(
     limits: &Rules<'_>,
     answer: Answer,
 ) -> Step
-    ensures exact { (effect : Effect) (old : Store) (stack : List Word) → Answers effect old run.old.world.heap answer → Comes (on_outcome (codes_of code.now.functions) (limits_in limits.now) (acts_in (with_store (world_of run.old.world) old) effect) words.unboxed (with_stack run.old.frames.top stack) run.old.frames.below (with_store (world_of run.old.world) old) run.old.frames.top.stack) result run.new }
+    ensures exact { (effect : Effect) (old : Store) (stack : List Word) → Answers effect old run.old.world.heap answer → Comes (on_outcome (codes_alone code.now.functions) (limits_in limits.now) (acts_in (with_store (world_of run.old.world) old) effect) words.unboxed (with_stack run.old.frames.top stack) run.old.frames.below (with_store (world_of run.old.world) old) run.old.frames.top.stack) result run.new }
     ensures memory { IsAnswered answer → run.old.frames.count < run.old.frames.words → suc run.old.frames.top.line < 2 ^ 64 → HasMemory result }
     ensures room { room_of run.new ≡ room_of run.old }
     ensures heap { run.new.world.heap ≡ run.old.world.heap }
@@ -59,7 +59,7 @@ pub fn answered_whole(
     limits: &Rules<'_>,
     answer: Answer,
 ) -> Step
-    ensures exact { (effect : Effect) (old : Store) (stack : List Word) → Answers effect old run.old.world.heap answer → Comes (on_outcome (codes_of code.now.functions) (limits_in limits.now) (acts_in (with_store (world_of run.old.world) old) effect) R (with_stack run.old.frames.top stack) run.old.frames.below (with_store (world_of run.old.world) old) run.old.frames.top.stack) result run.new }
+    ensures exact { (effect : Effect) (old : Store) (stack : List Word) → Answers effect old run.old.world.heap answer → Comes (on_outcome (codes_alone code.now.functions) (limits_in limits.now) (acts_in (with_store (world_of run.old.world) old) effect) R (with_stack run.old.frames.top stack) run.old.frames.below (with_store (world_of run.old.world) old) run.old.frames.top.stack) result run.new }
     ensures memory { IsAnswered answer → run.old.frames.count < run.old.frames.words → suc run.old.frames.top.line < 2 ^ 64 → HasMemory result }
     ensures room { room_of run.new ≡ room_of run.old }
 {
@@ -82,7 +82,7 @@ pub fn answered_as(
     of: &Ty,
     answer: Answer,
 ) -> Step
-    ensures exact { (effect : Effect) (old : Store) (stack : List Word) → Answers effect old run.old.world.heap answer → Comes (on_outcome (codes_of code.now.functions) (limits_in limits.now) (acts_in (with_store (world_of run.old.world) old) effect) (given_as of.now) (with_stack run.old.frames.top stack) run.old.frames.below (with_store (world_of run.old.world) old) run.old.frames.top.stack) result run.new }
+    ensures exact { (effect : Effect) (old : Store) (stack : List Word) → Answers effect old run.old.world.heap answer → Comes (on_outcome (codes_alone code.now.functions) (limits_in limits.now) (acts_in (with_store (world_of run.old.world) old) effect) (given_as of.now) (with_stack run.old.frames.top stack) run.old.frames.below (with_store (world_of run.old.world) old) run.old.frames.top.stack) result run.new }
     ensures memory { IsAnswered answer → run.old.frames.count < run.old.frames.words → suc run.old.frames.top.line < 2 ^ 64 → HasMemory result }
     ensures room { room_of run.new ≡ room_of run.old }
     ensures heap { run.new.world.heap ≡ run.old.world.heap }
@@ -140,7 +140,7 @@ fn bare(value: &Value) -> Option<Word>
 /// Throws the exception of a zero divisor. It wants memory for the exception alone.
 #[tactic(auto, unfolding(number_ops::specs::Outcomes::says), using(crate::proofs::Spared::only_to_make, crate::proofs::Spared::nothing_made))]
 pub fn throw_zero_divisor(run: &mut Configuration, code: &LinkedCode, limits: &Rules<'_>) -> Step
-    ensures exact { Comes (on_outcome (codes_of code.now.functions) (limits_in limits.now) (acts_in (world_of run.old.world) (effect run.old.world.heap zero_divisor)) words.unboxed run.old.frames.top run.old.frames.below (world_of run.old.world) run.old.frames.top.stack) result run.new }
+    ensures exact { Comes (on_outcome (codes_alone code.now.functions) (limits_in limits.now) (acts_in (world_of run.old.world) (effect run.old.world.heap zero_divisor)) words.unboxed run.old.frames.top run.old.frames.below (world_of run.old.world) run.old.frames.top.stack) result run.new }
     ensures memory { run.old.frames.count < run.old.frames.words → suc run.old.frames.top.line < 2 ^ 64 → OnlyToMake run.old.world.heap run.new.world.heap result }
     ensures room { room_of run.new ≡ room_of run.old }
 {
@@ -155,7 +155,7 @@ pub fn throw_zero_divisor(run: &mut Configuration, code: &LinkedCode, limits: &R
 
 /// Throws the reference on the stack.
 pub fn throw_top(run: &mut Configuration, code: &LinkedCode, limits: &Rules<'_>) -> Step
-    ensures exact { Comes (on_top run.old.frames.top.stack (λ word stack. on_reference word (λ value. on_thrown (codes_of code.now.functions) (limits_in limits.now) (acts_in (world_of run.old.world) (thrown run.old.world.heap value)) run.old.frames.top run.old.frames.below (world_of run.old.world)))) result run.new }
+    ensures exact { Comes (on_top run.old.frames.top.stack (λ word stack. on_reference word (λ value. on_thrown (codes_alone code.now.functions) (limits_in limits.now) (acts_in (world_of run.old.world) (thrown run.old.world.heap value)) run.old.frames.top run.old.frames.below (world_of run.old.world)))) result run.new }
     ensures memory { OnValue run.old.frames.top.stack (λ value. is_exception run.old.world.heap.objects value ≡ true) → run.old.frames.count ≤ run.old.frames.words → HasMemory result }
     ensures room { room_of run.new ≡ room_of run.old }
 {
@@ -167,7 +167,7 @@ pub fn throw_top(run: &mut Configuration, code: &LinkedCode, limits: &Rules<'_>)
 
 // The same of a word that was taken off the stack.
 fn throw_word(run: &mut Configuration, code: &LinkedCode, limits: &Rules<'_>, word: &Word) -> Step
-    ensures exact { (stack : List Word) → Comes (on_reference word.now (λ value. on_thrown (codes_of code.now.functions) (limits_in limits.now) (acts_in (world_of run.old.world) (thrown run.old.world.heap value)) (with_stack run.old.frames.top stack) run.old.frames.below (world_of run.old.world))) result run.new }
+    ensures exact { (stack : List Word) → Comes (on_reference word.now (λ value. on_thrown (codes_alone code.now.functions) (limits_in limits.now) (acts_in (world_of run.old.world) (thrown run.old.world.heap value)) (with_stack run.old.frames.top stack) run.old.frames.below (world_of run.old.world))) result run.new }
     ensures memory { OnReference word.now (λ value. is_exception run.old.world.heap.objects value ≡ true) → run.old.frames.count < run.old.frames.words → HasMemory result }
     ensures room { room_of run.new ≡ room_of run.old }
 {
@@ -187,7 +187,7 @@ fn answered_throw(
     limits: &Rules<'_>,
     answer: Answer,
 ) -> Step
-    ensures exact { (effect : Effect) (old : Store) (stack : List Word) → Answers effect old run.old.world.heap answer → Comes (on_thrown (codes_of code.now.functions) (limits_in limits.now) (acts_in (with_store (world_of run.old.world) old) effect) (with_stack run.old.frames.top stack) run.old.frames.below (with_store (world_of run.old.world) old)) result run.new }
+    ensures exact { (effect : Effect) (old : Store) (stack : List Word) → Answers effect old run.old.world.heap answer → Comes (on_thrown (codes_alone code.now.functions) (limits_in limits.now) (acts_in (with_store (world_of run.old.world) old) effect) (with_stack run.old.frames.top stack) run.old.frames.below (with_store (world_of run.old.world) old)) result run.new }
     ensures memory { IsAnswered answer → run.old.frames.count < run.old.frames.words → HasMemory result }
     ensures room { room_of run.new ≡ room_of run.old }
 {
@@ -204,7 +204,7 @@ fn answered_throw(
 
 /// An exception, from the newest frame on down.
 fn unwind(run: &mut Configuration, code: &LinkedCode, id: u32) -> Step
-    ensures exact { Comes (spec.unwind (codes_of code.now.functions) (run.old.frames.top ∷ run.old.frames.below) id (world_of run.old.world)) result run.new }
+    ensures exact { Comes (spec.unwind (codes_alone code.now.functions) (run.old.frames.top ∷ run.old.frames.below) id (world_of run.old.world)) result run.new }
     ensures memory { run.old.frames.count < run.old.frames.words → HasMemory result }
     ensures room { room_of run.new ≡ room_of run.old }
     ensures heap { run.new.world.heap ≡ run.old.world.heap }
@@ -241,7 +241,7 @@ fn land(run: &mut Configuration, line: u32, id: u32) -> Step
 
 // Where an exception goes on in a frame, if it is caught at its line.
 fn landing(code: &LinkedCode, frames: &Frames, id: u32, world: &World) -> Option<u32>
-    ensures { result ≡ landing (function_of (codes_of code.now.functions) frames.now.top) frames.now.top.line id (world_of world.now) }
+    ensures { result ≡ landing (function_of (codes_alone code.now.functions) frames.now.top) frames.now.top.line id (world_of world.now) }
 {
     match frames.handlers(code) {
         Some(handlers) => handlers.landing(frames.line(), id, world),

@@ -11,7 +11,7 @@ ghost use Rattle.code_meaning.specs.Machine.{cast_act, typed_act, on_type, on_to
 ghost use Rattle.machine.specs.Sparing.{CastSpares, OnReference, OnType, OnValue};
 ghost use Rattle.machine.specs.Links.{link_at, type_in};
 ghost use Rattle.machine.specs.Memory.{HasMemory};
-ghost use Rattle.machine.specs.Seen.{Comes, room_of, with_stack, world_of, codes_of, limits_in};
+ghost use Rattle.machine.specs.Seen.{Comes, room_of, with_stack, world_of, codes_alone, limits_in};
 
 use crate::boxes::is_written;
 use crate::configuration::{Configuration, Step};
@@ -26,7 +26,7 @@ use pl_types::Ty;
 
 /// Casts the reference on the stack to the type that the instruction names.
 pub fn cast(run: &mut Configuration, executable: &Executable, limits: &Rules<'_>, way: Way) -> Step
-    ensures exact { Comes (on_type (type_in (link_at executable.now run.old.frames.top)) (λ to. cast_act (codes_of executable.now.code.functions) (limits_in limits.now) to (is_written way) run.old.frames.top run.old.frames.below (world_of run.old.world))) result run.new }
+    ensures exact { Comes (on_type (type_in (link_at executable.now run.old.frames.top)) (λ to. cast_act (codes_alone executable.now.code.functions) (limits_in limits.now) to (is_written way) run.old.frames.top run.old.frames.below (world_of run.old.world))) result run.new }
     ensures memory { OnType (type_in (link_at executable.now run.old.frames.top)) (λ to. OnValue run.old.frames.top.stack (CastSpares run.old.world.heap.objects to (is_written way))) → run.old.frames.count ≤ run.old.frames.words → suc run.old.frames.top.line < 2 ^ 64 → HasMemory result }
     ensures room { room_of run.new ≡ room_of run.old }
 {
@@ -43,7 +43,7 @@ fn cast_top(
     to: &Ty,
     way: Way,
 ) -> Step
-    ensures exact { Comes (cast_act (codes_of code.now.functions) (limits_in limits.now) to.now (is_written way) run.old.frames.top run.old.frames.below (world_of run.old.world)) result run.new }
+    ensures exact { Comes (cast_act (codes_alone code.now.functions) (limits_in limits.now) to.now (is_written way) run.old.frames.top run.old.frames.below (world_of run.old.world)) result run.new }
     ensures memory { OnValue run.old.frames.top.stack (CastSpares run.old.world.heap.objects to.now (is_written way)) → run.old.frames.count ≤ run.old.frames.words → suc run.old.frames.top.line < 2 ^ 64 → HasMemory result }
     ensures room { room_of run.new ≡ room_of run.old }
 {
@@ -63,7 +63,7 @@ fn cast_word(
     to: &Ty,
     way: Way,
 ) -> Step
-    ensures exact { (stack : List Word) → Comes (on_reference word.now (λ value. on_outcome (codes_of code.now.functions) (limits_in limits.now) (acts_in (world_of run.old.world) (effect run.old.world.heap (cast_at_run_time run.old.world.heap.objects value to.now (is_written way)))) R (with_stack run.old.frames.top stack) run.old.frames.below (world_of run.old.world) run.old.frames.top.stack)) result run.new }
+    ensures exact { (stack : List Word) → Comes (on_reference word.now (λ value. on_outcome (codes_alone code.now.functions) (limits_in limits.now) (acts_in (world_of run.old.world) (effect run.old.world.heap (cast_at_run_time run.old.world.heap.objects value to.now (is_written way)))) R (with_stack run.old.frames.top stack) run.old.frames.below (world_of run.old.world) run.old.frames.top.stack)) result run.new }
     ensures memory { OnReference word.now (CastSpares run.old.world.heap.objects to.now (is_written way)) → run.old.frames.count < run.old.frames.words → suc run.old.frames.top.line < 2 ^ 64 → HasMemory result }
     ensures room { room_of run.new ≡ room_of run.old }
 {
@@ -83,7 +83,7 @@ pub fn typed(
     limits: &Rules<'_>,
     kind: Typed,
 ) -> Step
-    ensures exact { Comes (on_type (type_in (link_at executable.now run.old.frames.top)) (λ of. typed_act (codes_of executable.now.code.functions) (limits_in limits.now) kind of run.old.frames.top run.old.frames.below (world_of run.old.world))) result run.new }
+    ensures exact { Comes (on_type (type_in (link_at executable.now run.old.frames.top)) (λ of. typed_act (codes_alone executable.now.code.functions) (limits_in limits.now) kind of run.old.frames.top run.old.frames.below (world_of run.old.world))) result run.new }
     ensures memory { run.old.frames.count ≤ run.old.frames.words → suc run.old.frames.top.line < 2 ^ 64 → HasMemory result }
     ensures room { room_of run.new ≡ room_of run.old }
 {
@@ -100,7 +100,7 @@ fn typed_by(
     kind: Typed,
     of: &Ty,
 ) -> Step
-    ensures exact { Comes (typed_act (codes_of code.now.functions) (limits_in limits.now) kind of.now run.old.frames.top run.old.frames.below (world_of run.old.world)) result run.new }
+    ensures exact { Comes (typed_act (codes_alone code.now.functions) (limits_in limits.now) kind of.now run.old.frames.top run.old.frames.below (world_of run.old.world)) result run.new }
     ensures memory { run.old.frames.count ≤ run.old.frames.words → suc run.old.frames.top.line < 2 ^ 64 → HasMemory result }
     ensures room { room_of run.new ≡ room_of run.old }
 {

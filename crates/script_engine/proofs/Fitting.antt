@@ -39,7 +39,7 @@ use Rattle.machine.specs.declared.configuration.RunEnd.TheVariants as r
 use Rattle.machine.specs.declared.activation.RunOutcome as run_outcome
 use Rattle.machine.specs.Activations.{Activation}
 use Rattle.machine.specs.Fitting as machine
-use Rattle.machine.specs.Seen.{codes_of}
+use Rattle.machine.specs.Seen.{codes_alone}
 use Rattle.script_engine.specs.declared.compiling.Script.{Script}
 use Rattle.script_engine.specs.Ends.{alone, given, given_layer, end_of, end_with, end_in, RunsTo}
 use Rattle.script_engine.specs.Fitting.{EndFits as LeftEndFits, LeavesFit}
@@ -62,7 +62,7 @@ pub began_fits : (script : Script) (store : Store) (args : List Value) (limits :
     → AllFit (length store.objects) args → machine.NowFits rules store.objects a.now
 began_fits script store args limits a is rules f g =
     subst (λ (x : Activation). machine.NowFits rules store.objects x.now) (sym is)
-    (starts_fit_all rules (codes_of script.executable.code.functions) (words_in (params_of (slice_get script.executable.code.functions 0)) args) (world_at store limits) f
+    (starts_fit_all rules (codes_alone script.executable.code.functions) (words_in (params_of (slice_get script.executable.code.functions 0)) args) (world_at store limits) f
     (words_fit (length store.objects) (params_of (slice_get script.executable.code.functions 0)) args g))
 
 -- ---- what it leaves

@@ -36,7 +36,7 @@ use Rattle.code_meaning.specs.Machine.{Next, Goes, Ends, start, after}
 use Rattle.machine.specs.declared.configuration.Limits.{Limits}
 use Rattle.machine.specs.declared.configuration.RunEnd as run_end
 use Rattle.machine.specs.declared.configuration.RunEnd.TheVariants as r
-use Rattle.machine.specs.Seen.{codes_of, limits_of, limit_of, ended}
+use Rattle.machine.specs.Seen.{codes_alone, limits_of, limit_of, ended}
 use Rattle.machine.specs.Activations.{Activation, later, is_over, counted}
 use Rattle.machine.proofs.Turning.{comes_to_its_end}
 use Rattle.script_engine.specs.declared.compiling.Script.{Script}
@@ -71,13 +71,13 @@ first_or_last n m = elim (cases_order n m) [
   | inr lt ↦ elim lt [ inl below ↦ inl (omega arith) | inr above ↦ inr above ]
 ]
 
-ends_there : (a : Activation) (from : Next) (end : End (Option Word)) → a.now ≡ Some from → EndsAs (codes_of a.code) (limits_of a.limits a.allow) from end → (q : ℕ)
+ends_there : (a : Activation) (from : Next) (end : End (Option Word)) → a.now ≡ Some from → EndsAs (codes_alone a.code) (limits_of a.limits a.allow) from end → (q : ℕ)
     → IsTrue (is_over (later q a).now) → (later q a).now ≡ Some (Ends end)
 ends_there a from end stands ran q over = elim (first_or_last ran.steps q) [
   | inl within ↦ comes_to_its_end a from ran.steps q end stands ran.ends within
   | inr early ↦
       (let c = ran.before q early in
-      let goes : (later q a).now ≡ Some (Goes c.0) = ap (option_map (after (codes_of a.code) (limits_of a.limits a.allow) q)) stands ∙ ap (λ n. Some n) c.1 in
+      let goes : (later q a).now ≡ Some (Goes c.0) = ap (option_map (after (codes_alone a.code) (limits_of a.limits a.allow) q)) stands ∙ ap (λ n. Some n) c.1 in
       absurd (not_going c.0 (subst (λ now. IsTrue (is_over now)) goes over)))
 ]
 
@@ -244,7 +244,7 @@ same_env : (o : Option Env) (e e' : Env) → o ≡ Some e → o ≡ Some e' → 
 same_env o e e' is is' = cc
 
 runs_as_its_program : CodeEndsAsPrograms → (script : Script) (store : Store) (args : List Value) (limits : Limits) (a : Activation) (q : ℕ) (o : Outcome)
-    → a ≡ record { code = script.executable.code.functions; limits = limits; allow = script.executable.allow; frame = script.executable.frame; now = Some (start (codes_of script.executable.code.functions) (words_in (params_of (slice_get script.executable.code.functions 0)) args) (world_at store limits)); steps = 0 }
+    → a ≡ record { code = script.executable.code.functions; limits = limits; allow = script.executable.allow; frame = script.executable.frame; now = Some (start (codes_alone script.executable.code.functions) (words_in (params_of (slice_get script.executable.code.functions 0)) args) (world_at store limits)); steps = 0 }
     → IsTrue (is_over (later q a).now) → LeftBy script.result (later q a) o → RunsAsItsProgram script store args limits o
 runs_as_its_program outcomes script store args limits a q o begun over by allow context p is have =
     let funs = alone p in
@@ -255,14 +255,14 @@ runs_as_its_program outcomes script store args limits a q o begun over by allow 
     let w = world_at store limits in
     let kept = limits_of limits script.executable.allow in
     let formed = with_no_prelude p kept (subst (λ list. WellFormed (known list (program_of p))) (sym is.allowed) is.formed) in
-    let out = outcomes p [] (codes_of functions) kept formed is.code no_prelude_code args have' w in
+    let out = outcomes p [] (codes_alone functions) kept formed is.code no_prelude_code args have' w in
     let first = is.code.each 0 main refl in
     let kinds : params_of (slice_get functions 0) ≡ kinds_of main.params = ap params_of first.is ∙ first.params in
     let words : out.words ≡ words_in (params_of (slice_get functions 0)) args = words_match main.params args out.words out.are.are ∙ ap (λ ks. words_in ks args) (sym kinds) in
     let begin = words_in (params_of (slice_get functions 0)) args in
-    let b : Activation = record { code = functions; limits = limits; allow = script.executable.allow; frame = script.executable.frame; now = Some (start (codes_of functions) begin w); steps = 0 } in
+    let b : Activation = record { code = functions; limits = limits; allow = script.executable.allow; frame = script.executable.frame; now = Some (start (codes_alone functions) begin w); steps = 0 } in
     let stands : (later q b).now ≡ Some (Ends out.end) =
-    ends_there b (start (codes_of functions) begin w) out.end refl (subst (λ ws. EndsAs (codes_of functions) kept (start (codes_of functions) ws w) out.end) words out.code_ends) q
+    ends_there b (start (codes_alone functions) begin w) out.end refl (subst (λ ws. EndsAs (codes_alone functions) kept (start (codes_alone functions) ws w) out.end) words out.code_ends) q
     (subst (λ x. IsTrue (is_over (later q x).now)) begun over) in
     let there : Some (Ends out.end) ≡ Some (ended by.end (world_left o by.left)) = sym stands ∙ sym (ap (λ x. (later q x).now) begun) ∙ by.stands in
     let same : Ends out.end ≡ ended by.end (world_left o by.left) = cc in
@@ -284,10 +284,10 @@ pub ending_runs : CodeEndsAsPrograms → (script : Script) (store : Store) (args
     → Comes script.result (ending (begun script store args limits)) o → RunsAsItsProgram script store args limits o
 ending_runs outcomes script store args limits o comes =
     let a = begun script store args limits in
-    let from = start (codes_of script.executable.code.functions) (words_in (params_of (slice_get script.executable.code.functions 0)) args) (world_at store limits) in
+    let from = start (codes_alone script.executable.code.functions) (words_in (params_of (slice_get script.executable.code.functions 0)) args) (world_at store limits) in
     let kept = limits_of limits script.executable.allow in
     let k = most_left script.executable.code.functions kept from in
-    let n = after (codes_of script.executable.code.functions) kept k from in
+    let n = after (codes_alone script.executable.code.functions) kept k from in
     let ends = comes_with script.result limits.ticks (counted (0 + rest_from script.executable.code.functions kept (Some from))) o n comes in
     runs_as_its_program outcomes script store args limits a k o refl ends.over (record { left = ends.left; end = ends.end; read = ends.read; stands = ap (λ x. Some x) ends.stands; ticks = ends.ticks })
 

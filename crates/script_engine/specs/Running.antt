@@ -25,7 +25,7 @@ use Rattle.machine.specs.declared.configuration.RunEnd as run_end
 use Rattle.machine.specs.declared.configuration.RunEnd.TheVariants as r
 use Rattle.machine.specs.declared.configuration.Limits.{Limits}
 use Rattle.machine.specs.declared.activation.RunOutcome as run_outcome
-use Rattle.machine.specs.Seen.{limits_of, limit_of, codes_of}
+use Rattle.machine.specs.Seen.{limits_of, limit_of, codes_alone}
 use Rattle.code_meaning.specs.Machine.{start}
 use Rattle.verifier_soundness.specs.Fits.{kinds_of, main_params}
 use Rattle.machine.specs.Activations.{Activation}
@@ -117,7 +117,7 @@ begun script store args limits = record {
   limits = limits;
   allow = script.executable.allow;
   frame = script.executable.frame;
-  now = Some (start (codes_of script.executable.code.functions) (words_in (params_of (slice_get script.executable.code.functions 0)) args) (world_at store limits));
+  now = Some (start (codes_alone script.executable.code.functions) (words_in (params_of (slice_get script.executable.code.functions 0)) args) (world_at store limits));
   steps = 0;
 }
 

@@ -4,7 +4,7 @@ use Rattle.std.specs.Prelude.{option_map}
 use Rattle.code_meaning.specs.Machine.{after}
 use Rattle.machine.proofs.Turning.{adds}
 use Rattle.machine.specs.Activations.{Activation, Leaves, Turned, is_over, later}
-use Rattle.machine.specs.Seen.{limits_of, codes_of}
+use Rattle.machine.specs.Seen.{limits_of, codes_alone}
 use Rattle.machine.specs.declared.activation.RunOutcome.{RunOutcome}
 use Rattle.task_core.specs.declared.task.Turn.TheVariants as turn
 use Rattle.task_core.specs.Turns.{Turns}
@@ -17,7 +17,7 @@ only q a s = record { next = s.next; stands = s.stands; fits = s.fits; spares = 
 -- nor do those behind a turn
 pub spares_on : (q : ℕ) (a new : Activation) → new ≡ later q a → SparesMemory a → SparesMemory new
 spares_on q a new is s =
-    let codes = codes_of a.code in
+    let codes = codes_alone a.code in
     let limits = limits_of a.limits a.allow in
     subst SparesMemory (sym is)
     (record {

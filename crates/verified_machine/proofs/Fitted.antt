@@ -10,7 +10,7 @@ use Rattle.code_fit.specs.Moments.{NextFits}
 use Rattle.code_fit.proofs.Steps.{runs_fit}
 use Rattle.machine.specs.Activations.{Activation}
 use Rattle.machine.specs.Fitting.{NowFits, LeavesFit}
-use Rattle.machine.specs.Seen.{codes_of, limits_of}
+use Rattle.machine.specs.Seen.{codes_alone, limits_of}
 use Rattle.machine.specs.declared.activation.RunOutcome.{RunOutcome}
 use Rattle.verified_machine.specs.Tasks.{RunUnder, outcome_of, outcome_in, ending_from, ending, most_left}
 
@@ -27,7 +27,7 @@ outcome_fits rules before ticks steps Stuck h = tt
 from_fits : (a : Activation) (now : Option Next) (rules : Rules) (before : List Object) → NowFits rules before now → IfSome (ending_from a now) (LeavesFit rules before)
 from_fits a None rules before h = tt
 from_fits a (Some n) rules before h =
-    outcome_fits rules before a.limits.ticks _ _ (runs_fit rules before (codes_of a.code) (limits_of a.limits a.allow) (most_left a.code (limits_of a.limits a.allow) n) n h)
+    outcome_fits rules before a.limits.ticks _ _ (runs_fit rules before (codes_alone a.code) (limits_of a.limits a.allow) (most_left a.code (limits_of a.limits a.allow) n) n h)
 
 -- what a run comes to alone
 pub ending_fits : (a : Activation) (o : RunOutcome) → ending a ≡ Some o → (rules : Rules) (before : List Object) → NowFits rules before a.now → LeavesFit rules before o

@@ -18,7 +18,7 @@ use Rattle.machine.specs.declared.configuration.Limits as configuration
 use Rattle.machine.specs.declared.configuration.RunEnd as held
 use Rattle.machine.specs.declared.configuration.RunEnd.TheVariants as end
 use Rattle.machine.specs.Links.{Executable}
-use Rattle.machine.specs.Seen.{limits_of, ended, codes_of}
+use Rattle.machine.specs.Seen.{limits_of, ended, codes_alone}
 use Rattle.machine.specs.Activations.{Activation, counted, is_over, Leaves}
 use Rattle.verifier_soundness.specs.Bounds.{most_steps}
 use Rattle.verifier_soundness.proofs.Runs.{well_shaped, starts_fit}
@@ -76,7 +76,7 @@ module _ (allow : AllowList) where
 -- ---- where a run begins
 
 begins : (allow : AllowList) (code : List FunCode) (limits : Limits) (args : List Word) (w : World) → IsWellShapedCode allow code → limits.allowed ≡ allow → HaveRows allow code → kinds_of args ≡ main_params code → ReachesAllowed allow w
-    → Keeps allow code limits 0 (start (codes_of code) args w) × (false ≡ is_over (Some (start (codes_of code) args w)))
+    → Keeps allow code limits 0 (start (codes_alone code) args w) × (false ≡ is_over (Some (start (codes_alone code) args w)))
 begins allow [] limits args w well under rows params reached = let some = well.some in absurd (omega (arith, some))
 begins allow (f ∷ fs) limits args w well under rows params reached = (
   record { well = well; under = under; rows = rows; fits = starts_fit allow (f ∷ fs) [] limits f args w well refl params reached; counts = omega arith },
@@ -92,7 +92,7 @@ is_ready e c code allow frame is same under sound words =
 
 -- where an activation of it begins
 abbrev pub started : Executable → configuration.Limits → List Word → World → Activation
-started e limits args w = record { code = e.code.functions; limits = limits; allow = e.allow; frame = e.frame; now = Some (start (codes_of e.code.functions) args w); steps = 0 }
+started e limits args w = record { code = e.code.functions; limits = limits; allow = e.allow; frame = e.frame; now = Some (start (codes_alone e.code.functions) args w); steps = 0 }
 
 pub started_with : (held e : Executable) (limits : configuration.Limits) (args : List Word) (w : World) (a : Activation) → held ≡ e → a ≡ started held limits args w → a ≡ started e limits args w
 started_with held e limits args w a same is = is ∙ ap (λ (e : Executable). started e limits args w) same
@@ -105,9 +105,9 @@ starts held e limits args w a same ready rows params reached is =
     subst (λ (a : Activation). IsVerified e.allow a × IsHeld e.allow a × (false ≡ is_over a.now)) (sym (started_with held e limits args w a same is)) (x.0, good.1, x.1)
 
 -- no more is left where it begins than the bound
-begins_bounded : (code : List FunCode) (limits : Limits) (args : List Word) (w : World) → rest_from code limits (Some (start (codes_of code) args w)) ≤ most_steps code limits w.ticks
+begins_bounded : (code : List FunCode) (limits : Limits) (args : List Word) (w : World) → rest_from code limits (Some (start (codes_alone code) args w)) ≤ most_steps code limits w.ticks
 begins_bounded [] limits args w = omega arith
-begins_bounded (f ∷ fs) limits args w = taken_most (f ∷ fs) limits (most_steps (f ∷ fs) limits w.ticks) (start (codes_of (f ∷ fs)) args w)
+begins_bounded (f ∷ fs) limits args w = taken_most (f ∷ fs) limits (most_steps (f ∷ fs) limits w.ticks) (start (codes_alone (f ∷ fs)) args w)
 
 pub starts_bounded : (held e : Executable) (limits : configuration.Limits) (args : List Word) (w : World) (a : Activation) → held ≡ e → a ≡ started held limits args w
     → rest a ≤ most_steps e.code.functions (limits_of limits e.allow) w.ticks

@@ -12,7 +12,7 @@ use Rattle.code_meaning.specs.Machine.{Config, Next, Goes, Ends, Stuck, step, af
 use Rattle.task_core.specs.declared.task.Turn.{Turn}
 use Rattle.task_core.specs.declared.task.Turn.TheVariants as turn
 use Rattle.task_core.specs.Turns.{IsTurn, Turns}
-use Rattle.machine.specs.Seen.{limits_of, codes_of}
+use Rattle.machine.specs.Seen.{limits_of, codes_alone}
 use Rattle.machine.specs.Runs.{steps_taken}
 use Rattle.machine.specs.Activations.{Activation, counted, later, goes, is_over, Turned, SparesFor}
 use Rattle.machine.proofs.Turning.{adds, taken_adds}
@@ -28,18 +28,18 @@ turned_sum : (q m m' : ℕ) → q + (m' + m) ≡ m + (q + m')
 turned_sum q m m' = omega arith
 
 module _ (code : List FunCode) (limits : Limits) where
-  end_stays : (n : ℕ) (r : End (Option Word)) → after (codes_of code) limits n (Ends r) ≡ Ends r
+  end_stays : (n : ℕ) (r : End (Option Word)) → after (codes_alone code) limits n (Ends r) ≡ Ends r
   end_stays zero r = refl
   end_stays (suc n) r = refl
 
-  none_behind : (n : ℕ) (r : End (Option Word)) → steps_taken (codes_of code) limits n (Ends r) ≡ 0
+  none_behind : (n : ℕ) (r : End (Option Word)) → steps_taken (codes_alone code) limits n (Ends r) ≡ 0
   none_behind zero r = refl
   none_behind (suc n) r = refl
 
   -- an end within the bound
   record EndsAt (n : Next) : Type 0 where
     end : End (Option Word)
-    ends : after (codes_of code) limits (most_left code limits n) n ≡ Ends end
+    ends : after (codes_alone code) limits (most_left code limits n) n ≡ Ends end
 
   ends_at : (allow : AllowList) (steps : ℕ) (n : Next) → Keeps allow code limits steps n → EndsAt n
   ends_at allow steps (Goes c) k =
@@ -49,51 +49,51 @@ module _ (code : List FunCode) (limits : Limits) where
   ends_at allow steps Stuck k = absurd k.fits
 
   pub left : Next → ℕ
-  left n = steps_taken (codes_of code) limits (most_left code limits n) n
+  left n = steps_taken (codes_alone code) limits (most_left code limits n) n
 
   -- with more steps than are left nothing changes
-  more_taken : (n : Next) → EndsAt n → (more : ℕ) → steps_taken (codes_of code) limits (most_left code limits n + more) n ≡ left n
+  more_taken : (n : Next) → EndsAt n → (more : ℕ) → steps_taken (codes_alone code) limits (most_left code limits n + more) n ≡ left n
   unfolding left
   more_taken n e more =
-      taken_adds (codes_of code) limits (most_left code limits n) more n
-      ∙ plus_none (steps_taken (codes_of code) limits (most_left code limits n) n) (steps_taken (codes_of code) limits more (after (codes_of code) limits (most_left code limits n) n))
-      (ap (steps_taken (codes_of code) limits more) e.ends ∙ none_behind more e.end)
+      taken_adds (codes_alone code) limits (most_left code limits n) more n
+      ∙ plus_none (steps_taken (codes_alone code) limits (most_left code limits n) n) (steps_taken (codes_alone code) limits more (after (codes_alone code) limits (most_left code limits n) n))
+      (ap (steps_taken (codes_alone code) limits more) e.ends ∙ none_behind more e.end)
 
-  same_end : (n : Next) (e : EndsAt n) (more : ℕ) → after (codes_of code) limits (most_left code limits n + more) n ≡ after (codes_of code) limits (most_left code limits n) n
+  same_end : (n : Next) (e : EndsAt n) (more : ℕ) → after (codes_alone code) limits (most_left code limits n + more) n ≡ after (codes_alone code) limits (most_left code limits n) n
   same_end n e more =
-      adds (codes_of code) limits (most_left code limits n) more n ∙ ap (after (codes_of code) limits more) e.ends ∙ end_stays more e.end ∙ sym e.ends
+      adds (codes_alone code) limits (most_left code limits n) more n ∙ ap (after (codes_alone code) limits more) e.ends ∙ end_stays more e.end ∙ sym e.ends
 
   -- what is left is what a turn takes and what is left then
-  turn_left : (q : ℕ) (n : Next) → EndsAt n → EndsAt (after (codes_of code) limits q n) → left n ≡ steps_taken (codes_of code) limits q n + left (after (codes_of code) limits q n)
+  turn_left : (q : ℕ) (n : Next) → EndsAt n → EndsAt (after (codes_alone code) limits q n) → left n ≡ steps_taken (codes_alone code) limits q n + left (after (codes_alone code) limits q n)
   turn_left q n e f =
       let m = most_left code limits n in
-      let m' = most_left code limits (after (codes_of code) limits q n) in
-      sym (more_taken n e (q + m')) ∙ ap (λ k. steps_taken (codes_of code) limits k n) (sym (turned_sum q m m')) ∙ taken_adds (codes_of code) limits q (m' + m) n
-      ∙ ap (λ k. steps_taken (codes_of code) limits q n + k) (more_taken (after (codes_of code) limits q n) f m)
+      let m' = most_left code limits (after (codes_alone code) limits q n) in
+      sym (more_taken n e (q + m')) ∙ ap (λ k. steps_taken (codes_alone code) limits k n) (sym (turned_sum q m m')) ∙ taken_adds (codes_alone code) limits q (m' + m) n
+      ∙ ap (λ k. steps_taken (codes_alone code) limits q n + k) (more_taken (after (codes_alone code) limits q n) f m)
 
-  turn_end : (q : ℕ) (n : Next) → EndsAt n → EndsAt (after (codes_of code) limits q n)
-      → after (codes_of code) limits (most_left code limits (after (codes_of code) limits q n)) (after (codes_of code) limits q n) ≡ after (codes_of code) limits (most_left code limits n) n
+  turn_end : (q : ℕ) (n : Next) → EndsAt n → EndsAt (after (codes_alone code) limits q n)
+      → after (codes_alone code) limits (most_left code limits (after (codes_alone code) limits q n)) (after (codes_alone code) limits q n) ≡ after (codes_alone code) limits (most_left code limits n) n
   turn_end q n e f =
       let m = most_left code limits n in
-      let m' = most_left code limits (after (codes_of code) limits q n) in
-      sym (same_end (after (codes_of code) limits q n) f m) ∙ sym (adds (codes_of code) limits q (m' + m) n) ∙ ap (λ k. after (codes_of code) limits k n) (turned_sum q m m') ∙ same_end n e (q + m')
+      let m' = most_left code limits (after (codes_alone code) limits q n) in
+      sym (same_end (after (codes_alone code) limits q n) f m) ∙ sym (adds (codes_alone code) limits q (m' + m) n) ∙ ap (λ k. after (codes_alone code) limits k n) (turned_sum q m m') ∙ same_end n e (q + m')
 
-  pub taken_most : (q : ℕ) (n : Next) → steps_taken (codes_of code) limits q n ≤ q
+  pub taken_most : (q : ℕ) (n : Next) → steps_taken (codes_alone code) limits q n ≤ q
   taken_most zero n = omega arith
-  taken_most (suc k) (Goes c) = one_more (steps_taken (codes_of code) limits k (step (codes_of code) limits c)) k (taken_most k (step (codes_of code) limits c))
+  taken_most (suc k) (Goes c) = one_more (steps_taken (codes_alone code) limits k (step (codes_alone code) limits c)) k (taken_most k (step (codes_alone code) limits c))
     where
       one_more : (a b : ℕ) → a ≤ b → suc a ≤ suc b
       one_more a b h = omega arith
   taken_most (suc k) (Ends r) = omega arith
   taken_most (suc k) Stuck = omega arith
 
-  taken_all : (q : ℕ) (n : Next) (c : Config) → after (codes_of code) limits q n ≡ Goes c → steps_taken (codes_of code) limits q n ≡ q
+  taken_all : (q : ℕ) (n : Next) (c : Config) → after (codes_alone code) limits q n ≡ Goes c → steps_taken (codes_alone code) limits q n ≡ q
   taken_all zero n c e = refl
-  taken_all (suc k) (Goes d) c e = ap suc (taken_all k (step (codes_of code) limits d) c e)
+  taken_all (suc k) (Goes d) c e = ap suc (taken_all k (step (codes_alone code) limits d) c e)
   taken_all (suc k) (Ends r) c e = cc
   taken_all (suc k) Stuck c e = cc
 
-  some_taken : (m : ℕ) (c : Config) (r : End (Option Word)) → after (codes_of code) limits m (Goes c) ≡ Ends r → 0 < steps_taken (codes_of code) limits m (Goes c)
+  some_taken : (m : ℕ) (c : Config) (r : End (Option Word)) → after (codes_alone code) limits m (Goes c) ≡ Ends r → 0 < steps_taken (codes_alone code) limits m (Goes c)
   some_taken zero c r e = cc
   some_taken (suc k) c r e = omega arith
 
@@ -106,24 +106,24 @@ module _ (code : List FunCode) (limits : Limits) where
   none_left r = refl
 
   -- a turn lowers what is left by its instructions, or takes all
-  by_next : (q : ℕ) (n next : Next) → after (codes_of code) limits q n ≡ next → EndsAt next → left n ≡ steps_taken (codes_of code) limits q n + left next → left next ≡ left n - q
-  by_next q n (Goes c) e f sum = let all = taken_all q n c e in all_gone (left n) (steps_taken (codes_of code) limits q n) (left (Goes c)) q all sum
+  by_next : (q : ℕ) (n next : Next) → after (codes_alone code) limits q n ≡ next → EndsAt next → left n ≡ steps_taken (codes_alone code) limits q n + left next → left next ≡ left n - q
+  by_next q n (Goes c) e f sum = let all = taken_all q n c e in all_gone (left n) (steps_taken (codes_alone code) limits q n) (left (Goes c)) q all sum
     where
       all_gone : (a t b q : ℕ) → t ≡ q → a ≡ t + b → b ≡ a - q
       all_gone a t b q x y = omega (arith, x, y)
-  by_next q n (Ends r) e f sum = no_more (left n) (steps_taken (codes_of code) limits q n) (left (Ends r)) q (taken_most q n) (none_left r) sum
+  by_next q n (Ends r) e f sum = no_more (left n) (steps_taken (codes_alone code) limits q n) (left (Ends r)) q (taken_most q n) (none_left r) sum
     where
       no_more : (a t b q : ℕ) → t ≤ q → b ≡ 0 → a ≡ t + b → b ≡ a - q
       no_more a t b q h x y = omega (arith, h, x, y)
   by_next q n Stuck e f sum = let wrong : Stuck ≡ Ends f.end = f.ends in cc
 
-  keeps_on : (allow : AllowList) (q steps steps' : ℕ) (n : Next) → steps' < 2 ^ 64 → Keeps allow code limits steps n → Keeps allow code limits steps' (after (codes_of code) limits q n)
+  keeps_on : (allow : AllowList) (q steps steps' : ℕ) (n : Next) → steps' < 2 ^ 64 → Keeps allow code limits steps n → Keeps allow code limits steps' (after (codes_alone code) limits q n)
   keeps_on allow q steps steps' n h k = record { well = k.well; under = k.under; rows = k.rows; fits = stays_fitting allow code [] limits k.well k.under k.rows q n k.fits; counts = h }
 
-  pub lowered : (allow : AllowList) (q steps : ℕ) (n : Next) → Keeps allow code limits steps n → left (after (codes_of code) limits q n) ≡ left n - q
+  pub lowered : (allow : AllowList) (q steps : ℕ) (n : Next) → Keeps allow code limits steps n → left (after (codes_alone code) limits q n) ≡ left n - q
   lowered allow q steps n k =
-      let next = ends_at allow steps (after (codes_of code) limits q n) (keeps_on allow q steps steps n k.counts k) in
-      by_next q n (after (codes_of code) limits q n) refl next (turn_left q n (ends_at allow steps n k) next)
+      let next = ends_at allow steps (after (codes_alone code) limits q n) (keeps_on allow q steps steps n k.counts k) in
+      by_next q n (after (codes_alone code) limits q n) refl next (turn_left q n (ends_at allow steps n k) next)
 
 counted_less : (n : ℕ) → counted n < 2 ^ 64
 counted_less n = omega arith
@@ -142,7 +142,7 @@ made a now = record { code = a.code; limits = a.limits; allow = a.allow; frame =
 module _ (allow : AllowList) where
   keeps_from : (a : Activation) (q : ℕ) (now : Option Next) → KeepsFrom allow a.code (limits_of a.limits a.allow) a.steps now → IsVerified allow (later q (made a now))
   keeps_from a q None k = tt
-  keeps_from a q (Some n) k = keeps_on a.code (limits_of a.limits a.allow) allow q a.steps (counted (a.steps + steps_taken (codes_of a.code) (limits_of a.limits a.allow) q n)) n (counted_less (a.steps + steps_taken (codes_of a.code) (limits_of a.limits a.allow) q n)) k
+  keeps_from a q (Some n) k = keeps_on a.code (limits_of a.limits a.allow) allow q a.steps (counted (a.steps + steps_taken (codes_alone a.code) (limits_of a.limits a.allow) q n)) n (counted_less (a.steps + steps_taken (codes_alone a.code) (limits_of a.limits a.allow) q n)) k
 
   pub stays_verified : (a : Activation) (q : ℕ) → IsVerified allow a → IsVerified allow (later q a)
   stays_verified a q k = keeps_from a q a.now k
@@ -155,7 +155,7 @@ module _ (allow : AllowList) where
   held_from c frame turned (Some n) w = w
 
   stays_held : (a : Activation) (q : ℕ) → IsHeld allow a → IsHeld allow (later q a)
-  stays_held a q w = held_from (held_code a) a.frame (after (codes_of a.code) (limits_of a.limits a.allow) q) a.now w
+  stays_held a q w = held_from (held_code a) a.frame (after (codes_alone a.code) (limits_of a.limits a.allow) q) a.now w
 
   -- a run has come to an end where nothing is left
   abbrev some_now : Option Next → Type 0
@@ -169,8 +169,8 @@ module _ (allow : AllowList) where
       let code = a.code in
       let limits = limits_of a.limits a.allow in
       let here = ends_at code limits allow a.steps n k in
-      let next = ends_at code limits allow a.steps (after (codes_of code) limits q n) (keeps_on code limits allow q a.steps a.steps n k.counts k) in
-      let steps = counted_twice a.steps (steps_taken (codes_of code) limits q n) (left code limits (after (codes_of code) limits q n)) (left code limits n) (turn_left code limits q n here next) in
+      let next = ends_at code limits allow a.steps (after (codes_alone code) limits q n) (keeps_on code limits allow q a.steps a.steps n k.counts k) in
+      let steps = counted_twice a.steps (steps_taken (codes_alone code) limits q n) (left code limits (after (codes_alone code) limits q n)) (left code limits n) (turn_left code limits q n here next) in
       record {
         lowered = lowered code limits allow q a.steps n k;
         kept = (λ i. outcome_in a.limits.ticks (steps i) (turn_end code limits q n here next i));
@@ -209,7 +209,7 @@ module _ (allow : AllowList) where
   pub turn_goes_on : (a : Activation) (q : ℕ) → IsVerified allow a → IsTrue (goes (later q a).now) → IsTurn rest ending q a (later q a) × (0 < rest (later q a))
   turn_goes_on a q k g = (turn_from a q a.now (some_before a.now g) k, goes_left a.code (limits_of a.limits a.allow) (later q a).steps (later q a).now g (stays_verified a q k))
     where
-      some_before : (now : Option Next) → IsTrue (goes (option_map (after (codes_of a.code) (limits_of a.limits a.allow) q) now)) → some_now now
+      some_before : (now : Option Next) → IsTrue (goes (option_map (after (codes_alone a.code) (limits_of a.limits a.allow) q) now)) → some_now now
       some_before None g = false≢true g
       some_before (Some n) g = tt
 
@@ -217,7 +217,7 @@ module _ (allow : AllowList) where
   pub turn_ends : (a : Activation) (q : ℕ) → IsVerified allow a → IsTrue (is_over (later q a).now) → IsTurn rest ending q a (later q a) × (rest (later q a) ≡ 0)
   turn_ends a q k g = (turn_from a q a.now (some_before a.now g) k, over_left a.code (limits_of a.limits a.allow) (later q a).steps (later q a).now g (stays_verified a q k))
     where
-      some_before : (now : Option Next) → IsTrue (is_over (option_map (after (codes_of a.code) (limits_of a.limits a.allow) q) now)) → some_now now
+      some_before : (now : Option Next) → IsTrue (is_over (option_map (after (codes_alone a.code) (limits_of a.limits a.allow) q) now)) → some_now now
       some_before None g = false≢true g
       some_before (Some n) g = tt
 
@@ -253,7 +253,7 @@ module _ (allow : AllowList) where
   over_from a q (Some (Ends r)) g k =
       let code = a.code in
       let limits = limits_of a.limits a.allow in
-      let steps : a.steps ≡ counted (a.steps + steps_taken (codes_of code) limits q (Ends r)) =
+      let steps : a.steps ≡ counted (a.steps + steps_taken (codes_alone code) limits q (Ends r)) =
       sym (ap (λ n. counted (a.steps + n)) (none_behind code limits q r) ∙ counted_none a.steps k.counts) in
       let stays = sym (end_stays code limits q r) in
       (λ i. record { code = a.code; limits = a.limits; allow = a.allow; frame = a.frame; now = Some (stays i); steps = steps i })

@@ -18,7 +18,7 @@ use Rattle.task_core.specs.declared.task.Turn.TheVariants as turn
 use Rattle.machine.specs.declared.activation.RunOutcome.{RunOutcome}
 use Rattle.machine.specs.declared.configuration.RunEnd as held
 use Rattle.machine.specs.declared.configuration.RunEnd.TheVariants as end
-use Rattle.machine.specs.Seen.{limits_of, codes_of}
+use Rattle.machine.specs.Seen.{limits_of, codes_alone}
 use Rattle.machine.specs.Runs.{steps_taken}
 use Rattle.machine.specs.Activations.{Activation, counted}
 use Rattle.verifier_soundness.specs.Rows.{HaveRows}
@@ -54,14 +54,14 @@ pub record OnlySpares (q : ℕ) (a : Activation) : Type 0 where
   pub next : Next
   pub stands : a.now ≡ Some next
   pub fits : FitsAtStart a.frame a.limits.depth
-  pub spares : (k : ℕ) (c : Config) → k < q → after (codes_of a.code) (limits_of a.limits a.allow) k next ≡ Goes c → Spares (codes_of a.code) a.allow c
+  pub spares : (k : ℕ) (c : Config) → k < q → after (codes_alone a.code) (limits_of a.limits a.allow) k next ≡ Goes c → Spares (codes_alone a.code) a.allow c
 
 -- The same of all instructions up to the end.
 pub record SparesMemory (a : Activation) : Type 0 where
   pub next : Next
   pub stands : a.now ≡ Some next
   pub fits : FitsAtStart a.frame a.limits.depth
-  pub spares : (k : ℕ) (c : Config) → after (codes_of a.code) (limits_of a.limits a.allow) k next ≡ Goes c → Spares (codes_of a.code) a.allow c
+  pub spares : (k : ℕ) (c : Config) → after (codes_alone a.code) (limits_of a.limits a.allow) k next ≡ Goes c → Spares (codes_alone a.code) a.allow c
 
 -- after want of memory nothing is known
 abbrev pub KeepsFrom : AllowList → List FunCode → Limits → ℕ → Option Next → Type 0
@@ -99,7 +99,7 @@ most_left code limits Stuck = 0
 -- The instructions that are left up to the end. After want of memory it never comes, and one is left for ever.
 abbrev pub rest_from : List FunCode → Limits → Option Next → ℕ
 rest_from code limits None = 1
-rest_from code limits (Some n) = steps_taken (codes_of code) limits (most_left code limits n) n
+rest_from code limits (Some n) = steps_taken (codes_alone code) limits (most_left code limits n) n
 
 abbrev pub rest : Activation → ℕ
 rest a = rest_from a.code (limits_of a.limits a.allow) a.now
@@ -127,7 +127,7 @@ abbrev pub ending_from : Activation → Option Next → Option RunOutcome
 ending_from a None = None
 ending_from a (Some n) =
     outcome_in a.limits.ticks (counted (a.steps + rest_from a.code (limits_of a.limits a.allow) (Some n)))
-    (after (codes_of a.code) (limits_of a.limits a.allow) (most_left a.code (limits_of a.limits a.allow) n) n)
+    (after (codes_alone a.code) (limits_of a.limits a.allow) (most_left a.code (limits_of a.limits a.allow) n) n)
 
 -- what an activation comes to when it is run alone
 abbrev pub ending : Activation → Option RunOutcome

@@ -4,7 +4,7 @@ ghost use Rattle.object_heap.specs.Fits.{Rules};
 ghost use Rattle.object_values.specs.declared.object.Object.{Object};
 ghost use Rattle.machine.specs.Fitting.{LeavesFit, NowFits};
 ghost use Rattle.code_meaning.specs.Machine.{start};
-ghost use Rattle.machine.specs.Seen.{limits_of, codes_of};
+ghost use Rattle.machine.specs.Seen.{limits_of, codes_alone};
 ghost use Rattle.machine.specs.Activations.{HasTurned, Leaves, Turned, is_over};
 ghost use Rattle.verifier.specs.Verified.{FrameWords};
 ghost use Rattle.verifier_soundness.specs.Rows.{HaveRows};
@@ -117,7 +117,7 @@ impl<'c> VerifiedActivation<'c> {
     ) -> Result<VerifiedActivation<'c>, AllocError>
         requires rows { HaveRows code.now.allow code.now.code.functions }
         requires args { kinds_of args ≡ main_params code.now.code.functions }
-        ensures started { IfOk result (λ a. a ≡ record { run = record { code = code.now.code.functions; limits = limits; allow = code.now.allow; frame = code.now.frame; now = Some (start (codes_of code.now.code.functions) args (record { store = heap; ticks = limits.ticks; reached = [] })); steps = 0 }; allow = code.now.allow }) }
+        ensures started { IfOk result (λ a. a ≡ record { run = record { code = code.now.code.functions; limits = limits; allow = code.now.allow; frame = code.now.frame; now = Some (start (codes_alone code.now.code.functions) args (record { store = heap; ticks = limits.ticks; reached = [] })); steps = 0 }; allow = code.now.allow }) }
         ensures bound { IfOk result (λ a. rest a.run ≤ most_steps code.now.code.functions (limits_of limits code.now.allow) limits.ticks) }
     {
         let run = Activation::start(&code.executable, heap, args, limits)?;

@@ -1,7 +1,7 @@
 use Rattle.std.proofs.Common.{◌≡◌, sym, ◌∙◌, subst}
 use Rattle.machine.specs.Activations.{HasTurned, Turned}
 use Rattle.machine.specs.Memory.{RunSpares}
-use Rattle.machine.specs.Seen.{limits_of, codes_of, rules_of, limits_in}
+use Rattle.machine.specs.Seen.{limits_of, codes_alone, rules_of, limits_in}
 use Rattle.machine.proofs.Ended.{still}
 use Rattle.machine.proofs.Found.{has_turned, run_spares, ended_turned}
 use Rattle.machine.proofs.activation.Activation.turn.Goals as goal
@@ -25,8 +25,8 @@ returns-then-goes-clause-memory c = λ spares.
     let allow = c.self.inside.executable.now.allow in
     let frame = c.self.inside.executable.now.frame in
     let rules : rules_of limits allow ≡ c.new-rules.result = cc (c.new-rules.ensures, c.allow.ensures) in
-    let run : RunSpares (codes_of code) (limits_of limits allow) frame c.args.q c.self.inside.run =
+    let run : RunSpares (codes_alone code) (limits_of limits allow) frame c.args.q c.self.inside.run =
     run_spares code limits allow frame c.args.q c.self.inside.run c.self.inside.last c.self.inside.steps (sym c.goes.ensures ∙ c.if-goes.true) c.self.invariant.1
     c.args.self.now (sym c.self.view_is) spares in
     subst HasTurned (sym c.turn_of.ensures)
-    (has_turned c.run_on-last.result.last (c.run_on-last.ensures.memory (subst (λ r. RunSpares (codes_of code) (limits_in r) frame c.args.q c.self.inside.run) rules run)))
+    (has_turned c.run_on-last.result.last (c.run_on-last.ensures.memory (subst (λ r. RunSpares (codes_alone code) (limits_in r) frame c.args.q c.self.inside.run) rules run)))
