@@ -6,5 +6,7 @@ mod line;
 mod refusals;
 mod replies;
 mod results;
+mod searching;
 
 pub use line::{Line, refusal_line, reply_line};
+pub use searching::search_reply_line;

@@ -29,15 +29,23 @@ fn line_of(alloc: Global, json: &Json) -> Result<String, AllocError>
     Ok(line)
 }
 
+/// The line of a reply without floats.
+pub(crate) fn line_of_reply(alloc: Global, json: &Json) -> Result<Line, AllocError>
+    ensures text { has_float (view json.now) ≡ false → IfOk result (λ line. string_bytes line.text ≡ line_of (view json.now)) }
+    ensures error { IfOk result (λ line. line.is_error ≡ is_error (view json.now)) }
+{
+    let text = line_of(alloc, json)?;
+    let is_error = json.get("error").is_some();
+    Ok(Line { text, is_error })
+}
+
 /// The reply line of a run that ended so over a heap.
 pub fn reply_line(alloc: Global, end: &End, heap: &Heap) -> Result<Line, AllocError>
     ensures text { IfOk result (λ line. string_bytes line.text ≡ line_of (reply_of end.now heap.now.objects)) }
     ensures error { IfOk result (λ line. line.is_error ≡ is_error (reply_of end.now heap.now.objects)) }
 {
     let json = reply_of(alloc, end, heap)?;
-    let text = line_of(alloc, &json)?;
-    let is_error = json.get("error").is_some();
-    Ok(Line { text, is_error })
+    line_of_reply(alloc, &json)
 }
 
 /// The line of a script that is refused.

@@ -154,7 +154,7 @@ impl<'c> VerifiedActivation<'c> {
     /// # Errors
     ///
     /// Want of memory.
-    #[tactic(auto, using(crate::proofs::Finishing::left_by, crate::proofs::Finishing::fits_still, crate::proofs::Fitted::ending_fits))]
+    #[tactic(auto, using(crate::proofs::Finishing::left_by, crate::proofs::Finishing::fits_still))]
     pub fn finish(mut self) -> Result<RunOutcome, AllocError>
         ensures alone { IfOk result (λ left. ending self.entry.run ≡ Some left) }
         ensures fitting { IfOk result (LeavesFitting self.entry) }

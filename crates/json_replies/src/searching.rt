@@ -1,0 +1,74 @@
+//! What a run over a document comes to as a line of JSON.
+
+ghost use Rattle.std.specs.Prelude.{◌≡◌, string_bytes, IfOk};
+ghost use Rattle.serde_json.specs.View.{view};
+ghost use Rattle.json_replies.specs.Replies.{is_error, line_of};
+ghost use Rattle.json_replies.specs.Searching.{gives_below_zero, is_below_zero, is_negative_score, search_reply_of};
+
+use crate::line::{Line, line_of_reply};
+use crate::replies::reply_of;
+use crate::results::kind_reply;
+use object_heap::{End, Heap};
+use object_values::Value;
+use search_ctx::SearchKind;
+use serde_json::Value as Json;
+use std::alloc::{AllocError, Global};
+
+fn is_below_zero(value: &Value) -> bool
+    ensures { result ≡ is_below_zero value.now }
+{
+    match value {
+        Value::Long(number) => *number < 0,
+        _ => false,
+    }
+}
+
+fn gives_below_zero(end: &End) -> bool
+    ensures { result ≡ gives_below_zero end.now }
+{
+    match end {
+        End::Value(value) => is_below_zero(value),
+        End::Thrown(_) => false,
+        End::Limit(_) => false,
+    }
+}
+
+fn is_negative_score(kind: SearchKind, end: &End) -> bool
+    ensures { result ≡ is_negative_score kind end.now }
+{
+    match kind {
+        SearchKind::Score => gives_below_zero(end),
+        SearchKind::Filter => false,
+        SearchKind::Field => false,
+    }
+}
+
+fn search_reply_of(
+    alloc: Global,
+    kind: SearchKind,
+    end: &End,
+    heap: &Heap,
+) -> Result<Json, AllocError>
+    ensures { IfOk result (λ reply. view reply ≡ search_reply_of kind end.now heap.now.objects) }
+{
+    if is_negative_score(kind, end) {
+        kind_reply(alloc, "negative-score")
+    } else {
+        reply_of(alloc, end, heap)
+    }
+}
+
+/// The reply line of a run over a document that ended so over a heap: that of a script, but that a score below 0 is the error
+/// `negative-score`.
+pub fn search_reply_line(
+    alloc: Global,
+    kind: SearchKind,
+    end: &End,
+    heap: &Heap,
+) -> Result<Line, AllocError>
+    ensures text { IfOk result (λ line. string_bytes line.text ≡ line_of (search_reply_of kind end.now heap.now.objects)) }
+    ensures error { IfOk result (λ line. line.is_error ≡ is_error (search_reply_of kind end.now heap.now.objects)) }
+{
+    let json = search_reply_of(alloc, kind, end, heap)?;
+    line_of_reply(alloc, &json)
+}
