@@ -1,0 +1,3 @@
+pub mod Containers
+pub mod Iterators
+pub mod Laws
