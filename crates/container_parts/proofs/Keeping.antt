@@ -99,8 +99,8 @@ next_over_fits : (rules : Rules) (store : Store) (id : ℕ) (it : Cursor) (over 
 next_over_fits rules store id it over f h g =
     if_fits rules (it.cursor == spec.count_over store.objects over) _ _ (no_such_fits rules store f)
     (if_fits rules (it.seen == spec.changes_over store.objects over) _ _
-      (given_fits rules store id it (spec.element_over store.objects over it.cursor) f h (element_fits rules store.objects over it.cursor f g))
-      (concurrent_fits rules store f))
+    (given_fits rules store id it (spec.element_over store.objects over it.cursor) f h (element_fits rules store.objects over it.cursor f g))
+    (concurrent_fits rules store f))
 
 next_of_fits : (rules : Rules) (store : Store) (id : ℕ) (found : Option Cursor) → spec.iterator_of store.objects id ≡ found → Fits rules store.objects → EffectFits rules (spec.next_of store id found)
 next_of_fits rules store id None is f = null_fits rules store f

@@ -85,7 +85,11 @@ fn shown_at(heap: &Heap, map: u32, part: Part, at: usize) -> Result<Option<Eleme
 }
 
 /// The element at a place. It takes memory for the copy of a text.
-pub fn element_at(heap: &Heap, container: Container, at: usize) -> Result<Option<Element>, AllocError>
+pub fn element_at(
+    heap: &Heap,
+    container: Container,
+    at: usize,
+) -> Result<Option<Element>, AllocError>
     ensures { IfOk result (λ found. found ≡ spec.element_at heap.now.objects container at) }
 {
     match container {

@@ -7,7 +7,9 @@ mod elements;
 mod laws;
 mod moving;
 
-pub use containers::{Container, changes_now, container_at, container_of, count_of, holder_of, lets_cut};
+pub use containers::{
+    Container, changes_now, container_at, container_of, count_of, holder_of, lets_cut,
+};
 pub use cursors::{Cursor, has_next, iterator_of};
 pub use elements::{Element, element_at};
 pub use laws::iterators_keep_fit;

@@ -37,7 +37,14 @@ fn place_at(heap: &mut Heap, id: u32, over: u32, cursor: u64, seen: u64, last: O
 fn move_on(heap: &mut Heap, id: u32, it: Cursor)
     ensures { heap.new ≡ spec.with_iterator heap.old id (spec.moved it) }
 {
-    place_at(heap, id, it.over, it.cursor.wrapping_add(1), it.seen, Some(it.cursor));
+    place_at(
+        heap,
+        id,
+        it.over,
+        it.cursor.wrapping_add(1),
+        it.seen,
+        Some(it.cursor),
+    );
 }
 
 fn move_back(heap: &mut Heap, id: u32, it: Cursor, at: u64)
@@ -83,7 +90,11 @@ fn given(heap: &mut Heap, id: u32, it: Cursor, found: Option<Element>) -> Answer
     }
 }
 
-fn element_over(heap: &Heap, over: Option<Container>, at: u64) -> Result<Option<Element>, AllocError>
+fn element_over(
+    heap: &Heap,
+    over: Option<Container>,
+    at: u64,
+) -> Result<Option<Element>, AllocError>
     ensures { IfOk result (λ found. found ≡ spec.element_over heap.now.objects over at) }
 {
     match over {
