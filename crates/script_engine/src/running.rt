@@ -133,7 +133,7 @@ impl Script {
     /// # Errors
     ///
     /// Want of memory; none where no instruction of the run takes any.
-    #[tactic(auto, using(crate::proofs::Left::fitting_end, crate::proofs::Left::comes_from, crate::proofs::Fitting::left_from))]
+    #[tactic(auto, using(crate::proofs::Left::fitting_end, crate::proofs::Left::comes_from))]
     pub fn finish(&self, activation: VerifiedActivation<'_>) -> Result<Outcome, AllocError>
         ensures comes { IfOk result (Comes self.now.result (ending activation.entry.run)) }
         // Where the start fits, so does what is left.
