@@ -1,93 +1,65 @@
 -- What each member comes to fits the store.
-use Rattle.std.proofs.Common.{◌≡◌, ℕ, zero, suc, ℤ, Bool, true, false, Option, Some, None, List, [], ◌∷◌, length, refl, sym, subst, slice_get, if◌then◌else◌}
+use Rattle.std.proofs.Common.{◌≡◌, ℕ, zero, suc, ℤ, Bool, true, Option, Some, None, List, [], ◌∷◌, ◌++◌, ◌<◌, length, reverse, refl, ap, sym, ◌∙◌, subst, slice_get, if◌then◌else◌}
 use Rattle.pl_types.specs.declared.classes.TheConstants.{LIST}
 use Rattle.std.specs.Prelude.{pos, negsuc}
+use Rattle.std.proofs.lemmas.List.{reverse-append}
+use Rattle.std.proofs.lemmas.Option.{slice_get_within}
+use Rattle.pl_types.specs.declared.ty.Ty.TheFolds.{fold-roll-Ty}
+use Rattle.pl_types.specs.declared.ty.Ty.TheOpen.{Ty-F}
+use Rattle.pl_types.specs.declared.ty.Ty.{Ty, out-Ty}
+use Rattle.pl_types.specs.declared.ty.Ty.TheVariants.{Def, outs-Def, rolls-Def}
 use Rattle.pl_types.specs.Classes.{class_is_below, lineage_of, parents_of, class_row, class_table}
 use Rattle.object_values.specs.declared.object.Object.{Object}
 use Rattle.object_values.specs.declared.object.Object.TheVariants as o
 use Rattle.object_values.specs.declared.value.Value.{Value}
 use Rattle.object_values.specs.declared.value.Value.TheVariants as v
-use Rattle.object_heap.specs.Fits.{Rules, Typed, Fits, ValueFits, AllFit, ItemFits, ObjectFits, ObjectsFit, kinds}
-use Rattle.object_heap.specs.Objects.{Kind}
-use Rattle.object_heap.specs.Parts.{guard_of, items_of}
-use Rattle.object_heap.proofs.Fitting.{items_fit, length-kinds}
+use Rattle.object_heap.specs.Fits.{Rules, Typed, Every, Primitives, Fits, ValueFits, AllFit, AreElements, ItemFits, ObjectFits, ObjectsFit, has_layer, is_element, is_type, kinds, layer_asked, layer_is_type}
+use Rattle.object_heap.specs.Objects.{Kind, with_item}
+use Rattle.object_heap.specs.Parts.{items_of}
+use Rattle.object_heap.specs.Store.{with_change}
+use Rattle.object_heap.proofs.Fitting.{items_fit}
+use Rattle.object_heap.proofs.Growth.{cons_changed}
 use Rattle.member_arguments.specs.Arguments.{int_at, object_at}
 use Rattle.api_list.specs.declared.member.Member.{Member}
 use Rattle.api_list.specs.declared.member.Member.TheVariants as m
-use Rattle.api_list.specs.declared.outcome.Raised.{Raised}
-use Rattle.api_list.specs.declared.outcome.Raised.TheVariants as raised
-use Rattle.api_list.specs.declared.outcome.Outcome.{Outcome}
-use Rattle.api_list.specs.declared.outcome.Outcome.TheVariants as outcome
-use Rattle.api_list.specs.declared.searching.Found.{Found}
-use Rattle.api_list.specs.declared.searching.Found.TheVariants as f
-use Rattle.api_list.specs.Arguments.{with_one, with_two, with_three, if_list, list_at, list_named}
-use Rattle.api_list.specs.Guards.{is_open}
+use Rattle.container_outcomes.specs.declared.outcome.Raised.TheVariants as raised
+use Rattle.container_outcomes.specs.declared.outcome.Outcome.{Outcome}
+use Rattle.container_outcomes.specs.declared.outcome.Outcome.TheVariants as outcome
+use Rattle.container_outcomes.specs.Laws.{OutcomeFits}
+use Rattle.container_outcomes.proofs.Fitting.{all_counted, counted, object_there, one_fits, open_fits, says_fits, search_fits, three_fit, two_fit, value_there}
+use Rattle.api_list.specs.Arguments.{if_list, list_at, list_named}
 use Rattle.api_list.specs.Lists as lists
 use Rattle.api_list.specs.Making as making
 use Rattle.api_list.specs.Members as members
-use Rattle.api_list.specs.Outcomes.{says, unsupported}
-use Rattle.api_list.specs.Searching.{first_from, where_found}
-use Rattle.api_list.proofs.Settling.{OutcomeFits, value_there}
-
--- exceptions
-says_fits : (rules : Rules) (objects : List Object) (raised : Raised) (message : List ℕ) → OutcomeFits rules objects (says raised message)
-unfolding says
-says_fits rules objects raised message = tt
-
--- choices
-if_fits : (rules : Rules) (objects : List Object) (test : Bool) (told other : Outcome) → OutcomeFits rules objects told → OutcomeFits rules objects other → OutcomeFits rules objects (if test then told else other)
-if_fits rules objects true told other h k = h
-if_fits rules objects false told other h k = k
-
-open_fits : (rules : Rules) (objects : List Object) (list : ℕ) (told : Outcome) → OutcomeFits rules objects told → OutcomeFits rules objects (lists.where_open objects list told)
-open_fits rules objects list told h = if_fits rules objects (is_open (guard_of objects list)) told unsupported h tt
+use Rattle.api_list.specs.Searching.{first_from, last_before}
 
 place_fits : (rules : Rules) (objects : List Object) (count : ℕ) (at : ℤ) (place : Option ℕ) (next : ℕ → Outcome) → ((at : ℕ) → OutcomeFits rules objects (next at)) → OutcomeFits rules objects (lists.at_place count at place next)
 place_fits rules objects count at None next h = says_fits rules objects raised.IndexOutOfBounds _
 place_fits rules objects count at (Some place) next h = h place
 
-search_fits : (rules : Rules) (objects : List Object) (found : Found) (told : ℕ → Outcome) (none : Outcome) → ((at : ℕ) → OutcomeFits rules objects (told at)) → OutcomeFits rules objects none
-    → OutcomeFits rules objects (where_found found told none)
-search_fits rules objects (f.At at) told none h k = h at
-search_fits rules objects f.Nowhere told none h k = k
-search_fits rules objects f.Deep told none h k = says_fits rules objects raised.IllegalState _
-search_fits rules objects f.Large told none h k = says_fits rules objects raised.IllegalState _
+-- a list that is an argument, into which any value may be written
+abbrev IsList : Option Object → Type 0
+IsList (Some (o.List class items guard changes)) = Unit {0}
+IsList found = ⊥
 
--- arguments
-one_fits : {A : Type 0} → (rules : Rules) (objects : List Object) (f : A → Outcome) (a : Option A) → ((x : A) → a ≡ Some x → OutcomeFits rules objects (f x)) → OutcomeFits rules objects (with_one f a)
-one_fits rules objects f None h = tt
-one_fits rules objects f (Some x) h = h x refl
+list_takes : (typed : Typed) (ks : List Kind) (value : Value) (found : Option Object) → IsList found → ItemFits typed ks value found
+list_takes typed ks value None h = absurd h
+list_takes typed ks value (Some (o.List class items guard changes)) h = tt
+list_takes typed ks value (Some object) h = absurd h
 
-two_fit : {A B : Type 0} → (rules : Rules) (objects : List Object) (f : A → B → Outcome) (a : Option A) (b : Option B) → ((x : A) (y : B) → a ≡ Some x → b ≡ Some y → OutcomeFits rules objects (f x y))
-    → OutcomeFits rules objects (with_two f a b)
-two_fit rules objects f None b h = tt
-two_fit rules objects f (Some x) None h = tt
-two_fit rules objects f (Some x) (Some y) h = h x y refl refl
-
-three_fit : {A B C : Type 0} → (rules : Rules) (objects : List Object) (f : A → B → C → Outcome) (a : Option A) (b : Option B) (c : Option C)
-    → ((x : A) (y : B) (z : C) → a ≡ Some x → b ≡ Some y → c ≡ Some z → OutcomeFits rules objects (f x y z)) → OutcomeFits rules objects (with_three f a b c)
-three_fit rules objects f None b c h = tt
-three_fit rules objects f (Some x) None c h = tt
-three_fit rules objects f (Some x) (Some y) None h = tt
-three_fit rules objects f (Some x) (Some y) (Some z) h = h x y z refl refl refl
-
-object_there : (rules : Rules) (ks : List Kind) (objects : List Object) (id : ℕ) (object : Object) → ObjectsFit rules ks objects → slice_get objects id ≡ Some object → ObjectFits rules ks object
-object_there rules ks [] id object f e = cc
-object_there rules ks (x ∷ objects) zero object f e = let same : x ≡ object = cc in subst (ObjectFits rules ks) same f.0
-object_there rules ks (x ∷ objects) (suc id) object f e = object_there rules ks objects id object f.1 e
-
--- any value may be written into a list that is an argument
-found_takes : (typed : Typed) (ks : List Kind) (objects : List Object) (value : Value) (at id : ℕ) (found : Option Object) → slice_get objects at ≡ found → if_list at found ≡ Some id
-    → ItemFits typed ks value (slice_get objects id)
-found_takes typed ks objects value at id None e h = cc
-found_takes typed ks objects value at id (Some (o.List class items guard changes)) e h =
+found_list : (objects : List Object) (at id : ℕ) (found : Option Object) → slice_get objects at ≡ found → if_list at found ≡ Some id → IsList (slice_get objects id)
+found_list objects at id None e h = cc
+found_list objects at id (Some (o.List class items guard changes)) e h =
     let same : at ≡ id = cc in
-    subst (λ (n : ℕ). ItemFits typed ks value (slice_get objects n)) same (subst (λ (x : Option Object). ItemFits typed ks value x) (sym e) tt)
-found_takes typed ks objects value at id (Some object) e h = cc
+    subst (λ (n : ℕ). IsList (slice_get objects n)) same (subst IsList (sym e) tt)
+found_list objects at id (Some object) e h = cc
+
+named_list : (objects : List Object) (named : Option ℕ) (id : ℕ) → list_named objects named ≡ Some id → IsList (slice_get objects id)
+named_list objects None id h = cc
+named_list objects (Some at) id h = found_list objects at id (slice_get objects at) refl h
 
 named_takes : (typed : Typed) (ks : List Kind) (objects : List Object) (value : Value) (named : Option ℕ) (id : ℕ) → list_named objects named ≡ Some id → ItemFits typed ks value (slice_get objects id)
-named_takes typed ks objects value None id h = cc
-named_takes typed ks objects value (Some at) id h = found_takes typed ks objects value at id (slice_get objects at) refl h
+named_takes typed ks objects value named id h = list_takes typed ks value (slice_get objects id) (named_list objects named id h)
 
 -- what is read
 item_fits : (n : ℕ) (items : List Value) (at : ℤ) (item : Value) → AllFit n items → lists.item_in items at ≡ Some item → ValueFits n item
@@ -127,12 +99,81 @@ empty_map_fits : (rules : Rules) (objects : List Object) → OutcomeFits rules o
 unfolding class_is_below lineage_of parents_of class_row class_table
 empty_map_fits rules objects = (refl, tt, tt)
 
-counted : (objects : List Object) (value : Value) → ValueFits (length objects) value → ValueFits (length (kinds objects)) value
-counted objects value h = subst (λ (n : ℕ). ValueFits n value) (sym (length-kinds objects)) h
-
 one_list_fits : (rules : Rules) (objects : List Object) (item : Value) → ValueFits (length objects) item → OutcomeFits rules objects (making.list_of_one item)
 unfolding class_is_below lineage_of parents_of class_row class_table
 one_list_fits rules objects item h = (refl, (counted objects item h, tt))
+
+-- an array of what a list has
+of_layer : (typed : Typed) (ks : List Kind) (elem : Ty) (layer : Ty-F Ty) (value : Value) → out-Ty elem ≡ layer → (if layer_asked typed layer then has_layer ks layer value else true) ≡ true
+    → is_element typed ks elem value ≡ true
+of_layer typed ks elem layer value e h = subst (λ (found : Ty-F Ty). (if layer_asked typed found then has_layer ks found value else true) ≡ true) (sym e) h
+
+any_layer : (typed : Typed) (ks : List Kind) (value : Value) → (if layer_asked typed Ty-F.Def then has_layer ks Ty-F.Def value else true) ≡ true
+any_layer Every ks value = refl
+any_layer Primitives ks value = refl
+
+any_element : (typed : Typed) (ks : List Kind) (value : Value) → is_element typed ks Def value ≡ true
+any_element typed ks value = of_layer typed ks Def Ty-F.Def value outs-Def (any_layer typed ks value)
+
+any_elements : (typed : Typed) (ks : List Kind) (items : List Value) → AreElements typed ks Def items
+any_elements typed ks [] = tt
+any_elements typed ks (item ∷ items) = (any_element typed ks item, any_elements typed ks items)
+
+def_is : is_type Def ≡ true
+unfolding is_type
+def_is = ap is_type (sym rolls-Def) ∙ fold-roll-Ty Bool layer_is_type Ty-F.Def
+
+array_fits : (rules : Rules) (objects : List Object) (list : ℕ) → Fits rules objects → OutcomeFits rules objects (lists.array_of objects list)
+array_fits rules objects list f = (def_is, all_counted objects (items_of objects list) (items_fit rules objects list f), any_elements rules.typed (kinds objects) (items_of objects list))
+
+-- the receiver is there
+found_there : (objects : List Object) (at id : ℕ) (found : Option Object) → slice_get objects at ≡ found → if_list at found ≡ Some id → id < length objects
+found_there objects at id None e h = cc
+found_there objects at id (Some (o.List class items guard changes)) e h = let same : at ≡ id = cc in subst (λ (n : ℕ). n < length objects) same (slice_get_within objects at _ e)
+found_there objects at id (Some object) e h = cc
+
+named_there : (objects : List Object) (named : Option ℕ) (id : ℕ) → list_named objects named ≡ Some id → id < length objects
+named_there objects None id h = cc
+named_there objects (Some at) id h = found_there objects at id (slice_get objects at) refl h
+
+-- items in the opposite order
+all_joined : (n : ℕ) (front more : List Value) → AllFit n front → AllFit n more → AllFit n (front ++ more)
+all_joined n [] more f g = g
+all_joined n (value ∷ front) more f g = (f.0, all_joined n front more f.1 g)
+
+all_reversed : (n : ℕ) (values : List Value) → AllFit n values → AllFit n (reverse values)
+all_reversed n [] f = tt
+all_reversed n (value ∷ values) f = subst (AllFit n) (sym (reverse-append (value ∷ []) values)) (all_joined n (reverse values) (value ∷ []) (all_reversed n values f.1) (f.0, tt))
+
+reversed_fits : (rules : Rules) (objects : List Object) (id : ℕ) (found : Option Object) → ObjectsFit rules (kinds objects) objects → slice_get objects id ≡ found → OutcomeFits rules objects (lists.list_reversed id found)
+reversed_fits rules objects id None f e = tt
+reversed_fits rules objects id (Some (o.List class items guard changes)) f e =
+    let there : ObjectFits rules (kinds objects) (o.List class items guard changes) = object_there rules (kinds objects) objects id (o.List class items guard changes) f e in
+    ((there.0, all_reversed (length (kinds objects)) items there.1), tt)
+reversed_fits rules objects id (Some object) f e = tt
+
+-- items in each other's places
+with_item_list : (at : ℕ) (item : Value) (object : Object) → IsList (Some object) → IsList (Some (with_item at item object))
+with_item_list at item (o.List class items guard changes) h = tt
+with_item_list at item object h = absurd h
+
+stays_list : (objects : List Object) (id at : ℕ) (item : Value) → IsList (slice_get objects id) → IsList (slice_get (with_change objects id (with_item at item)) id)
+stays_list [] id at item h = absurd h
+stays_list (x ∷ objects) zero at item h = with_item_list at item x h
+stays_list (x ∷ objects) (suc id) at item h = rw (cons_changed x objects id (with_item at item) (slice_get objects id)) (stays_list objects id at item h)
+
+both_fit : (rules : Rules) (objects : List Object) (list at other_at : ℕ) (item other : Option Value) → IsList (slice_get objects list) → ((value : Value) → item ≡ Some value → ValueFits (length objects) value)
+    → ((value : Value) → other ≡ Some value → ValueFits (length objects) value) → OutcomeFits rules objects (lists.items_swapped list at other_at item other)
+both_fit rules objects list at other_at (Some item) (Some other) l f g =
+    ((g other refl, list_takes rules.typed (kinds objects) other (slice_get objects list) l), (f item refl, list_takes rules.typed (kinds (with_change objects list (with_item at other))) item (slice_get (with_change objects list (with_item at other)) list) (stays_list objects list at other l)))
+both_fit rules objects list at other_at None other l f g = tt
+both_fit rules objects list at other_at (Some item) None l f g = tt
+
+places_fit : (rules : Rules) (objects : List Object) (named : Option ℕ) (list at other_at : ℕ) → Fits rules objects → list_named objects named ≡ Some list → OutcomeFits rules objects (lists.places_swapped objects list at other_at)
+places_fit rules objects named list at other_at f e =
+    both_fit rules objects list at other_at (slice_get (items_of objects list) at) (slice_get (items_of objects list) other_at) (named_list objects named list e)
+    (λ value is. value_there (length objects) (items_of objects list) at value (items_fit rules objects list f) is)
+    (λ value is. value_there (length objects) (items_of objects list) other_at value (items_fit rules objects list f) is)
 
 does_fits : (rules : Rules) (objects : List Object) (member : Member) (arguments : List Value) → Fits rules objects → AllFit (length objects) arguments → OutcomeFits rules objects (members.does objects member arguments)
 does_fits rules objects m.Add arguments f a =
@@ -163,9 +204,21 @@ does_fits rules objects m.Set arguments f a =
     three_fit {B = ℤ} {C = Value} rules objects (lists.written objects) (list_at objects arguments 0) (int_at arguments 1) (slice_get arguments 2)
     (λ list at item e k w. open_fits rules objects list _ (place_fits rules objects (length (items_of objects list)) at (lists.place_of (length (items_of objects list)) at) _
     (λ place. (value_there (length objects) arguments 2 item a w, named_takes rules.typed (kinds objects) objects item (object_at arguments 0) list e))))
+does_fits rules objects m.ToArray arguments f a = one_fits rules objects (lists.array_of objects) (list_at objects arguments 0) (λ list e. array_fits rules objects list f)
+does_fits rules objects m.LastIndexOf arguments f a =
+    two_fit {B = Value} rules objects (lists.last_place_found objects) (list_at objects arguments 0) (slice_get arguments 1)
+    (λ list value e k. search_fits rules objects (last_before objects value (items_of objects list) (length (items_of objects list))) _ _ (λ at. tt) tt)
+does_fits rules objects m.AsList arguments f a = one_fits rules objects (λ list. outcome.Gives (v.Ref list)) (list_at objects arguments 0) (λ list e. named_there objects (object_at arguments 0) list e)
 does_fits rules objects m.NewList arguments f a = new_list_fits rules objects
 does_fits rules objects m.EmptyList arguments f a = empty_list_fits rules objects
 does_fits rules objects m.EmptyMap arguments f a = empty_map_fits rules objects
+does_fits rules objects m.Reverse arguments f a =
+    one_fits rules objects (lists.reversed objects) (list_at objects arguments 0) (λ list e. open_fits rules objects list _ (reversed_fits rules objects list (slice_get objects list) f.each refl))
+does_fits rules objects m.Swap arguments f a =
+    three_fit {B = ℤ} {C = ℤ} rules objects (lists.swapped objects) (list_at objects arguments 0) (int_at arguments 1) (int_at arguments 2)
+    (λ list at other_at e k w. open_fits rules objects list _ (place_fits rules objects (length (items_of objects list)) at (lists.place_of (length (items_of objects list)) at) _
+    (λ place. place_fits rules objects (length (items_of objects list)) other_at (lists.place_of (length (items_of objects list)) other_at) _
+    (λ other_place. places_fit rules objects (object_at arguments 0) list place other_place f e))))
 does_fits rules objects m.SingletonList arguments f a =
     one_fits {A = Value} rules objects making.list_of_one (slice_get arguments 0) (λ item e. one_list_fits rules objects item (value_there (length objects) arguments 0 item a e))
 

@@ -1,32 +1,26 @@
 -- The members of Collection and List, of lists. What changes a frozen list is refused before any other test.
-use Rattle.std.specs.Prelude.{ℕ, ◌==◌, true, false, Option, Some, None, List, [], ◌∷◌, ◌++◌, codes, length, nat_le, nat_lt, ℤ, pos, negsuc, slice_get, if◌then◌else◌}
-use Rattle.std.specs.Fmt.{decimal, signed_decimal}
+use Rattle.std.specs.Prelude.{ℕ, ◌==◌, true, false, Option, Some, None, List, [], ◌∷◌, length, nat_le, nat_lt, ℤ, pos, negsuc, reverse, slice_get, if◌then◌else◌}
+use Rattle.pl_types.specs.declared.ty.Ty.TheVariants.{Def}
 use Rattle.object_values.specs.declared.object.Guard.TheVariants as g
 use Rattle.object_values.specs.declared.object.Object.{Object}
 use Rattle.object_values.specs.declared.object.Object.TheVariants as o
 use Rattle.object_values.specs.declared.value.Value.{Value}
 use Rattle.object_values.specs.declared.value.Value.TheVariants as v
 use Rattle.object_heap.specs.Objects.{changed}
-use Rattle.object_heap.specs.Parts.{guard_of, items_of}
+use Rattle.object_heap.specs.Parts.{items_of}
 use Rattle.member_arguments.specs.Arguments.{int_at}
-use Rattle.api_list.specs.declared.outcome.Raised.TheVariants as raised
-use Rattle.api_list.specs.declared.outcome.Outcome.{Outcome}
-use Rattle.api_list.specs.declared.outcome.Outcome.TheVariants.{Gives, Inserts, Writes, Cuts, Drops, Empties}
-use Rattle.api_list.specs.Arguments.{list_at, with_one, with_two, with_three}
-use Rattle.api_list.specs.Guards.{is_open}
-use Rattle.api_list.specs.Outcomes.{flag, says, unsupported}
-use Rattle.api_list.specs.Searching.{first_from, where_found}
+use Rattle.container_outcomes.specs.declared.outcome.Outcome.{Outcome}
+use Rattle.container_outcomes.specs.declared.outcome.Outcome.TheVariants.{Becomes, Gives, Inserts, New, Sets, SetsTwo, Cuts, Drops, Empties}
+use Rattle.container_outcomes.specs.Choices.{with_one, with_two, with_three}
+use Rattle.container_outcomes.specs.Comparing.{where_found}
+use Rattle.container_outcomes.specs.Guards.{where_open}
+use Rattle.container_outcomes.specs.Outcomes.{flag, index_error}
+use Rattle.api_list.specs.Arguments.{list_at}
+use Rattle.api_list.specs.Searching.{first_from, last_before}
 
 -- a count of items as an int, at most the greatest one
 abbrev pub count_as_int : ℕ → ℤ
 count_as_int n = if nat_le n 2147483647 then pos n else pos 2147483647
-
--- a place that is out of range
-abbrev pub index_message : ℤ → ℕ → List ℕ
-index_message at count = codes "Index " ++ signed_decimal at ++ codes " out of bounds for length " ++ decimal count
-
-abbrev pub index_error : ℤ → ℕ → Outcome
-index_error at count = says raised.IndexOutOfBounds (index_message at count)
 
 -- a place at which there is an item, and one at which an item may be inserted
 abbrev pub place_of : ℕ → ℤ → Option ℕ
@@ -40,10 +34,6 @@ place_into count (negsuc n) = None
 abbrev pub at_place : ℕ → ℤ → Option ℕ → (ℕ → Outcome) → Outcome
 at_place count at None next = index_error at count
 at_place count at (Some place) next = next place
-
--- goes on where the list may be changed
-abbrev pub where_open : List Object → ℕ → Outcome → Outcome
-where_open objects list told = if is_open (guard_of objects list) then told else unsupported
 
 -- the item at a place
 abbrev pub item_in : List Value → ℤ → Option Value
@@ -59,7 +49,7 @@ got objects list at = item_given (items_of objects list) at (item_in (items_of o
 
 -- with an item written; the one that stood there is the value
 abbrev pub written : List Object → ℕ → ℤ → Value → Outcome
-written objects list at item = where_open objects list (at_place (length (items_of objects list)) at (place_of (length (items_of objects list)) at) (λ place. Writes list place item))
+written objects list at item = where_open objects list (at_place (length (items_of objects list)) at (place_of (length (items_of objects list)) at) (λ place. Sets list place item))
 
 -- with an item at the end, and inserted at a place
 abbrev pub added : List Object → ℕ → Value → Outcome
@@ -90,6 +80,36 @@ place_given at = Gives (v.Int (count_as_int at))
 
 abbrev pub place_found : List Object → ℕ → Value → Outcome
 place_found objects list value = search objects list value place_given (Gives (v.Int (negsuc 0)))
+
+-- the place of the last that is equal to a value, or -1
+abbrev pub last_place_found : List Object → ℕ → Value → Outcome
+last_place_found objects list value = where_found (last_before objects value (items_of objects list) (length (items_of objects list))) place_given (Gives (v.Int (negsuc 0)))
+
+-- an array of the items, whose elements are of any type
+abbrev pub array_of : List Object → ℕ → Outcome
+array_of objects list = New (o.Array Def (items_of objects list))
+
+-- with the items in the opposite order, which is no change of the count
+abbrev pub list_reversed : ℕ → Option Object → Outcome
+list_reversed id (Some (o.List class items guard changes)) = Becomes id (o.List class (reverse items) g.Open changes) v.Null
+list_reversed id found = Gives v.Null
+
+abbrev pub reversed : List Object → ℕ → Outcome
+reversed objects list = where_open objects list (list_reversed list (slice_get objects list))
+
+-- with the items of two places in each other's; the first place is tested first
+abbrev pub items_swapped : ℕ → ℕ → ℕ → Option Value → Option Value → Outcome
+items_swapped list at other_at (Some item) (Some other) = SetsTwo list at other other_at item
+items_swapped list at other_at item other = Gives v.Null
+
+abbrev pub places_swapped : List Object → ℕ → ℕ → ℕ → Outcome
+places_swapped objects list at other_at = items_swapped list at other_at (slice_get (items_of objects list) at) (slice_get (items_of objects list) other_at)
+
+abbrev pub swapped_with : List Object → ℕ → ℤ → ℕ → Outcome
+swapped_with objects list other_at at = at_place (length (items_of objects list)) other_at (place_of (length (items_of objects list)) other_at) (places_swapped objects list at)
+
+abbrev pub swapped : List Object → ℕ → ℤ → ℤ → Outcome
+swapped objects list at other_at = where_open objects list (at_place (length (items_of objects list)) at (place_of (length (items_of objects list)) at) (swapped_with objects list other_at))
 
 abbrev pub size_given : List Object → ℕ → Outcome
 size_given objects list = Gives (v.Int (count_as_int (length (items_of objects list))))
@@ -147,3 +167,19 @@ remove_at objects arguments = with_two (cut_out objects) (list_at objects argume
 
 abbrev pub set : List Object → List Value → Outcome
 set objects arguments = with_three (written objects) (list_at objects arguments 0) (int_at arguments 1) (slice_get arguments 2)
+
+abbrev pub last_index_of : List Object → List Value → Outcome
+last_index_of objects arguments = with_two (last_place_found objects) (list_at objects arguments 0) (slice_get arguments 1)
+
+abbrev pub to_array : List Object → List Value → Outcome
+to_array objects arguments = with_one (array_of objects) (list_at objects arguments 0)
+
+-- the receiver itself
+abbrev pub as_list : List Object → List Value → Outcome
+as_list objects arguments = with_one (λ list. Gives (v.Ref list)) (list_at objects arguments 0)
+
+abbrev pub reverse_all : List Object → List Value → Outcome
+reverse_all objects arguments = with_one (reversed objects) (list_at objects arguments 0)
+
+abbrev pub swap : List Object → List Value → Outcome
+swap objects arguments = with_three (swapped objects) (list_at objects arguments 0) (int_at arguments 1) (int_at arguments 2)

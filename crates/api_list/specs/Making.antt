@@ -5,9 +5,9 @@ use Rattle.object_values.specs.declared.object.Object.TheVariants as o
 use Rattle.object_values.specs.declared.object.Guard.TheVariants as g
 use Rattle.object_values.specs.declared.value.Value.{Value}
 use Rattle.pl_types.specs.declared.classes.TheConstants.{ARRAY_LIST, HASH_MAP}
-use Rattle.api_list.specs.declared.outcome.Outcome.{Outcome}
-use Rattle.api_list.specs.declared.outcome.Outcome.TheVariants.{New}
-use Rattle.api_list.specs.Arguments.{with_one}
+use Rattle.container_outcomes.specs.declared.outcome.Outcome.{Outcome}
+use Rattle.container_outcomes.specs.declared.outcome.Outcome.TheVariants.{New}
+use Rattle.container_outcomes.specs.Choices.{with_one}
 
 abbrev pub new_list : Outcome
 new_list = New (o.List ARRAY_LIST [] g.Open 0)

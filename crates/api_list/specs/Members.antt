@@ -1,13 +1,13 @@
 -- What each member comes to, and their numbers.
-use Rattle.std.specs.Prelude.{ℕ, ◌-◌, nat_lt, Option, Some, None, List, [], ◌∷◌, slice_get, if◌then◌else◌}
+use Rattle.std.specs.Prelude.{ℕ, ◌-◌, ◌==◌, nat_lt, Option, Some, None, List, [], ◌∷◌, slice_get, if◌then◌else◌}
 use Rattle.object_values.specs.declared.object.Object.{Object}
 use Rattle.object_values.specs.declared.value.Value.{Value}
 use Rattle.api_list.specs.declared.member.Member.{Member}
 use Rattle.api_list.specs.declared.member.Member.TheVariants as m
-use Rattle.api_list.specs.declared.outcome.Outcome.{Outcome}
+use Rattle.container_outcomes.specs.declared.outcome.Outcome.{Outcome}
 use Rattle.api_list.specs.Lists as lists
 use Rattle.api_list.specs.Making as making
-use Rattle.api_list.specs.Outcomes.{nothing}
+use Rattle.container_outcomes.specs.Outcomes.{nothing}
 
 -- what a member comes to
 abbrev pub does : List Object → Member → List Value → Outcome
@@ -22,23 +22,28 @@ does objects m.Get arguments = lists.get objects arguments
 does objects m.IndexOf arguments = lists.index_of objects arguments
 does objects m.RemoveAt arguments = lists.remove_at objects arguments
 does objects m.Set arguments = lists.set objects arguments
+does objects m.ToArray arguments = lists.to_array objects arguments
+does objects m.LastIndexOf arguments = lists.last_index_of objects arguments
+does objects m.AsList arguments = lists.as_list objects arguments
 does objects m.NewList arguments = making.new_list
 does objects m.EmptyList arguments = making.empty_list
 does objects m.EmptyMap arguments = making.empty_map
+does objects m.Reverse arguments = lists.reverse_all objects arguments
 does objects m.SingletonList arguments = making.singleton_list arguments
+does objects m.Swap arguments = lists.swap objects arguments
 
 -- The members in the order of their numbers in the catalogue, with a gap for each that is not built: those of Collection, List and
--- ArrayList from 97, and those of Collections from 169
+-- ArrayList from 97, and those of Collections from 169. Of Iterable's only asList is one, which is 89
 unfoldable pub of_lists : List (Option Member)
 of_lists =
     Some m.Add ∷ None ∷ Some m.Clear ∷ Some m.Contains ∷ None ∷ Some m.IsEmpty ∷ Some m.Remove ∷ None ∷ None ∷ Some m.Size
-    ∷ None ∷ None ∷ None ∷ None ∷ None ∷ None
-    ∷ Some m.AddAt ∷ None ∷ Some m.Get ∷ Some m.Size ∷ Some m.IndexOf ∷ None ∷ Some m.RemoveAt ∷ None ∷ Some m.Set ∷ None
+    ∷ Some m.ToArray ∷ None ∷ None ∷ None ∷ None ∷ None
+    ∷ Some m.AddAt ∷ None ∷ Some m.Get ∷ Some m.Size ∷ Some m.IndexOf ∷ Some m.LastIndexOf ∷ Some m.RemoveAt ∷ None ∷ Some m.Set ∷ None
     ∷ Some m.NewList
     ∷ []
 
 unfoldable pub of_makers : List (Option Member)
-of_makers = Some m.EmptyList ∷ Some m.EmptyMap ∷ None ∷ None ∷ None ∷ Some m.SingletonList ∷ []
+of_makers = Some m.EmptyList ∷ Some m.EmptyMap ∷ None ∷ None ∷ Some m.Reverse ∷ Some m.SingletonList ∷ None ∷ None ∷ Some m.Swap ∷ []
 
 -- what stands at a place, if it is no gap
 abbrev pub built_in : Option (Option Member) → Option Member
@@ -51,9 +56,10 @@ member_at members at = built_in (slice_get members at)
 -- the member of a number, if it is one of these
 unfoldable pub numbered : ℕ → Option Member
 numbered number =
-    if nat_lt number 97 then None
+    if number == 89 then Some m.AsList
+    else (if nat_lt number 97 then None
     else (if nat_lt number 169 then member_at of_lists (number - 97)
-    else member_at of_makers (number - 169))
+    else member_at of_makers (number - 169)))
 
 abbrev pub does_found : List Object → Option Member → List Value → Outcome
 does_found objects None arguments = nothing

@@ -2,16 +2,12 @@
 #![tactic(auto)]
 
 mod arguments;
-mod errors;
-mod guards;
 mod laws;
 mod lists;
 mod making;
 mod member;
-mod outcome;
-mod paying;
+mod orders;
 mod searching;
-mod values;
 
 pub use laws::members_keep_fit;
 pub use member::call;

@@ -2,21 +2,21 @@
 ghost use Rattle.std.specs.Prelude.{◌≡◌, Some, None, length, slice_get};
 ghost use Rattle.std.specs.Option.{option_copied};
 ghost use Rattle.object_heap.specs.Parts.{items_of};
-ghost use Rattle.object_values.specs.declared.value.Value.TheVariants as v;
-ghost use Rattle.api_list.specs.declared.outcome.Outcome.{Outcome};
+ghost use Rattle.container_outcomes.specs.declared.outcome.Outcome.{Outcome};
+ghost use Rattle.container_outcomes.specs.Outcomes.{Tells};
 ghost use Rattle.api_list.specs.Lists as spec;
-ghost use Rattle.api_list.specs.Outcomes.{Tells};
-ghost use Rattle.api_list.specs.Searching.{first_from};
+ghost use Rattle.api_list.specs.Searching.{first_from, last_before};
 
 use crate::arguments::list_at;
-use crate::errors::{index_error, null_error, too_deep, too_large, unsupported};
-use crate::guards::is_open;
-use crate::outcome::Outcome;
-use crate::searching::{Found, first_of};
-use crate::values::{given, shared};
+use crate::searching::{first_of, last_of};
+use container_outcomes::{
+    Found, Outcome, copied, given, index_error, is_open, null_error, shared, too_deep, too_large,
+    unsupported,
+};
 use member_arguments::{int_at, value_at};
 use object_heap::Heap;
 use object_values::{Elements, Guard, Object, Value};
+use pl_types::Ty;
 
 /// A count as an int, at most the greatest one.
 fn count_as_int(count: usize) -> i32
@@ -29,8 +29,8 @@ fn count_as_int(count: usize) -> i32
     }
 }
 
-// The place at which there is an item.
-fn place_of(count: usize, at: i32) -> Option<usize>
+/// The place at which there is an item.
+pub fn place_of(count: usize, at: i32) -> Option<usize>
     ensures { result ≡ spec.place_of count at }
 {
     if at < 0 {
@@ -67,11 +67,11 @@ fn got(heap: &Heap, list: u32, at: i32) -> Outcome
     }
 }
 
-fn writes(list: u32, at: usize, item: &Value) -> Outcome
-    ensures { Tells (Outcome.Writes list at item.now) result }
+fn sets(list: u32, at: usize, item: &Value) -> Outcome
+    ensures { Tells (Outcome.Sets list at item.now) result }
 {
     match shared(item) {
-        Some(item) => Outcome::Writes(list, at, item),
+        Some(item) => Outcome::Sets(list, at, item),
         None => Outcome::NoMemory,
     }
 }
@@ -84,7 +84,7 @@ fn written(heap: &Heap, list: u32, at: i32, item: &Value) -> Outcome
     }
     let count = heap.items(list).len();
     match place_of(count, at) {
-        Some(place) => writes(list, place, item),
+        Some(place) => sets(list, place, item),
         None => index_error(heap, at, count),
     }
 }
@@ -181,6 +181,35 @@ fn place_found(heap: &Heap, list: u32, value: &Value) -> Outcome
         Found::Nowhere => Outcome::Gives(Value::Int(-1)),
         Found::Deep => too_deep(heap),
         Found::Large => too_large(heap),
+    }
+}
+
+fn last_in(heap: &Heap, list: u32, value: &Value) -> Found
+    ensures { result ≡ last_before heap.now.objects value.now (items_of heap.now.objects list) (length (items_of heap.now.objects list)) }
+{
+    last_of(heap, value, heap.items(list))
+}
+
+fn last_place_found(heap: &Heap, list: u32, value: &Value) -> Outcome
+    ensures { Tells (spec.last_place_found heap.now.objects list value.now) result }
+{
+    match last_in(heap, list, value) {
+        Found::At(at) => Outcome::Gives(Value::Int(count_as_int(at))),
+        Found::Nowhere => Outcome::Gives(Value::Int(-1)),
+        Found::Deep => too_deep(heap),
+        Found::Large => too_large(heap),
+    }
+}
+
+fn array_of(heap: &Heap, list: u32) -> Outcome
+    ensures { Tells (spec.array_of heap.now.objects list) result }
+{
+    match copied(heap.alloc(), heap.items(list)) {
+        Ok(items) => Outcome::New(Object::Array {
+            elem: Ty::Def,
+            items,
+        }),
+        Err(_) => Outcome::NoMemory,
     }
 }
 
@@ -358,5 +387,35 @@ pub fn set(heap: &Heap, args: &[Value]) -> Outcome
     match (list_at(heap, args, 0), int_at(args, 1), value_at(args, 2)) {
         (Some(list), Some(at), Some(item)) => written(heap, list, at, item),
         _ => null_error(),
+    }
+}
+
+/// `lastIndexOf(def)`.
+pub fn last_index_of(heap: &Heap, args: &[Value]) -> Outcome
+    ensures { Tells (spec.last_index_of heap.now.objects args.now) result }
+{
+    match (list_at(heap, args, 0), value_at(args, 1)) {
+        (Some(list), Some(value)) => last_place_found(heap, list, value),
+        _ => null_error(),
+    }
+}
+
+/// `toArray()`.
+pub fn to_array(heap: &Heap, args: &[Value]) -> Outcome
+    ensures { Tells (spec.to_array heap.now.objects args.now) result }
+{
+    match list_at(heap, args, 0) {
+        Some(list) => array_of(heap, list),
+        None => null_error(),
+    }
+}
+
+/// `asList()`, which is the list itself.
+pub fn as_list(heap: &Heap, args: &[Value]) -> Outcome
+    ensures { Tells (spec.as_list heap.now.objects args.now) result }
+{
+    match list_at(heap, args, 0) {
+        Some(list) => Outcome::Gives(Value::Ref(list)),
+        None => null_error(),
     }
 }

@@ -1,10 +1,9 @@
 //! The constructor of lists, and the makers of frozen lists and maps.
 ghost use Rattle.std.specs.Prelude.{◌≡◌, [], ◌∷◌, IfOk};
+ghost use Rattle.container_outcomes.specs.Outcomes.{Tells};
 ghost use Rattle.api_list.specs.Making as spec;
-ghost use Rattle.api_list.specs.Outcomes.{Tells};
 
-use crate::errors::null_error;
-use crate::outcome::Outcome;
+use container_outcomes::{Outcome, null_error};
 use member_arguments::value_at;
 use object_heap::Heap;
 use object_values::{Elements, Guard, Object, Pairs, Value};

@@ -2,12 +2,12 @@
 ghost use Rattle.std.specs.Prelude.{◌≡◌, length};
 ghost use Rattle.object_heap.specs.Effects.{Answers};
 ghost use Rattle.object_heap.specs.Fits.{Rules, Fits, AllFit, AnswerFits};
-ghost use Rattle.api_list.specs.Outcomes.{Tells, WantsMemory, effect};
+ghost use Rattle.container_outcomes.specs.Outcomes.{Tells, WantsMemory, effect};
 ghost use Rattle.api_list.specs.Members as spec;
 ghost use Rattle.api_list.specs.Members.{does, does_numbered, numbered};
 
-use crate::outcome::Outcome;
-use crate::{lists, making};
+use crate::{lists, making, orders};
+use container_outcomes::Outcome;
 use object_heap::{Answer, Heap};
 use object_values::Value;
 
@@ -20,15 +20,20 @@ pub enum Member {
     IsEmpty,
     Remove,
     Size,
+    ToArray,
     AddAt,
     Get,
     IndexOf,
+    LastIndexOf,
     RemoveAt,
     Set,
     NewList,
     EmptyList,
     EmptyMap,
+    Reverse,
     SingletonList,
+    Swap,
+    AsList,
 }
 
 fn tells(heap: &Heap, member: Member, args: &[Value]) -> Outcome
@@ -46,10 +51,15 @@ fn tells(heap: &Heap, member: Member, args: &[Value]) -> Outcome
         Member::IndexOf => lists::index_of(heap, args),
         Member::RemoveAt => lists::remove_at(heap, args),
         Member::Set => lists::set(heap, args),
+        Member::ToArray => lists::to_array(heap, args),
+        Member::LastIndexOf => lists::last_index_of(heap, args),
+        Member::AsList => lists::as_list(heap, args),
         Member::NewList => making::new_list(heap),
         Member::EmptyList => making::empty_list(heap),
         Member::EmptyMap => making::empty_map(heap),
+        Member::Reverse => orders::reverse_all(heap, args),
         Member::SingletonList => making::singleton_list(heap, args),
+        Member::Swap => orders::swap(heap, args),
     }
 }
 
@@ -65,7 +75,7 @@ static OF_LISTS: [Option<Member>; 27] = [
     None,
     None,
     Some(Member::Size),
-    None,
+    Some(Member::ToArray),
     None,
     None,
     None,
@@ -76,7 +86,7 @@ static OF_LISTS: [Option<Member>; 27] = [
     Some(Member::Get),
     Some(Member::Size),
     Some(Member::IndexOf),
-    None,
+    Some(Member::LastIndexOf),
     Some(Member::RemoveAt),
     None,
     Some(Member::Set),
@@ -85,13 +95,16 @@ static OF_LISTS: [Option<Member>; 27] = [
 ];
 
 /// The members of Collections, from 169.
-static OF_MAKERS: [Option<Member>; 6] = [
+static OF_MAKERS: [Option<Member>; 9] = [
     Some(Member::EmptyList),
     Some(Member::EmptyMap),
     None,
     None,
-    None,
+    Some(Member::Reverse),
     Some(Member::SingletonList),
+    None,
+    None,
+    Some(Member::Swap),
 ];
 
 #[tactic(auto, unfolding(crate::specs::Members::of_lists))]
@@ -121,7 +134,9 @@ fn member_at(members: &[Option<Member>], at: usize) -> Option<Member>
 fn member_of(number: u32) -> Option<Member>
     ensures { result ≡ numbered number }
 {
-    if number < 97 {
+    if number == 89 {
+        Some(Member::AsList)
+    } else if number < 97 {
         None
     } else if number < 169 {
         member_at(of_lists(), (number - 97) as usize)

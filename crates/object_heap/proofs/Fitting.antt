@@ -11,7 +11,7 @@ use Rattle.object_values.specs.declared.object.Target.TheVariants as t
 use Rattle.object_values.specs.Values.{is_simple}
 use Rattle.object_values.specs.Pairs.{value_of}
 use Rattle.object_heap.specs.Fits.{kinds, is_map, can_iterate, Typed, Rules, is_element, target_fits, ValueFits, AllFit, PairsFit, KeysFit, AreElements, ObjectFits, ObjectsFit, Fits, ItemFits}
-use Rattle.object_heap.specs.Objects.{Kind, AList, kind_of, may_become, changed, with_item, with_inserted, with_removed, with_put, with_key_cut, with_pair_cut, with_units, renewed_by, retired_target, retired}
+use Rattle.object_heap.specs.Objects.{Kind, AList, kind_of, may_become, changed, changed_by, with_item, with_inserted, with_all_inserted, with_removed, with_put, with_key_cut, with_pair_cut, with_units, renewed_by, retired_target, retired}
 use Rattle.object_heap.specs.Parts.{object_items, object_pairs, object_captures, items_of, pairs_of, captures_of}
 use Rattle.object_heap.specs.Store.{with_change}
 use Rattle.object_heap.proofs.Growth.{cons_changed}
@@ -163,6 +163,28 @@ pub grow_fits : (rules : Rules) (objects : List Object) (id at : ℕ) (value : V
 grow_fits rules objects id at value f h = changed_fits rules objects id (with_inserted at value) (record {
   kind = inserted_kind at value;
   fit = λ object is g. inserted_fit rules (kinds objects) at value (counted objects value h) object g;
+}) f
+
+-- items that are inserted
+all_counted : (objects : List Object) (values : List Value) → AllFit (length objects) values → AllFit (length (kinds objects)) values
+all_counted objects values h = subst (λ (n : ℕ). AllFit n values) (sym (length-kinds objects)) h
+
+all_inserted_kind : (at : ℕ) (more : List Value) (object : Object) → may_become (kind_of object) (kind_of (with_all_inserted at more object)) ≡ true
+all_inserted_kind at more (o.List class items guard changes) =
+    elim (nat_le at (length items)) as (λ b. may_become (AList class) (kind_of (if b then o.List class (take at items ++ more ++ drop at items) guard (changed_by changes (length more)) else o.List class items guard changes)) ≡ true)
+    [ true ↦ becomes_refl (AList class) | false ↦ becomes_refl (AList class) ]
+all_inserted_kind at more object = becomes_refl (kind_of object)
+
+all_inserted_fit : (rules : Rules) (ks : List Kind) (at : ℕ) (more : List Value) → AllFit (length ks) more → (object : Object) → ObjectFits rules ks object → ObjectFits rules ks (with_all_inserted at more object)
+all_inserted_fit rules ks at more h (o.List class items guard changes) f =
+    elim (nat_le at (length items)) as (λ b. ObjectFits rules ks (if b then o.List class (take at items ++ more ++ drop at items) guard (changed_by changes (length more)) else o.List class items guard changes))
+    [ true ↦ (f.0, all_append _ (take at items ++ more) (drop at items) (all_append _ (take at items) more (all_take _ at items f.1) h) (all_drop _ at items f.1)) | false ↦ f ]
+all_inserted_fit rules ks at more h object f = f
+
+pub extend_fits : (rules : Rules) (objects : List Object) (id at : ℕ) (more : List Value) → Fits rules objects → AllFit (length objects) more → Fits rules (with_change objects id (with_all_inserted at more))
+extend_fits rules objects id at more f h = changed_fits rules objects id (with_all_inserted at more) (record {
+  kind = all_inserted_kind at more;
+  fit = λ object is g. all_inserted_fit rules (kinds objects) at more (all_counted objects more h) object g;
 }) f
 
 -- an item that is taken out

@@ -1,5 +1,5 @@
 -- How changes of objects change the weight of a store.
-use Rattle.std.proofs.Common.{◌≡◌, ℕ, zero, suc, ◌+◌, ◌-◌, ◌*◌, true, false, Option, Some, None, List, [], ◌∷◌, ◌++◌, length, refl, ap, arith, length-append, slice_get, if◌then◌else◌}
+use Rattle.std.proofs.Common.{◌≡◌, ℕ, zero, suc, ◌+◌, ◌-◌, ◌*◌, ◌≤◌, true, false, Option, Some, None, List, [], ◌∷◌, ◌++◌, length, take, drop, refl, ap, add-one, arith, length-append, slice_get, if◌then◌else◌}
 use Rattle.std.proofs.lemmas.List.Edits.{length-insert}
 use Rattle.std.proofs.lemmas.Bool.Decides.{nat_tests}
 use Rattle.object_values.specs.declared.value.Value.{Value}
@@ -8,7 +8,7 @@ use Rattle.object_values.specs.declared.object.Object.{Object}
 use Rattle.object_values.specs.declared.object.Object.TheVariants as o
 use Rattle.object_values.specs.Pairs.{value_of, with_pair}
 use Rattle.object_values.specs.Values.{same_value}
-use Rattle.object_heap.specs.Objects.{weight_of, with_inserted, insert_growth, with_put, with_units, units_growth, put_growth, new_growth, renewed_by, renewal_growth, may_become, kind_of}
+use Rattle.object_heap.specs.Objects.{weight_of, with_inserted, insert_growth, with_all_inserted, insert_all_growth, with_put, with_units, units_growth, put_growth, new_growth, renewed_by, renewal_growth, may_become, kind_of}
 use Rattle.object_heap.specs.Parts.{asked}
 use Rattle.object_heap.specs.Store.{weight, changed_at, with_change}
 
@@ -37,6 +37,36 @@ inserted_weighs at value object = omega arith
 pub insert_grows : (objects : List Object) (id at : ℕ) (value : Value)
     → weight (with_change objects id (with_inserted at value)) - weight objects ≡ asked (insert_growth at) 0 (slice_get objects id)
 insert_grows objects id at value = change_grows objects id _ _ (inserted_weighs at value)
+
+length-between : (at : ℕ) (items more : List Value) → at ≤ length items → length (take at items ++ more ++ drop at items) ≡ length items + length more
+length-between zero items more h = omega (arith, length-append more items)
+length-between (suc at) [] more h = absurd (omega arith)
+length-between (suc at) (item ∷ items) more h = omega (arith, length-between at items more (omega arith))
+
+all_inserted_weighs : (at : ℕ) (more : List Value) (object : Object) → weight_of (with_all_inserted at more object) - weight_of object ≡ insert_all_growth at (length more) object
+unfolding weight_of
+all_inserted_weighs at more (o.List class items guard changes) = grind (arith, nat_tests, length-between)
+all_inserted_weighs at more object = omega arith
+
+pub insert_all_grows : (objects : List Object) (id at : ℕ) (more : List Value)
+    → weight (with_change objects id (with_all_inserted at more)) - weight objects ≡ asked (insert_all_growth at (length more)) 0 (slice_get objects id)
+insert_all_grows objects id at more = change_grows objects id _ _ (all_inserted_weighs at more)
+
+weight-append_all : (objects more : List Object) → weight (objects ++ more) ≡ weight objects + weight more
+weight-append_all [] more = omega arith
+weight-append_all (x ∷ objects) more = omega (arith, weight-append_all objects more)
+
+pub all_grow : (objects more : List Object) → weight (objects ++ more) - weight objects ≡ weight more
+all_grow objects more = omega (arith, weight-append_all objects more)
+
+-- the weight of the objects from a place on is that of the one there and of those behind it
+weight_behind : (objects : List Object) (at : ℕ) (object : Object) → slice_get objects at ≡ Some object → weight (drop at objects) ≡ weight_of object + weight (drop (suc at) objects)
+weight_behind [] at object h = cc
+weight_behind (x ∷ objects) zero object h = let same : x ≡ object = cc in ap (λ (o : Object). weight_of o + weight objects) same
+weight_behind (x ∷ objects) (suc at) object h = weight_behind objects at object h
+
+pub weight_from : (objects : List Object) (at : ℕ) (object : Object) → slice_get objects at ≡ Some object → weight (drop at objects) ≡ weight_of object + weight (drop (at + 1) objects)
+weight_from objects at object h = rw (add-one) (weight_behind objects at object h)
 
 pub add_grows : (objects : List Object) (object : Object) → weight (objects ++ object ∷ []) - weight objects ≡ weight_of object
 add_grows objects object = omega (arith, weight-append objects object)

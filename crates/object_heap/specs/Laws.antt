@@ -11,7 +11,7 @@ use Rattle.object_heap.specs.declared.answer.Answer.{Answer}
 use Rattle.object_heap.specs.declared.error.HeapErr.{HeapErr}
 use Rattle.object_heap.specs.Effects.{Effect, Answers, throws}
 use Rattle.object_heap.specs.Fits.{kinds, Rules, ValueFits, AllFit, ObjectFits, Fits, ItemFits, EffectFits, AnswerFits}
-use Rattle.object_heap.specs.Objects.{with_item, with_inserted, with_removed, with_put, with_key_cut, with_pair_cut, with_units, renewed_by, retired}
+use Rattle.object_heap.specs.Objects.{with_item, with_inserted, with_all_inserted, with_removed, with_put, with_key_cut, with_pair_cut, with_units, renewed_by, retired}
 use Rattle.object_heap.specs.Parts.{items_of, pairs_of, captures_of}
 use Rattle.object_heap.specs.Paying.{Pays, PaysSurely}
 use Rattle.object_heap.specs.Store.{Store, with_change}
@@ -47,6 +47,10 @@ PutFits = (rules : Rules) (objects : List Object) (id at : ℕ) (value : Value) 
 abbrev pub GrowFits : Type 0
 GrowFits = (rules : Rules) (old new : Store) (id at : ℕ) (value : Value) (result : Result (Unit {0}) HeapErr)
     → Pays old new (with_change old.objects id (with_inserted at value)) 0 result → Fits rules old.objects → ValueFits (length old.objects) value → Fits rules new.objects
+
+abbrev pub ExtendFits : Type 0
+ExtendFits = (rules : Rules) (old new : Store) (id at : ℕ) (more : List Value) (result : Result (Unit {0}) HeapErr)
+    → Pays old new (with_change old.objects id (with_all_inserted at more)) 0 result → Fits rules old.objects → AllFit (length old.objects) more → Fits rules new.objects
 
 abbrev pub CutFits : Type 0
 CutFits = (rules : Rules) (objects : List Object) (id at : ℕ) → Fits rules objects → Fits rules (with_change objects id (with_removed at))

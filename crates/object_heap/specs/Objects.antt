@@ -1,5 +1,5 @@
 -- Objects: what each weighs, what one operation makes of one, and which may replace which.
-use Rattle.std.specs.Prelude.{Bool, true, false, ℕ, suc, ◌==◌, ◌+◌, ◌-◌, ◌*◌, ◌%◌, ◌^◌, nat_le, nat_lt, if◌then◌else◌, Option, Some, None, List, length, ◌++◌, slice_get, slice_set, insert, remove}
+use Rattle.std.specs.Prelude.{Bool, true, false, ℕ, suc, ◌==◌, ◌+◌, ◌-◌, ◌*◌, ◌%◌, ◌^◌, nat_le, nat_lt, if◌then◌else◌, Option, Some, None, List, length, ◌++◌, slice_get, slice_set, insert, remove, take, drop}
 use Rattle.pl_types.specs.declared.ty.Ty.{Ty}
 use Rattle.pl_types.specs.Types.{same_types}
 use Rattle.object_values.specs.declared.value.Value.{Value}
@@ -35,6 +35,10 @@ weight_of (o.Exc class message) = suc (message_units message)
 abbrev pub changed : ℕ → ℕ
 changed n = (n + 1) % 2 ^ 64
 
+-- a change count after so many more changes
+abbrev pub changed_by : ℕ → ℕ → ℕ
+changed_by changes count = (changes + count) % 2 ^ 64
+
 -- with an item written, in a list or an array that has the place
 abbrev pub with_item : ℕ → Value → Object → Object
 with_item at value (o.List class items guard changes) = o.List class (slice_set items at value) guard changes
@@ -46,6 +50,12 @@ abbrev pub with_inserted : ℕ → Value → Object → Object
 with_inserted at value (o.List class items guard changes) =
     if nat_le at (length items) then o.List class (insert items at value) guard (changed changes) else o.List class items guard changes
 with_inserted at value object = object
+
+-- with items inserted in their order, in a list that has the place; each of them is a change
+abbrev pub with_all_inserted : ℕ → List Value → Object → Object
+with_all_inserted at more (o.List class items guard changes) =
+    if nat_le at (length items) then o.List class (take at items ++ more ++ drop at items) guard (changed_by changes (length more)) else o.List class items guard changes
+with_all_inserted at more object = object
 
 -- with an item taken out, of a list that has the place
 abbrev pub with_removed : ℕ → Object → Object
@@ -89,10 +99,14 @@ abbrev pub with_units : List ℕ → Object → Object
 with_units more (o.Builder units) = o.Builder (units ++ more)
 with_units more object = object
 
--- how much an insertion, a put and units add to the weight
+-- how much an insertion of one item and of several, a put and units add to the weight
 abbrev pub insert_growth : ℕ → Object → ℕ
 insert_growth at (o.List class items guard changes) = if nat_le at (length items) then 1 else 0
 insert_growth at object = 0
+
+abbrev pub insert_all_growth : ℕ → ℕ → Object → ℕ
+insert_all_growth at count (o.List class items guard changes) = if nat_le at (length items) then count else 0
+insert_all_growth at count object = 0
 
 abbrev pub units_growth : ℕ → Object → ℕ
 units_growth count (o.Builder units) = count

@@ -1,11 +1,11 @@
 //! Changes of one object. What a change does not apply to stays as it is.
-ghost use Rattle.std.specs.Prelude.{◌≡◌, IfOk, OnOk, OnErr, slice_get, remove};
+ghost use Rattle.std.specs.Prelude.{◌≡◌, ◌≤◌, ◌++◌, length, take, drop, IfOk, OnOk, OnErr, slice_get, remove};
 ghost use Rattle.object_values.specs.Pairs.{value_of, with_pair, without_key};
-ghost use Rattle.object_heap.specs.Objects.{with_inserted, with_item, with_removed, with_put, with_key_cut, with_pair_cut, with_units, put_counted, cut_counted, pair_counted};
+ghost use Rattle.object_heap.specs.Objects.{with_inserted, with_all_inserted, with_item, with_removed, with_put, with_key_cut, with_pair_cut, with_units, put_counted, cut_counted, pair_counted};
 ghost use Rattle.object_heap.specs.Parts.{object_items, list_items, object_pairs, items_of, list_items_of, pairs_of};
 ghost use Rattle.object_heap.specs.Store.{with_change};
 
-use object_values::{Object, Pairs, Value};
+use object_values::{Elements, Object, Pairs, Value};
 use std::alloc::AllocError;
 
 /// Inserts an item into a list.
@@ -46,6 +46,75 @@ fn insert_into(object: &mut Object, at: usize, value: Value) -> Result<(), Alloc
             Ok(())
         }
     }
+}
+
+/// Inserts items into a list, in their order.
+pub fn insert_items(
+    objects: &mut Vec<Object>,
+    id: u32,
+    at: usize,
+    more: Elements<Value>,
+) -> Result<(), AllocError>
+    ensures ok { OnOk result (objects.new.items ≡ with_change objects.old.items id (with_all_inserted at more)) }
+    ensures err { OnErr result (objects.new.items ≡ objects.old.items) }
+{
+    match objects.get_mut(id as usize) {
+        Some(object) => insert_all_into(object, at, more),
+        None => {
+            drop(more);
+            Ok(())
+        }
+    }
+}
+
+fn insert_all_into(object: &mut Object, at: usize, more: Elements<Value>) -> Result<(), AllocError>
+    ensures ok { OnOk result (object.new ≡ with_all_inserted at more object.old) }
+    ensures err { OnErr result (object.new ≡ object.old) }
+{
+    match object {
+        Object::List { items, changes, .. } => {
+            if at <= items.len() {
+                let count = more.len() as u64;
+                insert_all(items, at, more)?;
+                *changes = changes.wrapping_add(count);
+            } else {
+                drop(more);
+            }
+            Ok(())
+        }
+        _ => {
+            drop(more);
+            Ok(())
+        }
+    }
+}
+
+fn insert_all(
+    items: &mut Elements<Value>,
+    at: usize,
+    more: Elements<Value>,
+) -> Result<(), AllocError>
+    requires { at ≤ length items.old }
+    ensures ok { OnOk result (items.new ≡ take at items.old ++ more ++ drop at items.old) }
+    ensures err { OnErr result (items.new ≡ items.old) }
+{
+    let more = more.into_vec();
+    let mut all = std::mem::replace(items, Elements::new(*more.allocator())).into_vec();
+    let moved = move_into(&mut all, at, more);
+    *items = Elements::from_vec(all);
+    moved
+}
+
+// The items go behind the others, and then behind them those that stood from the place on.
+fn move_into(all: &mut Vec<Value>, at: usize, mut more: Vec<Value>) -> Result<(), AllocError>
+    requires { at ≤ length all.old.items }
+    ensures ok { OnOk result (all.new.items ≡ take at all.old.items ++ more.items ++ drop at all.old.items) }
+    ensures err { OnErr result (all.new.items ≡ all.old.items) }
+{
+    let count = more.len();
+    all.append(&mut more)?;
+    all[at..].rotate_right(count);
+    Ok(())
 }
 
 /// Writes an item of a list or an array.

@@ -3,13 +3,15 @@ ghost use Rattle.std.specs.Prelude.{◌≡◌, Some, None, [], ◌∷◌, ◌++�
 ghost use Rattle.std.specs.Option.{option_copied};
 
 use crate::changes::{
-    append_units, cut_item, cut_key, cut_pair_at, insert_item, put_item, put_key,
+    append_units, cut_item, cut_key, cut_pair_at, insert_item, insert_items, put_item, put_key,
 };
 use crate::error::HeapErr;
 use crate::parts;
 use crate::renewal::{renew_at, renewal_growth_at, retire_all};
-use crate::weights::{insert_growth, put_growth, units_growth, weight_within};
-use object_values::{Guard, Object, Pairs, Target, Value};
+use crate::weights::{
+    all_within, insert_all_growth, insert_growth, put_growth, units_growth, weight_within,
+};
+use object_values::{Elements, Guard, Object, Pairs, Target, Value};
 use pl_types::Ty;
 use pl_units::UText;
 use std::alloc::{AllocError, Global};
@@ -49,7 +51,7 @@ impl Drop for Heap {
 
 impl Heap {
     ghost use Rattle.object_values.specs.Pairs.{value_of, key_at, pair_value_at};
-    ghost use Rattle.object_heap.specs.Objects.{with_item, with_inserted, with_removed, with_put, with_key_cut, with_pair_cut, with_units, renewed_by, retired};
+    ghost use Rattle.object_heap.specs.Objects.{with_item, with_inserted, with_all_inserted, with_removed, with_put, with_key_cut, with_pair_cut, with_units, renewed_by, retired};
     ghost use Rattle.object_heap.specs.Parts.{items_of, list_items_of, map_of, pairs_of, size_of, class_of, guard_of, frozen_of, changes_of, units_of, elem_of, message_of, iface_of, target_of, captures_of};
     ghost use Rattle.object_heap.specs.Store.{with_change};
     ghost use Rattle.object_heap.specs.Paying.{Pays, PaysSurely};
@@ -150,6 +152,25 @@ impl Heap {
         }
     }
 
+    /// Adds objects, whose numbers count on from those before them.
+    #[tactic(auto, using(crate::proofs::Paying::paid_if, crate::proofs::Paying::paid_not, crate::proofs::Growth::all_grow))]
+    pub fn add_all(&mut self, more: Elements<Object>) -> Result<(), HeapErr>
+        ensures { Pays self.old self.new (self.old.objects ++ more) 0 result }
+    {
+        let Some(growth) = all_within(more.as_slice(), self.room) else {
+            drop(more);
+            return Err(HeapErr::Room);
+        };
+        let mut more = more.into_vec();
+        match self.objects.append(&mut more) {
+            Ok(()) => {
+                self.room -= growth;
+                Ok(())
+            }
+            Err(_) => Err(HeapErr::NoMemory),
+        }
+    }
+
     #[tactic(auto, using(crate::proofs::Paying::paid_if, crate::proofs::Paying::paid_not, crate::proofs::Growth::renewal_grows))]
     /// Replaces an object by one of its kind with the same class, type, part or interface; a function value that has no
     /// interface may take one. An object of another kind replaces nothing. It is false exactly where the growth is above the
@@ -186,6 +207,26 @@ impl Heap {
             return Err(HeapErr::Room);
         }
         match insert_item(&mut self.objects, id, at, value) {
+            Ok(()) => {
+                self.room -= growth;
+                Ok(())
+            }
+            Err(_) => Err(HeapErr::NoMemory),
+        }
+    }
+
+    /// Inserts items into a list in their order, at a place up to its size. Each of them is a change. At the end it takes the time
+    /// of the items that come, whatever the list has.
+    #[tactic(auto, using(crate::proofs::Paying::paid_if, crate::proofs::Paying::paid_not, crate::proofs::Growth::insert_all_grows))]
+    pub fn extend(&mut self, id: u32, at: usize, more: Elements<Value>) -> Result<(), HeapErr>
+        ensures { Pays self.old self.new (with_change self.old.objects id (with_all_inserted at more)) 0 result }
+    {
+        let growth = insert_all_growth(self.objects.as_slice(), id, at, more.len());
+        if growth > self.room {
+            drop(more);
+            return Err(HeapErr::Room);
+        }
+        match insert_items(&mut self.objects, id, at, more) {
             Ok(()) => {
                 self.room -= growth;
                 Ok(())

@@ -1,5 +1,5 @@
 //! Laws on what the calls of the heap keep.
-ghost use Rattle.object_heap.specs.Laws.{NewFits, RefillFits, ChargeFits, PlaceFits, AddFits, RenewFits, PutFits, GrowFits, CutFits, MapPutFits, MapCutFits, MapCutAtFits, AppendFits, ThrowFits, AnswersFit, ItemsFit, ValuesFit, CapturesFit};
+ghost use Rattle.object_heap.specs.Laws.{NewFits, RefillFits, ChargeFits, PlaceFits, AddFits, RenewFits, PutFits, GrowFits, ExtendFits, CutFits, MapPutFits, MapCutFits, MapCutAtFits, AppendFits, ThrowFits, AnswersFit, ItemsFit, ValuesFit, CapturesFit};
 
 /// Laws that callers may cite: each call keeps the fit of the heap.
 pub fn heap_keeps_fit()
@@ -11,6 +11,7 @@ pub fn heap_keeps_fit()
     ensures renew { RenewFits }
     ensures put { PutFits }
     ensures grow { GrowFits }
+    ensures extend { ExtendFits }
     ensures cut { CutFits }
     ensures map_put { MapPutFits }
     ensures map_cut { MapCutFits }

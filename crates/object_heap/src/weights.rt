@@ -3,6 +3,7 @@ ghost use Rattle.std.specs.Prelude.{◌≡◌, ◌<◌, ◌≤◌, suc, MatchOpt
 ghost use Rattle.object_values.specs.Pairs.{value_of};
 ghost use Rattle.object_heap.specs.Objects.{weight_of, new_growth};
 ghost use Rattle.object_heap.specs.Parts.{asked};
+ghost use Rattle.object_heap.specs.Store.{weight};
 ghost use Rattle.object_heap.specs.Objects as spec;
 
 use object_values::{Object, Pairs, Value};
@@ -48,12 +49,37 @@ pub fn weight_within(object: &Object, room: u64) -> Option<u64>
     }
 }
 
+/// The weight of objects together, or `None` where it is above the room.
+#[tactic(auto, using(crate::proofs::Growth::weight_from))]
+pub fn all_within(objects: &[Object], room: u64) -> Option<u64>
+    ensures { MatchOption result (room < weight objects.now) (λ all. (all ≡ weight objects.now) × (all ≤ room)) }
+{
+    let mut left = room;
+    for at in 0..objects.len() {
+        let Some(weight) = weight_within(&objects[at], left) else {
+            return None;
+        };
+        left -= weight;
+    }
+    Some(room - left)
+}
+
 /// How much the insertion of an item adds to the weight.
 pub fn insert_growth(objects: &[Object], id: u32, at: usize) -> u64
     ensures { result ≡ asked (spec.insert_growth at) 0 (slice_get objects.now id) }
 {
     match objects.get(id as usize) {
         Some(Object::List { items, .. }) if at <= items.len() => 1,
+        _ => 0,
+    }
+}
+
+/// How much the insertion of so many items adds to the weight.
+pub fn insert_all_growth(objects: &[Object], id: u32, at: usize, count: usize) -> u64
+    ensures { result ≡ asked (spec.insert_all_growth at count) 0 (slice_get objects.now id) }
+{
+    match objects.get(id as usize) {
+        Some(Object::List { items, .. }) if at <= items.len() => count as u64,
         _ => 0,
     }
 }

@@ -1,6 +1,6 @@
 //! Lists and arrays, step by step.
 
-use crate::making::{Shape, number, placed, taken};
+use crate::making::{Shape, counted, number, placed, taken};
 use object_heap::{Heap, HeapErr};
 use object_values::Value;
 use pl_types::classes::ARRAY_LIST;
@@ -70,6 +70,53 @@ fn lists_and_arrays(rt: HostRuntime) -> Result<(), Fail> {
     }
     for (id, at, value) in &LEFT {
         let found = number(heap.items(*id).get(*at));
+        assert!(rt; found == *value);
+    }
+    Ok(())
+}
+
+// The object, the place, the first item and how many come; then whether there is room, and the size, the room and the change
+// count behind that.
+const MANY: [(u32, usize, i32, i32, bool, usize, u64, u64); 9] = [
+    (0, 3, 10, 2, true, 5, 8, 2),
+    (0, 0, 20, 1, true, 6, 7, 3),
+    (0, 2, 30, 3, true, 9, 4, 6),
+    (0, 10, 40, 1, true, 9, 4, 6),
+    (0, 9, 40, 0, true, 9, 4, 6),
+    (0, 9, 40, 5, false, 9, 4, 6),
+    (0, 9, 50, 4, true, 13, 0, 10),
+    (1, 0, 40, 1, true, 2, 0, 0),
+    (2, 0, 40, 1, true, 0, 0, 0),
+];
+
+const ALL_LEFT: [i32; 13] = [20, 0, 30, 31, 32, 1, 2, 10, 11, 50, 51, 52, 53];
+
+fn extended(heap: &mut Heap, id: u32, at: usize, first: i32, count: i32) -> Result<bool, HeapErr> {
+    let Ok(more) = counted(heap.alloc(), first, count) else {
+        return Err(HeapErr::NoMemory);
+    };
+    match heap.extend(id, at, more) {
+        Ok(()) => Ok(true),
+        Err(HeapErr::Room) => Ok(false),
+        Err(HeapErr::NoMemory) => Err(HeapErr::NoMemory),
+    }
+}
+
+#[test]
+fn many_items_at_once(rt: HostRuntime) -> Result<(), Fail> {
+    let mut heap = placed(rt.alloc(), 10, &OBJECTS)?;
+    for (id, at, first, count, room, size, left, changes) in &MANY {
+        let found = extended(&mut heap, *id, *at, *first, *count)?;
+        assert!(rt; found == *room);
+        let found = heap.size(*id);
+        assert!(rt; found == *size);
+        let found = heap.room_left();
+        assert!(rt; found == *left);
+        let found = heap.changes(*id);
+        assert!(rt; found == *changes);
+    }
+    for (at, value) in ALL_LEFT.iter().enumerate() {
+        let found = number(heap.items(0).get(at));
         assert!(rt; found == *value);
     }
     Ok(())

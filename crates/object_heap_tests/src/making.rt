@@ -52,12 +52,17 @@ pub fn taken(value: Option<Value>) -> i32 {
     number(value.as_ref())
 }
 
-fn values(alloc: Global, count: i32) -> Result<Elements<Value>, AllocError> {
+/// So many ints from one on.
+pub fn counted(alloc: Global, first: i32, count: i32) -> Result<Elements<Value>, AllocError> {
     let mut items = Elements::new(alloc);
     for at in 0..count {
-        items.push(Value::Int(at))?;
+        items.push(Value::Int(first.wrapping_add(at)))?;
     }
     Ok(items)
+}
+
+fn values(alloc: Global, count: i32) -> Result<Elements<Value>, AllocError> {
+    counted(alloc, 0, count)
 }
 
 fn pairs(alloc: Global, count: i32, value: Plain) -> Result<Pairs, AllocError> {
@@ -179,7 +184,7 @@ fn exception(alloc: Global, class: u32, message: Option<&str>) -> Result<Object,
 }
 
 /// The object of a row.
-fn object(alloc: Global, shape: Shape) -> Result<Object, AllocError> {
+pub fn object(alloc: Global, shape: Shape) -> Result<Object, AllocError> {
     match shape {
         Shape::List(class, count) => list(alloc, class, count),
         Shape::Map(class, count) => map(alloc, class, count, Guard::Open),

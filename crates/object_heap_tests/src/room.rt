@@ -1,8 +1,8 @@
 //! What each kind of object weighs, and room at its exact edge.
 
-use crate::making::{Shape, add, place, placed, renew};
+use crate::making::{Shape, add, counted, object, place, placed, renew};
 use object_heap::{Answer, Heap, HeapErr, throw};
-use object_values::Value;
+use object_values::{Elements, Value};
 use pl_types::classes::{ARITHMETIC_EXCEPTION, ARRAY_LIST, HASH_MAP, HASH_SET};
 use pl_units::UText;
 use std::alloc::AllocError;
@@ -66,15 +66,30 @@ fn weights(rt: HostRuntime) -> Result<(), Fail> {
 enum Paid {
     Charge(u64),
     Grow,
+    Extend(i32),
+    AddAll,
     PutNew(i32),
     Renew(i32),
     Append,
+}
+
+// A list of two and an exception without a message, which weigh 4.
+fn add_two(heap: &mut Heap) -> Result<bool, AllocError> {
+    let mut more = Elements::new(heap.alloc());
+    more.push(object(heap.alloc(), Shape::List(ARRAY_LIST, 2))?)?;
+    more.push(object(heap.alloc(), Shape::Exception(ARITHMETIC_EXCEPTION, None))?)?;
+    Ok(is_ok(heap.add_all(more)))
 }
 
 fn pay(heap: &mut Heap, paid: Paid) -> Result<bool, AllocError> {
     match paid {
         Paid::Charge(units) => Ok(is_ok(heap.charge(units))),
         Paid::Grow => Ok(is_ok(heap.grow(0, 0, Value::Int(4)))),
+        Paid::Extend(count) => {
+            let more = counted(heap.alloc(), 0, count)?;
+            Ok(is_ok(heap.extend(0, 1, more)))
+        }
+        Paid::AddAll => add_two(heap),
         Paid::PutNew(key) => match heap.map_put(1, Value::Int(key), Value::Null) {
             Ok(_) => Ok(true),
             Err(_) => Ok(false),
@@ -100,12 +115,17 @@ const OBJECTS: [Shape; 3] = [
 ];
 
 // Object 0 is a list of two, object 1 a map of the keys 0 and 1, object 2 a builder. Each row starts with so much room.
-const EDGES: [(Paid, u64, bool, u64, usize, usize); 16] = [
+const EDGES: [(Paid, u64, bool, u64, usize, usize); 21] = [
     (Paid::Charge(0), 0, true, 0, 2, 2),
     (Paid::Charge(3), 3, true, 0, 2, 2),
     (Paid::Charge(4), 3, false, 3, 2, 2),
     (Paid::Grow, 0, false, 0, 2, 2),
     (Paid::Grow, 1, true, 0, 3, 2),
+    (Paid::Extend(3), 2, false, 2, 2, 2),
+    (Paid::Extend(3), 3, true, 0, 5, 2),
+    (Paid::Extend(0), 0, true, 0, 2, 2),
+    (Paid::AddAll, 3, false, 3, 2, 2),
+    (Paid::AddAll, 4, true, 0, 2, 2),
     (Paid::PutNew(1), 0, true, 0, 2, 2),
     (Paid::PutNew(2), 0, false, 0, 2, 2),
     (Paid::PutNew(2), 1, false, 1, 2, 2),

@@ -1,9 +1,9 @@
 use Rattle.std.proofs.Common.{Some}
 use Rattle.object_heap.proofs.Keeping.{answers_fit}
 use Rattle.api_list.specs.Members.{does_found}
-use Rattle.api_list.specs.Outcomes.{effect}
+use Rattle.container_outcomes.specs.Outcomes.{effect}
 use Rattle.api_list.proofs.Keeping.{found_fits}
-use Rattle.api_list.proofs.Settling.{settled}
+use Rattle.container_outcomes.proofs.Settling.{settled}
 use Rattle.api_list.proofs.member.call.Goals as goal
 
 pub returns-in-Some-clause-keeps : goal.returns-in-Some-clause-keeps

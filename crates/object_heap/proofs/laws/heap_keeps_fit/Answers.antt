@@ -1,7 +1,7 @@
 use Rattle.std.proofs.Common.{[], ◌∷◌, ◌++◌}
-use Rattle.object_heap.specs.Objects.{with_inserted, with_put, with_units, renewed_by}
+use Rattle.object_heap.specs.Objects.{with_inserted, with_all_inserted, with_put, with_units, renewed_by}
 use Rattle.object_heap.specs.Store.{with_change}
-use Rattle.object_heap.proofs.Fitting.{added_fits, put_fits, grow_fits, cut_fits, map_put_fits, map_cut_fits, map_cut_at_fits, append_fits, renew_fits, refill_fits, items_fit, values_fit, captures_fit}
+use Rattle.object_heap.proofs.Fitting.{added_fits, put_fits, grow_fits, extend_fits, cut_fits, map_put_fits, map_cut_fits, map_cut_at_fits, append_fits, renew_fits, refill_fits, items_fit, values_fit, captures_fit}
 use Rattle.object_heap.proofs.Keeping.{pays_fits, pays_surely_fits, throws_fits, answers_fit}
 use Rattle.object_heap.proofs.laws.heap_keeps_fit.Goals as goal
 
@@ -30,6 +30,10 @@ returns-clause-put c = put_fits
 pub returns-clause-grow : goal.returns-clause-grow
 returns-clause-grow c rules old new id at value result p f h =
     pays_fits rules old new (with_change old.objects id (with_inserted at value)) 0 result p f (grow_fits rules old.objects id at value f h)
+
+pub returns-clause-extend : goal.returns-clause-extend
+returns-clause-extend c rules old new id at more result p f h =
+    pays_fits rules old new (with_change old.objects id (with_all_inserted at more)) 0 result p f (extend_fits rules old.objects id at more f h)
 
 pub returns-clause-cut : goal.returns-clause-cut
 returns-clause-cut c = cut_fits

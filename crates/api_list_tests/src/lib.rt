@@ -1,0 +1,13 @@
+//! What the clauses of `api_list` do not say: its members against Java's and the language's own rules, by rows of values.
+#![tactic(auto)]
+
+#[cfg(test)]
+mod lists;
+#[cfg(test)]
+mod making;
+#[cfg(test)]
+mod rows;
+#[cfg(test)]
+mod running;
+#[cfg(test)]
+mod sample;

@@ -1,0 +1,68 @@
+//! The heap of the rows.
+use object_heap::Heap;
+use object_values::{Elements, Guard, Object, Value};
+use pl_types::classes::ARRAY_LIST;
+use pl_units::UText;
+use std::alloc::{AllocError, Global};
+
+/// How many objects there are, which is the number of a new one.
+pub const NEXT: u32 = 5;
+
+pub fn word(alloc: Global, text: &str) -> Result<Value, AllocError> {
+    Ok(Value::Str(UText::from_utf8(alloc, text)?))
+}
+
+fn place_list(
+    heap: &mut Heap,
+    items: Elements<Value>,
+    guard: Guard,
+    changes: u64,
+) -> Result<(), AllocError> {
+    heap.place(Object::List {
+        class: ARRAY_LIST,
+        items,
+        guard,
+        changes,
+    })?;
+    Ok(())
+}
+
+// 0: [1, 'b', 1, null], and 1: []
+fn place_open(alloc: Global, heap: &mut Heap) -> Result<(), AllocError> {
+    let mut items = Elements::new(alloc);
+    items.push(Value::Int(1))?;
+    items.push(word(alloc, "b")?)?;
+    items.push(Value::Int(1))?;
+    items.push(Value::Null)?;
+    place_list(heap, items, Guard::Open, 5)?;
+    place_list(heap, Elements::new(alloc), Guard::Open, 0)
+}
+
+// 2: [7], which is frozen
+fn place_frozen(alloc: Global, heap: &mut Heap) -> Result<(), AllocError> {
+    let mut items = Elements::new(alloc);
+    items.push(Value::Int(7))?;
+    place_list(heap, items, Guard::Frozen, 0)
+}
+
+// 3: [1L, 1, true], and 4: [the first list, 'x']
+fn place_mixed(alloc: Global, heap: &mut Heap) -> Result<(), AllocError> {
+    let mut items = Elements::new(alloc);
+    items.push(Value::Long(1))?;
+    items.push(Value::Int(1))?;
+    items.push(Value::Bool(true))?;
+    place_list(heap, items, Guard::Open, 2)?;
+    let mut nested = Elements::new(alloc);
+    nested.push(Value::Ref(0))?;
+    nested.push(word(alloc, "x")?)?;
+    place_list(heap, nested, Guard::Open, 0)
+}
+
+/// The heap of the rows, with so much room.
+pub fn sample(alloc: Global, room: u64) -> Result<Heap, AllocError> {
+    let mut heap = Heap::new(alloc, room);
+    place_open(alloc, &mut heap)?;
+    place_frozen(alloc, &mut heap)?;
+    place_mixed(alloc, &mut heap)?;
+    Ok(heap)
+}

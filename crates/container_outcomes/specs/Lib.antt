@@ -1,0 +1,5 @@
+pub mod Choices
+pub mod Comparing
+pub mod Guards
+pub mod Laws
+pub mod Outcomes
