@@ -58,10 +58,10 @@ absent_test : (test : Bool) (value : Value) (rest : Option Value) → (if test t
 absent_test true value rest h = cc
 absent_test false value rest h = refl
 
-absent_one : (pair : Value × Value) (pairs : List (Value × Value)) (key : Value) → value_of (pair ∷ pairs) key ≡ None → same_value key pair.0 ≡ false
+pub absent_one : (pair : Value × Value) (pairs : List (Value × Value)) (key : Value) → value_of (pair ∷ pairs) key ≡ None → same_value key pair.0 ≡ false
 absent_one pair pairs key h = absent_test (same_value key pair.0) pair.1 (value_of pairs key) h
 
-absent_rest : (pair : Value × Value) (pairs : List (Value × Value)) (key : Value) → value_of (pair ∷ pairs) key ≡ None → value_of pairs key ≡ None
+pub absent_rest : (pair : Value × Value) (pairs : List (Value × Value)) (key : Value) → value_of (pair ∷ pairs) key ≡ None → value_of pairs key ≡ None
 absent_rest pair pairs key h = subst (λ (b : Bool). (if b then Some pair.1 else value_of pairs key) ≡ None) (absent_one pair pairs key h) h
 
 absent_single : (pair : Value × Value) (key : Value) → same_value key pair.0 ≡ false → value_of (pair ∷ []) key ≡ None

@@ -1,23 +1,20 @@
 -- What each member comes to fits the store.
-use Rattle.std.proofs.Common.{◌≡◌, ℕ, zero, suc, ◌<◌, Bool, true, false, Option, Some, None, List, [], ◌∷◌, length, refl, ap, sym, ◌∙◌, subst, slice_get, if◌then◌else◌}
-use Rattle.std.specs.Prelude.{codes}
+use Rattle.std.proofs.Common.{◌≡◌, ℕ, zero, suc, true, Option, Some, None, List, [], ◌∷◌, length, refl, sym, subst, slice_get}
 use Rattle.pl_types.specs.declared.classes.TheConstants.{MAP, SET}
 use Rattle.pl_types.specs.Classes.{class_is_below, lineage_of, parents_of, class_row, class_table}
 use Rattle.object_values.specs.declared.object.Guard.{Guard}
 use Rattle.object_values.specs.declared.object.Object.{Object}
 use Rattle.object_values.specs.declared.object.Object.TheVariants as o
-use Rattle.object_values.specs.declared.object.Part.{Part}
 use Rattle.object_values.specs.declared.object.Part.TheVariants as part
 use Rattle.object_values.specs.declared.value.Value.{Value}
 use Rattle.object_values.specs.declared.value.Value.TheVariants as v
 use Rattle.object_values.specs.Pairs.{value_of}
 use Rattle.object_values.specs.Values.{is_simple}
-use Rattle.object_heap.specs.Fits.{Rules, Fits, ValueFits, AllFit, ObjectFits, ObjectsFit, is_map, kinds, passes}
-use Rattle.object_heap.specs.Objects.{Kind}
-use Rattle.object_heap.specs.Parts.{guard_of, pairs_of, size_of}
+use Rattle.object_heap.specs.Fits.{Rules, Fits, ValueFits, AllFit, ObjectsFit, is_map, kinds, passes}
+use Rattle.object_heap.specs.Parts.{guard_of, pairs_of}
 use Rattle.object_heap.proofs.Fitting.{values_fit}
-use Rattle.member_arguments.specs.Arguments.{object_at, object_in}
-use Rattle.value_walks.specs.Texts.{Text, Wrote, TooDeep, TooLarge, text_of}
+use Rattle.member_arguments.specs.Arguments.{object_at}
+use Rattle.value_walks.specs.Texts.{text_of}
 use Rattle.value_walks.specs.declared.TheConstants.{VISITS}
 use Rattle.value_walks.specs.Equality.{value_now}
 use Rattle.api_map.specs.declared.arguments.Keyed.{Keyed}
@@ -30,26 +27,22 @@ use Rattle.api_map.specs.declared.member.Member.{Member}
 use Rattle.api_map.specs.declared.member.Member.TheVariants as m
 use Rattle.api_map.specs.declared.member.Telling.{Telling}
 use Rattle.api_map.specs.declared.member.Telling.TheVariants as t
-use Rattle.api_map.specs.declared.outcome.Raised.{Raised}
 use Rattle.api_map.specs.declared.outcome.Raised.TheVariants as raised
-use Rattle.api_map.specs.declared.outcome.Outcome.{Outcome}
 use Rattle.api_map.specs.declared.outcome.Outcome.TheVariants as outcome
-use Rattle.api_map.specs.declared.searching.Compared.{Compared}
-use Rattle.api_map.specs.declared.searching.Compared.TheVariants as c
-use Rattle.api_map.specs.declared.searching.Found.{Found}
-use Rattle.api_map.specs.declared.searching.Found.TheVariants as f
-use Rattle.api_map.specs.Arguments.{with_one, with_two, with_three, if_map, map_at, map_named, if_entry, entry_at, entry_named, entry_of, holder_of, keyed_at}
+use Rattle.api_map.specs.Arguments.{if_map, map_at, map_named, if_entry, entry_at, entry_named, entry_of, holder_of, keyed_at}
+use Rattle.api_map.specs.Bulk as bulk
 use Rattle.api_map.specs.Collections as collections
 use Rattle.api_map.specs.Entries as entries
 use Rattle.api_map.specs.Guards.{is_mapped, is_open, may_put}
 use Rattle.api_map.specs.Making as making
 use Rattle.api_map.specs.Maps as maps
 use Rattle.api_map.specs.Members as members
-use Rattle.api_map.specs.Outcomes.{followed_by, has_key, not_simple, says, unsupported, with_key, too_deep, too_large}
-use Rattle.api_map.specs.Searching.{compared_with, first_from, where_equal, where_found}
+use Rattle.api_map.specs.Outcomes.{has_key, unsupported, with_key}
+use Rattle.api_map.specs.Searching.{compared_with, first_from}
 use Rattle.api_map.specs.Whole as whole
 use Rattle.api_map.specs.Sources.{source_at}
 use Rattle.api_map.proofs.Choosing.{says_fits, field_fits, if_fits, key_fits, equal_fits, search_fits, one_fits, two_fit, three_fit, value_there, object_there}
+use Rattle.api_map.proofs.KeepingBulk.{contains_all_fits, sifted_fits}
 use Rattle.api_map.proofs.KeepingWhole.{added_all_fits, map_of_fits, put_all_fits, set_of_fits}
 use Rattle.api_map.proofs.Settling.{OutcomeFits, now_fits}
 
@@ -221,6 +214,9 @@ tells_fits rules objects t.Replace arguments f a =
 tells_fits rules objects t.Size arguments f a = one_fits rules objects (maps.size_given objects) (map_at objects arguments 0) (λ id e. tt)
 tells_fits rules objects (t.NewMap class) arguments f a = new_map_fits rules objects class
 tells_fits rules objects t.AddAll arguments f a = one_fits rules objects (whole.added_all objects (source_at objects arguments 1)) (keyed_at objects arguments 0) (λ of e. added_all_fits rules objects (source_at objects arguments 1) of f)
+tells_fits rules objects t.ContainsAll arguments f a =
+    one_fits rules objects (bulk.contains_all_of objects (source_at objects arguments 1)) (keyed_at objects arguments 0) (λ of e. contains_all_fits rules objects (source_at objects arguments 1) of (λ value. found_in_fits rules objects of value))
+tells_fits rules objects (t.Sift by) arguments f a = one_fits rules objects (bulk.sifted_of by objects (source_at objects arguments 1)) (keyed_at objects arguments 0) (λ of e. sifted_fits rules objects by (source_at objects arguments 1) of f)
 tells_fits rules objects t.PutAll arguments f a =
     one_fits rules objects (whole.put_all_of objects (map_at objects arguments 1)) (map_at objects arguments 0) (λ id e. put_all_fits rules objects (object_at arguments 1) id f)
 tells_fits rules objects (t.NewSetOf class) arguments f a = one_fits rules objects (whole.set_of class objects) (source_at objects arguments 0) (λ source e. set_of_fits rules objects class source)

@@ -1,8 +1,7 @@
 -- What the members come to that take whole collections and maps fits the store.
-use Rattle.std.proofs.Common.{◌≡◌, ℕ, ◌-◌, Bool, true, false, Option, Some, None, List, [], ◌∷◌, length, refl, sym, subst, slice_get, if◌then◌else◌}
+use Rattle.std.proofs.Common.{◌≡◌, ℕ, Bool, true, false, Option, Some, None, List, [], ◌∷◌, length, refl, sym, subst, slice_get, if◌then◌else◌}
 use Rattle.pl_types.specs.declared.classes.TheConstants.{MAP, SET}
 use Rattle.pl_types.specs.Classes.{class_is_below, lineage_of, parents_of, class_row, class_table}
-use Rattle.object_values.specs.declared.object.Guard.{Guard}
 use Rattle.object_values.specs.declared.object.Object.{Object}
 use Rattle.object_values.specs.declared.object.Object.TheVariants as o
 use Rattle.object_values.specs.declared.value.Value.{Value}
@@ -18,7 +17,6 @@ use Rattle.api_map.specs.declared.making.MapClass.{MapClass}
 use Rattle.api_map.specs.declared.making.MapClass.TheVariants as map
 use Rattle.api_map.specs.declared.making.SetClass.{SetClass}
 use Rattle.api_map.specs.declared.making.SetClass.TheVariants as set
-use Rattle.api_map.specs.declared.outcome.Outcome.{Outcome}
 use Rattle.api_map.specs.declared.sources.Source.{Source}
 use Rattle.api_map.specs.Arguments.{if_map, map_named, with_one}
 use Rattle.api_map.specs.Guards.{is_open, may_put_all, takes_puts}

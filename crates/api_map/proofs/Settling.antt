@@ -1,6 +1,6 @@
 -- What is paid for an outcome that fits leaves a store that fits.
 use Rattle.std.specs.Prelude.{not}
-use Rattle.std.proofs.Common.{◌≡◌, ℕ, zero, suc, ◌+◌, Bool, true, false, Option, Some, None, List, [], ◌∷◌, ◌++◌, length, refl, sym, subst, arith, length-append, slice_get}
+use Rattle.std.proofs.Common.{◌≡◌, ℕ, true, Option, Some, None, List, [], ◌∷◌, ◌++◌, length, refl, sym, subst, arith, length-append, slice_get}
 use Rattle.std.proofs.Math.ListN.{length-set}
 use Rattle.pl_types.specs.declared.classes.TheConstants.{EXCEPTION}
 use Rattle.pl_types.specs.Classes.{class_is_below, lineage_of, parents_of, class_row, class_table}
@@ -11,7 +11,7 @@ use Rattle.object_values.specs.Pairs.{value_of}
 use Rattle.object_values.specs.Values.{is_simple}
 use Rattle.object_heap.specs.Effects as e
 use Rattle.object_heap.specs.Fits.{Rules, Fits, ValueFits, ObjectFits, EffectFits, kinds}
-use Rattle.object_heap.specs.Objects.{renewed_by, with_key_cut, with_pair_cut, with_put}
+use Rattle.object_heap.specs.Objects.{renewed_by, with_key_cut, with_put}
 use Rattle.object_heap.specs.Parts.{pairs_of}
 use Rattle.object_heap.specs.Store.{Store, changed_at, with_change}
 use Rattle.object_heap.proofs.Fitting.{added_fits, map_cut_at_fits, map_cut_fits, map_put_fits, renew_fits, values_fit}

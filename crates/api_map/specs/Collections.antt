@@ -1,6 +1,6 @@
 -- The members of Collection, of sets and of views of maps. A view holds no pairs of its own: what it shows is what its map has now,
 -- and what is taken out of it is taken out of its map.
-use Rattle.std.specs.Prelude.{ℕ, Bool, true, false, Option, Some, None, List, slice_get, if◌then◌else◌}
+use Rattle.std.specs.Prelude.{ℕ, true, false, Option, Some, None, List, slice_get, if◌then◌else◌}
 use Rattle.object_values.specs.declared.object.Object.{Object}
 use Rattle.object_values.specs.declared.object.Part.TheVariants as part
 use Rattle.object_values.specs.declared.value.Value.{Value}

@@ -1,5 +1,5 @@
 -- The members of Map.Entry: a key, and the value that the map has under it now.
-use Rattle.std.specs.Prelude.{ℕ, Bool, true, false, List, codes, slice_get, if◌then◌else◌}
+use Rattle.std.specs.Prelude.{ℕ, List, codes, slice_get, if◌then◌else◌}
 use Rattle.object_values.specs.declared.object.Object.{Object}
 use Rattle.object_values.specs.declared.value.Value.{Value}
 use Rattle.object_heap.specs.Parts.{guard_of}

@@ -1,7 +1,9 @@
 pub mod Arguments
+pub mod Bulk
 pub mod Collections
 pub mod Entries
 pub mod Guards
+pub mod Holding
 pub mod Laws
 pub mod Making
 pub mod Maps

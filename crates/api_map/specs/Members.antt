@@ -3,6 +3,7 @@ use Rattle.std.specs.Prelude.{ℕ, ◌-◌, nat_lt, Option, Some, None, List, []
 use Rattle.object_values.specs.declared.object.Object.{Object}
 use Rattle.object_values.specs.declared.object.Part.TheVariants as part
 use Rattle.object_values.specs.declared.value.Value.{Value}
+use Rattle.api_map.specs.declared.bulk.Bulk.TheVariants as bulk_is
 use Rattle.api_map.specs.declared.making.MapClass.TheVariants as map
 use Rattle.api_map.specs.declared.making.SetClass.TheVariants as set
 use Rattle.api_map.specs.declared.member.Member.{Member}
@@ -10,6 +11,7 @@ use Rattle.api_map.specs.declared.member.Member.TheVariants as m
 use Rattle.api_map.specs.declared.member.Telling.{Telling}
 use Rattle.api_map.specs.declared.member.Telling.TheVariants as t
 use Rattle.api_map.specs.declared.outcome.Outcome.{Outcome}
+use Rattle.api_map.specs.Bulk as bulk
 use Rattle.api_map.specs.Collections as collections
 use Rattle.api_map.specs.Entries as entries
 use Rattle.api_map.specs.Making as making
@@ -38,6 +40,8 @@ tells objects t.Replace arguments = maps.replace objects arguments
 tells objects t.Size arguments = maps.size objects arguments
 tells objects (t.NewMap class) arguments = making.new_map class
 tells objects t.AddAll arguments = whole.add_all objects arguments
+tells objects t.ContainsAll arguments = bulk.contains_all objects arguments
+tells objects (t.Sift by) arguments = bulk.sift_all by objects arguments
 tells objects t.PutAll arguments = whole.put_all objects arguments
 tells objects (t.NewSetOf class) arguments = whole.new_set_of class objects arguments
 tells objects (t.NewMapOf class) arguments = whole.new_map_of class objects arguments
@@ -56,8 +60,9 @@ does objects m.RemovePair arguments = maps.remove_pair objects arguments
 -- the constructors of sets and the members of Map from 125, and the constructors of maps and the members of Map.Entry from 159
 unfoldable pub of_collections : List (Option Member)
 of_collections =
-    Some (m.Tells t.Add) ∷ Some (m.Tells t.AddAll) ∷ Some (m.Tells t.ClearCollection) ∷ Some (m.Tells t.Contains) ∷ None ∷ Some (m.Tells t.IsEmptyCollection)
-    ∷ Some m.RemoveElement ∷ None ∷ None ∷ Some (m.Tells t.SizeOfCollection)
+    Some (m.Tells t.Add) ∷ Some (m.Tells t.AddAll) ∷ Some (m.Tells t.ClearCollection) ∷ Some (m.Tells t.Contains)
+    ∷ Some (m.Tells t.ContainsAll) ∷ Some (m.Tells t.IsEmptyCollection) ∷ Some m.RemoveElement ∷ Some (m.Tells (t.Sift bulk_is.Remove)) ∷ Some (m.Tells (t.Sift bulk_is.Retain))
+    ∷ Some (m.Tells t.SizeOfCollection)
     ∷ []
 
 unfoldable pub of_maps : List (Option Member)

@@ -1,5 +1,5 @@
 -- What members come to, before it is paid, and what that does to the store.
-use Rattle.std.specs.Prelude.{◌≡◌, ℕ, Bool, true, false, not, Option, Some, None, List, [], ◌∷◌, ◌++◌, length, codes, is_some, if◌then◌else◌}
+use Rattle.std.specs.Prelude.{◌≡◌, ℕ, Bool, true, false, not, Some, None, List, [], ◌∷◌, ◌++◌, length, codes, is_some, if◌then◌else◌}
 use Rattle.pl_units.specs.Utf16.{units}
 use Rattle.pl_types.specs.declared.classes.TheConstants.{ILLEGAL_ARGUMENT_EXCEPTION, ILLEGAL_STATE_EXCEPTION, NULL_POINTER_EXCEPTION, UNSUPPORTED_OPERATION_EXCEPTION}
 use Rattle.object_values.specs.declared.object.Object.{Object}

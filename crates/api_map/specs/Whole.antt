@@ -1,5 +1,5 @@
 -- The members that take all that a collection or a map holds, which is several changes: each new key raises the change count by 1.
-use Rattle.std.specs.Prelude.{ℕ, ◌+◌, ◌-◌, ◌%◌, ◌^◌, nat_lt, Bool, true, false, Option, Some, None, List, [], length, slice_get, if◌then◌else◌}
+use Rattle.std.specs.Prelude.{ℕ, ◌+◌, ◌-◌, ◌%◌, ◌^◌, nat_lt, false, Option, Some, List, [], length, slice_get, if◌then◌else◌}
 use Rattle.object_values.specs.declared.object.Guard.{Guard}
 use Rattle.object_values.specs.declared.object.Guard.TheVariants as g
 use Rattle.object_values.specs.declared.object.Object.{Object}

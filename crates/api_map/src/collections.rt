@@ -50,8 +50,8 @@ fn added(heap: &Heap, keyed: Keyed, key: &Value) -> Outcome
     }
 }
 
-// Compares the value that one map has under a key, or null, with the one that another has under it, if it has one.
-fn compare_now(heap: &Heap, from: u32, map: u32, key: &Value) -> Compared
+/// Compares the value that one map has under a key, or null, with the one that another has under it, if it has one.
+pub fn compare_now(heap: &Heap, from: u32, map: u32, key: &Value) -> Compared
     ensures { result ≡ compared_with heap.now.objects (value_now heap.now.objects from key.now) (value_of (pairs_of heap.now.objects map) key.now) }
 {
     match heap.map_get(from, key) {
@@ -91,7 +91,8 @@ fn found_in_view(heap: &Heap, map: u32, part: Part, value: &Value) -> Outcome
     }
 }
 
-fn found_in(heap: &Heap, keyed: Keyed, value: &Value) -> Outcome
+/// Whether a value is one of the elements.
+pub fn found_in(heap: &Heap, keyed: Keyed, value: &Value) -> Outcome
     ensures { Tells (spec.found_in heap.now.objects keyed value.now) result }
 {
     match keyed {

@@ -2,10 +2,12 @@
 #![tactic(auto)]
 
 mod arguments;
+mod bulk;
 mod collections;
 mod entries;
 mod errors;
 mod guards;
+mod holding;
 mod laws;
 mod making;
 mod maps;

@@ -6,10 +6,11 @@ ghost use Rattle.api_map.specs.Outcomes.{Tells, WantsMemory, effect};
 ghost use Rattle.api_map.specs.Members as spec;
 ghost use Rattle.api_map.specs.Members.{does, does_numbered, numbered};
 
+use crate::bulk::Bulk;
 use crate::making::{MapClass, SetClass};
 use crate::outcome::Outcome;
 use crate::removing::{remove, remove_element, remove_pair};
-use crate::{collections, entries, making, maps, whole};
+use crate::{bulk, collections, entries, making, maps, whole};
 use object_heap::{Answer, Heap};
 use object_values::{Part, Value};
 
@@ -35,6 +36,8 @@ pub enum Telling {
     Size,
     NewMap(MapClass),
     AddAll,
+    ContainsAll,
+    Sift(Bulk),
     PutAll,
     NewSetOf(SetClass),
     NewMapOf(MapClass),
@@ -75,6 +78,8 @@ fn tells(heap: &Heap, member: Telling, args: &[Value]) -> Outcome
         Telling::Size => maps::size(heap, args),
         Telling::NewMap(class) => making::new_map(heap, class),
         Telling::AddAll => whole::add_all(heap, args),
+        Telling::ContainsAll => bulk::contains_all(heap, args),
+        Telling::Sift(bulk) => bulk::sift_all(bulk, heap, args),
         Telling::PutAll => whole::put_all(heap, args),
         Telling::NewSetOf(class) => whole::new_set_of(class, heap, args),
         Telling::NewMapOf(class) => whole::new_map_of(class, heap, args),
@@ -90,11 +95,11 @@ static OF_COLLECTIONS: [Option<Member>; 10] = [
     Some(Member::Tells(Telling::AddAll)),
     Some(Member::Tells(Telling::ClearCollection)),
     Some(Member::Tells(Telling::Contains)),
-    None,
+    Some(Member::Tells(Telling::ContainsAll)),
     Some(Member::Tells(Telling::IsEmptyCollection)),
     Some(Member::RemoveElement),
-    None,
-    None,
+    Some(Member::Tells(Telling::Sift(Bulk::Remove))),
+    Some(Member::Tells(Telling::Sift(Bulk::Retain))),
     Some(Member::Tells(Telling::SizeOfCollection)),
 ];
 

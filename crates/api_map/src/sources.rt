@@ -183,7 +183,8 @@ pub fn put_keys(heap: &Heap, source: Source, into: &mut Pairs) -> Result<(), All
     Ok(())
 }
 
-fn put_pair(into: &mut Pairs, key: &Value, value: &Value) -> Result<(), AllocError>
+/// Puts one pair.
+pub fn put_pair(into: &mut Pairs, key: &Value, value: &Value) -> Result<(), AllocError>
     ensures { OnOk result (into.new ≡ with_pair into.old key.now value.now) }
 {
     let key = key.share()?;

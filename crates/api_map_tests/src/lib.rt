@@ -2,7 +2,15 @@
 #![tactic(auto)]
 
 #[cfg(test)]
+mod bulk;
+#[cfg(test)]
+mod collections;
+#[cfg(test)]
 mod making;
+#[cfg(test)]
+mod many;
+#[cfg(test)]
+mod maps;
 #[cfg(test)]
 mod rows;
 #[cfg(test)]

@@ -1,24 +1,25 @@
 //! Rows of constructors, views and the members of Map.Entry.
 use crate::rows::Arg::{Int, Null, Object};
-use crate::rows::{Row, Wanted};
+use crate::rows::{KEY, Row, Wanted};
 use crate::running::first_wrong;
+use crate::sample::NEXT;
 use std::test::Fail;
 
 const ROWS: [Row; 26] = [
-    (159, &[], Wanted::New, 1, 19, "{}", 0),
-    (160, &[Object(0)], Wanted::New, 5, 19, "{a=1, b=null}", 0),
-    (160, &[Object(7)], Wanted::New, 3, 19, "{k=7}", 0),
+    (159, &[], Wanted::New, 1, NEXT, "{}", 0),
+    (160, &[Object(0)], Wanted::New, 5, NEXT, "{a=1, b=null}", 0),
+    (160, &[Object(7)], Wanted::New, 3, NEXT, "{k=7}", 0),
     (160, &[Null], Wanted::NullPointer, 1, 0, "{a=1, b=null}", 5),
-    (161, &[], Wanted::New, 1, 19, "{}", 0),
-    (162, &[Object(12)], Wanted::New, 1, 19, "{}", 0),
-    (125, &[], Wanted::New, 1, 19, "[]", 0),
-    (126, &[Object(10)], Wanted::New, 3, 19, "[x, 2]", 0),
-    (126, &[Object(1)], Wanted::New, 3, 19, "[a, b]", 0),
-    (126, &[Object(2)], Wanted::New, 3, 19, "[1, null]", 0),
+    (161, &[], Wanted::New, 1, NEXT, "{}", 0),
+    (162, &[Object(12)], Wanted::New, 1, NEXT, "{}", 0),
+    (125, &[], Wanted::New, 1, NEXT, "[]", 0),
+    (126, &[Object(10)], Wanted::New, 3, NEXT, "[x, 2]", 0),
+    (126, &[Object(1)], Wanted::New, 3, NEXT, "[a, b]", 0),
+    (126, &[Object(2)], Wanted::New, 3, NEXT, "[1, null]", 0),
     (
         126,
         &[Object(3)],
-        Wanted::Argument("key must be a simple value"),
+        Wanted::Argument(KEY),
         27,
         0,
         "{a=1, b=null}",
@@ -27,18 +28,18 @@ const ROWS: [Row; 26] = [
     (
         126,
         &[Object(11)],
-        Wanted::Argument("key must be a simple value"),
+        Wanted::Argument(KEY),
         27,
         0,
         "{a=1, b=null}",
         5,
     ),
     (126, &[Null], Wanted::NullPointer, 1, 0, "{a=1, b=null}", 5),
-    (127, &[], Wanted::New, 1, 19, "[]", 0),
-    (128, &[Object(6)], Wanted::New, 3, 19, "[x, 1]", 0),
-    (136, &[Object(0)], Wanted::New, 1, 19, "[a, b]", 0),
-    (144, &[Object(0)], Wanted::New, 1, 19, "[1, null]", 0),
-    (132, &[Object(0)], Wanted::New, 1, 19, "[a=1, b=null]", 0),
+    (127, &[], Wanted::New, 1, NEXT, "[]", 0),
+    (128, &[Object(6)], Wanted::New, 3, NEXT, "[x, 1]", 0),
+    (136, &[Object(0)], Wanted::New, 1, NEXT, "[a, b]", 0),
+    (144, &[Object(0)], Wanted::New, 1, NEXT, "[1, null]", 0),
+    (132, &[Object(0)], Wanted::New, 1, NEXT, "[a=1, b=null]", 0),
     (136, &[Null], Wanted::NullPointer, 1, 0, "{a=1, b=null}", 5),
     (
         163,

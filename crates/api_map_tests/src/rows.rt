@@ -1,5 +1,8 @@
 //! Values and answers as rows write them.
 
+/// What a key that is an object is told.
+pub const KEY: &str = "key must be a simple value";
+
 /// An argument.
 #[derive(Clone, Copy)]
 pub enum Arg {

@@ -1,7 +1,5 @@
-use Rattle.std.proofs.Common.{◌≡◌, ◌∙◌, sym, true, false, arith}
-use Rattle.std.proofs.lemmas.Bool.Decides.{nat_tests}
+use Rattle.std.proofs.Common.{◌∙◌, sym}
 use Rattle.object_heap.specs.Parts.{guard_of}
-use Rattle.api_map.specs.Guards.{may_put}
 use Rattle.api_map.proofs.Copying.{no_put_behind, put_behind}
 use Rattle.api_map.proofs.guards.may_put_pairs.Goals as goal
 

@@ -1,0 +1,11 @@
+-- Laws over the definitions.
+use Rattle.std.specs.Prelude.{ℕ, List, length}
+use Rattle.object_values.specs.declared.value.Value.{Value}
+use Rattle.object_heap.specs.Fits.{Rules, Fits, AllFit, EffectFits}
+use Rattle.object_heap.specs.Store.{Store}
+use Rattle.api_iter.specs.Members.{does_numbered}
+
+-- what members keep: where the heap and the arguments fit a program or a code, the heap fits it afterwards
+abbrev pub MembersKeepFit : Type 0
+MembersKeepFit = (rules : Rules) (store : Store) (number : ℕ) (arguments : List Value) → Fits rules store.objects → AllFit (length store.objects) arguments
+    → EffectFits rules (does_numbered store number arguments)

@@ -1,0 +1,3 @@
+pub mod Iterating
+pub mod Laws
+pub mod Members

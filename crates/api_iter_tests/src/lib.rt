@@ -1,0 +1,14 @@
+//! What the clauses of `api_iter` do not say: iterators step by step, and texts that are joined, against values that were found by
+//! hand.
+#![tactic(auto)]
+
+#[cfg(test)]
+mod joining;
+#[cfg(test)]
+mod rows;
+#[cfg(test)]
+mod running;
+#[cfg(test)]
+mod sample;
+#[cfg(test)]
+mod steps;
