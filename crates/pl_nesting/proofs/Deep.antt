@@ -1,5 +1,5 @@
 -- Nesting, one token further.
-use Rattle.std.proofs.Common.{◌≡◌, ℕ, ◌+◌, ◌-◌, ◌<◌, ◌≤◌, Bool, true, false, cond, ◌||◌, List, [], ◌∷◌, length, drop, sum, slice_index_or, Some, sym, ap, ◌∙◌, arith, add-one, drop-cons, ◌&&◌, nat_lt, nat_le}
+use Rattle.std.proofs.Common.{◌≡◌, ℕ, ◌+◌, ◌<◌, ◌≤◌, Bool, true, false, cond, ◌||◌, List, [], ◌∷◌, length, drop, sum, slice_index_or, Some, sym, ap, ◌∙◌, arith, add-one, drop-cons, ◌&&◌, nat_lt, nat_le}
 use Rattle.std.proofs.lemmas.Bool.{ltb-false}
 use Rattle.std.proofs.lemmas.List.Sums.{sum_by-cons}
 use Rattle.pl_lexer.specs.declared.token.Token.{Token}

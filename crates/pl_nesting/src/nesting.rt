@@ -1,6 +1,6 @@
 //! How deep brackets nest, and how far a token reaches.
 
-ghost use Rattle.std.specs.Prelude.{[], ◌≡◌, ◌≤◌, ◌<◌, ◌+◌, ◌&&◌, sum, IfOk, Option};
+ghost use Rattle.std.specs.Prelude.{[], ◌≡◌, ◌≤◌, ◌+◌, sum, IfOk, Option};
 ghost use Rattle.pl_nesting.specs.Nesting as spec;
 
 use pl_lexer::{Kind, Sign, Token, Word};

@@ -1,4 +1,4 @@
-use Rattle.std.proofs.Common.{◌≡◌, ◌+◌, ◌-◌, false, sym, ◌∙◌}
+use Rattle.std.proofs.Common.{◌≡◌, ◌+◌, false, sym, ◌∙◌}
 use Rattle.std.proofs.lemmas.List.{take_rest}
 use Rattle.pl_nesting.specs.Nesting as spec
 use Rattle.pl_nesting.proofs.Deep.{step, counted_small, left_small, not_deep}

@@ -1,0 +1,9 @@
+mod Tests
+mod Follows
+mod Rows
+mod Leads
+mod Next
+mod Walks
+mod Calm
+mod Allowed
+mod Into
