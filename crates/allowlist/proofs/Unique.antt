@@ -1,10 +1,10 @@
 -- The members of the catalogue, and what is found among them.
-use Rattle.std.proofs.Common.{◌≡◌, ℕ, zero, suc, ◌+◌, ◌<◌, Bool, true, false, not, ◌&&◌, ◌||◌, cond, eqb, ltb, List, [], ◌∷◌, ◌++◌, Option, Some, None, get_or, length, map, refl, sym, ap, ◌∙◌, inl, inr, arith}
+use Rattle.std.proofs.Common.{◌≡◌, ℕ, zero, suc, ◌+◌, ◌<◌, Bool, true, false, not, ◌&&◌, ◌||◌, cond, eqb, ltb, List, [], ◌∷◌, ◌++◌, Option, Some, None, IfSome, get_or, length, map, refl, sym, ap, ◌∙◌, inl, inr, arith}
 use Rattle.std.specs.Str.{bytes_eq}
 use Rattle.std.specs.List.{list_any, flat_map, range_with_len, slice_get}
 use Rattle.std.proofs.lemmas.Bool.{eqb-true, eq-eqb, and_parts, not-true, false≢true, cases_lt, ltb-true}
 use Rattle.std.proofs.lemmas.List.FromFn.{get_or-map-range_with_len}
-use Rattle.std.proofs.lemmas.Option.{slice_get-get_or}
+use Rattle.std.proofs.lemmas.Option.{slice_get-get_or, slice_get_within}
 use Rattle.std.proofs.lemmas.Slice.Eq.{bytes_eq-Decides}
 use Rattle.pl_types.specs.Classes.{class_is_below, class_row, class_table, has, lineage_of, parents_of}
 use Rattle.allowlist.specs.declared.member.MemberType.{MemberType}
@@ -186,3 +186,24 @@ method_above class number h =
       | inl l ↦ fitting class number (ap (method_fits class) (sym h) ∙ fits_at class l)
       | inr g ↦ (let e = sym (iface_past class g) ∙ h in cc)
     ]
+
+-- What a list allows is below its length.
+
+flag_within : (flags : List Bool) (number : ℕ) → flag flags number ≡ true → number < length flags
+flag_within [] number h = cc
+flag_within (b ∷ bs) zero h = omega arith
+flag_within (b ∷ bs) (suc number) h = let l = flag_within bs number h in omega (arith, l)
+
+pub found_in_list : (allow : AllowList) (class : ℕ) (name : List ℕ) (arity number : ℕ) → member_of allow class name arity ≡ Some number → number < length allow.members
+found_in_list allow class name arity number h = flag_within allow.members number (found_is_allowed allow class name arity number h).0
+
+pub all_in_list : (allow : AllowList) (class : ℕ) (name : List ℕ) (arity : ℕ) (found : Option ℕ) → found ≡ member_of allow class name arity → IfSome found (λ number. number < length allow.members)
+all_in_list allow class name arity None h = tt
+all_in_list allow class name arity (Some number) h = found_in_list allow class name arity number (sym h)
+
+-- and the method of an interface is, where the list has the whole catalogue
+pub method_in_list : (class most : ℕ) (found : Option ℕ) → found ≡ iface_method_of class → most ≡ 228 → IfSome found (λ number. number < most)
+method_in_list class most None h whole = tt
+method_in_list class most (Some number) h whole =
+    let m = method_above class number (sym h) in
+    omega (arith, slice_get_within catalogue number m.0 m.1, length-catalogue, whole)

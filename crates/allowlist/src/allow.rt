@@ -1,6 +1,6 @@
 //! Lists of what scripts may use, and what is found in them.
 
-ghost use Rattle.std.specs.Prelude.{◌≡◌, ◌<◌, Some, slice_get, IfOk, length};
+ghost use Rattle.std.specs.Prelude.{◌≡◌, ◌≤◌, ◌<◌, Some, slice_get, IfOk, IfSome, length};
 ghost use Rattle.pl_types.specs.Classes.{full_name};
 ghost use Rattle.allowlist.specs.Accessors.{accessor_name, arity_of, seen_name};
 ghost use Rattle.allowlist.specs.Catalogue.{catalogue};
@@ -10,7 +10,7 @@ use crate::build::{flags, types};
 use crate::index::{index, member_called};
 use crate::member::MemberType;
 use crate::name::{Accessor, Name, arity_of};
-use crate::table::{MEMBER_COUNT, method_of_interface};
+use crate::table::method_of_interface;
 use pl_types::classes::CLASS_COUNT;
 use pl_types::{class_full, class_lineage};
 use std::alloc::{AllocError, Global};
@@ -47,7 +47,8 @@ impl Allow {
     /// of a parent. A caller tells them apart by the member's kind and owner: a call on a value takes an instance member
     /// alone, a call on a class a static one, `new` a constructor that the class itself owns, and no call a field.
     pub fn member(&self, class: u32, name: &str, arity: u32) -> Option<u32>
-        ensures { result ≡ member_of self.now class name.now arity }
+        ensures found { result ≡ member_of self.now class name.now arity }
+        ensures within { IfSome result (λ number. number < length self.now.members) }
     {
         self.found(class, &Name::Whole(name.as_bytes()), arity)
     }
@@ -55,7 +56,8 @@ impl Allow {
     /// The member that `member` gives for `get`, `is` or `set` before the name of a property, whose first letter is put
     /// into upper case where it is an ASCII one: `getKey` for `key`. No text is made for it.
     pub fn accessor(&self, class: u32, accessor: Accessor, property: &str) -> Option<u32>
-        ensures { result ≡ member_of self.now class (accessor_name accessor property.now) (arity_of accessor) }
+        ensures found { result ≡ member_of self.now class (accessor_name accessor property.now) (arity_of accessor) }
+        ensures within { IfSome result (λ number. number < length self.now.members) }
     {
         let name = Name::Of(accessor, property.as_bytes());
         self.found(class, &name, arity_of(accessor))
@@ -87,9 +89,18 @@ impl Allow {
         self.allows(number).then_some(number)
     }
 
-    /// A member of the catalogue, by its number, whether or not this list allows it.
+    /// How many members this list knows, whether or not it allows them: their numbers are those below this one. Each member of
+    /// the catalogue is among them.
+    pub fn member_count(&self) -> u32
+        ensures is { result ≡ length self.now.members }
+        ensures whole { length catalogue ≤ result }
+    {
+        self.members.len() as u32
+    }
+
+    /// A member by its number, whether or not this list allows it.
     pub fn member_type(&self, member: u32) -> &MemberType
-        requires { member < MEMBER_COUNT }
+        requires { member < length self.now.members }
         ensures { slice_get catalogue member ≡ Some result.now }
     {
         &self.types[member as usize]
@@ -97,8 +108,11 @@ impl Allow {
 
     /// The one method of a functional interface, whether or not this list allows it. `None` for every other class.
     pub fn iface_method(&self, class: u32) -> Option<u32>
-        ensures { result ≡ iface_method_of class }
+        ensures found { result ≡ iface_method_of class }
+        ensures within { IfSome result (λ number. number < length self.now.members) }
     {
+        // By what is kept of the members each of the catalogue's is among them.
+        let _ = &self.members;
         if class < CLASS_COUNT {
             method_of_interface(class)
         } else {
@@ -124,7 +138,7 @@ impl Allow {
 
     /// Whether the list allows a member.
     pub fn allows(&self, member: u32) -> bool
-        requires { member < MEMBER_COUNT }
+        requires { member < length self.now.members }
         ensures { slice_get self.now.members member ≡ Some result }
     {
         self.members[member as usize]
@@ -174,7 +188,7 @@ impl Allow {
     }
 
     pub(crate) fn add_member(&mut self, member: u32)
-        requires { member < MEMBER_COUNT }
+        requires { member < length self.old.members }
         ensures { self.new ≡ record { classes = self.old.classes; members = with_flag self.old.members member } }
     {
         self.members[member as usize] = true;

@@ -1,6 +1,6 @@
 //! Reading of allowlist files.
 
-ghost use Rattle.std.specs.Prelude.{◌≡◌, ◌<◌, ◌==◌, ◌&&◌, ◌||◌, ◌+◌, take, drop, IfSome, option_map};
+ghost use Rattle.std.specs.Prelude.{◌≡◌, ◌<◌, ◌==◌, ◌&&◌, ◌||◌, ◌+◌, take, drop, IfSome, length, option_map};
 ghost use Rattle.std.specs.Option.{ForSome};
 ghost use Rattle.allowlist.specs.Answers.{ReadAnswers};
 ghost use Rattle.allowlist.specs.Files.{class_of_line, declared_member, declares, open_after, is_misplaced, with_class, with_member, with_declared, next_reading, line_result, line_len, allowlist_of};
@@ -11,7 +11,6 @@ use crate::declares::declares;
 use crate::error::AllowErr;
 use crate::form::{Form, bytes_before, form_of};
 use crate::member::MemberType;
-use crate::table::MEMBER_COUNT;
 use pl_types::class_of_full_bytes;
 use pl_types::classes::{CLASS_COUNT, PRELUDE};
 use std::alloc::Global;
@@ -28,9 +27,9 @@ fn class_of_line(name: &[u8]) -> Option<u32>
 /// The member of a class that a line declares.
 fn declared_member(allow: &Allow, class: u32, form: &Form<'_>) -> Option<u32>
     ensures member { result ≡ declared_member class (seen_form form.now) }
-    ensures within { IfSome result (λ member. member < MEMBER_COUNT) }
+    ensures within { IfSome result (λ member. member < length allow.now.members) }
 {
-    for number in 0..MEMBER_COUNT {
+    for number in 0..allow.member_count() {
         if is_declared(allow.member_type(number), class, form) {
             return Some(number);
         }
@@ -61,7 +60,7 @@ fn with_class(allow: &mut Allow, class: Option<u32>) -> Option<Option<u32>>
 
 /// A member is allowed once.
 fn with_member(allow: &mut Allow, class: u32, member: Option<u32>) -> Option<Option<u32>>
-    requires { ForSome member (λ m. m < MEMBER_COUNT) }
+    requires { ForSome member (λ m. m < length allow.old.members) }
     ensures { option_map (λ inside. record { inside = inside; allow = allow.new }) result ≡ with_member class allow.old member }
 {
     let member = member?;

@@ -1,8 +1,8 @@
 -- What is found of the members of a list.
-use Rattle.std.proofs.Common.{◌≡◌, ℕ, zero, suc, ◌<◌, Bool, true, false, cond, List, [], Option, Some, None, IfSome, length, sym, refl, ap, ◌∙◌, arith}
+use Rattle.std.proofs.Common.{◌≡◌, ℕ, zero, suc, Bool, true, false, cond, List, [], Option, Some, None, length, sym, refl, ap, ◌∙◌}
 use Rattle.std.specs.Prelude.{slice_get, option_map}
 use Rattle.std.proofs.lemmas.Bool.{false≢true}
-use Rattle.std.proofs.lemmas.Option.{slice_get_within, get_or_from_slice_get}
+use Rattle.std.proofs.lemmas.Option.{get_or_from_slice_get}
 use Rattle.pl_types.specs.Classes.{class_is_below}
 use Rattle.allowlist.specs.declared.member.MemberType.{MemberType}
 use Rattle.allowlist.specs.declared.member.MemberKind.{MemberKind}
@@ -10,8 +10,7 @@ use Rattle.allowlist.specs.declared.member.MemberKind.TheVariants.{Constructor, 
 use Rattle.allowlist.specs.Catalogue.{catalogue, constructor}
 use Rattle.allowlist.specs.Allow.{AllowList, has_name, member_of, iface_method_of}
 use Rattle.allowlist.specs.Index.{member_at}
-use Rattle.allowlist.proofs.Tables.{length-catalogue}
-use Rattle.allowlist.proofs.Unique.{found_is_allowed, found_above, method_above}
+use Rattle.allowlist.proofs.Unique.{found_is_allowed, found_above}
 use Rattle.def_resolve.specs.declared.function.Reference.TheVariants as reference
 use Rattle.def_resolve.specs.Functions.{ReferenceConfined, instance_behind, is_constructor, is_static, static_in}
 use Rattle.def_resolve.specs.Resolution.{IsListed, IsMember, IsMethod, instance_in, instance_member, if_called, is_instance, method_called}
@@ -19,17 +18,6 @@ use Rattle.def_resolve.specs.Resolution.{IsListed, IsMember, IsMethod, instance_
 -- what is read at a number
 pub read_at : (number : ℕ) (m : MemberType) → slice_get catalogue number ≡ Some m → m ≡ member_at number
 read_at number m h = sym (get_or_from_slice_get catalogue number m (constructor 0 _) h)
-
-in_catalogue : (number : ℕ) (m : MemberType) → slice_get catalogue number ≡ Some m → number < 228
-in_catalogue number m h = omega (arith, slice_get_within catalogue number m h, length-catalogue)
-
-pub found_within : (allow : AllowList) (class : ℕ) (name : List ℕ) (arity : ℕ) (found : Option ℕ) → found ≡ member_of allow class name arity → IfSome found (λ number. number < 228)
-found_within allow class name arity None h = tt
-found_within allow class name arity (Some number) h = let f = found_is_allowed allow class name arity number (sym h) in in_catalogue number f.1.0 f.1.1
-
-pub method_within : (class : ℕ) (found : Option ℕ) → found ≡ iface_method_of class → IfSome found (λ number. number < 228)
-method_within class None h = tt
-method_within class (Some number) h = let f = method_above class number (sym h) in in_catalogue number f.0 f.1
 
 -- what is found counts where it is of the kind that is wanted
 instance_at : (number k : ℕ) (kind : MemberKind) → cond (is_instance kind) (Some number) None ≡ Some k → (number ≡ k) × (kind ≡ Instance)

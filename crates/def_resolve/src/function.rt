@@ -1,11 +1,11 @@
 //! What function values call, and which interfaces they take.
 
-ghost use Rattle.std.specs.Prelude.{◌≡◌, ◌<◌, ◌+◌, ◌==◌, IfSome};
+ghost use Rattle.std.specs.Prelude.{◌≡◌, ◌<◌, ◌+◌, ◌==◌, IfSome, length};
 ghost use Rattle.def_resolve.specs.Functions as spec;
 ghost use Rattle.def_resolve.specs.Functions.{ConstructorConfined, ReferenceConfined, constructor_of, fits, reference_of, static_in};
 
 use crate::lookup::{found, iface_method, instance_member, member_at};
-use allowlist::{Allow, MEMBER_COUNT, MemberKind};
+use allowlist::{Allow, MemberKind};
 use object_values::{Object, Target};
 use pl_types::Ty;
 
@@ -38,7 +38,7 @@ fn is_constructor(kind: MemberKind) -> bool
 
 /// What is found, where it is static.
 fn static_in(allow: &Allow, found: Option<u32>) -> Option<u32>
-    requires { IfSome found (λ number. number < MEMBER_COUNT) }
+    requires { IfSome found (λ number. number < length allow.now.members) }
     ensures { result ≡ static_in found }
 {
     let number = found?;

@@ -1,16 +1,16 @@
 //! Which member of the catalogue is found.
 
-ghost use Rattle.std.specs.Prelude.{◌≡◌, ◌<◌, IfSome};
+ghost use Rattle.std.specs.Prelude.{◌≡◌, ◌<◌, IfSome, length};
 ghost use Rattle.allowlist.specs.Allow.{member_of, iface_method_of};
 ghost use Rattle.allowlist.specs.Accessors.{accessor_name, arity_of};
 ghost use Rattle.allowlist.specs.Index.{member_at};
 ghost use Rattle.def_resolve.specs.Resolution.{instance_in, instance_member};
 
-use allowlist::{Accessor, Allow, MEMBER_COUNT, MemberKind, MemberType};
+use allowlist::{Accessor, Allow, MemberKind, MemberType};
 
 /// The member of the catalogue with a number.
 pub(crate) fn member_at(allow: &Allow, number: u32) -> &MemberType
-    requires { number < MEMBER_COUNT }
+    requires { number < length allow.now.members }
     ensures { result.now ≡ member_at number }
 {
     allow.member_type(number)
@@ -19,7 +19,7 @@ pub(crate) fn member_at(allow: &Allow, number: u32) -> &MemberType
 /// What a class has with a name and a number of parameters, itself or by its parents.
 pub(crate) fn found(allow: &Allow, class: u32, name: &str, arity: u32) -> Option<u32>
     ensures found { result ≡ member_of allow.now class name.now arity }
-    ensures within { IfSome result (λ number. number < MEMBER_COUNT) }
+    ensures within { IfSome result (λ number. number < length allow.now.members) }
 {
     allow.member(class, name, arity)
 }
@@ -27,7 +27,7 @@ pub(crate) fn found(allow: &Allow, class: u32, name: &str, arity: u32) -> Option
 /// The same of the accessor of a property.
 pub(crate) fn accessor(allow: &Allow, class: u32, accessor: Accessor, property: &str) -> Option<u32>
     ensures found { result ≡ member_of allow.now class (accessor_name accessor property.now) (arity_of accessor) }
-    ensures within { IfSome result (λ number. number < MEMBER_COUNT) }
+    ensures within { IfSome result (λ number. number < length allow.now.members) }
 {
     allow.accessor(class, accessor, property)
 }
@@ -35,14 +35,14 @@ pub(crate) fn accessor(allow: &Allow, class: u32, accessor: Accessor, property: 
 /// The one method of a functional interface.
 pub(crate) fn iface_method(allow: &Allow, class: u32) -> Option<u32>
     ensures found { result ≡ iface_method_of class }
-    ensures within { IfSome result (λ number. number < MEMBER_COUNT) }
+    ensures within { IfSome result (λ number. number < length allow.now.members) }
 {
     allow.iface_method(class)
 }
 
 /// What is found, where it is an instance member.
 pub(crate) fn instance_in(allow: &Allow, found: Option<u32>) -> Option<u32>
-    requires { IfSome found (λ number. number < MEMBER_COUNT) }
+    requires { IfSome found (λ number. number < length allow.now.members) }
     ensures { result ≡ instance_in found }
 {
     let number = found?;

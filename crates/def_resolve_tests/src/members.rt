@@ -1,6 +1,6 @@
 //! Rows of classes of values, and of calls.
 use crate::sample::{Listed, Row, allow, heap, value};
-use allowlist::{Allow, MEMBER_COUNT};
+use allowlist::Allow;
 use def_resolve::{Callee, class_of, resolution_laws, resolve};
 use object_heap::Heap;
 use pl_types::classes::{
@@ -233,7 +233,7 @@ const CALLS: [(Listed, u32, &str, u32, Found); 58] = [
 
 /// The class that has a member.
 pub fn owner(allow: &Allow, number: u32) -> Option<u32> {
-    if number < MEMBER_COUNT {
+    if number < allow.member_count() {
         Some(allow.member_type(number).owner)
     } else {
         None

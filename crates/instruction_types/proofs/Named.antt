@@ -1,24 +1,20 @@
 -- Members by their numbers, and locals.
 use Rattle.std.proofs.Common.{◌≡◌, ℕ, zero, suc, ◌-◌, ◌<◌, ◌≤◌, List, [], ◌∷◌, ◌++◌, Option, Some, None, length, refl, sym, ap, ◌∙◌, arith}
-use Rattle.std.specs.Prelude.{IfSome, slice_get, if◌then◌else◌}
-use Rattle.std.proofs.lemmas.Option.{slice_get_within, get_or_from_slice_get}
+use Rattle.std.specs.Prelude.{◌==◌, ◌&&◌, Bool, true, false, IfSome, slice_get, if◌then◌else◌, option_and_then}
+use Rattle.std.proofs.lemmas.Option.{get_or_from_slice_get}
 use Rattle.allowlist.specs.declared.member.MemberType.{MemberType}
 use Rattle.allowlist.specs.Catalogue.{catalogue, constructor}
+use Rattle.allowlist.specs.Allow.{AllowList, member_of}
 use Rattle.allowlist.specs.Index.{member_at}
-use Rattle.allowlist.proofs.Tables.{length-catalogue}
+use Rattle.allowlist.proofs.Unique.{all_in_list}
+use Rattle.pl_types.specs.Names.{class_of_full}
 use Rattle.pl_code.specs.declared.kinds.Slot.{Slot}
 use Rattle.pl_code.specs.declared.kinds.Slot.TheVariants.{R}
 use Rattle.instruction_types.specs.Types.{kind_of_type}
-use Rattle.instruction_types.specs.Members.{argument_kinds, has_receiver, member_takes}
+use Rattle.instruction_types.specs.Members.{argument_kinds, has_receiver, member_takes, is_sought, own_sought, own_named, member_named, method_of, constructor_of, field_of, called_part, owner_part, name_part, arity_part}
+use Rattle.instruction_types.specs.declared.members.Sought.{Sought}
+use Rattle.instruction_types.specs.declared.members.Sought.TheVariants as sought
 use Rattle.instruction_types.specs.Effects.{Exchanges, one, invokes, makes, reads}
-
-pub in_catalogue : (number : ℕ) (m : MemberType) → slice_get catalogue number ≡ Some m → number < 228
-in_catalogue number m h = omega (arith, slice_get_within catalogue number m h, length-catalogue)
-
--- what is found by its number is of the catalogue
-pub found_within : (o : Option ℕ) → ((number : ℕ) → o ≡ Some number → (m : MemberType) × (slice_get catalogue number ≡ Some m)) → IfSome o (λ number. number < 228)
-found_within None h = tt
-found_within (Some number) h = let x = h number refl in in_catalogue number x.0 x.1
 
 pub at_number : (number : ℕ) (m : MemberType) → slice_get catalogue number ≡ Some m → member_at number ≡ m
 at_number number m h = get_or_from_slice_get catalogue number m (constructor 0 []) h
@@ -50,3 +46,42 @@ behind (x ∷ xs) ys zero h = absurd (omega arith)
 behind (x ∷ xs) ys (suc i) h =
     let e : i - length xs ≡ suc i - length (x ∷ xs) = omega arith in
     behind xs ys i (omega arith) ∙ ap (slice_get ys) e
+
+-- ---- what a text names is a member of the list
+
+module _ (allow : AllowList) where
+  abbrev IsListed : Option ℕ → Type 0
+  IsListed o = IfSome o (λ number. number < length allow.members)
+
+  if_sought : (number : ℕ) (t : Bool) → number < length allow.members → IsListed (if t then Some number else None)
+  if_sought number true h = h
+  if_sought number false h = tt
+
+  own_listed : (s : Sought) (class : ℕ) (found : Option ℕ) → IsListed found → IsListed (option_and_then (own_sought s class) found)
+  own_listed s class None h = tt
+  own_listed s class (Some number) h = if_sought number (((member_at number).owner == class) && is_sought s (member_at number).kind) h
+
+  named_listed : (s : Sought) (name : List ℕ) (arity : ℕ) (class : Option ℕ) → IsListed (option_and_then (own_named allow s name arity) class)
+  unfolding own_named
+  named_listed s name arity None = tt
+  named_listed s name arity (Some class) = own_listed s class (member_of allow class name arity) (all_in_list allow class name arity (member_of allow class name arity) refl)
+
+  member_listed : (s : Sought) (class name : List ℕ) (arity : ℕ) → IsListed (member_named allow s class name arity)
+  unfolding member_named
+  member_listed s class name arity = named_listed s name arity (class_of_full class)
+
+  called_listed : (s : Sought) (class name : List ℕ) (arity : Option ℕ) → IsListed (option_and_then (member_named allow s class name) arity)
+  called_listed s class name None = tt
+  called_listed s class name (Some arity) = member_listed s class name arity
+
+  pub method_listed : (text : List ℕ) → IsListed (method_of allow text)
+  unfolding method_of
+  method_listed text = called_listed sought.Called (owner_part (called_part text)) (name_part (called_part text)) (arity_part text)
+
+  pub constructor_listed : (text : List ℕ) → IsListed (constructor_of allow text)
+  unfolding constructor_of
+  constructor_listed text = called_listed sought.Made (called_part text) [] (arity_part text)
+
+  pub field_listed : (text : List ℕ) → IsListed (field_of allow text)
+  unfolding field_of
+  field_listed text = member_listed sought.Read (owner_part text) (name_part text) 0

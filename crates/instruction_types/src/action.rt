@@ -1,3 +1,5 @@
+//! What instructions take from the stack.
+
 use crate::copying::Copying;
 use pl_code::Slot;
 use pl_types::Ty;

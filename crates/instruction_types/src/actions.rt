@@ -1,6 +1,6 @@
 //! The table of instructions: what each does to the stack.
 
-ghost use Rattle.std.specs.Prelude.{◌≡◌, ◌<◌, [], ◌∷◌, ◌++◌, if◌then◌else◌, slice_get, option_map, replicate};
+ghost use Rattle.std.specs.Prelude.{◌≡◌, ◌<◌, [], ◌∷◌, ◌++◌, if◌then◌else◌, length, slice_get, option_map, replicate};
 ghost use Rattle.std.specs.Option.{option_copied};
 ghost use Rattle.pl_code.specs.declared.kinds.Slot.TheVariants.{I, R};
 ghost use Rattle.instruction_types.specs.Types.{kind_of_text};
@@ -12,7 +12,7 @@ use crate::action::{Action, Takes};
 use crate::copying::Copying;
 use crate::members::{constructor_of, field_of, method_of};
 use crate::types::{kind_of_primitive, kind_of_text, kind_of_type};
-use allowlist::{Allow, MEMBER_COUNT, MemberKind};
+use allowlist::{Allow, MemberKind};
 use listing_parts::{ConstructorName, FieldName, MethodName, TypeName};
 use pl_code::{
     ArithmeticOp, DynamicOp, FunCode, Instruction, Numbered, Plain, Quoting, Sized, Slot, Typed,
@@ -299,7 +299,7 @@ fn arguments(kind: MemberKind, params: &[Ty]) -> Takes<'_>
 
 #[tactic(auto, unfolding(crate::specs::Seen::seen_action))]
 fn invokes(allow: &Allow, member: u32) -> Action<'_>
-    requires { member < MEMBER_COUNT }
+    requires { member < length allow.now.members }
     ensures { seen_action result ≡ invokes member }
 {
     let called = allow.member_type(member);
@@ -310,7 +310,7 @@ fn invokes(allow: &Allow, member: u32) -> Action<'_>
 
 #[tactic(auto, unfolding(crate::specs::Seen::seen_action, crate::specs::Seen::seen_takes))]
 fn makes(allow: &Allow, member: u32) -> Action<'_>
-    requires { member < MEMBER_COUNT }
+    requires { member < length allow.now.members }
     ensures { seen_action result ≡ makes member }
 {
     let made = allow.member_type(member);
@@ -318,7 +318,7 @@ fn makes(allow: &Allow, member: u32) -> Action<'_>
 }
 
 fn reads(allow: &Allow, member: u32) -> Action<'_>
-    requires { member < MEMBER_COUNT }
+    requires { member < length allow.now.members }
     ensures { seen_action result ≡ reads member }
 {
     let read = allow.member_type(member);

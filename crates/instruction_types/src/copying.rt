@@ -1,3 +1,5 @@
+//! Copies of what lies on the stack.
+
 /// Which copies of what lies on the top of the stack an instruction makes.
 #[derive(Clone, Copy)]
 pub enum Copying {

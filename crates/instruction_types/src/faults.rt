@@ -41,7 +41,7 @@ pub fn is_value_function(function: &FunCode) -> bool
 }
 
 fn breaks_method(allow: &Allow, others: usize, method: Option<u32>) -> bool
-    requires { ForSome method (λ number. number < 228) }
+    requires { ForSome method (λ number. number < length allow.now.members) }
     ensures { result ≡ breaks_method others method }
 {
     match method {

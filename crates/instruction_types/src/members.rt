@@ -1,11 +1,11 @@
 //! Members by their texts.
 
-ghost use Rattle.std.specs.Prelude.{◌≡◌, ◌<◌, IfSome, option_map};
+ghost use Rattle.std.specs.Prelude.{◌≡◌, ◌<◌, IfSome, length, option_map};
 ghost use Rattle.allowlist.specs.Allow.{member_of};
 ghost use Rattle.instruction_types.specs.Members.{behind_dots, owner_part, called_part, arity_part, is_sought, own_named, member_named, method_of, constructor_of, field_of};
 ghost use Rattle.instruction_types.specs.Calls.{seen_called, called_of};
 
-use allowlist::{Allow, MEMBER_COUNT, MemberKind, catalogue_laws};
+use allowlist::{Allow, MemberKind};
 use listing_parts::{ConstructorName, FieldName, MethodName, natural};
 use pl_types::class_of_full_bytes;
 
@@ -63,9 +63,8 @@ fn is_sought(sought: Sought, kind: MemberKind) -> bool
 
 fn found(allow: &Allow, class: u32, name: &str, arity: u32) -> Option<u32>
     ensures found { result ≡ member_of allow.now class name.now arity }
-    ensures within { IfSome result (λ number. number < 228) }
+    ensures within { IfSome result (λ number. number < length allow.now.members) }
 {
-    catalogue_laws();
     allow.member(class, name, arity)
 }
 
@@ -73,7 +72,7 @@ fn found(allow: &Allow, class: u32, name: &str, arity: u32) -> Option<u32>
 #[tactic(auto, unfolding(crate::specs::Members::own_named))]
 fn own_named(allow: &Allow, sought: Sought, name: &str, arity: u32, class: u32) -> Option<u32>
     ensures found { result ≡ own_named allow.now sought name.now arity class }
-    ensures within { IfSome result (λ number. number < 228) }
+    ensures within { IfSome result (λ number. number < length allow.now.members) }
 {
     let number = found(allow, class, name, arity)?;
     let member = allow.member_type(number);
@@ -87,7 +86,7 @@ fn own_named(allow: &Allow, sought: Sought, name: &str, arity: u32, class: u32) 
 #[tactic(auto, unfolding(crate::specs::Members::member_named))]
 fn member_named(allow: &Allow, sought: Sought, class: &[u8], name: &str, arity: u32) -> Option<u32>
     ensures found { result ≡ member_named allow.now sought class.now name.now arity }
-    ensures within { IfSome result (λ number. number < 228) }
+    ensures within { IfSome result (λ number. number < length allow.now.members) }
 {
     match class_of_full_bytes(class) {
         Some(class) => own_named(allow, sought, name, arity, class),
@@ -100,7 +99,7 @@ fn member_named(allow: &Allow, sought: Sought, class: &[u8], name: &str, arity: 
 #[tactic(auto, unfolding(crate::specs::Members::method_of, crate::specs::Members::name_part))]
 pub fn method_of(allow: &Allow, method: &MethodName) -> Option<u32>
     ensures found { result ≡ method_of allow.now method.now }
-    ensures within { IfSome result (λ number. number < 228) }
+    ensures within { IfSome result (λ number. number < length allow.now.members) }
 {
     match called(method.as_str()) {
         Some((front, arity)) => {
@@ -116,7 +115,7 @@ pub fn method_of(allow: &Allow, method: &MethodName) -> Option<u32>
 #[tactic(auto, unfolding(crate::specs::Members::constructor_of))]
 pub fn constructor_of(allow: &Allow, constructor: &ConstructorName) -> Option<u32>
     ensures found { result ≡ constructor_of allow.now constructor.now }
-    ensures within { IfSome result (λ number. number < 228) }
+    ensures within { IfSome result (λ number. number < length allow.now.members) }
 {
     match called(constructor.as_str()) {
         Some((front, arity)) => member_named(allow, Sought::Made, front.as_bytes(), "", arity),
@@ -128,7 +127,7 @@ pub fn constructor_of(allow: &Allow, constructor: &ConstructorName) -> Option<u3
 #[tactic(auto, unfolding(crate::specs::Members::field_of, crate::specs::Members::name_part))]
 pub fn field_of(allow: &Allow, field: &FieldName) -> Option<u32>
     ensures found { result ≡ field_of allow.now field.now }
-    ensures within { IfSome result (λ number. number < 228) }
+    ensures within { IfSome result (λ number. number < length allow.now.members) }
 {
     let text = field.as_str();
     let class = owner_part(text);

@@ -1,9 +1,9 @@
 //! Types, classes and interfaces by their texts.
 
-ghost use Rattle.std.specs.Prelude.{◌≡◌, ◌<◌, IfSome};
+ghost use Rattle.std.specs.Prelude.{◌≡◌, ◌<◌, IfSome, length};
 ghost use Rattle.instruction_types.specs.Types.{kind_of_primitive, kind_of_text, kind_of_type, element_of, dimensions_of, is_known_type, is_known_word, catalogue_class, interface_method};
 
-use allowlist::{Allow, catalogue_laws};
+use allowlist::Allow;
 use listing_parts::place_of;
 use pl_code::Slot;
 use pl_types::classes::PRELUDE;
@@ -97,9 +97,8 @@ pub fn is_known_type(text: &[u8]) -> bool
 #[tactic(auto, unfolding(crate::specs::Types::interface_method))]
 pub fn interface_method(allow: &Allow, name: &[u8]) -> Option<u32>
     ensures found { result ≡ interface_method name.now }
-    ensures within { IfSome result (λ number. number < 228) }
+    ensures within { IfSome result (λ number. number < length allow.now.members) }
 {
-    catalogue_laws();
     match catalogue_class(name) {
         None => None,
         Some(class) => allow.iface_method(class),

@@ -1,6 +1,6 @@
 -- A turn pays a tick, so that the turns of each frame and the ticks that are left stay within 64 bits together.
-use Rattle.std.proofs.Common.{◌≡◌, ℕ, ℤ, zero, suc, ◌+◌, ◌-◌, ◌<◌, ◌^◌, ◌||◌, Bool, true, false, List, [], ◌∷◌, Option, Some, None, refl, sym, subst, arith}
-use Rattle.std.specs.Prelude.{slice_get, nat_lt, not, pos, negsuc, if◌then◌else◌}
+use Rattle.std.proofs.Common.{◌≡◌, ℕ, ℤ, suc, ◌+◌, ◌-◌, ◌<◌, ◌^◌, ◌||◌, Bool, true, false, List, [], ◌∷◌, Option, Some, None, refl, sym, subst, arith}
+use Rattle.std.specs.Prelude.{slice_get, nat_lt, not, if◌then◌else◌}
 use Rattle.std.proofs.lemmas.Bool.{ltb-true}
 use Rattle.pl_types.specs.declared.ty.Ty.{Ty}
 use Rattle.pl_types.specs.declared.ty.Ty.TheVariants as ty
@@ -35,7 +35,8 @@ use Rattle.code_meaning.specs.declared.word.Word.{Word}
 use Rattle.code_meaning.specs.declared.word.Word.TheVariants.{I, J, R}
 use Rattle.code_meaning.specs.Members.{Receiving, Unfit, OnNull, Receives, Reads, count_of, given_as, received}
 use Rattle.code_meaning.specs.Words.{Calculation, NoRow, Calculates, boxed, calculation, unboxed}
-use Rattle.code_meaning.specs.Machine.{Codes, code_in, function_of, Frame, Config, Next, Goes, Ends, Stuck, Handlers, is_instance, lands, traps_of, unwind, on_top, on_int, on_long, on_reference, on_type, on_value, on_local, on_stack, on_words, on_loops, unless_zero, if_null, to_line, take_words, copied, depth_of, is_written, on_outcome, on_thrown, on_calculation, gives_back, returns, returns_of, on_turn, on_enter, on_call, on_act, on_paid, on_received, plain_act, numbered_act, quoted_act, typed_act, member_act, act, acts, lines_of, step}
+use Rattle.code_meaning.specs.Machine.{Codes, code_in, function_of, Frame, Config, Next, Goes, Ends, Stuck, Handlers, is_instance, lands, traps_of, unwind, on_top, on_int, on_reference, on_value, on_local, on_stack, on_words, to_line, take_words, copied, depth_of, is_written, on_outcome, on_thrown, on_calculation, gives_back, returns, returns_of, on_turn, on_enter, on_call, on_act, on_paid, on_received, plain_act, numbered_act, quoted_act, typed_act, member_act, act, acts, lines_of, step}
+use Rattle.code_fit.proofs.Nexts.{int_holds, long_holds, type_holds, loops_hold, either_holds, null_holds}
 use Rattle.machine.specs.Runs.{TurnsFit, CountsFit}
 
 -- ---- ticks
@@ -113,24 +114,10 @@ top_fits : (stack : List Word) (next : Word → List Word → Next) → ((word :
 top_fits [] next k = tt
 top_fits (word ∷ stack) next k = k word stack
 
-int_fits : (word : Word) (next : ℤ → Next) → ((a : ℤ) → NextFits (next a)) → NextFits (on_int word next)
-int_fits (I a) next k = k a
-int_fits (J a) next k = tt
-int_fits (R value) next k = tt
-
-long_fits : (word : Word) (next : ℤ → Next) → ((a : ℤ) → NextFits (next a)) → NextFits (on_long word next)
-long_fits (I a) next k = tt
-long_fits (J a) next k = k a
-long_fits (R value) next k = tt
-
 reference_fits : (word : Word) (next : Value → Next) → ((value : Value) → NextFits (next value)) → NextFits (on_reference word next)
 reference_fits (I a) next k = tt
 reference_fits (J a) next k = tt
 reference_fits (R value) next k = k value
-
-type_fits : (o : Option Ty) (next : Ty → Next) → ((of : Ty) → NextFits (next of)) → NextFits (on_type o next)
-type_fits None next k = tt
-type_fits (Some of) next k = k of
 
 value_fits : (o : Option Value) (next : Value → Next) → ((value : Value) → NextFits (next value)) → NextFits (on_value o next)
 value_fits None next k = tt
@@ -148,27 +135,7 @@ words_fit : (o : Option (List Word × List Word)) (next : List Word → List Wor
 words_fit None next k = tt
 words_fit (Some p) next k = k p.0 p.1
 
-either_fits : (a : ℤ) (first second : Next) → NextFits first → NextFits second → NextFits (unless_zero a first second)
-either_fits (pos zero) first second x y = y
-either_fits (pos (suc a)) first second x y = x
-either_fits (negsuc a) first second x y = x
-
-null_fits : (value : Value) (first second : Next) → NextFits first → NextFits second → NextFits (if_null value first second)
-null_fits v.Null first second x y = x
-null_fits (v.Bool a) first second x y = y
-null_fits (v.Byte a) first second x y = y
-null_fits (v.Short a) first second x y = y
-null_fits (v.Char a) first second x y = y
-null_fits (v.Int a) first second x y = y
-null_fits (v.Long a) first second x y = y
-null_fits (v.Str a) first second x y = y
-null_fits (v.Ref a) first second x y = y
-
 module _ (codes : Codes) (limits : Limits) where
-  loops_fit : (o : Option FunCode) (next : Bool → Next) → ((limited : Bool) → NextFits (next limited)) → NextFits (on_loops codes limits o next)
-  loops_fit None next k = tt
-  loops_fit (Some g) next k = k g.loops
-
   -- ---- what is thrown
 
   lands_fit : (hs : Handlers) (f : Frame) (fs : List Frame) (id : ℕ) (w : World) (further : Next) → TurnsFit w.ticks (f ∷ fs) → NextFits further
@@ -277,7 +244,7 @@ module _ (codes : Codes) (limits : Limits) where
     on_two next k = top_fits f.stack _ (λ upper rest. reference_fits upper _ (λ b. top_fits rest _ (λ lower stack. reference_fits lower _ (λ a. k a b stack))))
 
     on_number : (next : ℤ → List Word → Next) → ((a : ℤ) (stack : List Word) → NextFits (next a stack)) → NextFits (on_top f.stack (λ word stack. on_int word (λ a. next a stack)))
-    on_number next k = top_fits f.stack _ (λ word stack. int_fits word _ (λ a. k a stack))
+    on_number next k = top_fits f.stack _ (λ word stack. int_holds NextFits tt word _ (λ a. k a stack))
 
     copies_fit : (o : Option (List Word)) → NextFits (on_stack o (λ stack. to_line f below w (suc f.line) stack))
     copies_fit o = stack_fits o _ (λ stack. here)
@@ -290,7 +257,7 @@ module _ (codes : Codes) (limits : Limits) where
     plain_fits plain.DupX1 = copies_fit (copied plain.DupX1 f.stack)
     plain_fits plain.DupX2 = copies_fit (copied plain.DupX2 f.stack)
     plain_fits plain.IntToLong = on_number _ (λ a stack. here)
-    plain_fits plain.LongToInt = top_fits f.stack _ (λ word stack. long_fits word _ (λ a. here))
+    plain_fits plain.LongToInt = top_fits f.stack _ (λ word stack. long_holds NextFits tt word _ (λ a. here))
     plain_fits plain.IntToByte = on_number _ (λ a stack. here)
     plain_fits plain.IntToShort = on_number _ (λ a stack. here)
     plain_fits plain.IntToChar = on_number _ (λ a stack. here)
@@ -310,12 +277,12 @@ module _ (codes : Codes) (limits : Limits) where
     numbered_fits numbered.Load k = local_fits (slice_get f.locals k) _ (λ word. here)
     numbered_fits numbered.Store k = top_fits f.stack _ (λ word stack. here)
     numbered_fits numbered.Goto k = here
-    numbered_fits numbered.IfZero k = on_number _ (λ a stack. either_fits a _ _ here here)
-    numbered_fits numbered.IfNotZero k = on_number _ (λ a stack. either_fits a _ _ here here)
-    numbered_fits numbered.IfNull k = on_one _ (λ value stack. null_fits value _ _ here here)
+    numbered_fits numbered.IfZero k = on_number _ (λ a stack. either_holds NextFits a _ _ here here)
+    numbered_fits numbered.IfNotZero k = on_number _ (λ a stack. either_holds NextFits a _ _ here here)
+    numbered_fits numbered.IfNull k = on_one _ (λ value stack. null_holds NextFits value _ _ here here)
     numbered_fits numbered.Loop k =
-        loops_fit (function_of codes f) _ (λ limited. on_number _ (λ a stack.
-        either_fits a _ _ (turn_fits (take_turn limits limited f.turns w) k stack (turn_pays limits limited f.turns w)) here))
+        loops_hold NextFits tt codes limits (function_of codes f) _ (λ limited. on_number _ (λ a stack.
+        either_holds NextFits a _ _ (turn_fits (take_turn limits limited f.turns w) k stack (turn_pays limits limited f.turns w)) here))
     numbered_fits numbered.Call k = call_fits (slice_get (code_in codes f.text) k) k
     numbered_fits numbered.List k = tt
     numbered_fits numbered.Map k = tt
@@ -341,8 +308,8 @@ module _ (codes : Codes) (limits : Limits) where
     act_fits_here (i.Dynamic o) = tt
     act_fits_here (i.Quoted q text) = quoted_fits q text
     act_fits_here (i.Cast to way) =
-        type_fits (type_of_full to) _ (λ to. on_one _ (λ value stack. effect_fits (effect w.store (cast_at_run_time w.store.objects value to (is_written way))) R f below w stack here))
-    act_fits_here (i.Typed t of) = type_fits (type_of_full of) _ (λ of. typed_fits t of)
+        type_holds NextFits tt (type_of_full to) _ (λ to. on_one _ (λ value stack. effect_fits (effect w.store (cast_at_run_time w.store.objects value to (is_written way))) R f below w stack here))
+    act_fits_here (i.Typed t of) = type_holds NextFits tt (type_of_full of) _ (λ of. typed_fits t of)
     act_fits_here (i.Sized t of n) = tt
     act_fits_here (i.DefCall word n) = tt
     act_fits_here (i.Invoke method) = member_fits (method_of (allowed_in limits f.text) method)

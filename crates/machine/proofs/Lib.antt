@@ -10,6 +10,7 @@ pub mod Given
 pub mod Handling
 pub mod Landing
 pub mod Linked
+pub mod Listed
 pub mod Taking
 pub mod Places
 pub mod Entering

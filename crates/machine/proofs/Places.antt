@@ -1,7 +1,8 @@
 -- Words of the frames that lie one on the other.
-use Rattle.std.proofs.Common.{◌≡◌, ℕ, zero, suc, ◌+◌, ◌<◌, ◌≤◌, List, [], ◌∷◌, length, slice_set, arith, refl, ap, sym, subst, ◌∙◌}
-use Rattle.std.specs.Prelude.{take, drop, reverse}
-use Rattle.std.proofs.lemmas.List.{drop-take, length-drop, length-reverse, length-take, drop-set-lt, drop-set-add, take-set-le}
+use Rattle.std.proofs.Common.{◌≡◌, ℕ, zero, suc, ◌+◌, ◌-◌, ◌<◌, ◌≤◌, List, [], ◌∷◌, length, slice_set, Some, None, arith, refl, ap, sym, subst, ◌∙◌}
+use Rattle.std.specs.Prelude.{get_or, slice_get, take, drop, reverse}
+use Rattle.std.proofs.lemmas.List.{drop-take, length-drop, length-reverse, length-take, drop-set-lt, drop-set-add, take-set-le, get_or-reverse, get_or-drop}
+use Rattle.std.proofs.lemmas.Option.{slice_get-get_or, slice_get_past}
 use Rattle.std.proofs.Math.Seq.{take-set-lt, take-length, drop-length}
 use Rattle.code_meaning.specs.declared.word.Word.{Word}
 use Rattle.code_meaning.specs.Machine.{depth_of}
@@ -18,6 +19,24 @@ stack_stays base locals number xs x h = drop-set-lt (base + locals) xs (base + n
 
 pub rest_stays : {X : Type 0} (base number : ℕ) (xs : List X) (x : X) → take base (slice_set xs (base + number) x) ≡ take base xs
 rest_stays base number xs x = take-set-le base xs (base + number) x (omega arith)
+
+-- the last word lies on the top
+module _ {X : Type 0} (n : ℕ) (xs : List X) where
+  last_upper : (d : X) → n < length xs → get_or (reverse (drop n xs)) 0 d ≡ get_or xs (length xs - 1) d
+  last_upper d h =
+      get_or-reverse (drop n xs) 0 d (omega (arith, length-drop n xs)) ∙ get_or-drop n xs (length (drop n xs) - 1 - 0) d
+      ∙ ap (λ k. get_or xs k d) {x = n + (length (drop n xs) - 1 - 0)} {y = length xs - 1} (omega (arith, length-drop n xs))
+
+  pub upper : n < length xs → slice_get (reverse (drop n xs)) 0 ≡ slice_get xs (length xs - 1)
+  upper h = last xs refl where
+    last : (ys : List X) → xs ≡ ys → slice_get (reverse (drop n xs)) 0 ≡ slice_get xs (length xs - 1)
+    last [] e = absurd (omega (arith, ap length e))
+    last (d ∷ ys) e =
+        slice_get-get_or (reverse (drop n xs)) 0 d (omega (arith, length-reverse (drop n xs), length-drop n xs)) ∙ ap Some (last_upper d h)
+        ∙ sym (slice_get-get_or xs (length xs - 1) d (omega arith))
+
+  pub none_upper : length xs ≤ n → slice_get (reverse (drop n xs)) 0 ≡ None
+  none_upper h = slice_get_past (reverse (drop n xs)) 0 (omega (arith, length-reverse (drop n xs), length-drop n xs))
 
 lying : (hs : List Held) (xs : List Word) → depth_of (lie hs xs) ≡ length hs
 lying [] xs = refl

@@ -3,7 +3,6 @@ use Rattle.std.proofs.Common.{◌≡◌, ◌≤◌, ◌<◌, ℕ, suc, ◌+◌, 
 use Rattle.std.proofs.Math.Nat.{mul-le-mul_right}
 use Rattle.std.specs.Prelude.{min}
 use Rattle.allowlist.specs.Index.{member_at}
-use Rattle.allowlist.specs.declared.table.TheConstants.{MEMBER_COUNT}
 use Rattle.code_meaning.specs.Members.{count_of}
 use Rattle.pl_code.specs.declared.code.FunCode.{FunCode}
 use Rattle.run_state.specs.World.{Limits}
@@ -51,19 +50,17 @@ module _ (codes : Codes) (frame depth : ℕ) (c : Configuration) (enough : IsEno
     calls = λ text k. finds text k (slice_get (code_in codes text) k) refl;
     taken = enough.taken;
     values = enough.values;
-    reached = enough.reached;
   }
 
 -- what is taken at the start is enough where all fits
-pub enough_at_start : (frame depth words : ℕ) (room : Room) → words ≡ min (suc depth * frame + 2) most_at_start → words ≤ room.words → min depth most_at_start ≤ room.frames
-    → ((number : ℕ) → number < MEMBER_COUNT → count_of (member_at number) ≤ room.taken) → ((number : ℕ) → number < MEMBER_COUNT → count_of (member_at number) ≤ room.values) → MEMBER_COUNT ≤ room.reached
+pub enough_at_start : (frame depth words arguments members : ℕ) (room : Room) → words ≡ min (suc depth * frame + 2) most_at_start → words ≤ room.words → min depth most_at_start ≤ room.frames
+    → room.taken ≡ arguments → room.values ≡ arguments → room.reached ≡ members → ((number : ℕ) → number < members → count_of (member_at number) ≤ arguments)
     → FitsAtStart frame depth → IsEnough frame depth room
-enough_at_start frame depth words room is all frames taken values reached fits = record {
+enough_at_start frame depth words arguments members room is all frames taken values reached most fits = record {
   words = omega (arith, is, all, fits.words);
   frames = omega (arith, frames, fits.frames);
-  taken = taken;
-  values = values;
-  reached = reached;
+  taken = λ number less. let n : number < members = omega (arith, less, reached) in let m = most number n in omega (arith, m, taken);
+  values = λ number less. let n : number < members = omega (arith, less, reached) in let m = most number n in omega (arith, m, values);
 }
 
 add_zero : (n : ℕ) → n + 0 ≡ n

@@ -25,7 +25,6 @@ use Rattle.machine.specs.declared.operators.Operated.TheVariants as operated
 use Rattle.machine.specs.declared.operands.Copying.{Copying}
 use Rattle.machine.specs.declared.operands.Copying.TheVariants as copying
 use Rattle.object_values.specs.declared.object.Owner.{Owner}
-use Rattle.allowlist.specs.declared.table.TheConstants.{MEMBER_COUNT}
 
 -- the step was not given up for want of memory
 abbrev pub HasMemory : Step → Type 0
@@ -71,9 +70,8 @@ CallFinds depth (Some g) s = (depth_of s.below < depth → s.count + length g.lo
 pub record HasSpace (codes : Codes) (depth : ℕ) (c : Configuration) : Type 0 where
   pub words : c.frames.count + 2 ≤ c.frames.words
   pub calls : (text : Owner) (k : ℕ) → CallFinds depth (slice_get (code_in codes text) k) c.frames
-  pub taken : (number : ℕ) → number < MEMBER_COUNT → count_of (member_at number) ≤ c.words.room
-  pub values : (number : ℕ) → number < MEMBER_COUNT → count_of (member_at number) ≤ c.values.room
-  pub reached : MEMBER_COUNT ≤ c.world.reached.room
+  pub taken : (number : ℕ) → number < c.world.reached.room → count_of (member_at number) ≤ c.words.room
+  pub values : (number : ℕ) → number < c.world.reached.room → count_of (member_at number) ≤ c.values.room
 
 -- The next instructions, so many at most, take no memory, in frames that are within what was taken at the start.
 pub record RunSpares (codes : Codes) (limits : Limits) (frame count : ℕ) (c : Configuration) : Type 0 where

@@ -5,7 +5,6 @@ use Rattle.allowlist.specs.Index.{member_at}
 use Rattle.object_values.specs.declared.value.Value.{Value}
 use Rattle.code_meaning.specs.declared.word.Word.{Word}
 use Rattle.code_meaning.specs.Members.{count_of}
-use Rattle.allowlist.specs.declared.table.TheConstants.{MEMBER_COUNT}
 
 -- the words that a call takes, the top first, and how many there is memory for
 pub record TakenWords : Type 0 where
@@ -25,12 +24,12 @@ pub record Called : Type 0 where
 abbrev pub is_among : ℕ → List ℕ → Bool
 is_among number numbers = list_any (λ n. n == number) numbers
 
--- members of the catalogue, each once
-pub record AreMembers (numbers : List ℕ) : Type 0 where
-  pub members : list_all (λ n. nat_lt n MEMBER_COUNT) numbers ≡ true
+-- members of a list that has so many, each once
+pub record AreMembers (most : ℕ) (numbers : List ℕ) : Type 0 where
+  pub members : list_all (λ n. nat_lt n most) numbers ≡ true
   pub once : IsDistinct (λ a b. a == b) numbers
 
--- what there is memory for: words of all frames, frames below the newest one, words and values of a call, and members that are called
+-- what there is memory for: words of all frames, frames below the newest one, words and values of a call, and the members of the list
 pub record Room : Type 0 where
   pub words : ℕ
   pub frames : ℕ
@@ -52,6 +51,5 @@ pub record FitsAtStart (frame depth : ℕ) : Type 0 where
 pub record IsEnough (frame depth : ℕ) (room : Room) : Type 0 where
   pub words : suc depth * frame + 2 ≤ room.words
   pub frames : depth ≤ room.frames
-  pub taken : (number : ℕ) → number < MEMBER_COUNT → count_of (member_at number) ≤ room.taken
-  pub values : (number : ℕ) → number < MEMBER_COUNT → count_of (member_at number) ≤ room.values
-  pub reached : MEMBER_COUNT ≤ room.reached
+  pub taken : (number : ℕ) → number < room.reached → count_of (member_at number) ≤ room.taken
+  pub values : (number : ℕ) → number < room.reached → count_of (member_at number) ≤ room.values

@@ -20,7 +20,6 @@ use crate::rules::Rules;
 use crate::running::{Ran, run_on};
 use crate::values::Values;
 use crate::words::Words;
-use allowlist::MEMBER_COUNT;
 use code_meaning::Word;
 use object_heap::Heap;
 use object_values::Elements;
@@ -66,7 +65,7 @@ impl<'c> Model for Activation<'c> {
     ghost use Rattle.machine.specs.Seen.{configuration_of, goes, room_of};
     ghost use Rattle.pl_types.specs.contracts.ty.Ty as ty;
     ghost use Rattle.std.specs.Coded.{codes};
-    ghost use Rattle.std.specs.Prelude.{◌≡◌, ◌<◌, ◌^◌, true};
+    ghost use Rattle.std.specs.Prelude.{◌≡◌, ◌≤◌, ◌<◌, ◌^◌, length, true};
 
     ghost Value = { Activation };
 
@@ -74,7 +73,7 @@ impl<'c> Model for Activation<'c> {
 
     ghost view = { λ a. record { code = a.executable.now.code.functions; limits = a.limits; allow = a.executable.now.allow; frame = a.executable.now.frame; now = now_of a.last a.run; steps = a.steps } };
 
-    ghost invariant = { λ a. (a.steps < 2 ^ 64) × (FitsAtStart a.executable.now.frame a.limits.depth → IsEnough a.executable.now.frame a.limits.depth (room_of a.run)) × (goes a.last ≡ true → CountsFit (configuration_of a.run)) };
+    ghost invariant = { λ a. (a.steps < 2 ^ 64) × (FitsAtStart a.executable.now.frame a.limits.depth → IsEnough a.executable.now.frame a.limits.depth (room_of a.run)) × (goes a.last ≡ true → CountsFit (configuration_of a.run)) × (length a.executable.now.allow.members ≤ a.run.world.reached.room) };
 }
 
 impl<'c> Activation<'c> {
@@ -122,6 +121,7 @@ impl<'c> Activation<'c> {
         let run = configuration(
             memory,
             executable.arguments(),
+            executable.allow().member_count(),
             heap,
             args,
             slots,
@@ -174,8 +174,10 @@ impl<'c> Activation<'c> {
     }
 
     /// The same, and the memory that the run had, for the next one.
+    #[tactic(auto, using(crate::proofs::Fitted::left_fits))]
     pub fn finish(self) -> Finished
-        ensures { Leaves self.entry result.outcome }
+        ensures leaves { Leaves self.entry result.outcome }
+        ensures fit { (rules : HeapRules) (before : List HeapObject) → NowFits rules before self.entry.now → IfSome result.outcome (LeavesFit rules before) }
     {
         let Activation {
             executable: _,
@@ -220,10 +222,11 @@ impl<'c> Activation<'c> {
     }
 }
 
-// Where a run begins, with memory for so many words of its frames, and of calls of members.
+// Where a run begins, with memory for so many words of its frames, for calls with so many arguments, and for so many members.
 fn configuration(
     memory: RunMemory,
     arguments: usize,
+    members: u32,
     heap: Heap,
     args: Elements<Word>,
     slots: &[Slot],
@@ -232,7 +235,7 @@ fn configuration(
 ) -> Result<Configuration, AllocError>
     ensures stands { IfOk result (λ c. configuration_of c ≡ record { top = record { text = Script; fun = 0; line = 0; locals = args ++ map start_of slots.now; stack = []; turns = 0; due = [] }; below = []; world = record { store = heap; ticks = limits.ticks; reached = [] } }) }
     ensures frames { IfOk result (λ c. (words ≤ c.frames.words) × (min limits.depth most_at_start ≤ c.frames.depth)) }
-    ensures calls { IfOk result (λ c. (c.words.room ≡ arguments) × (c.values.room ≡ arguments) × (c.world.reached.room ≡ MEMBER_COUNT)) }
+    ensures calls { IfOk result (λ c. (c.words.room ≡ arguments) × (c.values.room ≡ arguments) × (c.world.reached.room ≡ members)) }
 {
     let alloc = heap.alloc();
     let RunMemory {
@@ -244,7 +247,7 @@ fn configuration(
     let frames = Frames::start(frames, args, slots, depth, words)?;
     let words = Words::with_room(taken, arguments)?;
     let values = Values::with_room(values, arguments)?;
-    let reached = Reached::with_room(alloc, MEMBER_COUNT as usize)?;
+    let reached = Reached::with_room(alloc, members as usize)?;
     Ok(Configuration {
         frames,
         world: World {

@@ -1,15 +1,15 @@
 //! Code that is ready to run.
-ghost use Rattle.std.specs.Prelude.{◌≡◌, ◌≤◌, ◌<◌, ◌^◌, ℕ, suc, IfOk, IfSome, OnSome};
+ghost use Rattle.std.specs.Prelude.{◌≡◌, ◌≤◌, ◌<◌, ◌^◌, ℕ, suc, length, IfOk, IfSome, OnSome};
 ghost use Rattle.std.specs.Option.{option_copied};
 ghost use Rattle.allowlist.specs.Index.{member_at};
 ghost use Rattle.code_meaning.specs.Members.{count_of};
-ghost use Rattle.machine.specs.Links.{instruction_at, link_at, link_of, links_of, links_in, member_link, type_link};
+ghost use Rattle.machine.specs.Links.{instruction_at, link_at, link_of, links_of, links_in, member_in, member_link, type_link};
 ghost use Rattle.pl_types.specs.Texts.{type_of_full};
 
 use crate::frames::Frames;
 use crate::linked_code::LinkedCode;
 use crate::members::count_of;
-use allowlist::{Allow, MEMBER_COUNT};
+use allowlist::Allow;
 use instruction_types::{constructor_of, field_of, method_of};
 use listing_parts::TypeName;
 use object_values::Owner;
@@ -19,34 +19,31 @@ use plain_data::Items;
 use std::alloc::{AllocError, Global};
 use std::marker::Model;
 
-/// The number of a member of the catalogue.
+/// The number of a member of a list.
 #[derive(Drop)]
 pub struct MemberNumber {
     number: u32,
 }
 
 impl Model for MemberNumber {
-    ghost use Rattle.allowlist.specs.declared.table.TheConstants.{MEMBER_COUNT};
-    ghost use Rattle.std.specs.Prelude.{ℕ, ◌<◌};
+    ghost use Rattle.std.specs.Prelude.{ℕ};
 
     ghost Value = { ℕ };
 
     ghost view = { λ m. m.number };
-
-    ghost invariant = { λ m. m.number < MEMBER_COUNT };
 }
 
 impl MemberNumber {
+    /// A number below that of the catalogue's members.
     pub fn new(number: u32) -> MemberNumber
-        requires { number < MEMBER_COUNT }
         ensures { result ≡ number }
     {
         MemberNumber { number }
     }
 
+    /// The number.
     pub fn number(&self) -> u32
-        ensures is { result ≡ self.now }
-        ensures within { result < MEMBER_COUNT }
+        ensures { result ≡ self.now }
     {
         self.number
     }
@@ -84,9 +81,8 @@ pub struct Executable {
 }
 
 impl Model for Executable {
-    ghost use Rattle.std.specs.Prelude.{ℕ, ◌≡◌, ◌≤◌, ◌<◌};
+    ghost use Rattle.std.specs.Prelude.{ℕ, ◌≡◌, ◌≤◌, ◌<◌, length};
     ghost use Rattle.allowlist.specs.Index.{member_at};
-    ghost use Rattle.allowlist.specs.declared.table.TheConstants.{MEMBER_COUNT};
     ghost use Rattle.code_meaning.specs.Members.{count_of};
     ghost use Rattle.machine.specs.Links.{Executable, links_in};
     ghost use Rattle.std.specs.Coded.{codes};
@@ -98,7 +94,7 @@ impl Model for Executable {
 
     ghost view = { λ e. record { code = e.code; allow = e.allow; frame = e.frame } };
 
-    ghost invariant = { λ e. (e.links ≡ links_in e.allow e.code.functions) × ((number : ℕ) → number < MEMBER_COUNT → count_of (member_at number) ≤ e.arguments) };
+    ghost invariant = { λ e. (e.links ≡ links_in e.allow e.code.functions) × ((number : ℕ) → number < length e.allow.members → count_of (member_at number) ≤ e.arguments) };
 }
 
 impl Executable {
@@ -158,7 +154,7 @@ impl Executable {
 
     /// What the member that takes most is called with.
     pub fn arguments(&self) -> usize
-        ensures { (number : ℕ) → number < MEMBER_COUNT → count_of (member_at number) ≤ result }
+        ensures { (number : ℕ) → number < length self.now.allow.members → count_of (member_at number) ≤ result }
     {
         self.arguments
     }
@@ -177,8 +173,15 @@ impl Executable {
         found.lines.get(line)
     }
 
-    /// What the instruction at which the newest frame stands names.
+    /// What the instruction at which the newest frame stands names. A member is one of the list.
     pub(crate) fn link(&self, frames: &Frames) -> Option<&Link>
+        ensures link { option_copied result ≡ link_at self.now frames.now.top }
+        ensures within { IfSome (member_in (option_copied result)) (λ number. number < length self.now.allow.members) }
+    {
+        self.named_at(frames)
+    }
+
+    fn named_at(&self, frames: &Frames) -> Option<&Link>
         ensures { option_copied result ≡ link_at self.now frames.now.top }
     {
         match frames.text() {
@@ -191,10 +194,10 @@ impl Executable {
 // What the member that takes most is called with.
 #[tactic(auto, using(crate::proofs::Most::one_more))]
 fn most_arguments(allow: &Allow) -> usize
-    ensures { (number : ℕ) → number < MEMBER_COUNT → count_of (member_at number) ≤ result }
+    ensures { (number : ℕ) → number < length allow.now.members → count_of (member_at number) ≤ result }
 {
     let mut most = 0;
-    for number in 0..MEMBER_COUNT {
+    for number in 0..allow.member_count() {
         most = count_of(allow.member_type(number)).max(most);
     }
     most
@@ -248,7 +251,6 @@ fn type_link(alloc: Global, of: &TypeName) -> Result<Link, AllocError>
 }
 
 fn member_link(number: Option<u32>) -> Link
-    requires { IfSome number (λ n. n < MEMBER_COUNT) }
     ensures { result ≡ member_link number }
 {
     match number {

@@ -19,6 +19,7 @@ use object_values::{Elements, Owner};
 use pl_code::{FunCode, Slot};
 use std::alloc::{AllocError, Global};
 use std::marker::Model;
+use std::mem::{forget, replace};
 
 /// A function that is being run.
 #[derive(Clone, Copy)]
@@ -188,7 +189,21 @@ impl Frames {
         self.words.get(self.top.base + number)
     }
 
-    /// Writes a local of the newest frame. Where there is none of this number nothing changes.
+    /// The newest frame's upper operand, which stays.
+    #[inline(always)]
+    #[tactic(auto, using(crate::proofs::Places::upper, crate::proofs::Places::none_upper))]
+    pub fn upper(&self) -> Option<&Word>
+        ensures { option_copied result ≡ slice_get self.now.top.stack 0 }
+    {
+        let count = self.words.len();
+        if count <= self.top.base + self.top.locals {
+            return None;
+        }
+        self.words.get(count - 1)
+    }
+
+    /// Writes a local of the newest frame. Where there is none of this number nothing changes. What a number is written over is a
+    /// number mostly, which owns nothing, and is not read.
     #[inline(always)]
     #[tactic(auto, using(crate::proofs::Places::written, crate::proofs::Places::stack_stays, crate::proofs::Places::rest_stays))]
     pub fn store(&mut self, number: usize, word: Word)
@@ -203,7 +218,10 @@ impl Frames {
             return;
         }
         let place = self.top.base + number;
-        self.words[place] = word;
+        match &self.words[place] {
+            Word::R(_) => self.words[place] = word,
+            _ => forget(replace(&mut self.words[place], word)),
+        }
     }
 
     /// Takes all operands of the newest frame off.

@@ -16,6 +16,7 @@ use crate::rules::Rules;
 use code_meaning::Word;
 use object_heap::Which;
 use pl_code::Numbered;
+use std::mem::forget;
 
 /// An instruction with a number.
 #[inline(always)]
@@ -64,6 +65,25 @@ fn load(run: &mut Configuration, number: u32) -> Step
     ensures room { room_of run.new ≡ room_of run.old }
 {
     match run.frames.local(number as usize) {
+        Some(Word::I(a)) => {
+            let number = *a;
+            run.push(Word::I(number))
+        }
+        Some(Word::J(a)) => {
+            let number = *a;
+            run.push(Word::J(number))
+        }
+        _ => load_word(run, number),
+    }
+}
+
+// The same of every word.
+fn load_word(run: &mut Configuration, number: u32) -> Step
+    ensures exact { Comes (on_local (slice_get run.old.frames.top.locals number) (λ word. to_line run.old.frames.top run.old.frames.below (world_of run.old.world) (suc run.old.frames.top.line) (word ∷ run.old.frames.top.stack))) result run.new }
+    ensures memory { run.old.frames.count < run.old.frames.words → LocalBare (slice_get run.old.frames.top.locals number) → suc run.old.frames.top.line < 2 ^ 64 → HasMemory result }
+    ensures room { room_of run.new ≡ room_of run.old }
+{
+    match run.frames.local(number as usize) {
         Some(word) => match copy_of(word) {
             Ok(word) => run.push(word),
             Err(_) => Step::NoMemory,
@@ -93,11 +113,15 @@ fn put(run: &mut Configuration, number: usize, word: Word) -> Step
 {
     match &word {
         Word::I(a) => {
-            run.frames.store(number, Word::I(*a));
+            let held = *a;
+            forget(word);
+            run.frames.store(number, Word::I(held));
             run.goes_on()
         }
         Word::J(a) => {
-            run.frames.store(number, Word::J(*a));
+            let held = *a;
+            forget(word);
+            run.frames.store(number, Word::J(held));
             run.goes_on()
         }
         Word::R(_) => {

@@ -25,7 +25,7 @@ use crate::receiving::{Receiving, received};
 use crate::rules::Rules;
 use crate::throwing::answered_as;
 use crate::words::Words;
-use allowlist::{MEMBER_COUNT, MemberKind, MemberType};
+use allowlist::{MemberKind, MemberType};
 use code_meaning::Word;
 use object_heap::throw;
 use pl_types::classes::NULL_POINTER_EXCEPTION;
@@ -33,17 +33,13 @@ use std::alloc::AllocError;
 
 /// What the member does that the instruction names: a method is called, a value made by a constructor, or a field read.
 pub fn named(run: &mut Configuration, executable: &Executable, limits: &Rules<'_>) -> Step
+    requires reached { length executable.now.allow.members ≤ run.old.world.reached.room }
     ensures exact { Comes (spec.member_act (codes_alone executable.now.code.functions) (limits_in limits.now) (member_in (link_at executable.now run.old.frames.top)) run.old.frames.top run.old.frames.below (world_of run.old.world)) result run.new }
     ensures memory { MemberSpares (member_in (link_at executable.now run.old.frames.top)) run.old.frames.top.stack run.old.world.heap.objects → HasSpace (codes_alone executable.now.code.functions) limits.now.depth run.old → suc run.old.frames.top.line < 2 ^ 64 → HasMemory result }
     ensures room { room_of run.new ≡ room_of run.old }
 {
     match executable.link(&run.frames) {
-        Some(Link::Member(member)) => call_numbered(
-            run,
-            executable.linked(),
-            limits,
-            member.number(),
-        ),
+        Some(Link::Member(member)) => call_numbered(run, executable, limits, member.number()),
         _ => Step::Stuck,
     }
 }
@@ -51,17 +47,18 @@ pub fn named(run: &mut Configuration, executable: &Executable, limits: &Rules<'_
 // The member of this number.
 fn call_numbered(
     run: &mut Configuration,
-    code: &LinkedCode,
+    executable: &Executable,
     limits: &Rules<'_>,
     number: u32,
 ) -> Step
-    requires { number < MEMBER_COUNT }
-    ensures exact { Comes (spec.member_act (codes_alone code.now.functions) (limits_in limits.now) (Some number) run.old.frames.top run.old.frames.below (world_of run.old.world)) result run.new }
-    ensures memory { CallSpares (spec.take_words (count_of (member_at number)) run.old.frames.top.stack []) (member_at number) number run.old.world.heap.objects → HasSpace (codes_alone code.now.functions) limits.now.depth run.old → suc run.old.frames.top.line < 2 ^ 64 → HasMemory result }
+    requires listed { number < length executable.now.allow.members }
+    requires room { number < run.old.world.reached.room }
+    ensures exact { Comes (spec.member_act (codes_alone executable.now.code.functions) (limits_in limits.now) (Some number) run.old.frames.top run.old.frames.below (world_of run.old.world)) result run.new }
+    ensures memory { CallSpares (spec.take_words (count_of (member_at number)) run.old.frames.top.stack []) (member_at number) number run.old.world.heap.objects → HasSpace (codes_alone executable.now.code.functions) limits.now.depth run.old → suc run.old.frames.top.line < 2 ^ 64 → HasMemory result }
     ensures room { room_of run.new ≡ room_of run.old }
 {
-    let called = limits.allow().member_type(number);
-    call_member(run, code, limits, number, called)
+    let called = executable.allow().member_type(number);
+    call_member(run, executable.linked(), limits, number, called)
 }
 
 fn call_member(
@@ -71,9 +68,9 @@ fn call_member(
     number: u32,
     called: &MemberType,
 ) -> Step
-    requires { number < MEMBER_COUNT }
+    requires { number < run.old.world.reached.room }
     ensures exact { Comes (spec.on_words (spec.take_words (count_of called.now) run.old.frames.top.stack []) (λ words stack. spec.on_received (codes_alone code.now.functions) (limits_in limits.now) (received called.now words) number called.now run.old.frames.top run.old.frames.below (world_of run.old.world) stack)) result run.new }
-    ensures memory { CallSpares (spec.take_words (count_of called.now) run.old.frames.top.stack []) called.now number run.old.world.heap.objects → count_of called.now ≤ run.old.words.room → count_of called.now ≤ run.old.values.room → MEMBER_COUNT ≤ run.old.world.reached.room → run.old.frames.count < run.old.frames.words → suc run.old.frames.top.line < 2 ^ 64 → HasMemory result }
+    ensures memory { CallSpares (spec.take_words (count_of called.now) run.old.frames.top.stack []) called.now number run.old.world.heap.objects → count_of called.now ≤ run.old.words.room → count_of called.now ≤ run.old.values.room → run.old.frames.count < run.old.frames.words → suc run.old.frames.top.line < 2 ^ 64 → HasMemory result }
     ensures room { room_of run.new ≡ room_of run.old }
 {
     match words_of(&mut run.frames, &mut run.words, called) {
@@ -135,9 +132,9 @@ fn call_with(
     number: u32,
     called: &MemberType,
 ) -> Step
-    requires { number < MEMBER_COUNT }
+    requires { number < run.old.world.reached.room }
     ensures exact { (stack : List Word) → Comes (spec.on_received (codes_alone code.now.functions) (limits_in limits.now) (received called.now run.old.words.items) number called.now (with_stack run.old.frames.top stack) run.old.frames.below (world_of run.old.world) run.old.frames.top.stack) result run.new }
-    ensures memory { ReceivingSpares (received called.now run.old.words.items) number run.old.world.heap.objects → length run.old.words.items ≤ run.old.values.room → MEMBER_COUNT ≤ run.old.world.reached.room → run.old.frames.count < run.old.frames.words → suc run.old.frames.top.line < 2 ^ 64 → HasMemory result }
+    ensures memory { ReceivingSpares (received called.now run.old.words.items) number run.old.world.heap.objects → length run.old.words.items ≤ run.old.values.room → run.old.frames.count < run.old.frames.words → suc run.old.frames.top.line < 2 ^ 64 → HasMemory result }
     ensures room { room_of run.new ≡ room_of run.old }
 {
     match received(called, &mut run.words, &mut run.values) {
@@ -155,9 +152,9 @@ fn call_on(
     called: &MemberType,
     receiving: Receiving,
 ) -> Step
-    requires { number < MEMBER_COUNT }
+    requires { number < run.old.world.reached.room }
     ensures exact { (stack : List Word) → Comes (spec.on_received (codes_alone code.now.functions) (limits_in limits.now) (receiving_of receiving run.old.values.items) number called.now (with_stack run.old.frames.top stack) run.old.frames.below (world_of run.old.world) run.old.frames.top.stack) result run.new }
-    ensures memory { ReceivingSpares (receiving_of receiving run.old.values.items) number run.old.world.heap.objects → MEMBER_COUNT ≤ run.old.world.reached.room → run.old.frames.count < run.old.frames.words → suc run.old.frames.top.line < 2 ^ 64 → HasMemory result }
+    ensures memory { ReceivingSpares (receiving_of receiving run.old.values.items) number run.old.world.heap.objects → run.old.frames.count < run.old.frames.words → suc run.old.frames.top.line < 2 ^ 64 → HasMemory result }
     ensures room { room_of run.new ≡ room_of run.old }
 {
     match receiving {
@@ -194,9 +191,9 @@ fn pay_and_act(
     number: u32,
     called: &MemberType,
 ) -> Step
-    requires { number < MEMBER_COUNT }
+    requires { number < run.old.world.reached.room }
     ensures exact { (stack : List Word) → Comes (spec.on_paid (codes_alone code.now.functions) (limits_in limits.now) (pay_member run.old.frames.top.text number (world_of run.old.world)) number run.old.values.items called.now (with_stack run.old.frames.top stack) run.old.frames.below run.old.frames.top.stack) result run.new }
-    ensures memory { (NeedsMemory run.old.world.heap.objects number run.old.values.items → ⊥) → MEMBER_COUNT ≤ run.old.world.reached.room → run.old.frames.count < run.old.frames.words → suc run.old.frames.top.line < 2 ^ 64 → HasMemory result }
+    ensures memory { (NeedsMemory run.old.world.heap.objects number run.old.values.items → ⊥) → run.old.frames.count < run.old.frames.words → suc run.old.frames.top.line < 2 ^ 64 → HasMemory result }
     ensures room { room_of run.new ≡ room_of run.old }
 {
     match pay_member(&mut run.world, run.frames.text(), number) {

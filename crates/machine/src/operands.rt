@@ -22,6 +22,7 @@ use arithmetic::casts::{low_byte, low_char, low_int, low_short};
 use code_meaning::Word;
 use object_values::Value;
 use pl_code::Plain;
+use std::mem::forget;
 
 /// An instruction without operands.
 #[inline(always)]
@@ -69,8 +70,13 @@ pub fn pop_int(frames: &mut Frames) -> Option<i32>
     ensures room { frames.old.count ≤ frames.old.words → MatchOption result (Unit {0}) (λ a. frames.new.count < frames.new.words) }
     ensures only { OnlyStack frames.old frames.new }
 {
-    match &frames.pop() {
-        Some(Word::I(a)) => Some(*a),
+    let top = frames.pop();
+    match &top {
+        Some(Word::I(a)) => {
+            let number = *a;
+            forget(top);
+            Some(number)
+        }
         _ => None,
     }
 }
@@ -82,9 +88,53 @@ pub fn pop_long(frames: &mut Frames) -> Option<i64>
     ensures room { frames.old.count ≤ frames.old.words → MatchOption result (Unit {0}) (λ a. frames.new.count < frames.new.words) }
     ensures only { OnlyStack frames.old frames.new }
 {
-    match &frames.pop() {
-        Some(Word::J(a)) => Some(*a),
+    let top = frames.pop();
+    match &top {
+        Some(Word::J(a)) => {
+            let number = *a;
+            forget(top);
+            Some(number)
+        }
         _ => None,
+    }
+}
+
+// Puts the upper operand on the stack once more. A number is read alone.
+#[inline(always)]
+#[tactic(auto, using(crate::proofs::Rows::upper_twice))]
+fn dup_top(run: &mut Configuration) -> Step
+    ensures exact { Comes (on_stack (spec.copied plains.Dup run.old.frames.top.stack) (λ stack. to_line run.old.frames.top run.old.frames.below (world_of run.old.world) (suc run.old.frames.top.line) stack)) result run.new }
+    ensures memory { CopySpares plains.Dup run.old.frames.top.stack → run.old.frames.count + 2 ≤ run.old.frames.words → suc run.old.frames.top.line < 2 ^ 64 → HasMemory result }
+    ensures room { room_of run.new ≡ room_of run.old }
+{
+    match run.frames.upper() {
+        Some(Word::I(a)) => {
+            let number = *a;
+            run.push(Word::I(number))
+        }
+        Some(Word::J(a)) => {
+            let number = *a;
+            run.push(Word::J(number))
+        }
+        _ => copy_words(run, Plain::Dup),
+    }
+}
+
+// Takes the upper operand off the stack. A number owns nothing, and is left where it lies.
+#[inline(always)]
+fn drop_top(run: &mut Configuration) -> Step
+    ensures exact { Comes (on_stack (spec.copied plains.Pop run.old.frames.top.stack) (λ stack. to_line run.old.frames.top run.old.frames.below (world_of run.old.world) (suc run.old.frames.top.line) stack)) result run.new }
+    ensures memory { suc run.old.frames.top.line < 2 ^ 64 → HasMemory result }
+    ensures room { room_of run.new ≡ room_of run.old }
+{
+    let top = run.frames.pop();
+    match &top {
+        Some(Word::R(_)) => run.goes_on(),
+        Some(_) => {
+            forget(top);
+            run.goes_on()
+        }
+        None => Step::Stuck,
     }
 }
 
@@ -96,8 +146,22 @@ pub enum Copying {
     NoMemory,
 }
 
-// An instruction that copies words of the stack, or takes the top off.
+// An instruction that copies words of the stack, or takes the top off. Those on one number are chosen here.
+#[inline(always)]
 fn copy(run: &mut Configuration, kind: Plain) -> Step
+    ensures exact { Comes (on_stack (spec.copied kind run.old.frames.top.stack) (λ stack. to_line run.old.frames.top run.old.frames.below (world_of run.old.world) (suc run.old.frames.top.line) stack)) result run.new }
+    ensures memory { CopySpares kind run.old.frames.top.stack → run.old.frames.count + 2 ≤ run.old.frames.words → suc run.old.frames.top.line < 2 ^ 64 → HasMemory result }
+    ensures room { room_of run.new ≡ room_of run.old }
+{
+    match kind {
+        Plain::Dup => dup_top(run),
+        Plain::Pop => drop_top(run),
+        _ => copy_words(run, kind),
+    }
+}
+
+// The same of words of every kind.
+fn copy_words(run: &mut Configuration, kind: Plain) -> Step
     ensures exact { Comes (on_stack (spec.copied kind run.old.frames.top.stack) (λ stack. to_line run.old.frames.top run.old.frames.below (world_of run.old.world) (suc run.old.frames.top.line) stack)) result run.new }
     ensures memory { CopySpares kind run.old.frames.top.stack → run.old.frames.count + 2 ≤ run.old.frames.words → suc run.old.frames.top.line < 2 ^ 64 → HasMemory result }
     ensures room { room_of run.new ≡ room_of run.old }

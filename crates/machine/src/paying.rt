@@ -1,11 +1,10 @@
 //! Calls of members that are paid, and the members that are reached.
-ghost use Rattle.std.specs.Prelude.{◌≡◌, ◌≤◌, ◌<◌, IfOk, IsOk};
+ghost use Rattle.std.specs.Prelude.{◌≡◌, ◌<◌, IfOk, IsOk};
 ghost use Rattle.run_state.specs.World.{pay_member, pay_tick, reaches};
 ghost use Rattle.machine.specs.Seen.{world_of};
 ghost use Rattle.machine.specs.Rows.{CountsTo};
 
 use crate::configuration::World;
-use allowlist::MEMBER_COUNT;
 use object_heap::Which;
 use object_values::Owner;
 use std::alloc::AllocError;
@@ -13,9 +12,9 @@ use std::alloc::AllocError;
 /// Pays the tick of a call of a member. Where the call stands in the script's text the member is reached then.
 #[tactic(auto, unfolding(run_state::specs::World::pay_member))]
 pub fn pay_member(world: &mut World, text: Owner, number: u32) -> Result<Option<Which>, AllocError>
-    requires { number < MEMBER_COUNT }
+    requires { number < world.old.reached.room }
     ensures exact { IfOk result (λ limit. CountsTo (pay_member text number (world_of world.old)) (world_of world.new) limit) }
-    ensures memory { MEMBER_COUNT ≤ world.old.reached.room → IsOk result }
+    ensures memory { IsOk result }
     ensures heap { world.new.heap ≡ world.old.heap }
     ensures room { world.new.reached.room ≡ world.old.reached.room }
 {
@@ -27,9 +26,9 @@ pub fn pay_member(world: &mut World, text: Owner, number: u32) -> Result<Option<
 
 #[tactic(auto, unfolding(run_state::specs::World::reaches, run_state::specs::World::reach))]
 fn pay_and_reach(world: &mut World, number: u32) -> Result<Option<Which>, AllocError>
-    requires { number < MEMBER_COUNT }
+    requires { number < world.old.reached.room }
     ensures exact { IfOk result (λ limit. CountsTo (reaches number (pay_tick (world_of world.old))) (world_of world.new) limit) }
-    ensures memory { MEMBER_COUNT ≤ world.old.reached.room → IsOk result }
+    ensures memory { IsOk result }
     ensures heap { world.new.heap ≡ world.old.heap }
     ensures room { world.new.reached.room ≡ world.old.reached.room }
 {

@@ -23,6 +23,7 @@ impl<'a> Model for Rules<'a> {
 }
 
 impl<'a> Rules<'a> {
+    /// The limits, and the list by which members are looked up. The host gives no function.
     pub fn new(limits: Limits, allow: &'a Allow) -> Rules<'a>
         ensures { result ≡ rules_of limits allow.now }
     {

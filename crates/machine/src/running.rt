@@ -1,5 +1,5 @@
 //! Instructions one after the other.
-ghost use Rattle.std.specs.Prelude.{◌≡◌, true};
+ghost use Rattle.std.specs.Prelude.{◌≡◌, ◌≤◌, length, true};
 ghost use Rattle.machine.specs.Memory.{HasMemory, RunSpares};
 ghost use Rattle.machine.specs.Runs.{RanOn, CountsFit};
 ghost use Rattle.machine.specs.Seen.{configuration_of, room_of, codes_alone, goes, limits_in};
@@ -26,6 +26,7 @@ pub fn run_on(
     count: u64,
 ) -> Ran
     requires allowed { limits.now.allowed ≡ executable.now.allow }
+    requires reached { length executable.now.allow.members ≤ run.old.world.reached.room }
     requires counts { CountsFit (configuration_of run.old) }
     ensures exact { RanOn (codes_alone executable.now.code.functions) (limits_in limits.now) count run.old result run.new }
     ensures memory { RunSpares (codes_alone executable.now.code.functions) (limits_in limits.now) executable.now.frame count run.old → HasMemory result.last }

@@ -1,6 +1,6 @@
 //! One instruction.
 ghost use Rattle.code_meaning.specs.Machine.{act, step};
-ghost use Rattle.std.specs.Prelude.{◌≡◌, ◌<◌, ◌+◌, ◌^◌, suc, Some};
+ghost use Rattle.std.specs.Prelude.{◌≡◌, ◌≤◌, ◌<◌, ◌+◌, ◌^◌, suc, length, Some};
 ghost use Rattle.machine.specs.Links.{instruction_at};
 ghost use Rattle.machine.specs.Memory.{HasMemory, HasSpace};
 ghost use Rattle.machine.specs.Seen.{Comes, configuration_of, room_of, world_of, codes_alone, limits_in};
@@ -24,6 +24,7 @@ use pl_code::Instruction;
 #[inline(always)]
 pub fn step(run: &mut Configuration, executable: &Executable, limits: &Rules<'_>) -> Step
     requires allowed { limits.now.allowed ≡ executable.now.allow }
+    requires reached { length executable.now.allow.members ≤ run.old.world.reached.room }
     requires counts { CountsFit (configuration_of run.old) }
     ensures exact { Comes (step (codes_alone executable.now.code.functions) (limits_in limits.now) (configuration_of run.old)) result run.new }
     ensures memory { Spares (codes_alone executable.now.code.functions) limits.now.allowed (configuration_of run.old) → HasSpace (codes_alone executable.now.code.functions) limits.now.depth run.old → HasMemory result }
@@ -43,6 +44,7 @@ fn execute(
     instruction: &Instruction,
 ) -> Step
     requires allowed { limits.now.allowed ≡ executable.now.allow }
+    requires reached { length executable.now.allow.members ≤ run.old.world.reached.room }
     requires counts { run.old.frames.top.turns + run.old.world.ticks < 2 ^ 64 }
     requires instruction { instruction_at executable.now run.old.frames.top ≡ Some instruction.now }
     ensures exact { Comes (act (codes_alone executable.now.code.functions) (limits_in limits.now) instruction.now run.old.frames.top run.old.frames.below (world_of run.old.world)) result run.new }

@@ -50,6 +50,7 @@ impl Values {
         items
     }
 
+    /// The values in their order.
     pub fn as_slice(&self) -> &[Value]
         ensures { result.now ≡ self.now.items }
     {

@@ -1,9 +1,9 @@
 //! The texts of members.
-ghost use Rattle.std.specs.Prelude.{◌≡◌, ◌++◌, ◌<◌, IfOk, OnOk, string_bytes, codes};
+ghost use Rattle.std.specs.Prelude.{◌≡◌, ◌++◌, ◌<◌, IfOk, OnOk, length, string_bytes, codes};
 ghost use Rattle.allowlist.specs.Index.{member_at};
 ghost use Rattle.member_names.specs.Names as spec;
 
-use allowlist::{Allow, MEMBER_COUNT, MemberKind, MemberType};
+use allowlist::{Allow, MemberKind, MemberType};
 use itoa::Buffer;
 use pl_types::class_full;
 use std::alloc::{AllocError, Global};
@@ -25,11 +25,11 @@ fn push_name(text: &mut String, member: &MemberType) -> Result<(), AllocError>
     text.push_str(member.name.as_str())
 }
 
-/// The text of a member of the catalogue, by its number: `java.util.List.get/1`, of a constructor `java.util.ArrayList/0`, of a field
+/// The text of a member of a list, by its number: `java.util.List.get/1`, of a constructor `java.util.ArrayList/0`, of a field
 /// `java.lang.Integer.MAX_VALUE`.
 #[tactic(auto, using(crate::proofs::Naming::owner_within, crate::proofs::Naming::at_number))]
 pub fn member_text(alloc: Global, allow: &Allow, number: u32) -> Result<String, AllocError>
-    requires { number < MEMBER_COUNT }
+    requires { number < length allow.now.members }
     ensures { IfOk result (λ text. string_bytes text ≡ spec.text_of (member_at number)) }
 {
     text_of(alloc, allow.member_type(number))

@@ -1,5 +1,5 @@
 -- Casts at run time to a primitive give a value whose word is of that primitive's kind.
-use Rattle.std.proofs.Common.{◌≡◌, ℕ, Bool, true, false, List, ◌++◌, [], ◌∷◌, length, Option, Some, None, refl}
+use Rattle.std.proofs.Common.{◌≡◌, ℕ, Bool, true, List, ◌++◌, [], ◌∷◌, length, Option, Some, None, refl}
 use Rattle.std.specs.Prelude.{codes}
 use Rattle.pl_units.specs.Utf16.{units}
 use Rattle.pl_types.specs.declared.classes.TheConstants.{ARITHMETIC_EXCEPTION}

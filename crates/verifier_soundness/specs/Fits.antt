@@ -9,7 +9,7 @@ use Rattle.verifier.specs.Fits.{FrameKinds, FitsLine, Awaits}
 use Rattle.run_state.specs.World.{World, Limits, End, Result, Uncaught, Limited}
 use Rattle.code_meaning.specs.declared.word.Word.{Word}
 use Rattle.code_meaning.specs.declared.word.Word.TheVariants.{I, J, R}
-use Rattle.code_meaning.specs.Machine.{Frame, Config, Next, Goes, Ends, Stuck, depth_of, Codes}
+use Rattle.code_meaning.specs.Machine.{Frame, Config, Next, Goes, Ends, Stuck, depth_of}
 use Rattle.object_values.specs.declared.object.Owner.TheVariants.{Script}
 
 abbrev pub kind_of : Word → Slot

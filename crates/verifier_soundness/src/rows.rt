@@ -1,5 +1,5 @@
 //! Which code has rows for all of its instructions.
-ghost use Rattle.std.specs.Prelude.{◌≡◌, ◌<◌, ◌↔◌, IfSome, IsTrue};
+ghost use Rattle.std.specs.Prelude.{◌≡◌, ◌<◌, ◌↔◌, IfSome, IsTrue, length};
 ghost use Rattle.std.specs.List.{list_all};
 ghost use Rattle.allowlist.specs.Index.{member_at};
 ghost use Rattle.member_calls.specs.Types.{is_plain_member};
@@ -123,7 +123,7 @@ fn typed_has_row(kind: Typed, ty: &[u8]) -> bool
 
 /// Whether a member is built, and asks nothing of the references that it takes.
 fn member_has_row(allow: &Allow, member: Option<u32>) -> bool
-    requires within { IfSome member (λ number. number < 228) }
+    requires within { IfSome member (λ number. number < length allow.now.members) }
     ensures { result ≡ rows.member_has_row member }
 {
     match member {
@@ -133,7 +133,7 @@ fn member_has_row(allow: &Allow, member: Option<u32>) -> bool
 }
 
 fn has_plain_member(allow: &Allow, number: u32) -> bool
-    requires within { number < 228 }
+    requires within { number < length allow.now.members }
     ensures { result ≡ is_plain_member (member_at number) }
 {
     is_plain_member(allow.member_type(number))

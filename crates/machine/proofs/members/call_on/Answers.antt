@@ -18,7 +18,7 @@ returns-in-Receives-clause-memory c = λ spares.
     c.pay_and_act.ensures.memory (subst (λ r. ReceivingSpares (receiving_of r c.args.run.now.values.items) c.args.number c.args.run.now.world.heap.objects) c.in-Receives.is spares)
 
 pub returns-in-Reads-clause-memory : goal.returns-in-Reads-clause-memory
-returns-in-Reads-clause-memory c = λ spares reached.
+returns-in-Reads-clause-memory c = λ spares.
     c.act.ensures.memory
     (subst (λ vs. NeedsMemory c.args.run.now.world.heap.objects c.args.number vs → ⊥) (sym c.clear.ensures.items)
     (subst (λ r. ReceivingSpares (receiving_of r c.args.run.now.values.items) c.args.number c.args.run.now.world.heap.objects) c.in-Reads.is spares))

@@ -6,4 +6,4 @@ use Rattle.machine.proofs.reached.Reached.with_room.Goals as goal
 pub invariant_of-result : goal.invariant_of-result
 invariant_of-result c =
     let room : c.args.room ≤ vec_capacity c.in_ok-with_capacity.field-0 = search rules in
-    (no_members c.in_ok-with_capacity.field-0.items c.in_ok-with_capacity.ensures.items, room)
+    (no_members c.args.room c.in_ok-with_capacity.field-0.items c.in_ok-with_capacity.ensures.items, room)
