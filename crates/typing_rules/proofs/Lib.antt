@@ -3,3 +3,4 @@ pub mod Lists
 pub mod Escapes
 pub mod Members
 pub mod NamePlaces
+pub mod Quotes

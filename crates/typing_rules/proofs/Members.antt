@@ -1,5 +1,5 @@
 -- What is found of the members of a list.
-use Rattle.std.proofs.Common.{◌≡◌, ◌≢◌, ℕ, zero, suc, ◌+◌, ◌<◌, ◌≤◌, Bool, true, false, cond, eqb, ltb, List, [], ◌∷◌, ◌++◌, Option, Some, None, IfSome, get_or, length, sym, refl, ap, ◌∙◌, inl, inr, arith}
+use Rattle.std.proofs.Common.{◌≡◌, ◌≢◌, ℕ, zero, suc, ◌+◌, ◌<◌, ◌≤◌, Bool, true, false, cond, eqb, ltb, List, [], ◌∷◌, ◌++◌, Option, Some, None, get_or, length, sym, refl, ap, ◌∙◌, inl, inr, arith}
 use Rattle.std.specs.Prelude.{codes}
 use Rattle.std.specs.List.{list_all, slice_get, slice_index_or, flat_map}
 use Rattle.std.specs.Str.{bytes_eq}
@@ -26,14 +26,10 @@ use Rattle.typing_rules.specs.Rules.Members as spec
 pub read_at : (number : ℕ) (m : MemberType) → slice_get catalogue number ≡ Some m → m ≡ member_at number
 read_at number m h = sym (get_or_from_slice_get catalogue number m (constructor 0 []) h)
 
-pub found_within : (allow : AllowList) (class : ℕ) (name : List ℕ) (arity number : ℕ) → member_of allow class name arity ≡ Some number → number < 228
+found_within : (allow : AllowList) (class : ℕ) (name : List ℕ) (arity number : ℕ) → member_of allow class name arity ≡ Some number → number < 228
 found_within allow class name arity number h =
     let found = found_is_allowed allow class name arity number h in
     omega (arith, slice_get_within catalogue number found.1.0 found.1.1, length-catalogue)
-
-pub all_within : (allow : AllowList) (class : ℕ) (name : List ℕ) (arity : ℕ) (found : Option ℕ) → found ≡ member_of allow class name arity → IfSome found (λ number. number < 228)
-all_within allow class name arity None h = tt
-all_within allow class name arity (Some number) h = found_within allow class name arity number (sym h)
 
 -- ---- no member has so many parameters
 

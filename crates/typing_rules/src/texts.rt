@@ -1,18 +1,32 @@
 //! Text literals.
 
-ghost use Rattle.std.specs.Prelude.{◌≡◌, IfOk, IfSome};
-ghost use Rattle.typing_rules.specs.Rules.Literals.{unescaped, unquoted};
+ghost use Rattle.std.specs.Prelude.{◌≡◌, ◌<◌, MatchOption, Some, None, IfOk};
+ghost use Rattle.typing_rules.specs.Rules.Literals.{between, unescaped, unquoted};
 
 use plain_data::Text;
 use std::alloc::{AllocError, Global};
 
-/// A text as it is written, without its quotes. `None` where it has none.
-pub(crate) fn unquoted(spelling: &str) -> Option<&str>
-    ensures { IfSome result (λ written. written.now ≡ unquoted spelling.now) }
+/// What stands between two quotes of a kind, where one stands at each end.
+fn between(quote: char, spelling: &str) -> Option<&str>
+    requires { quote < 128 }
+    ensures { MatchOption result (between quote spelling.now ≡ None) (λ written. between quote spelling.now ≡ Some written.now) }
 {
-    match spelling.get(..spelling.len().saturating_sub(1)) {
-        Some(opened) => opened.get(1..),
+    match spelling.strip_prefix(quote) {
+        Some(opened) => opened.strip_suffix(quote),
         None => None,
+    }
+}
+
+/// A text as it is written, without its quotes. One that has none stands for itself.
+pub(crate) fn unquoted(spelling: &str) -> &str
+    ensures { result.now ≡ unquoted spelling.now }
+{
+    if let Some(written) = between('"', spelling) {
+        return written;
+    }
+    match between('\'', spelling) {
+        Some(written) => written,
+        None => spelling,
     }
 }
 

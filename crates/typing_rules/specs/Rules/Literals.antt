@@ -1,5 +1,5 @@
 -- Literals.
-use Rattle.std.specs.Prelude.{ℕ, ◌-◌, ◌==◌, true, false, ◌^◌, List, [], ◌∷◌, length, take, drop, nat_lt, nat_le, ℤ, pos, neg_ℤ, Ok, if◌then◌else◌}
+use Rattle.std.specs.Prelude.{ℕ, ◌==◌, true, false, ◌^◌, List, [], ◌∷◌, nat_lt, nat_le, ℤ, pos, neg_ℤ, Option, Some, None, option_map, unwrap_or, Ok, if◌then◌else◌}
 use Rattle.pl_types.specs.declared.classes.TheConstants.{STRING}
 use Rattle.pl_types.specs.declared.ty.Ty.TheVariants as t
 use Rattle.pl_types.specs.declared.primitive.Primitive.TheVariants.{Int, Long}
@@ -45,9 +45,20 @@ unescaped [] = []
 unescaped (b ∷ []) = b ∷ []
 unescaped (b ∷ c ∷ rest) = if b == 92 then c ∷ unescaped rest else b ∷ unescaped (c ∷ rest)
 
--- a text as it is written, without its quotes
+-- what stands before a byte, where that is the last
+abbrev pub before_last : ℕ → List ℕ → Option (List ℕ)
+before_last quote [] = None
+before_last quote (b ∷ []) = if b == quote then Some [] else None
+before_last quote (b ∷ c ∷ rest) = option_map (λ (text : List ℕ). b ∷ text) (before_last quote (c ∷ rest))
+
+-- what stands between two of a byte, where one stands at each end
+abbrev pub between : ℕ → List ℕ → Option (List ℕ)
+between quote [] = None
+between quote (b ∷ rest) = if b == quote then before_last quote rest else None
+
+-- a text as it is written, without its quotes, which are `"` or `'`; one that has none, as no script has it, stands for itself
 abbrev pub unquoted : List ℕ → List ℕ
-unquoted spelling = drop 1 (take (length spelling - 1) spelling)
+unquoted spelling = unwrap_or (between 34 spelling) (unwrap_or (between 39 spelling) spelling)
 
 abbrev pub text : ℕ → List ℕ → Out Part
 text at spelling = Ok (part at f.Literal (typed at (t.Class STRING) (n.Text (unescaped (unquoted spelling)))))

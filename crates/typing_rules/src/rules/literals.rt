@@ -107,10 +107,7 @@ pub fn constant(alloc: Global, at: u32, constant: pl_tree::Constant) -> Result<P
 pub fn text(alloc: Global, at: u32, spelling: &str) -> Result<Part, Fail>
     ensures { Keeps (spec.text at spelling.now) result }
 {
-    let Some(written) = unquoted(spelling) else {
-        return Err(Fail::NoMemory);
-    };
-    let text = unescaped(alloc, written)?;
+    let text = unescaped(alloc, unquoted(spelling))?;
     let of = Ty::Class(classes::STRING);
     part(alloc, at, Form::Literal, of, Node::Text(text))
 }

@@ -1,6 +1,6 @@
 //! Which member of the catalogue a name means.
 
-ghost use Rattle.std.specs.Prelude.{◌≡◌, ◌<◌, [], IfOk, IfSome};
+ghost use Rattle.std.specs.Prelude.{◌≡◌, ◌<◌, [], IfOk, IfSome, length};
 ghost use Rattle.std.specs.List.{list_all};
 ghost use Rattle.allowlist.specs.Allow.{own_member, member_of};
 ghost use Rattle.allowlist.specs.Index.{member_at};
@@ -9,12 +9,12 @@ ghost use Rattle.typing_rules.specs.Rules.Members as spec;
 
 use crate::refuse::refuse;
 use crate::rules::types::{is_built, is_built_class};
-use allowlist::{Accessor, Allow, MEMBER_COUNT, MemberKind, MemberType};
+use allowlist::{Accessor, Allow, MemberKind, MemberType};
 use pl_types::{Fail, Ty, rules};
 
 /// The member of the catalogue with a number.
 pub(crate) fn member_at(allow: &Allow, number: u32) -> &MemberType
-    requires { number < MEMBER_COUNT }
+    requires { number < length allow.now.members }
     ensures { result.now ≡ member_at number }
 {
     allow.member_type(number)
@@ -23,7 +23,7 @@ pub(crate) fn member_at(allow: &Allow, number: u32) -> &MemberType
 /// The member of a class with a name and a number of parameters, its own or one from above.
 pub(crate) fn member_of(allow: &Allow, class: u32, name: &str, arity: u32) -> Option<u32>
     ensures found { result ≡ member_of allow.now class name.now arity }
-    ensures within { IfSome result (λ number. number < MEMBER_COUNT) }
+    ensures within { IfSome result (λ number. number < length allow.now.members) }
 {
     allow.member(class, name, arity)
 }
@@ -32,7 +32,7 @@ pub(crate) fn member_of(allow: &Allow, class: u32, name: &str, arity: u32) -> Op
 #[tactic(auto, using(crate::proofs::Members::own_none, crate::proofs::Members::own_is, crate::proofs::Members::own_other))]
 pub(crate) fn constructor_of(allow: &Allow, class: u32, arity: u32) -> Option<u32>
     ensures found { result ≡ own_member allow.now class [] arity }
-    ensures within { IfSome result (λ number. number < MEMBER_COUNT) }
+    ensures within { IfSome result (λ number. number < length allow.now.members) }
 {
     let number = member_of(allow, class, "", arity)?;
     if member_at(allow, number).owner == class {
@@ -45,7 +45,7 @@ pub(crate) fn constructor_of(allow: &Allow, class: u32, arity: u32) -> Option<u3
 /// The getter of a name: what `get` before it means, or else `is`.
 pub(crate) fn getter(allow: &Allow, class: u32, name: &str) -> Option<u32>
     ensures found { result ≡ spec.getter allow.now class name.now }
-    ensures within { IfSome result (λ number. number < MEMBER_COUNT) }
+    ensures within { IfSome result (λ number. number < length allow.now.members) }
 {
     match allow.accessor(class, Accessor::Get, name) {
         Some(number) => Some(number),
@@ -88,9 +88,9 @@ fn is_kind(wanted: MemberKind, kind: MemberKind) -> bool
 }
 
 fn wanted_as(allow: &Allow, kind: MemberKind, at: u32, number: u32) -> Result<u32, Fail>
-    requires { number < MEMBER_COUNT }
+    requires { number < length allow.now.members }
     ensures rule { Keeps (spec.wanted_as kind at number) result }
-    ensures within { IfOk result (λ found. found < MEMBER_COUNT) }
+    ensures within { IfOk result (λ found. found < length allow.now.members) }
 {
     let member = member_at(allow, number);
     if !is_kind(kind, member.kind) {
@@ -111,9 +111,9 @@ pub(crate) fn wanted(
     at: u32,
     found: Option<u32>,
 ) -> Result<u32, Fail>
-    requires { IfSome found (λ number. number < MEMBER_COUNT) }
+    requires { IfSome found (λ number. number < length allow.now.members) }
     ensures rule { Keeps (spec.wanted kind at found) result }
-    ensures within { IfOk result (λ number. number < MEMBER_COUNT) }
+    ensures within { IfOk result (λ number. number < length allow.now.members) }
 {
     match found {
         None => Err(refuse(rules::UNKNOWN_MEMBER, at)),

@@ -1,6 +1,6 @@
 //! Members: calls on a value and on a class, `new`, getters by name, and fields.
 
-ghost use Rattle.std.specs.Prelude.{◌≡◌, ◌<◌, [], ◌++◌, ◌&&◌, IfOk, Ok, if◌then◌else◌};
+ghost use Rattle.std.specs.Prelude.{◌≡◌, ◌<◌, [], ◌++◌, ◌&&◌, IfOk, Ok, length, if◌then◌else◌};
 ghost use Rattle.allowlist.specs.Allow.{own_member, member_of};
 ghost use Rattle.allowlist.specs.declared.member.MemberKind.TheVariants as kind;
 ghost use Rattle.pl_types.specs.declared.rules.TheConstants.{BAD_NULLABLE};
@@ -13,7 +13,7 @@ use crate::rules::casts::cast_next;
 use crate::rules::lookups::{constructor_of, getter, member_at, member_of, wanted};
 use crate::rules::nodes::{one_part, part, plain};
 use crate::rules::references::is_primitive;
-use allowlist::{Allow, MEMBER_COUNT, MemberKind};
+use allowlist::{Allow, MemberKind};
 use member_names::member_text;
 use pl_tree::Access;
 use pl_types::{Fail, Ty, rules};
@@ -22,7 +22,7 @@ use std::alloc::{AllocError, Global};
 use typed_tree::{Member, Node, Operation, Typed};
 
 fn member(alloc: Global, allow: &Allow, number: u32) -> Result<Member, AllocError>
-    requires { number < MEMBER_COUNT }
+    requires { number < length allow.now.members }
     ensures { IfOk result (λ member. member ≡ spec.member number) }
 {
     let written = member_text(alloc, allow, number)?;
@@ -55,7 +55,7 @@ fn arguments(
     given: Vec<Part>,
     before: Items<Subtree<Typed>>,
 ) -> Result<Items<Subtree<Typed>>, Fail>
-    requires { number < MEMBER_COUNT }
+    requires { number < length allow.now.members }
     ensures { Keeps (bind (spec.member_arguments number given.items) (λ casts. Ok (before ++ casts))) result }
 {
     let types = member_at(allow, number).params.as_slice();
@@ -81,7 +81,7 @@ fn called(
     at: u32,
     number: u32,
 ) -> Result<(Member, Ty), Fail>
-    requires { number < MEMBER_COUNT }
+    requires { number < length allow.now.members }
     ensures { Keeps (if spec.guards access && spec.gives_primitive number then refuse BAD_NULLABLE at else Ok (spec.member number, spec.result number)) result }
 {
     if guards(access) && is_primitive(&member_at(allow, number).result) {
@@ -105,7 +105,7 @@ fn meant(
     count: usize,
 ) -> Result<u32, Fail>
     ensures rule { Keeps (spec.wanted kind at (member_of allow.now class name.now count)) result }
-    ensures within { IfOk result (λ number. number < MEMBER_COUNT) }
+    ensures within { IfOk result (λ number. number < length allow.now.members) }
 {
     let Ok(arity) = u32::try_from(count) else {
         return Err(refuse(rules::UNKNOWN_MEMBER, at));
@@ -122,7 +122,7 @@ fn instance_node(
     number: u32,
     parts: Items<Subtree<Typed>>,
 ) -> Result<Part, Fail>
-    requires { number < MEMBER_COUNT }
+    requires { number < length allow.now.members }
     ensures { Keeps (spec.nullable access at number (spec.instance_node access at number parts)) result }
 {
     let (member, of) = called(alloc, allow, access, at, number)?;
@@ -148,7 +148,7 @@ fn instance_call(
     x: Part,
     given: Vec<Part>,
 ) -> Result<Part, Fail>
-    requires { number < MEMBER_COUNT }
+    requires { number < length allow.now.members }
     ensures { Keeps (spec.instance_call access at number x given.items) result }
 {
     let receiver = one_part(alloc, x.into_typed())?;
@@ -205,7 +205,7 @@ fn static_call(
     number: u32,
     given: Vec<Part>,
 ) -> Result<Part, Fail>
-    requires { number < MEMBER_COUNT }
+    requires { number < length allow.now.members }
     ensures { Keeps (spec.static_call access at number given.items) result }
 {
     let parts = arguments(alloc, allow, number, given, Items::new(alloc))?;
@@ -245,7 +245,7 @@ fn constructed(
     number: u32,
     given: Vec<Part>,
 ) -> Result<Part, Fail>
-    requires { number < MEMBER_COUNT }
+    requires { number < length allow.now.members }
     ensures { Keeps (spec.constructed at number given.items) result }
 {
     let parts = arguments(alloc, allow, number, given, Items::new(alloc))?;
@@ -258,7 +258,7 @@ fn constructed(
 #[tactic(auto, using(crate::proofs::Members::own_too_many))]
 fn constructor_meant(allow: &Allow, at: u32, class: u32, count: usize) -> Result<u32, Fail>
     ensures rule { Keeps (spec.wanted kind.Constructor at (own_member allow.now class [] count)) result }
-    ensures within { IfOk result (λ number. number < MEMBER_COUNT) }
+    ensures within { IfOk result (λ number. number < length allow.now.members) }
 {
     let Ok(arity) = u32::try_from(count) else {
         return Err(refuse(rules::UNKNOWN_MEMBER, at));
@@ -342,7 +342,7 @@ fn field_node(
     at: u32,
     number: u32,
 ) -> Result<Part, Fail>
-    requires { number < MEMBER_COUNT }
+    requires { number < length allow.now.members }
     ensures { Keeps (spec.nullable access at number (spec.field_node at number)) result }
 {
     let (member, of) = called(alloc, allow, access, at, number)?;
