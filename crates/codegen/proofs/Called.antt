@@ -1,5 +1,5 @@
 -- Members that are called, made or read: how their parts are represented, and what well-formed programs have.
-use Rattle.std.proofs.Common.{◌≡◌, ◌≢◌, ℕ, zero, suc, ◌+◌, ◌≤◌, arith, true, false, List, [], ◌∷◌, drop, Some, None, refl, sym, ap, ◌∙◌, subst}
+use Rattle.std.proofs.Common.{◌≡◌, ◌≢◌, ℕ, zero, suc, ◌+◌, ◌≤◌, arith, length, true, false, List, [], ◌∷◌, drop, Some, None, refl, sym, ap, ◌∙◌, subst}
 use Rattle.std.specs.Prelude.{map, slice_get}
 use Rattle.std.specs.Option.{option_map}
 use Rattle.std.specs.Str.{bytes_eq}
@@ -15,7 +15,6 @@ use Rattle.allowlist.specs.declared.member.MemberType.{MemberType}
 use Rattle.std.proofs.lemmas.Option.{slice_get_within, get_or_from_slice_get}
 use Rattle.allowlist.specs.Catalogue.{catalogue, constructor}
 use Rattle.allowlist.specs.Index.{member_at}
-use Rattle.allowlist.proofs.Tables.{length-catalogue}
 use Rattle.member_names.specs.Names.{TextsHaveForms, text_of, has_form}
 use Rattle.typed_tree.specs.declared.operation.Member.{Member}
 use Rattle.typed_tree.specs.declared.operation.Operation.{Operation}
@@ -60,8 +59,8 @@ some_at ks at one is h = let e : [] ≡ one ∷ drop (at + 1) ks = h ∙ drop_on
 
 -- ---- the catalogue
 
-pub not_beyond : (n : ℕ) (member : MemberType) → 228 ≤ n → slice_get catalogue n ≡ Some member → ⊥
-not_beyond n member h is = let under = slice_get_within catalogue n member is in omega (arith, h, under, length-catalogue)
+pub not_beyond : (count n : ℕ) (member : MemberType) → length catalogue ≤ count → count ≤ n → slice_get catalogue n ≡ Some member → ⊥
+not_beyond count n member whole h is = let under = slice_get_within catalogue n member is in omega (arith, h, under, whole)
 
 at_number : (n : ℕ) (member : MemberType) → slice_get catalogue n ≡ Some member → member_at n ≡ member
 at_number n member is = get_or_from_slice_get catalogue n member (constructor 0 []) is

@@ -17,7 +17,7 @@ use Rattle.typed_tree.specs.declared.operation.Operator.TheVariants as operator
 use Rattle.typed_tree.specs.declared.operation.Change.{Change}
 use Rattle.source_meaning.specs.Tree.{Exprs, None', One, type_of}
 use Rattle.compiler_relation.specs.Representation.{Representation, Unboxed, Boxed, Absent, representation_of, representation_of_layer}
-use Rattle.compiler_relation.specs.Parts.{cast_takes, cast_gives, run_time_representation}
+use Rattle.compiler_relation.specs.Parts.{run_time_representation}
 use Rattle.compiler_relation.specs.Parts as code
 use Rattle.compiler_relation.specs.Stands.{AllRepresented, CastFits, ChangeFits, representations, literal_representation}
 use Rattle.program_typing.specs.Types.{is_reference_layer, IsReference, has_values_layer, HasValues, IsOf, Gives, of_one, of_two, of_one_flag, of_two_flags, right_side, TakesNumbers, TakesFlags, TakesReferences, Takes, string, listed_layer, is_listed, IsNamed, Keeps, Same, References, Casts}

@@ -3,7 +3,7 @@ use Rattle.std.proofs.Common.{◌≡◌, ℕ, suc, Bool, true, false, List, [], 
 use Rattle.std.specs.Prelude.{if◌then◌else◌}
 use Rattle.std.specs.Str.{bytes_eq}
 use Rattle.source_meaning.specs.Tree.{Name, Stmts, Finish, Then, Declare, Variable}
-use Rattle.program_typing.specs.Agreeing.{IsVariable, variable_of}
+use Rattle.program_typing.specs.Agreeing.{variable_of}
 use Rattle.program_typing.specs.Agreeing as types
 use Rattle.compiler_relation.specs.Representation.{Representation, representation_of}
 use Rattle.compiler_relation.specs.Stands.{Entry, Scope, entry_of}

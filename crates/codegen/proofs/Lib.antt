@@ -4,9 +4,11 @@ pub mod Steps
 pub mod Lists
 pub mod Back
 pub mod Opened
+pub mod Weighed
 pub mod Plans
 pub mod Places
 pub mod Parts
+pub mod Lighter
 pub mod Bodies
 pub mod Rows
 pub mod Fitting

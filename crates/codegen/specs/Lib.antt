@@ -8,3 +8,4 @@ pub mod Worklist
 pub mod Symbols
 pub mod Sound
 pub mod Functions
+pub mod Weights

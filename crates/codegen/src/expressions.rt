@@ -1,6 +1,6 @@
 //! Expressions: what is to be written for a node.
 
-ghost use Rattle.std.specs.Prelude.{◌≡◌, ◌≢◌, ◌∷◌, map, MatchResult, OnOk};
+ghost use Rattle.std.specs.Prelude.{◌≡◌, ◌≢◌, ◌<◌, ◌+◌, ◌∷◌, map, MatchResult, OnOk};
 ghost use Rattle.codegen.specs.Checks.{denoted, jump_of};
 ghost use Rattle.codegen.specs.Worklist as w;
 ghost use Rattle.codegen.specs.Worklist.{Back, items_of};
@@ -14,6 +14,7 @@ ghost use Rattle.source_meaning.specs.Programs.{program_of, expr_of, exprs_of};
 ghost use Rattle.source_meaning.specs.Tree.{type_of};
 ghost use Rattle.source_meaning.specs.Tree as tree;
 ghost use Rattle.typed_tree.specs.declared.operation.Operation.TheVariants as operation;
+ghost use Rattle.codegen.specs.Weights as weight;
 
 use crate::checks::{cast_fits, change_fits, known};
 use crate::config::Config;
@@ -60,6 +61,7 @@ pub fn value<'a>(
 ) -> Result<(), CodeError>
     ensures back { OnOk result (Back (program_of program.now) (w.Value (opened e.now) ∷ items_of worklist.old) config.old (items_of worklist.new) config.new) }
     ensures sound { Keeps (program_of program.now) (w.Value (opened e.now) ∷ items_of worklist.old) config.old result (items_of worklist.new) config.new }
+    ensures falls { OnOk result (weight.weights worklist.new < weight.expression (opened e.now) + weight.weights worklist.old) }
 {
     match &e.node {
         Node::Constant(it) => constant(program, config, worklist, e.at, &e.of, *it),
@@ -156,6 +158,7 @@ fn constant<'a>(
 ) -> Result<(), CodeError>
     ensures back { OnOk result (Back (program_of program.now) (w.Value (tree.Literal at of.now it) ∷ items_of worklist.old) config.old (items_of worklist.new) config.new) }
     ensures sound { Keeps (program_of program.now) (w.Value (tree.Literal at of.now it) ∷ items_of worklist.old) config.old result (items_of worklist.new) config.new }
+    ensures falls { OnOk result (weight.weights worklist.new < weight.expression (tree.Literal at of.now it) + weight.weights worklist.old) }
 {
     alike(representation_of(of), literal_representation(it))?;
     worklist.push(WorkItem::Put(Piece::Constant(it)))?;
@@ -172,6 +175,7 @@ fn quoted<'a>(
 ) -> Result<(), CodeError>
     ensures back { OnOk result (Back (program_of program.now) (w.Value (tree.Quoted at of.now text.now) ∷ items_of worklist.old) config.now (items_of worklist.new) config.now) }
     ensures sound { Keeps (program_of program.now) (w.Value (tree.Quoted at of.now text.now) ∷ items_of worklist.old) config.now result (items_of worklist.new) config.now }
+    ensures falls { OnOk result (weight.weights worklist.new < weight.expression (tree.Quoted at of.now text.now) + weight.weights worklist.old) }
 {
     alike(representation_of(of), Representation::Boxed)?;
     worklist.push(WorkItem::Put(Piece::Text(text)))?;
@@ -197,6 +201,7 @@ fn local<'a>(
 ) -> Result<(), CodeError>
     ensures back { OnOk result (Back (program_of program.now) (w.Value (tree.Local at of.now name.now) ∷ items_of worklist.old) config.now (items_of worklist.new) config.now) }
     ensures sound { Keeps (program_of program.now) (w.Value (tree.Local at of.now name.now) ∷ items_of worklist.old) config.now result (items_of worklist.new) config.now }
+    ensures falls { OnOk result (weight.weights worklist.new < weight.expression (tree.Local at of.now name.now) + weight.weights worklist.old) }
 {
     worklist.push(WorkItem::Load(name, representation_of(of)))?;
     Ok(())
@@ -214,6 +219,7 @@ fn conditional<'a>(
 ) -> Result<(), CodeError>
     ensures back { OnOk result (Back (program_of program.now) (w.Value (tree.Conditional at of.now (expr_of condition.now) (expr_of yes.now) (expr_of no.now)) ∷ items_of worklist.old) config.old (items_of worklist.new) config.new) }
     ensures sound { Keeps (program_of program.now) (w.Value (tree.Conditional at of.now (expr_of condition.now) (expr_of yes.now) (expr_of no.now)) ∷ items_of worklist.old) config.old result (items_of worklist.new) config.new }
+    ensures falls { OnOk result (weight.weights worklist.new < weight.expression (tree.Conditional at of.now (expr_of condition.now) (expr_of yes.now) (expr_of no.now)) + weight.weights worklist.old) }
 {
     represented_as(condition, Representation::Unboxed)?;
     represented_as(yes, representation_of(of))?;
@@ -245,6 +251,7 @@ fn elvis<'a>(
 ) -> Result<(), CodeError>
     ensures back { OnOk result (Back (program_of program.now) (w.Value (tree.Elvis at of.now (expr_of left.now) (expr_of right.now)) ∷ items_of worklist.old) config.old (items_of worklist.new) config.new) }
     ensures sound { Keeps (program_of program.now) (w.Value (tree.Elvis at of.now (expr_of left.now) (expr_of right.now)) ∷ items_of worklist.old) config.old result (items_of worklist.new) config.new }
+    ensures falls { OnOk result (weight.weights worklist.new < weight.expression (tree.Elvis at of.now (expr_of left.now) (expr_of right.now)) + weight.weights worklist.old) }
 {
     represented_as(left, Representation::Boxed)?;
     represented_as(right, Representation::Boxed)?;
@@ -277,6 +284,7 @@ fn logical<'a>(
 ) -> Result<(), CodeError>
     ensures back { OnOk result (Back (program_of program.now) (w.Value (tree.Logic at of.now operator (expr_of left.now) (expr_of right.now)) ∷ items_of worklist.old) config.old (items_of worklist.new) config.new) }
     ensures sound { Keeps (program_of program.now) (w.Value (tree.Logic at of.now operator (expr_of left.now) (expr_of right.now)) ∷ items_of worklist.old) config.old result (items_of worklist.new) config.new }
+    ensures falls { OnOk result (weight.weights worklist.new < weight.expression (tree.Logic at of.now operator (expr_of left.now) (expr_of right.now)) + weight.weights worklist.old) }
 {
     represented_as(left, Representation::Unboxed)?;
     represented_as(right, Representation::Unboxed)?;
@@ -319,6 +327,7 @@ fn assign<'a>(
 ) -> Result<(), CodeError>
     ensures back { OnOk result (Back (program_of program.now) (w.Value (tree.Assign at of.now target.now (exprs_of (map expr_of parts.now)) (expr_of value.now)) ∷ items_of worklist.old) config.now (items_of worklist.new) config.now) }
     ensures sound { Keeps (program_of program.now) (w.Value (tree.Assign at of.now target.now (exprs_of (map expr_of parts.now)) (expr_of value.now)) ∷ items_of worklist.old) config.now result (items_of worklist.new) config.now }
+    ensures falls { OnOk result (weight.weights worklist.new < weight.expression (tree.Assign at of.now target.now (exprs_of (map expr_of parts.now)) (expr_of value.now)) + weight.weights worklist.old) }
 {
     let Target::Local(name) = target else {
         return Err(CodeError::Unbuilt);
@@ -347,6 +356,7 @@ fn modify<'a>(
 ) -> Result<(), CodeError>
     ensures back { OnOk result (Back (program_of program.now) (w.Value (tree.Modify at of.now target.now (exprs_of (map expr_of parts.now)) change (expr_of right.now) gives) ∷ items_of worklist.old) config.now (items_of worklist.new) config.now) }
     ensures sound { Keeps (program_of program.now) (w.Value (tree.Modify at of.now target.now (exprs_of (map expr_of parts.now)) change (expr_of right.now) gives) ∷ items_of worklist.old) config.now result (items_of worklist.new) config.now }
+    ensures falls { OnOk result (weight.weights worklist.new < weight.expression (tree.Modify at of.now target.now (exprs_of (map expr_of parts.now)) change (expr_of right.now) gives) + weight.weights worklist.old) }
 {
     let Target::Local(name) = target else {
         return Err(CodeError::Unbuilt);
@@ -381,6 +391,7 @@ fn apply<'a>(
 ) -> Result<(), CodeError>
     ensures back { OnOk result (Back (program_of program.now) (w.Value (tree.Apply at of.now operation.now (exprs_of (map expr_of parts.now))) ∷ items_of worklist.old) config.now (items_of worklist.new) config.now) }
     ensures sound { Keeps (program_of program.now) (w.Value (tree.Apply at of.now operation.now (exprs_of (map expr_of parts.now))) ∷ items_of worklist.old) config.now result (items_of worklist.new) config.now }
+    ensures falls { OnOk result (weight.weights worklist.new < weight.expression (tree.Apply at of.now operation.now (exprs_of (map expr_of parts.now))) + weight.weights worklist.old) }
 {
     match operation {
         Operation::Operator(it) => apply_operator(program, config, worklist, at, of, *it, parts),
@@ -460,6 +471,7 @@ fn apply_operator<'a>(
 ) -> Result<(), CodeError>
     ensures back { OnOk result (Back (program_of program.now) (w.Value (tree.Apply at of.now (operation.Operator operator) (exprs_of (map expr_of parts.now))) ∷ items_of worklist.old) config.now (items_of worklist.new) config.now) }
     ensures sound { Keeps (program_of program.now) (w.Value (tree.Apply at of.now (operation.Operator operator) (exprs_of (map expr_of parts.now))) ∷ items_of worklist.old) config.now result (items_of worklist.new) config.now }
+    ensures falls { OnOk result (weight.weights worklist.new < weight.expression (tree.Apply at of.now (operation.Operator operator) (exprs_of (map expr_of parts.now))) + weight.weights worklist.old) }
 {
     alike(representation_of(of), operator_gives(operator))?;
     worklist.push_two(
@@ -480,6 +492,7 @@ fn apply_cast<'a>(
 ) -> Result<(), CodeError>
     ensures back { OnOk result (Back (program_of program.now) (w.Value (tree.Apply at of.now (operation.Cast cast) (exprs_of (map expr_of parts.now))) ∷ items_of worklist.old) config.now (items_of worklist.new) config.now) }
     ensures sound { Keeps (program_of program.now) (w.Value (tree.Apply at of.now (operation.Cast cast) (exprs_of (map expr_of parts.now))) ∷ items_of worklist.old) config.now result (items_of worklist.new) config.now }
+    ensures falls { OnOk result (weight.weights worklist.new < weight.expression (tree.Apply at of.now (operation.Cast cast) (exprs_of (map expr_of parts.now))) + weight.weights worklist.old) }
 {
     let Some(part) = parts.get(0) else {
         return Err(CodeError::Malformed);
@@ -511,6 +524,7 @@ fn apply_instance_of<'a>(
 ) -> Result<(), CodeError>
     ensures back { OnOk result (Back (program_of program.now) (w.Value (tree.Apply at of.now (operation.InstanceOf is.now) (exprs_of (map expr_of parts.now))) ∷ items_of worklist.old) config.now (items_of worklist.new) config.now) }
     ensures sound { Keeps (program_of program.now) (w.Value (tree.Apply at of.now (operation.InstanceOf is.now) (exprs_of (map expr_of parts.now))) ∷ items_of worklist.old) config.now result (items_of worklist.new) config.now }
+    ensures falls { OnOk result (weight.weights worklist.new < weight.expression (tree.Apply at of.now (operation.InstanceOf is.now) (exprs_of (map expr_of parts.now))) + weight.weights worklist.old) }
 {
     alike(representation_of(of), Representation::Unboxed)?;
     known(is)?;
@@ -532,6 +546,7 @@ fn apply_call<'a>(
 ) -> Result<(), CodeError>
     ensures back { OnOk result (Back (program_of program.now) (w.Value (tree.Apply at of.now (operation.Function number) (exprs_of (map expr_of parts.now))) ∷ items_of worklist.old) config.now (items_of worklist.new) config.now) }
     ensures sound { Keeps (program_of program.now) (w.Value (tree.Apply at of.now (operation.Function number) (exprs_of (map expr_of parts.now))) ∷ items_of worklist.old) config.now result (items_of worklist.new) config.now }
+    ensures falls { OnOk result (weight.weights worklist.new < weight.expression (tree.Apply at of.now (operation.Function number) (exprs_of (map expr_of parts.now))) + weight.weights worklist.old) }
 {
     let Some(callee) = function(program, number) else {
         return Err(CodeError::Malformed);

@@ -1,11 +1,12 @@
 //! How control goes on behind what is written, and what depends on it.
 
-ghost use Rattle.std.specs.Prelude.{◌≡◌, ◌≢◌, [], ◌∷◌, IfOk, OnOk};
+ghost use Rattle.std.specs.Prelude.{◌≡◌, ◌≢◌, ◌<◌, ◌+◌, [], ◌∷◌, IfOk, OnOk};
 ghost use Rattle.codegen.specs.Worklist as w;
 ghost use Rattle.codegen.specs.Worklist.{Back, IsTop, items_of, maybe_in};
 ghost use Rattle.codegen.specs.Errors.{OnlyMemory};
 ghost use Rattle.codegen.specs.Sound.{Keeps};
 ghost use Rattle.source_meaning.specs.Programs.{program_of};
+ghost use Rattle.codegen.specs.Weights as weight;
 
 use crate::config::{Config, Flow};
 use crate::error::CodeError;
@@ -136,6 +137,7 @@ pub fn skip<'a>(
 ) -> Result<(), CodeError>
     ensures back { OnOk result (Back (program_of program.now) (w.Skip label ∷ items_of worklist.old) config.old (items_of worklist.new) config.new) }
     ensures sound { Keeps (program_of program.now) (w.Skip label ∷ items_of worklist.old) config.old result (items_of worklist.new) config.new }
+    ensures falls { OnOk result (weight.weights worklist.new < 2 + weight.weights worklist.old) }
 {
     let flow = top(&mut config.flows)?;
     if flow.falls {
@@ -154,6 +156,7 @@ pub fn update<'a>(
 ) -> Result<(), CodeError>
     ensures back { OnOk result (Back (program_of program.now) (w.Update (maybe_in what.entry) ∷ items_of worklist.old) config.old (items_of worklist.new) config.new) }
     ensures sound { Keeps (program_of program.now) (w.Update (maybe_in what.entry) ∷ items_of worklist.old) config.old result (items_of worklist.new) config.new }
+    ensures falls { OnOk result (weight.weights worklist.new < (2 + weight.value_in what.entry) + weight.weights worklist.old) }
 {
     let flow = top(&mut config.flows)?;
     let Some(e) = what else {
@@ -179,6 +182,7 @@ pub fn test<'a>(
 ) -> Result<(), CodeError>
     ensures back { OnOk result (Back (program_of program.now) (w.Test (maybe_in what.entry) ∷ items_of worklist.old) config.now (items_of worklist.new) config.now) }
     ensures sound { Keeps (program_of program.now) (w.Test (maybe_in what.entry) ∷ items_of worklist.old) config.now result (items_of worklist.new) config.now }
+    ensures falls { OnOk result (weight.weights worklist.new < (2 + weight.value_in what.entry) + weight.weights worklist.old) }
 {
     let Some(e) = what else {
         worklist.push(WorkItem::Put(Piece::Int(1)))?;
@@ -199,6 +203,7 @@ pub fn last<'a>(
 ) -> Result<(), CodeError>
     ensures back { OnOk result (Back (program_of program.now) (w.Last (maybe_in what.entry) label ∷ items_of worklist.old) config.old (items_of worklist.new) config.new) }
     ensures sound { Keeps (program_of program.now) (w.Last (maybe_in what.entry) label ∷ items_of worklist.old) config.old result (items_of worklist.new) config.new }
+    ensures falls { OnOk result (weight.weights worklist.new < (2 + weight.value_in what.entry) + weight.weights worklist.old) }
 {
     let flow = top(&mut config.flows)?;
     let Some(e) = what else {
@@ -221,6 +226,7 @@ pub fn end<'a>(
 ) -> Result<(), CodeError>
     ensures back { OnOk result (Back (program_of program.now) (w.End of.now ∷ items_of worklist.old) config.old (items_of worklist.new) config.new) }
     ensures sound { Keeps (program_of program.now) (w.End of.now ∷ items_of worklist.old) config.old result (items_of worklist.new) config.new }
+    ensures falls { OnOk result (weight.weights worklist.new < 3 + weight.weights worklist.old) }
 {
     let flow = top(&mut config.flows)?;
     if flow.falls {

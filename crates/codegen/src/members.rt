@@ -1,6 +1,6 @@
 //! Members that are called, made or read.
 
-ghost use Rattle.std.specs.Prelude.{◌≡◌, ◌≢◌, ◌∷◌, map, slice_get, string_bytes, true, false, IfOk, MatchResult, OnOk};
+ghost use Rattle.std.specs.Prelude.{◌≡◌, ◌≢◌, ◌<◌, ◌+◌, ◌∷◌, map, slice_get, string_bytes, true, false, IfOk, MatchResult, OnOk};
 ghost use Rattle.std.specs.Option.{option_map};
 ghost use Rattle.std.specs.Str.{bytes_eq};
 ghost use Rattle.allowlist.specs.declared.member.MemberType.{MemberType};
@@ -15,6 +15,7 @@ ghost use Rattle.source_meaning.specs.Programs.{program_of, expr_of, exprs_of};
 ghost use Rattle.source_meaning.specs.Tree as tree;
 ghost use Rattle.typed_tree.specs.declared.operation.Member.{Member};
 ghost use Rattle.typed_tree.specs.declared.operation.Operation.TheVariants as operation;
+ghost use Rattle.codegen.specs.Weights as weight;
 
 use crate::config::Config;
 use crate::error::CodeError;
@@ -22,7 +23,7 @@ use crate::expressions::represented_as;
 use crate::pieces::Piece;
 use crate::representation::{Representation, alike, representation_of};
 use crate::work_item::{Wanted, WorkItem};
-use allowlist::{Allow, MEMBER_COUNT, MemberKind, MemberType};
+use allowlist::{Allow, MemberKind, MemberType};
 use member_names::{member_text, names_of_members};
 use pl_code::{Numbered, Plain};
 use pl_types::Ty;
@@ -82,7 +83,7 @@ fn same_text(left: &String, right: &Text) -> Result<(), CodeError>
     }
 }
 
-/// The catalogue's member that a call names, of this kind. `Malformed` where there is none.
+/// The list's member that a call names, of this kind. `Malformed` where there is none.
 fn called<'a>(
     alloc: Global,
     catalogue: &'a Allow,
@@ -93,7 +94,8 @@ fn called<'a>(
     ensures found { IfOk result (λ member. IsCalled kind named.now of.now member.now) }
     ensures total { (member : MemberType) → IsCalled kind named.now of.now member → OnlyMemory result }
 {
-    if named.number >= MEMBER_COUNT {
+    let count = catalogue.member_count();
+    if named.number >= count {
         return Err(CodeError::Malformed);
     }
     let member = catalogue.member_type(named.number);
@@ -119,6 +121,7 @@ pub fn apply_member<'a>(
 ) -> Result<(), CodeError>
     ensures back { OnOk result (Back (program_of program.now) (w.Value (tree.Apply at of.now (member_operation kind named.now) (exprs_of (map expr_of parts.now))) ∷ items_of worklist.old) config.now (items_of worklist.new) config.now) }
     ensures sound { Keeps (program_of program.now) (w.Value (tree.Apply at of.now (member_operation kind named.now) (exprs_of (map expr_of parts.now))) ∷ items_of worklist.old) config.now result (items_of worklist.new) config.now }
+    ensures falls { OnOk result (weight.weights worklist.new < weight.expression (tree.Apply at of.now (member_operation kind named.now) (exprs_of (map expr_of parts.now))) + weight.weights worklist.old) }
 {
     names_of_members();
     let member = called(alloc, catalogue, kind, named, of)?;
@@ -164,6 +167,7 @@ pub fn guarded<'a>(
 ) -> Result<(), CodeError>
     ensures back { OnOk result (Back (program_of program.now) (w.Value (tree.Guarded at of.now operation.now (exprs_of (map expr_of parts.now))) ∷ items_of worklist.old) config.old (items_of worklist.new) config.new) }
     ensures sound { Keeps (program_of program.now) (w.Value (tree.Guarded at of.now operation.now (exprs_of (map expr_of parts.now))) ∷ items_of worklist.old) config.old result (items_of worklist.new) config.new }
+    ensures falls { OnOk result (weight.weights worklist.new < weight.expression (tree.Guarded at of.now operation.now (exprs_of (map expr_of parts.now))) + weight.weights worklist.old) }
 {
     names_of_members();
     let named = instance(operation)?;

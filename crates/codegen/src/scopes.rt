@@ -1,6 +1,6 @@
 //! Statements that stand in one scope, the variables that they declare, and how control goes on behind them.
 
-ghost use Rattle.std.specs.Prelude.{◌≡◌, ◌≢◌, ◌∷◌, drop, IfOk, MatchResult, OnOk};
+ghost use Rattle.std.specs.Prelude.{◌≡◌, ◌≢◌, ◌<◌, ◌≤◌, ◌+◌, ◌∷◌, drop, IfOk, MatchResult, OnOk, map};
 ghost use Rattle.codegen.specs.Worklist as w;
 ghost use Rattle.codegen.specs.Worklist.{Back, IsFirst, entry, item_of, items_of, next_in, tail_of};
 ghost use Rattle.codegen.specs.Opened.{statement_of, opened_before, loop_before};
@@ -11,6 +11,7 @@ ghost use Rattle.typed_tree.specs.declared.statement.TypedStatement.{out-TypedSt
 ghost use Rattle.compiler_relation.specs.Representation.{Absent, representation_of};
 ghost use Rattle.source_meaning.specs.Programs.{program_of, before, declared, maybe_of, stmts_of};
 ghost use Rattle.source_meaning.specs.Tree as tree;
+ghost use Rattle.codegen.specs.Weights as weight;
 
 use crate::config::{Config, Flow, next_local};
 use crate::error::CodeError;
@@ -38,6 +39,7 @@ pub fn statement<'a>(
 ) -> Result<(), CodeError>
     ensures back { OnOk result (Back (program_of program.now) (w.Run (before s.now (tail_of tail.entry)) exits ∷ items_of worklist.old) config.now (items_of worklist.new) config.now) }
     ensures sound { Keeps (program_of program.now) (w.Run (before s.now (tail_of tail.entry)) exits ∷ items_of worklist.old) config.now result (items_of worklist.new) config.now }
+    ensures falls { OnOk result (weight.weights worklist.new < (4 + (weight.statement s.now + weight.behind tail.entry)) + weight.weights worklist.old) }
 {
     by_kind(program, config, worklist, s, tail, exits)
 }
@@ -52,6 +54,7 @@ fn by_kind<'a>(
 ) -> Result<(), CodeError>
     ensures back { OnOk result (Back (program_of program.now) (w.Run (opened_before (out-StatementNode (out-TypedStatement s.now).node) (tail_of tail.entry)) exits ∷ items_of worklist.old) config.now (items_of worklist.new) config.now) }
     ensures sound { Keeps (program_of program.now) (w.Run (opened_before (out-StatementNode (out-TypedStatement s.now).node) (tail_of tail.entry)) exits ∷ items_of worklist.old) config.now result (items_of worklist.new) config.now }
+    ensures falls { OnOk result (weight.weights worklist.new < (4 + (weight.node_step (weight.over (out-StatementNode (out-TypedStatement s.now).node)) + weight.behind tail.entry)) + weight.weights worklist.old) }
 {
     match &s.node {
         StatementNode::Expression(_) => simple(program, config, worklist, s, tail, exits),
@@ -81,6 +84,7 @@ fn simple<'a>(
 ) -> Result<(), CodeError>
     ensures back { OnOk result (Back (program_of program.now) (w.Run (tree.Then (statement_of s.now) (tail_of tail.entry)) exits ∷ items_of worklist.old) config.now (items_of worklist.new) config.now) }
     ensures sound { Keeps (program_of program.now) (w.Run (tree.Then (statement_of s.now) (tail_of tail.entry)) exits ∷ items_of worklist.old) config.now result (items_of worklist.new) config.now }
+    ensures falls { OnOk result (weight.weights worklist.new < (4 + (weight.alone s.now + weight.behind tail.entry)) + weight.weights worklist.old) }
 {
     worklist.push_three(
         WorkItem::One(s, exits),
@@ -100,6 +104,7 @@ fn declaration<'a>(
 ) -> Result<(), CodeError>
     ensures back { OnOk result (Back (program_of program.now) (w.Run (declared all.now (tail_of tail.entry)) exits ∷ items_of worklist.old) config.now (items_of worklist.new) config.now) }
     ensures sound { Keeps (program_of program.now) (w.Run (declared all.now (tail_of tail.entry)) exits ∷ items_of worklist.old) config.now result (items_of worklist.new) config.now }
+    ensures falls { OnOk result (weight.weights worklist.new < (4 + (weight.variables all.now + weight.behind tail.entry)) + weight.weights worklist.old) }
 {
     worklist.push(WorkItem::Variables(all, 0, tail, exits))?;
     Ok(())
@@ -117,6 +122,7 @@ fn begun<'a>(
 ) -> Result<(), CodeError>
     ensures back { OnOk result (Back (program_of program.now) (w.Run (loop_before first.now (statement_of s.now) (tail_of tail.entry)) exits ∷ items_of worklist.old) config.now (items_of worklist.new) config.now) }
     ensures sound { Keeps (program_of program.now) (w.Run (loop_before first.now (statement_of s.now) (tail_of tail.entry)) exits ∷ items_of worklist.old) config.now result (items_of worklist.new) config.now }
+    ensures falls { OnOk result (weight.weights worklist.new < (4 + (weight.begun first.now + weight.alone s.now + weight.behind tail.entry)) + weight.weights worklist.old) }
 {
     match first {
         Some(first) => begun_by(program, config, worklist, s, first.get(), tail, exits),
@@ -135,6 +141,7 @@ fn begun_by<'a>(
 ) -> Result<(), CodeError>
     ensures back { OnOk result (Back (program_of program.now) (w.Run (tree.Then (tree.Block (before first.now (tree.Then (statement_of s.now) tree.Finish))) (tail_of tail.entry)) exits ∷ items_of worklist.old) config.now (items_of worklist.new) config.now) }
     ensures sound { Keeps (program_of program.now) (w.Run (tree.Then (tree.Block (before first.now (tree.Then (statement_of s.now) tree.Finish))) (tail_of tail.entry)) exits ∷ items_of worklist.old) config.now result (items_of worklist.new) config.now }
+    ensures falls { OnOk result (weight.weights worklist.new < (24 + (weight.statement first.now + weight.alone s.now + weight.behind tail.entry)) + weight.weights worklist.old) }
 {
     let height = config.scope.len();
     worklist.push_four(
@@ -156,6 +163,7 @@ pub fn rest<'a>(
 ) -> Result<(), CodeError>
     ensures back { OnOk result (Back (program_of program.now) (w.Run (tail_of tail.entry) exits ∷ items_of worklist.old) config.now (items_of worklist.new) config.now) }
     ensures sound { Keeps (program_of program.now) (w.Run (tail_of tail.entry) exits ∷ items_of worklist.old) config.now result (items_of worklist.new) config.now }
+    ensures falls { OnOk result (weight.weights worklist.new < (2 + weight.behind tail.entry) + weight.weights worklist.old) }
 {
     match tail {
         Tail::Nothing => {
@@ -178,6 +186,7 @@ fn finish<'a>(
 ) -> Result<(), CodeError>
     ensures back { OnOk result (Back (program_of program.now) (w.Run tree.Finish exits ∷ items_of worklist.old) config.now (items_of worklist.new) config.now) }
     ensures sound { Keeps (program_of program.now) (w.Run tree.Finish exits ∷ items_of worklist.old) config.now result (items_of worklist.new) config.now }
+    ensures falls { OnOk result (weight.weights worklist.new < 2 + weight.weights worklist.old) }
 {
     worklist.push(WorkItem::Flows(Flow {
         falls: true,
@@ -195,6 +204,7 @@ fn last<'a>(
 ) -> Result<(), CodeError>
     ensures back { OnOk result (Back (program_of program.now) (w.Run (tree.Then (statement_of s.now) tree.Finish) exits ∷ items_of worklist.old) config.now (items_of worklist.new) config.now) }
     ensures sound { Keeps (program_of program.now) (w.Run (tree.Then (statement_of s.now) tree.Finish) exits ∷ items_of worklist.old) config.now result (items_of worklist.new) config.now }
+    ensures falls { OnOk result (weight.weights worklist.new < (4 + weight.alone s.now) + weight.weights worklist.old) }
 {
     worklist.push_three(
         WorkItem::One(s, exits),
@@ -215,6 +225,7 @@ fn row<'a>(
 ) -> Result<(), CodeError>
     ensures back { OnOk result (Back (program_of program.now) (w.Run (stmts_of (drop at all.now)) exits ∷ items_of worklist.old) config.now (items_of worklist.new) config.now) }
     ensures sound { Keeps (program_of program.now) (w.Run (stmts_of (drop at all.now)) exits ∷ items_of worklist.old) config.now result (items_of worklist.new) config.now }
+    ensures falls { OnOk result (weight.weights worklist.new < (2 + weight.row (map weight.statement (drop at all.now))) + weight.weights worklist.old) }
 {
     let _count = all.len();
     let Some(s) = all.get(at) else {
@@ -237,6 +248,7 @@ pub fn variables<'a>(
 ) -> Result<(), CodeError>
     ensures back { OnOk result (Back (program_of program.now) (w.Run (declared (drop at all.now) (tail_of tail.entry)) exits ∷ items_of worklist.old) config.now (items_of worklist.new) config.now) }
     ensures sound { Keeps (program_of program.now) (w.Run (declared (drop at all.now) (tail_of tail.entry)) exits ∷ items_of worklist.old) config.now result (items_of worklist.new) config.now }
+    ensures falls { OnOk result (weight.weights worklist.new < (3 + (weight.variables (drop at all.now) + weight.behind tail.entry)) + weight.weights worklist.old) }
 {
     let _count = all.len();
     let Some(variable) = all.get(at) else {
@@ -254,7 +266,8 @@ pub fn variables<'a>(
 
 /// What a variable begins with.
 fn first_value<'a>(variable: &'a TypedVariable) -> Result<WorkItem<'a>, CodeError>
-    ensures { MatchResult result (λ first. IsFirst variable.now (item_of first)) (λ _. BeginRepresented (maybe_of variable.now.value) variable.now.of → ⊥) }
+    ensures first { MatchResult result (λ first. IsFirst variable.now (item_of first)) (λ _. BeginRepresented (maybe_of variable.now.value) variable.now.of → ⊥) }
+    ensures weight { IfOk result (λ first. weight.weight_of first ≤ 1 + weight.value_if variable.now.value) }
 {
     match &variable.value {
         Some(value) => {

@@ -1,12 +1,13 @@
 //! Statements: what is to be written for one.
 
-ghost use Rattle.std.specs.Prelude.{◌≡◌, ◌∷◌, OnOk};
+ghost use Rattle.std.specs.Prelude.{◌≡◌, ◌<◌, ◌≤◌, ◌+◌, ◌∷◌, OnOk, map};
 ghost use Rattle.codegen.specs.Worklist as w;
 ghost use Rattle.codegen.specs.Worklist.{Back, item_of, items_of, maybe_in};
 ghost use Rattle.codegen.specs.Opened.{body_of, body_if, statement_of};
 ghost use Rattle.codegen.specs.Sound.{Keeps};
 ghost use Rattle.source_meaning.specs.Programs.{program_of, declared, expr_of, maybe_of, stmts_of};
 ghost use Rattle.source_meaning.specs.Tree as tree;
+ghost use Rattle.codegen.specs.Weights as weight;
 
 use crate::config::{Config, Flow};
 use crate::error::CodeError;
@@ -30,6 +31,7 @@ pub fn one<'a>(
 ) -> Result<(), CodeError>
     ensures back { OnOk result (Back (program_of program.now) (w.One (statement_of s.now) exits ∷ items_of worklist.old) config.old (items_of worklist.new) config.new) }
     ensures sound { Keeps (program_of program.now) (w.One (statement_of s.now) exits ∷ items_of worklist.old) config.old result (items_of worklist.new) config.new }
+    ensures falls { OnOk result (weight.weights worklist.new < weight.alone s.now + weight.weights worklist.old) }
 {
     match &s.node {
         StatementNode::Expression(value) => {
@@ -72,7 +74,8 @@ pub fn one<'a>(
 
 /// A part that may be missing.
 pub fn part<'a>(it: &'a Option<Subtree<Typed>>) -> Option<&'a Typed>
-    ensures { maybe_in result ≡ maybe_of it.now }
+    ensures part { maybe_in result ≡ maybe_of it.now }
+    ensures weight { weight.value_in result ≡ weight.value_if it.now }
 {
     match it {
         Some(part) => Some(part.get()),
@@ -82,14 +85,16 @@ pub fn part<'a>(it: &'a Option<Subtree<Typed>>) -> Option<&'a Typed>
 
 /// A statement by itself.
 fn body<'a>(it: &'a TypedStatement, exits: Option<Exits>) -> WorkItem<'a>
-    ensures { item_of result ≡ w.Run (body_of it.now) exits }
+    ensures item { item_of result ≡ w.Run (body_of it.now) exits }
+    ensures weight { weight.weight_of result ≡ 4 + weight.statement it.now }
 {
     WorkItem::Statement(it, Tail::Nothing, exits)
 }
 
 /// A statement by itself that may be missing.
 fn body_if_any<'a>(it: &'a Option<Subtree<TypedStatement>>, exits: Option<Exits>) -> WorkItem<'a>
-    ensures { item_of result ≡ w.Run (body_if it.now) exits }
+    ensures item { item_of result ≡ w.Run (body_if it.now) exits }
+    ensures weight { weight.weight_of result ≤ 4 + weight.statement_if it.now }
 {
     match it {
         Some(it) => body(it.get(), exits),
@@ -106,6 +111,7 @@ fn expression<'a>(
 ) -> Result<(), CodeError>
     ensures back { OnOk result (Back (program_of program.now) (w.One (tree.Do (expr_of value.now)) exits ∷ items_of worklist.old) config.now (items_of worklist.new) config.now) }
     ensures sound { Keeps (program_of program.now) (w.One (tree.Do (expr_of value.now)) exits ∷ items_of worklist.old) config.now result (items_of worklist.new) config.now }
+    ensures falls { OnOk result (weight.weights worklist.new < (20 + weight.value value.now) + weight.weights worklist.old) }
 {
     worklist.push_three(
         WorkItem::Value(value),
@@ -127,6 +133,7 @@ fn block<'a>(
 ) -> Result<(), CodeError>
     ensures back { OnOk result (Back (program_of program.now) (w.One (tree.Block (stmts_of statements.now)) exits ∷ items_of worklist.old) config.now (items_of worklist.new) config.now) }
     ensures sound { Keeps (program_of program.now) (w.One (tree.Block (stmts_of statements.now)) exits ∷ items_of worklist.old) config.now result (items_of worklist.new) config.now }
+    ensures falls { OnOk result (weight.weights worklist.new < (20 + weight.row (map weight.statement statements.now)) + weight.weights worklist.old) }
 {
     let height = config.scope.len();
     worklist.push_two(
@@ -146,6 +153,7 @@ fn variables<'a>(
 ) -> Result<(), CodeError>
     ensures back { OnOk result (Back (program_of program.now) (w.One (tree.Block (declared all.now tree.Finish)) exits ∷ items_of worklist.old) config.now (items_of worklist.new) config.now) }
     ensures sound { Keeps (program_of program.now) (w.One (tree.Block (declared all.now tree.Finish)) exits ∷ items_of worklist.old) config.now result (items_of worklist.new) config.now }
+    ensures falls { OnOk result (weight.weights worklist.new < (20 + weight.variables all.now) + weight.weights worklist.old) }
 {
     let height = config.scope.len();
     worklist.push_two(
@@ -166,6 +174,7 @@ fn choice<'a>(
 ) -> Result<(), CodeError>
     ensures back { OnOk result (Back (program_of program.now) (w.One (tree.If (expr_of condition.now) (body_of then.now) (body_if otherwise.now)) exits ∷ items_of worklist.old) config.old (items_of worklist.new) config.new) }
     ensures sound { Keeps (program_of program.now) (w.One (tree.If (expr_of condition.now) (body_of then.now) (body_if otherwise.now)) exits ∷ items_of worklist.old) config.old result (items_of worklist.new) config.new }
+    ensures falls { OnOk result (weight.weights worklist.new < (20 + (weight.value condition.now + weight.statement then.now + weight.statement_if otherwise.now)) + weight.weights worklist.old) }
 {
     represented_as(condition, Representation::Unboxed)?;
     let height = config.scope.len();
@@ -199,6 +208,7 @@ fn turns<'a>(
 ) -> Result<(), CodeError>
     ensures back { OnOk result (Back (program_of program.now) (w.One (tree.While (maybe_of condition.now) (maybe_of update.now) (body_if turn.now)) exits ∷ items_of worklist.old) config.old (items_of worklist.new) config.new) }
     ensures sound { Keeps (program_of program.now) (w.One (tree.While (maybe_of condition.now) (maybe_of update.now) (body_if turn.now)) exits ∷ items_of worklist.old) config.old result (items_of worklist.new) config.new }
+    ensures falls { OnOk result (weight.weights worklist.new < (20 + (weight.value_if condition.now + weight.value_if update.now + weight.statement_if turn.now)) + weight.weights worklist.old) }
 {
     let height = config.scope.len();
     let test = part(condition);
@@ -238,6 +248,7 @@ fn turns_at_least_once<'a>(
 ) -> Result<(), CodeError>
     ensures back { OnOk result (Back (program_of program.now) (w.One (tree.DoWhile (body_of turn.now) (maybe_of condition.now)) exits ∷ items_of worklist.old) config.old (items_of worklist.new) config.new) }
     ensures sound { Keeps (program_of program.now) (w.One (tree.DoWhile (body_of turn.now) (maybe_of condition.now)) exits ∷ items_of worklist.old) config.old result (items_of worklist.new) config.new }
+    ensures falls { OnOk result (weight.weights worklist.new < (20 + (weight.statement turn.now + weight.value_if condition.now)) + weight.weights worklist.old) }
 {
     let height = config.scope.len();
     let test = part(condition);
@@ -274,6 +285,7 @@ fn leave<'a>(
 ) -> Result<(), CodeError>
     ensures back { OnOk result (Back (program_of program.now) (w.One tree.Break exits ∷ items_of worklist.old) config.now (items_of worklist.new) config.now) }
     ensures sound { Keeps (program_of program.now) (w.One tree.Break exits ∷ items_of worklist.old) config.now result (items_of worklist.new) config.now }
+    ensures falls { OnOk result (weight.weights worklist.new < 20 + weight.weights worklist.old) }
 {
     let Some(to) = exits else {
         return Err(CodeError::Malformed);
@@ -296,6 +308,7 @@ fn go_on<'a>(
 ) -> Result<(), CodeError>
     ensures back { OnOk result (Back (program_of program.now) (w.One tree.Continue exits ∷ items_of worklist.old) config.now (items_of worklist.new) config.now) }
     ensures sound { Keeps (program_of program.now) (w.One tree.Continue exits ∷ items_of worklist.old) config.now result (items_of worklist.new) config.now }
+    ensures falls { OnOk result (weight.weights worklist.new < 20 + weight.weights worklist.old) }
 {
     let Some(to) = exits else {
         return Err(CodeError::Malformed);
@@ -319,6 +332,7 @@ fn give<'a>(
 ) -> Result<(), CodeError>
     ensures back { OnOk result (Back (program_of program.now) (w.One (tree.Return (maybe_of value.now)) exits ∷ items_of worklist.old) config.now (items_of worklist.new) config.now) }
     ensures sound { Keeps (program_of program.now) (w.One (tree.Return (maybe_of value.now)) exits ∷ items_of worklist.old) config.now result (items_of worklist.new) config.now }
+    ensures falls { OnOk result (weight.weights worklist.new < (20 + weight.value_if value.now) + weight.weights worklist.old) }
 {
     match value {
         Some(value) => give_value(program, config, worklist, value.get(), exits),
@@ -335,6 +349,7 @@ fn give_value<'a>(
 ) -> Result<(), CodeError>
     ensures back { OnOk result (Back (program_of program.now) (w.One (tree.Return (tree.Given (expr_of value.now))) exits ∷ items_of worklist.old) config.now (items_of worklist.new) config.now) }
     ensures sound { Keeps (program_of program.now) (w.One (tree.Return (tree.Given (expr_of value.now))) exits ∷ items_of worklist.old) config.now result (items_of worklist.new) config.now }
+    ensures falls { OnOk result (weight.weights worklist.new < (20 + weight.value value.now) + weight.weights worklist.old) }
 {
     represented_as(value, config.result)?;
     worklist.push_three(
@@ -356,6 +371,7 @@ fn give_nothing<'a>(
 ) -> Result<(), CodeError>
     ensures back { OnOk result (Back (program_of program.now) (w.One (tree.Return tree.Missing) exits ∷ items_of worklist.old) config.now (items_of worklist.new) config.now) }
     ensures sound { Keeps (program_of program.now) (w.One (tree.Return tree.Missing) exits ∷ items_of worklist.old) config.now result (items_of worklist.new) config.now }
+    ensures falls { OnOk result (weight.weights worklist.new < 20 + weight.weights worklist.old) }
 {
     alike(config.result, Representation::Absent)?;
     worklist.push_two(
@@ -377,6 +393,7 @@ fn throw<'a>(
 ) -> Result<(), CodeError>
     ensures back { OnOk result (Back (program_of program.now) (w.One (tree.Throw (expr_of value.now)) exits ∷ items_of worklist.old) config.now (items_of worklist.new) config.now) }
     ensures sound { Keeps (program_of program.now) (w.One (tree.Throw (expr_of value.now)) exits ∷ items_of worklist.old) config.now result (items_of worklist.new) config.now }
+    ensures falls { OnOk result (weight.weights worklist.new < (20 + weight.value value.now) + weight.weights worklist.old) }
 {
     represented_as(value, Representation::Boxed)?;
     worklist.push_three(

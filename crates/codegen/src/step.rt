@@ -1,12 +1,13 @@
 //! Goes on with an item of the worklist.
 
-ghost use Rattle.std.specs.Prelude.{◌∷◌, map, MatchResult, OnOk};
+ghost use Rattle.std.specs.Prelude.{◌<◌, ◌+◌, ◌∷◌, map, MatchResult, OnOk};
 ghost use Rattle.codegen.specs.Checks.{denoted};
 ghost use Rattle.codegen.specs.Worklist as w;
 ghost use Rattle.codegen.specs.Worklist.{Back, IsLocal, item_of, items_of, entry};
 ghost use Rattle.codegen.specs.Pieces as pieces;
 ghost use Rattle.codegen.specs.Sound.{IsNamed, Keeps, variable};
 ghost use Rattle.source_meaning.specs.Programs.{program_of, expr_of};
+ghost use Rattle.codegen.specs.Weights as weight;
 
 use crate::config::{Config, next_line};
 use crate::conversions::{put_cast, put_instance_of};
@@ -32,6 +33,7 @@ use std::alloc::Global;
 use typed_tree::{Program, Typed, TypedVariable};
 
 /// Goes on with an item of the worklist.
+#[tactic(auto, using(crate::proofs::Lighter::one_less))]
 pub fn step<'a>(
     alloc: Global,
     catalogue: &'a Allow,
@@ -42,6 +44,7 @@ pub fn step<'a>(
 ) -> Result<(), CodeError>
     ensures back { OnOk result (Back (program_of program.now) (item_of item.entry ∷ items_of worklist.old) config.old (items_of worklist.new) config.new) }
     ensures sound { Keeps (program_of program.now) (item_of item.entry ∷ items_of worklist.old) config.old result (items_of worklist.new) config.new }
+    ensures falls { OnOk result (weight.weights worklist.new < weight.weight_of item.entry + weight.weights worklist.old) }
 {
     match item {
         WorkItem::Value(e) => {
@@ -146,6 +149,7 @@ fn expression<'a>(
 ) -> Result<(), CodeError>
     ensures back { OnOk result (Back (program_of program.now) (w.Value (expr_of e.now) ∷ items_of worklist.old) config.old (items_of worklist.new) config.new) }
     ensures sound { Keeps (program_of program.now) (w.Value (expr_of e.now) ∷ items_of worklist.old) config.old result (items_of worklist.new) config.new }
+    ensures falls { OnOk result (weight.weights worklist.new < weight.value e.now + weight.weights worklist.old) }
 {
     value(alloc, catalogue, program, config, worklist, e)
 }

@@ -1,6 +1,6 @@
 //! Blocks whose exceptions are caught, and their catches.
 
-ghost use Rattle.std.specs.Prelude.{◌≡◌, ◌<◌, ◌∷◌, length, IfOk, OnOk};
+ghost use Rattle.std.specs.Prelude.{◌≡◌, ◌<◌, ◌+◌, ◌∷◌, length, IfOk, OnOk, drop, map};
 ghost use Rattle.codegen.specs.Errors.{OnlyMemory};
 ghost use Rattle.codegen.specs.Worklist as w;
 ghost use Rattle.codegen.specs.Worklist.{Back, catches_from, items_of};
@@ -13,6 +13,7 @@ ghost use Rattle.source_meaning.specs.Programs.{program_of};
 ghost use Rattle.source_meaning.specs.Tree as tree;
 ghost use Rattle.program_typing.specs.Types.{IsNamed};
 ghost use Rattle.typed_tree.specs.declared.statement.TypedCatch.{out-TypedCatch};
+ghost use Rattle.codegen.specs.Weights as weight;
 
 use crate::config::{Config, Flow, next_line};
 use crate::error::CodeError;
@@ -38,6 +39,7 @@ pub fn attempt<'a>(
 ) -> Result<(), CodeError>
     ensures back { OnOk result (Back (program_of program.now) (w.One (tree.Try (body_of body.now) (catches_from 0 catches.now)) exits ∷ items_of worklist.old) config.old (items_of worklist.new) config.new) }
     ensures sound { Keeps (program_of program.now) (w.One (tree.Try (body_of body.now) (catches_from 0 catches.now)) exits ∷ items_of worklist.old) config.old result (items_of worklist.new) config.new }
+    ensures falls { OnOk result (weight.weights worklist.new < (20 + (weight.statement body.now + weight.handlers (map weight.handler catches.now))) + weight.weights worklist.old) }
 {
     let height = config.scope.len();
     let from = next_line(config)?;
@@ -67,6 +69,7 @@ pub fn tried<'a>(
 ) -> Result<(), CodeError>
     ensures back { OnOk result (Back (program_of program.now) (w.Tried (catches_from 0 catches.now) from label exits ∷ items_of worklist.old) config.now (items_of worklist.new) config.now) }
     ensures sound { Keeps (program_of program.now) (w.Tried (catches_from 0 catches.now) from label exits ∷ items_of worklist.old) config.now result (items_of worklist.new) config.now }
+    ensures falls { OnOk result (weight.weights worklist.new < (3 + weight.handlers (map weight.handler catches.now)) + weight.weights worklist.old) }
 {
     let to = next_line(config)?;
     worklist.push(WorkItem::Caught(catches, 0, from, to, label, exits))?;
@@ -88,6 +91,7 @@ pub fn caught<'a>(
 ) -> Result<(), CodeError>
     ensures back { OnOk result (Back (program_of program.now) (w.Caught (catches_from at catches.now) from to label exits ∷ items_of worklist.old) config.old (items_of worklist.new) config.new) }
     ensures sound { Keeps (program_of program.now) (w.Caught (catches_from at catches.now) from to label exits ∷ items_of worklist.old) config.old result (items_of worklist.new) config.new }
+    ensures falls { OnOk result (weight.weights worklist.new < (2 + weight.handlers (map weight.handler (drop at catches.now))) + weight.weights worklist.old) }
 {
     let _count = catches.len();
     let Some(one) = catches.get(at) else {
@@ -170,6 +174,7 @@ pub fn over<'a>(
 ) -> Result<(), CodeError>
     ensures back { OnOk result (Back (program_of program.now) (w.Over (catches_from at catches.now) label ∷ items_of worklist.old) config.now (items_of worklist.new) config.now) }
     ensures sound { Keeps (program_of program.now) (w.Over (catches_from at catches.now) label ∷ items_of worklist.old) config.now result (items_of worklist.new) config.now }
+    ensures falls { OnOk result (weight.weights worklist.new < 3 + weight.weights worklist.old) }
 {
     let _count = catches.len();
     let Some(_next) = catches.get(at) else {

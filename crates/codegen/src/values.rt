@@ -1,12 +1,13 @@
 //! Parts, from the left to the right.
 
-ghost use Rattle.std.specs.Prelude.{◌+◌, [], ◌∷◌, MatchResult, OnOk};
+ghost use Rattle.std.specs.Prelude.{◌<◌, ◌+◌, [], ◌∷◌, MatchResult, OnOk};
 ghost use Rattle.codegen.specs.Worklist as w;
 ghost use Rattle.codegen.specs.Worklist.{Back, Wants, Taken, items_of, parts_from, wanted};
 ghost use Rattle.codegen.specs.Sound.{Keeps, Refuses};
 ghost use Rattle.compiler_relation.specs.Representation.{representation_of};
 ghost use Rattle.source_meaning.specs.Programs.{program_of, expr_of};
 ghost use Rattle.source_meaning.specs.Tree.{type_of};
+ghost use Rattle.codegen.specs.Weights as weight;
 
 use crate::config::Config;
 use crate::error::CodeError;
@@ -29,6 +30,7 @@ pub fn values<'a>(
 ) -> Result<(), CodeError>
     ensures back { OnOk result (Back (program_of program.now) (w.Values (parts_from at parts.now) (wanted at kind.entry) ∷ items_of worklist.old) config.now (items_of worklist.new) config.now) }
     ensures sound { Keeps (program_of program.now) (w.Values (parts_from at parts.now) (wanted at kind.entry) ∷ items_of worklist.old) config.now result (items_of worklist.new) config.now }
+    ensures falls { OnOk result (weight.weights worklist.new < weight.parts (parts_from at parts.now) + weight.weights worklist.old) }
 {
     let _count = parts.len();
     let Some(part) = parts.get(at) else {

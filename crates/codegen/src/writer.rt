@@ -28,11 +28,8 @@ pub fn walk<'a>(
     ensures back { OnOk result (Back (program_of program.now) (items_of worklist.old) config.old [] config.new) }
     ensures total { (allow : AllowList) → Sound (known allow (program_of program.now)) (items_of worklist.old) config.old → OnlyMemory result }
 {
-    for _ in 0..u64::MAX {
-        let Some(item) = worklist.pop() else {
-            return Ok(());
-        };
+    while let Some(item) = worklist.pop() {
         step(alloc, catalogue, program, config, worklist, item)?;
     }
-    Err(CodeError::NoMemory)
+    Ok(())
 }

@@ -1,4 +1,4 @@
-use Rattle.std.proofs.Common.{sym, ◌∙◌, refl}
+use Rattle.std.proofs.Common.{sym, ◌∙◌, refl, arith}
 use Rattle.codegen.specs.Worklist.{items_of, As, representations_in}
 use Rattle.codegen.proofs.Plans.{apply_plan}
 use Rattle.codegen.proofs.Parts.{call_fits, function_there, call_gives, call_takes}
@@ -19,3 +19,6 @@ returns-in_err-alike-clause-sound c = (never _ _ _ _ _ _ (λ allow of s. c.in_er
 
 pub returns-clause-sound : goal.returns-clause-sound
 returns-clause-sound c = rw c.in_ok-push_two.ensures ((instead _ _ _ _ (λ allow of s. ((s.0.0, call_takes allow c.args.program.now _ c.in-Some.callee.now _ _ (sym c.in-Some.ensures) s.0.1), s.1)) refl))
+
+pub returns-clause-falls : goal.returns-clause-falls
+returns-clause-falls c = rw c.in_ok-push_two.ensures (omega arith)

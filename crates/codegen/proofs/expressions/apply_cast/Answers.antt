@@ -1,4 +1,4 @@
-use Rattle.std.proofs.Common.{Some, sym, ap, ◌∙◌, refl}
+use Rattle.std.proofs.Common.{Some, sym, ap, ◌∙◌, refl, arith}
 use Rattle.source_meaning.specs.Programs.{program_of}
 use Rattle.program_typing.specs.Agreeing.{known}
 use Rattle.codegen.specs.Worklist.{items_of, Any}
@@ -27,3 +27,6 @@ returns-then-len-ne1-clause-sound c = never _ _ _ _ _ _ (λ allow of s. cast_alo
 pub returns-in_err-cast_fits-clause-sound : goal.returns-in_err-cast_fits-clause-sound
 returns-in_err-cast_fits-clause-sound c = never _ _ _ _ _ _
     (λ allow of s. c.in_err-cast_fits.ensures (well_cast_fits (known allow (program_of c.args.program.now)) c.args.cast c.args.parts.now c.get-2.result.now _ _ _ (sym c.in-Some.ensures.value ∙ ap (λ x. Some x) (sym c.get-2.ensures)) c.representation_in.ensures c.representation_of.ensures s.0.1))
+
+pub returns-clause-falls : goal.returns-clause-falls
+returns-clause-falls c = rw c.in_ok-push_two.ensures (omega arith)

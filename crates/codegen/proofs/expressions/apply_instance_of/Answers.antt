@@ -1,7 +1,7 @@
 use Rattle.std.specs.Prelude.{map}
 use Rattle.program_typing.specs.Agreeing.{known}
 use Rattle.source_meaning.specs.Programs.{program_of, expr_of, exprs_of}
-use Rattle.std.proofs.Common.{sym, ◌∙◌, refl}
+use Rattle.std.proofs.Common.{sym, ◌∙◌, refl, arith}
 use Rattle.compiler_relation.specs.Representation.{Boxed}
 use Rattle.codegen.specs.Worklist.{items_of, All}
 use Rattle.codegen.proofs.Listed.{named_known}
@@ -30,3 +30,6 @@ returns-clause-sound c = rw c.in_ok-push_two.ensures (instead _ _ _ _
     (λ allow of s.
     let representation = ask_representation (known allow (program_of c.args.program.now)) c.args.is.now (exprs_of (map expr_of c.args.parts.now)) c.args.of.now s.0.1 in
     ((s.0.0, representation.operands), (representation.named, s.1))) refl)
+
+pub returns-clause-falls : goal.returns-clause-falls
+returns-clause-falls c = rw c.in_ok-push_two.ensures (omega arith)

@@ -1,6 +1,6 @@
 use Rattle.codegen.specs.Worklist.{items_of}
 use Rattle.codegen.proofs.Plans.{assign_plan}
-use Rattle.std.proofs.Common.{refl, sym, ap, ◌∙◌}
+use Rattle.std.proofs.Common.{refl, sym, ap, ◌∙◌, arith}
 use Rattle.compiler_relation.specs.Representation.{representation_of}
 use Rattle.codegen.proofs.Steps.{instead, never}
 use Rattle.codegen.proofs.expressions.assign.Goals as goal
@@ -15,3 +15,6 @@ returns-in_err-represented_as-clause-sound c = rw c.in-Local.is (never _ _ _ _ _
 
 pub returns-clause-sound : goal.returns-clause-sound
 returns-clause-sound c = rw c.in_ok-push_three.ensures (rw c.in-Local.is (instead _ _ _ _ (λ allow of s. (s.0.0, (record { of = c.args.of.now; is = s.0.1; represented_so = c.representation_of-representation.ensures }, s.1))) refl))
+
+pub returns-clause-falls : goal.returns-clause-falls
+returns-clause-falls c = rw c.in_ok-push_three.ensures (omega arith)

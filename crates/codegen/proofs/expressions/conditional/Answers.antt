@@ -1,4 +1,4 @@
-use Rattle.std.proofs.Common.{◌∙◌, refl, sym, ap}
+use Rattle.std.proofs.Common.{◌∙◌, refl, sym, ap, arith}
 use Rattle.codegen.specs.Worklist.{items_of}
 use Rattle.codegen.proofs.Back.{with_labels}
 use Rattle.codegen.proofs.Plans.{conditional_plan}
@@ -25,3 +25,6 @@ returns-in_err-represented_as-2-clause-sound c = never _ _ _ _ _ _ (λ allow of 
 
 pub returns-in_err-represented_as-3-clause-sound : goal.returns-in_err-represented_as-3-clause-sound
 returns-in_err-represented_as-3-clause-sound c = never _ _ _ _ _ _ (λ allow of s. c.in_err-represented_as-3.ensures (ap representation_of s.0.5 ∙ sym c.representation_of-2.ensures))
+
+pub returns-clause-falls : goal.returns-clause-falls
+returns-clause-falls c = rw c.in_ok-push_four.ensures (rw c.in_ok-push_three.ensures (omega arith))

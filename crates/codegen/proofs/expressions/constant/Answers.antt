@@ -1,4 +1,4 @@
-use Rattle.std.proofs.Common.{refl, sym, ◌∙◌}
+use Rattle.std.proofs.Common.{refl, sym, ◌∙◌, arith}
 use Rattle.codegen.proofs.Steps.{instead, never}
 use Rattle.codegen.proofs.Fitting.{constant_representation}
 use Rattle.codegen.proofs.expressions.constant.Goals as goal
@@ -8,3 +8,6 @@ returns-in_err-alike-clause-sound c = never _ _ _ _ _ _ (λ allow of s. c.in_err
 
 pub returns-clause-sound : goal.returns-clause-sound
 returns-clause-sound c = rw c.in_ok-push.ensures (instead _ _ _ _ (λ allow of s. s.1) refl)
+
+pub returns-clause-falls : goal.returns-clause-falls
+returns-clause-falls c = rw c.in_ok-push.ensures (omega arith)

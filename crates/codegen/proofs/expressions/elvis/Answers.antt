@@ -1,4 +1,4 @@
-use Rattle.std.proofs.Common.{◌∙◌, refl, sym, ap}
+use Rattle.std.proofs.Common.{◌∙◌, refl, sym, ap, arith}
 use Rattle.codegen.specs.Worklist.{items_of}
 use Rattle.codegen.proofs.Back.{with_labels}
 use Rattle.codegen.proofs.Plans.{elvis_plan}
@@ -26,3 +26,6 @@ returns-in_err-represented_as-2-clause-sound c = never _ _ _ _ _ _ (λ allow of 
 
 pub returns-in_err-alike-clause-sound : goal.returns-in_err-alike-clause-sound
 returns-in_err-alike-clause-sound c = never _ _ _ _ _ _ (λ allow of s. c.in_err-alike.ensures (c.representation_of.ensures ∙ is_boxed _ s.0.4))
+
+pub returns-clause-falls : goal.returns-clause-falls
+returns-clause-falls c = rw c.in_ok-push_three-2.ensures (rw c.in_ok-push_two.ensures (rw c.in_ok-push_three.ensures (omega arith)))

@@ -1,4 +1,4 @@
-use Rattle.std.proofs.Common.{sym, ◌∙◌, refl}
+use Rattle.std.proofs.Common.{sym, ◌∙◌, refl, arith}
 use Rattle.codegen.specs.Worklist.{items_of}
 use Rattle.codegen.proofs.Back.{with_labels}
 use Rattle.codegen.proofs.Plans.{logical_plan}
@@ -24,3 +24,6 @@ returns-in_err-represented_as-2-clause-sound c = never _ _ _ _ _ _ (λ allow of 
 
 pub returns-in_err-alike-clause-sound : goal.returns-in_err-alike-clause-sound
 returns-in_err-alike-clause-sound c = never _ _ _ _ _ _ (λ allow of s. c.in_err-alike.ensures (c.representation_of.ensures ∙ flag_representation _ s.0.4))
+
+pub returns-clause-falls : goal.returns-clause-falls
+returns-clause-falls c = rw c.in_ok-push_four.ensures (rw c.in_ok-push_three.ensures (omega arith))

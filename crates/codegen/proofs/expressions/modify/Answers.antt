@@ -1,4 +1,4 @@
-use Rattle.std.proofs.Common.{sym, subst, refl}
+use Rattle.std.proofs.Common.{sym, subst, refl, arith}
 use Rattle.codegen.specs.Worklist.{items_of}
 use Rattle.compiler_relation.specs.Representation.{Representation}
 use Rattle.compiler_relation.specs.Stands.{ChangeFits}
@@ -26,3 +26,6 @@ returns-clause-sound c = rw c.in_ok-push_four-2.ensures (rw c.in_ok-push_four.en
         (s.0.0, ((changes_name c.args.change c.args.of.now _ s.0.2).after, (record { of = c.args.of.now; is = s.0.1; represented_so = c.representation_of-representation.ensures }, s.1))),
       ),
     )) refl)))
+
+pub returns-clause-falls : goal.returns-clause-falls
+returns-clause-falls c = rw c.in_ok-push_four-2.ensures (rw c.in_ok-push_four.ensures (omega arith))

@@ -1,3 +1,4 @@
+use Rattle.std.proofs.Common.{arith}
 use Rattle.codegen.specs.Worklist.{items_of}
 use Rattle.codegen.proofs.Flowing.{skip_jumps, skip_stays}
 use Rattle.codegen.proofs.flows.skip.Goals as goal
@@ -7,3 +8,6 @@ returns-then-flow-clause-back c = rw c.in_ok-push.ensures (skip_jumps _ (items_o
 
 pub returns-clause-back : goal.returns-clause-back
 returns-clause-back c = skip_stays _ (items_of c.args.worklist.now) c.args.config.now c.in_ok-flow.flow c.top.new.flows c.in_ok-flow.ensures.top c.in_ok-flow.ensures.same c.args.label c.if-flow.false
+
+pub returns-then-flow-clause-falls : goal.returns-then-flow-clause-falls
+returns-then-flow-clause-falls c = rw c.in_ok-push.ensures (omega arith)

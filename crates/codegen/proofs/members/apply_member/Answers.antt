@@ -1,4 +1,4 @@
-use Rattle.std.proofs.Common.{refl, ◌∙◌}
+use Rattle.std.proofs.Common.{refl, ◌∙◌, arith}
 use Rattle.std.proofs.lemmas.Result.{err_from_is_err_and}
 use Rattle.source_meaning.specs.Programs.{program_of, expr_of, exprs_of}
 use Rattle.program_typing.specs.Agreeing.{known}
@@ -34,3 +34,6 @@ returns-in_err-member-clause-sound c =
           let a = agrees_member funs c.args.kind c.args.named.now _ c.args.of.now s.agree.0.1 in
           p.2 ∙ c.in_err-member.ensures.total a.member (agrees_called funs c.args.kind c.args.named.now _ c.args.of.now a);
     })
+
+pub returns-clause-falls : goal.returns-clause-falls
+returns-clause-falls c = rw c.in_ok-push_three.ensures (omega arith)

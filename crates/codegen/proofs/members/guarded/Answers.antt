@@ -1,4 +1,5 @@
-use Rattle.std.proofs.Common.{Some, refl, sym, ap, ◌∙◌}
+use Rattle.codegen.proofs.Lighter.{parts_more}
+use Rattle.std.proofs.Common.{Some, refl, sym, ap, ◌∙◌, arith}
 use Rattle.std.proofs.lemmas.Result.{err_from_is_err_and}
 use Rattle.source_meaning.specs.Programs.{program_of}
 use Rattle.program_typing.specs.Agreeing.{known}
@@ -60,3 +61,6 @@ returns-in_err-member-clause-sound c =
           let k = receives funs _ c.args.at c.args.of.now m c.args.parts.now c.get-receiver.result.now (sym c.in-Some.ensures.value ∙ ap (λ x. Some x) (sym c.get-receiver.ensures)) s.agree.0 in
           p.2 ∙ c.in_err-member.ensures.total k.agrees.member (agrees_called funs kinds.Instance m _ c.args.of.now k.agrees);
     }))
+
+pub returns-clause-falls : goal.returns-clause-falls
+returns-clause-falls c = rw c.in_ok-push_two-2.ensures (rw c.in_ok-push_three.ensures (rw c.in_ok-push_two.ensures (omega (arith, parts_more 0 c.args.parts.now c.get-receiver.result.now (sym c.in-Some.ensures.value ∙ ap (λ x. Some x) (sym c.get-receiver.ensures))))))

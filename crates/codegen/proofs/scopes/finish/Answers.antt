@@ -1,4 +1,4 @@
-use Rattle.std.proofs.Common.{refl}
+use Rattle.std.proofs.Common.{refl, arith}
 use Rattle.codegen.specs.Worklist.{items_of}
 use Rattle.codegen.proofs.Flowing.{finish_plan}
 use Rattle.codegen.proofs.Steps.{instead}
@@ -9,3 +9,6 @@ returns-clause-back c = rw c.in_ok-push.ensures (finish_plan _ (items_of c.args.
 
 pub returns-clause-sound : goal.returns-clause-sound
 returns-clause-sound c = rw c.in_ok-push.ensures (instead _ _ _ _ (λ allow of s. s.1) refl)
+
+pub returns-clause-falls : goal.returns-clause-falls
+returns-clause-falls c = rw c.in_ok-push.ensures (omega arith)

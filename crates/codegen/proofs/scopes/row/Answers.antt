@@ -1,4 +1,5 @@
-use Rattle.std.proofs.Common.{Some, sym, ap, ◌∙◌}
+use Rattle.codegen.proofs.Lighter.{row_more}
+use Rattle.std.proofs.Common.{Some, sym, ap, ◌∙◌, arith}
 use Rattle.std.proofs.lemmas.Result.{on_ok_weaker}
 use Rattle.codegen.specs.Worklist.{items_of}
 use Rattle.codegen.proofs.Rows.{row_go, row_end}
@@ -18,3 +19,9 @@ returns-clause-sound c = rw c.in_ok-push.ensures
 
 pub returns-in_default-clause-sound : goal.returns-in_default-clause-sound
 returns-in_default-clause-sound c = keeps_row_end _ (items_of c.args.worklist.now) c.args.config.now c.args.exits c.args.all.now c.args.at _ _ (sym c.in_default.ensures.value) c.finish.ensures.sound
+
+pub returns-clause-falls : goal.returns-clause-falls
+returns-clause-falls c = rw c.in_ok-push.ensures (omega (arith, row_more c.args.at c.args.all.now c.get-s.result.now (sym c.in-Some.ensures.value ∙ ap (λ x. Some x) (sym c.get-s.ensures))))
+
+pub returns-in_default-clause-falls : goal.returns-in_default-clause-falls
+returns-in_default-clause-falls c = on_ok_weaker c.finish.result (λ d. omega (arith, d)) c.finish.ensures.falls

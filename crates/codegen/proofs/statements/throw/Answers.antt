@@ -1,4 +1,4 @@
-use Rattle.std.proofs.Common.{refl}
+use Rattle.std.proofs.Common.{refl, arith}
 use Rattle.codegen.proofs.Fitting.{is_boxed}
 use Rattle.codegen.proofs.Steps.{instead, never}
 use Rattle.codegen.proofs.statements.throw.Goals as goal
@@ -8,3 +8,6 @@ returns-in_err-represented_as-clause-sound c = never _ _ _ _ _ _ (λ allow of s.
 
 pub returns-clause-sound : goal.returns-clause-sound
 returns-clause-sound c = rw c.in_ok-push_three.ensures (instead _ _ _ _ (λ allow of s. (s.0.0, s.1)) refl)
+
+pub returns-clause-falls : goal.returns-clause-falls
+returns-clause-falls c = rw c.in_ok-push_three.ensures (omega arith)

@@ -1,4 +1,5 @@
-use Rattle.std.proofs.Common.{sym, ◌∙◌}
+use Rattle.codegen.proofs.Lighter.{handlers_more}
+use Rattle.std.proofs.Common.{sym, ◌∙◌, arith}
 use Rattle.std.proofs.lemmas.Result.{err_from_is_err_and}
 use Rattle.source_meaning.specs.Programs.{program_of}
 use Rattle.program_typing.specs.Agreeing.{known}
@@ -27,3 +28,9 @@ returns-in_err-trap-clause-sound c =
     rw p.1 (record {
       by = λ allow s. p.2 ∙ c.in_err-trap.ensures.total (class_of_catch (program_of c.args.program.now) (items_of c.args.worklist.now) c.args.config.now c.args.exits (known allow (program_of c.args.program.now)) s.result c.args.catches.now c.args.at c.in-Some.one.now c.args.from c.args.to c.args.label (sym c.in-Some.ensures.value) s.agree);
     })
+
+pub returns-clause-falls : goal.returns-clause-falls
+returns-clause-falls c = rw c.in_ok-push_three-2.ensures (rw c.in_ok-push_three.ensures (rw c.get-2.ensures (omega (arith, handlers_more c.args.at c.args.catches.now c.in-Some.one.now (sym c.in-Some.ensures.value)))))
+
+pub returns-in_default-clause-falls : goal.returns-in_default-clause-falls
+returns-in_default-clause-falls c = rw c.in_ok-push.ensures (omega arith)

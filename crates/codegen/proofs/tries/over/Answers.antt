@@ -1,4 +1,4 @@
-use Rattle.std.proofs.Common.{sym}
+use Rattle.std.proofs.Common.{sym, arith}
 use Rattle.codegen.specs.Worklist.{items_of}
 use Rattle.codegen.proofs.Handled.{over_more, over_none, over_more_keeps, over_none_keeps}
 use Rattle.codegen.proofs.tries.over.Goals as goal
@@ -14,3 +14,6 @@ returns-clause-sound c = rw c.in_ok-push.ensures (over_more_keeps _ (items_of c.
 
 pub returns-in_default-clause-sound : goal.returns-in_default-clause-sound
 returns-in_default-clause-sound c = over_none_keeps _ (items_of c.args.worklist.now) c.args.config.now c.args.catches.now c.args.at _ (sym c.in_default.ensures.value)
+
+pub returns-clause-falls : goal.returns-clause-falls
+returns-clause-falls c = rw c.in_ok-push.ensures (omega arith)

@@ -1,4 +1,5 @@
-use Rattle.std.proofs.Common.{Some, sym, ap, ◌∙◌}
+use Rattle.codegen.proofs.Lighter.{parts_end, parts_more}
+use Rattle.std.proofs.Common.{Some, sym, ap, ◌∙◌, arith}
 use Rattle.codegen.specs.Worklist.{items_of}
 use Rattle.codegen.proofs.Parts.{values_go, values_stop, keeps_part, keeps_no_part, keeps_unfit, keeps_unended}
 use Rattle.codegen.proofs.values.values.Goals as goal
@@ -22,3 +23,9 @@ returns-in_err-fits-clause-sound c = keeps_unfit _ _ c.args.config.now c.args.pa
 
 pub returns-in_err-last-clause-sound : goal.returns-in_err-last-clause-sound
 returns-in_err-last-clause-sound c = keeps_unended _ _ c.args.config.now c.args.parts.now c.args.at c.args.kind _ _ _ (sym c.in_default.ensures.value) c.in_err-last.ensures
+
+pub returns-clause-falls : goal.returns-clause-falls
+returns-clause-falls c = rw c.in_ok-push_two.ensures (omega (arith, parts_more c.args.at c.args.parts.now c.get-part.result.now (sym c.in-Some.ensures.value ∙ ap (λ x. Some x) (sym c.get-part.ensures))))
+
+pub returns-in_default-clause-falls : goal.returns-in_default-clause-falls
+returns-in_default-clause-falls c = omega (arith, parts_end c.args.at c.args.parts.now (sym c.in_default.ensures.value))
