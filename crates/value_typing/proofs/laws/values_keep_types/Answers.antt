@@ -1,0 +1,21 @@
+use Rattle.value_typing.proofs.Typing.{types_stay, all_types_stay, classes_widen, null_is_typed}
+use Rattle.value_typing.proofs.Casts.{casts_give_types, texts_give_types}
+use Rattle.value_typing.proofs.laws.values_keep_types.Goals as goal
+
+pub returns-clause-stay : goal.returns-clause-stay
+returns-clause-stay c = types_stay
+
+pub returns-clause-all_stay : goal.returns-clause-all_stay
+returns-clause-all_stay c = all_types_stay
+
+pub returns-clause-widen : goal.returns-clause-widen
+returns-clause-widen c = classes_widen
+
+pub returns-clause-null : goal.returns-clause-null
+returns-clause-null c = null_is_typed
+
+pub returns-clause-casts : goal.returns-clause-casts
+returns-clause-casts c = casts_give_types
+
+pub returns-clause-texts : goal.returns-clause-texts
+returns-clause-texts c = texts_give_types
