@@ -3,7 +3,7 @@ use Rattle.std.proofs.Common.{◌≡◌, ℕ, ◌+◌, ◌≤◌, ◌&&◌, Bool
 use Rattle.std.proofs.lemmas.List.{drop_all}
 use Rattle.std.proofs.lemmas.Slice.Eq.{bytes_eq-Decides}
 use Rattle.std.specs.Map.{lookup}
-use Rattle.std.specs.BTreeMap.{is_at, insert_entry}
+use Rattle.std.specs.BTreeMap.{is_at}
 use Rattle.pl_units.specs.Utf16.{bytes}
 use Rattle.object_values.specs.declared.value.Value.{Value}
 use Rattle.object_values.specs.declared.value.Value.TheVariants as v
@@ -11,8 +11,7 @@ use Rattle.serde_json.specs.Data.{Data, Members, put}
 use Rattle.serde_json.specs.Find.{get_member}
 use Rattle.serde_json.specs.View.{view, members_view}
 use Rattle.serde_json.specs.declared.value.Value.{Value as Json}
-use Rattle.serde_json.specs.declared.value.Value.TheVariants as j
-use Rattle.serde_json.proofs.Views.{view-lookup, members_view-insert_entry, get_member-put, get_member-put_other}
+use Rattle.serde_json.proofs.Views.{view-lookup, get_member-put, get_member-put_other}
 use Rattle.json_bridge.specs.Giving.{name_of, is_among, is_new_name, are_new_names, HasNames}
 use Rattle.json_bridge.proofs.Stepping.{got}
 
@@ -26,13 +25,11 @@ at_name true ms names k name d e h = let same : name ≡ k = (bytes_eq-Decides n
 at_name false ms names k name d e h = ap is_some (get_member-put_other name k d ms (λ same. true≢false (sym ((bytes_eq-Decides name k).1 same) ∙ e))) ∙ h
 
 -- a name more
-pub names_with : (ms : Members) (names : List (List ℕ)) (k : List ℕ) (d : Data) → HasNames ms names → HasNames (put k d ms) (k ∷ names)
+names_with : (ms : Members) (names : List (List ℕ)) (k : List ℕ) (d : Data) → HasNames ms names → HasNames (put k d ms) (k ∷ names)
 names_with ms names k d h name = at_name (bytes_eq name k) ms names k name d refl (h name)
 
--- the members to which one of a name has come
-pub inserted : (es : List (String Global × Json)) (names : List (List ℕ)) (name : String Global) (text : List ℕ) → string_bytes name ≡ bytes text
-    → HasNames (members_view es) names → HasNames (members_view (insert_entry string_cmp es name j.Null)) (bytes text ∷ names)
-inserted es names name text e h = rw (members_view-insert_entry es name j.Null, e) (names_with (members_view es) names (bytes text) (view j.Null) h)
+pub names_put : (ms new : Members) (names : List (List ℕ)) (k : List ℕ) (d : Data) → new ≡ put k d ms → HasNames ms names → HasNames new (k ∷ names)
+names_put ms new names k d e h = rw e (names_with ms names k d h)
 
 -- a name is new where no member had it
 pub fresh : (es : List (String Global × Json)) (names : List (List ℕ)) (name : String Global) (text : List ℕ) (old : Option Json) (result : Bool)
@@ -52,3 +49,13 @@ key_step names pairs at pair h = ap (are_new_names names) (got pairs at pair h)
 
 pub no_more : (names : List (List ℕ)) (pairs : List (Value × Value)) (at : ℕ) → length pairs ≤ at → are_new_names names (drop at pairs) ≡ true
 no_more names pairs at h = ap (are_new_names names) (drop_all at pairs h)
+
+-- a key that is no name, behind some that are
+pub key_fails : (names : List (List ℕ)) (pairs : List (Value × Value)) (at : ℕ) (pair : Value × Value) → slice_get pairs at ≡ Some pair
+    → is_new_name names pair.0 ≡ false → are_new_names names (drop at pairs) ≡ false
+key_fails names pairs at pair h e = key_step names pairs at pair h ∙ ap (λ b. b && are_new_names (name_of pair.0 ∷ names) (drop (at + 1) pairs)) e
+
+-- a key that is one
+pub key_holds : (names : List (List ℕ)) (pairs : List (Value × Value)) (at : ℕ) (pair : Value × Value) → slice_get pairs at ≡ Some pair
+    → is_new_name names pair.0 ≡ true → are_new_names names (drop at pairs) ≡ are_new_names (name_of pair.0 ∷ names) (drop (at + 1) pairs)
+key_holds names pairs at pair h e = key_step names pairs at pair h ∙ ap (λ b. b && are_new_names (name_of pair.0 ∷ names) (drop (at + 1) pairs)) e

@@ -1,17 +1,18 @@
 //! The JSON form of a value of a script, and of what it holds.
 
-ghost use Rattle.std.specs.Prelude.{◌≡◌, ◌++◌, List, [], ◌∷◌, Ok, map, IfErr, IfOk, OnOk};
+ghost use Rattle.std.specs.Prelude.{◌≡◌, ◌++◌, ℕ, List, [], ◌∷◌, Ok, map, true, false, IfErr, IfNone, IfOk, IfSome, OnOk};
 ghost use Rattle.std.specs.Option.{option_copied};
 ghost use Rattle.pl_units.specs.Utf16.{bytes};
-ghost use Rattle.serde_json.specs.Data.{array, no_members, put, string};
+ghost use Rattle.serde_json.specs.Data.{Data, array, no_members, string};
 ghost use Rattle.serde_json.specs.View.{view, items_view, members_view};
 ghost use Rattle.object_heap.specs.Parts.{pairs_in};
 ghost use Rattle.object_values.specs.declared.object.Object.{Object};
+ghost use Rattle.object_values.specs.declared.value.Value.{Value};
 ghost use Rattle.json_bridge.specs.Giving as spec;
-ghost use Rattle.json_bridge.specs.Giving.{AValue, AnEntry, Makes, TellsEnd, TellsFault, given_of, node_at};
+ghost use Rattle.json_bridge.specs.Giving.{AValue, AnEntry, Makes, TellsEnd, TellsFault, Walk, given_of, node_at};
 
 use crate::error::GiveErr;
-use crate::names::{are_names, name_of, pair_at};
+use crate::names::{are_names, pair_at, put};
 use object_heap::Heap;
 use object_values::{Object, Pairs, Part, Value};
 use pl_units::UText;
@@ -31,7 +32,7 @@ const NODES: u64 = 1_000_000;
 /// The values are met from the front, each before what it holds, and the first that has a fault decides. At one value `Depth` (it
 /// stands deeper than 100) comes before `Size` (1,000,000 values were met before), and this before `Kind` (it is an entry, an
 /// iterator, a builder, a function value or an exception) and `Key` (it is a map, and a key is no text, or two keys have one UTF-8
-/// form): all keys of a map are tried before its first value. Keys are not counted.
+/// form): all keys of a map come before its first value. Keys are not counted.
 #[tactic(auto, unfolding(crate::specs::Giving::given_of))]
 pub fn give(heap: &Heap, value: &Value) -> Result<Json, GiveErr>
     ensures value { IfOk result (λ json. given_of heap.now.objects value.now ≡ Ok (view json)) }
@@ -233,52 +234,51 @@ fn pair_shown(
     }
 }
 
-/// The object of a map, whose keys are all tried first.
+/// The object of a map. A fault of a key comes before one of a value, though it is met later.
 #[cycle(giving)]
 fn map_given(heap: &Heap, levels: u32, pairs: &Pairs, nodes: &mut u64) -> Result<Json, GiveErr>
     ensures value { IfOk result (λ json. spec.map_given (λ value. node_at levels heap.now.objects (AValue value)) pairs.now nodes.old ≡ Makes (view json) nodes.new) }
     ensures error { IfErr result (TellsEnd (spec.map_given (λ value. node_at levels heap.now.objects (AValue value)) pairs.now nodes.old)) }
 {
-    if !are_names(heap.alloc(), pairs)? {
-        return Err(GiveErr::Key);
+    match members_given(heap, levels, pairs, nodes) {
+        Ok(Some(members)) => Ok(Json::Object(members)),
+        Ok(None) => Err(GiveErr::Key),
+        Err(error) => Err(first_fault(heap.alloc(), pairs, error)),
     }
-    let members = members_given(heap, levels, pairs, nodes)?;
-    Ok(Json::Object(members))
 }
 
-/// The members of the object of a map.
+/// The first fault of a map, of which a value has one.
+fn first_fault(alloc: Global, pairs: &Pairs, of_value: GiveErr) -> GiveErr
+    ensures { (give : Value → ℕ → Walk Data) (nodes : ℕ) → TellsEnd (spec.members_given give no_members pairs.now nodes) of_value → TellsEnd (spec.map_given give pairs.now nodes) result }
+{
+    match are_names(alloc, pairs) {
+        Ok(true) => of_value,
+        Ok(false) => GiveErr::Key,
+        Err(_) => GiveErr::NoMemory,
+    }
+}
+
+/// The members of the object of a map, if each key is a name of its own.
 #[cycle(giving)]
 fn members_given(
     heap: &Heap,
     levels: u32,
     pairs: &Pairs,
     nodes: &mut u64,
-) -> Result<Map<String, Json>, GiveErr>
-    ensures value { IfOk result (λ members. spec.members_given (λ value. node_at levels heap.now.objects (AValue value)) no_members pairs.now nodes.old ≡ Makes (members_view members.entries) nodes.new) }
+) -> Result<Option<Map<String, Json>>, GiveErr>
+    ensures value { IfOk result (λ given. IfSome given (λ members. (spec.are_new_names [] pairs.now ≡ true) × (spec.members_given (λ value. node_at levels heap.now.objects (AValue value)) no_members pairs.now nodes.old ≡ Makes (members_view members.entries) nodes.new))) }
+    ensures key { IfOk result (λ given. IfNone given (spec.are_new_names [] pairs.now ≡ false)) }
     ensures error { IfErr result (TellsEnd (spec.members_given (λ value. node_at levels heap.now.objects (AValue value)) no_members pairs.now nodes.old)) }
 {
     let mut members = Map::new(heap.alloc());
     for at in 0..pairs.len() {
         let Some((key, value)) = pair_at(pairs, at) else {
-            return Ok(members);
+            return Ok(Some(members));
         };
         let json = value_at(heap, levels, value, nodes)?;
-        put(heap.alloc(), &mut members, key, json)?;
+        if !put(&mut members, key, json)? {
+            return Ok(None);
+        }
     }
-    Ok(members)
-}
-
-/// Puts a member under the name of a key.
-fn put(
-    alloc: Global,
-    members: &mut Map<String, Json>,
-    key: &Value,
-    json: Json,
-) -> Result<(), AllocError>
-    ensures { OnOk result (members_view members.new.entries ≡ put (spec.name_of key.now) (view json) (members_view members.old.entries)) }
-{
-    let name = name_of(alloc, key)?;
-    let before = members.insert(name, json)?;
-    drop(before);
-    Ok(())
+    Ok(Some(members))
 }

@@ -1,7 +1,8 @@
 //! Keys of maps as names of members.
 
-ghost use Rattle.std.specs.Prelude.{◌≡◌, ◌≤◌, ℕ, List, [], ◌∷◌, Some, true, IfNone, IfOk, IfSome, length, slice_get, string_bytes};
-ghost use Rattle.serde_json.specs.View.{members_view};
+ghost use Rattle.std.specs.Prelude.{◌≡◌, ◌≤◌, ℕ, List, [], Some, true, IfNone, IfOk, IfSome, length, slice_get};
+ghost use Rattle.serde_json.specs.Data.{put as with_member};
+ghost use Rattle.serde_json.specs.View.{view, members_view};
 ghost use Rattle.json_bridge.specs.Giving as spec;
 ghost use Rattle.json_bridge.specs.Giving.{HasNames};
 
@@ -20,16 +21,6 @@ pub fn pair_at(pairs: &Pairs, at: usize) -> Option<(&Value, &Value)>
     }
 }
 
-/// The UTF-8 form of a key, with U+FFFD for an unpaired surrogate; of what is no text it is empty.
-pub fn name_of(alloc: Global, key: &Value) -> Result<String, AllocError>
-    ensures { IfOk result (λ name. string_bytes name ≡ spec.name_of key.now) }
-{
-    match key {
-        Value::Str(text) => text.to_utf8(),
-        _ => Ok(String::new(alloc)),
-    }
-}
-
 /// Whether each key is a text, and no two have one UTF-8 form.
 pub fn are_names(alloc: Global, pairs: &Pairs) -> Result<bool, AllocError>
     ensures { IfOk result (λ are. are ≡ spec.are_new_names [] pairs.now) }
@@ -39,23 +30,24 @@ pub fn are_names(alloc: Global, pairs: &Pairs) -> Result<bool, AllocError>
         let Some((key, _)) = pair_at(pairs, at) else {
             return Ok(true);
         };
-        if !is_new_name(&mut names, key)? {
+        if !put(&mut names, key, Json::Null)? {
             return Ok(false);
         }
     }
     Ok(true)
 }
 
-/// Whether a key is a text whose UTF-8 form is none of the names, to which it then comes.
-fn is_new_name(names: &mut Map<String, Json>, key: &Value) -> Result<bool, AllocError>
-    ensures value { IfOk result (λ is. (before : List (List ℕ)) → HasNames (members_view names.old.entries) before → is ≡ spec.is_new_name before key.now) }
-    ensures names { IfOk result (λ is. is ≡ true → (before : List (List ℕ)) → HasNames (members_view names.old.entries) before → HasNames (members_view names.new.entries) (spec.name_of key.now ∷ before)) }
+/// Puts a member under the UTF-8 form of a key, with U+FFFD for an unpaired surrogate, and tells whether the key is a text and no
+/// member had that name.
+pub fn put(members: &mut Map<String, Json>, key: &Value, json: Json) -> Result<bool, AllocError>
+    ensures new { IfOk result (λ is. (before : List (List ℕ)) → HasNames (members_view members.old.entries) before → is ≡ spec.is_new_name before key.now) }
+    ensures members { IfOk result (λ is. is ≡ true → (members_view members.new.entries ≡ with_member (spec.name_of key.now) (view json) (members_view members.old.entries))) }
 {
     let Value::Str(text) = key else {
         return Ok(false);
     };
     let name = text.to_utf8()?;
-    let before = names.insert(name, Json::Null)?;
+    let before = members.insert(name, json)?;
     let is_new = before.is_none();
     drop(before);
     Ok(is_new)

@@ -1,5 +1,5 @@
 -- The reply to a run over a document.
-use Rattle.std.specs.Prelude.{ℤ, pos, int_lt, Bool, true, false, List, codes, if◌then◌else◌}
+use Rattle.std.specs.Prelude.{pos, int_lt, Bool, false, List, codes, if◌then◌else◌}
 use Rattle.serde_json.specs.Data.{Data}
 use Rattle.object_values.specs.declared.value.Value.{Value}
 use Rattle.object_values.specs.declared.value.Value.TheVariants as v

@@ -1,4 +1,5 @@
 mod FieldLemmas
 mod Fitting
+mod Reading
 mod Sorting
 mod Taking

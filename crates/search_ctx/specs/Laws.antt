@@ -1,10 +1,14 @@
 -- What placing and binding keep: where the heap fits a program or a code, it fits it afterwards, and so do the values. And fields
 -- with names of their own, as those of a mapping that is read, stand as they are given.
-use Rattle.std.specs.Prelude.{◌≡◌, ℕ, List, [], length, Result, Ok, Err}
+use Rattle.std.specs.Prelude.{◌≡◌, ℕ, List, [], length, Some, Result, Ok, Err}
 use Rattle.serde_json.specs.Data.{Data}
+use Rattle.serde_json.specs.Read.{read}
 use Rattle.object_values.specs.declared.object.Object.{Object}
 use Rattle.object_heap.specs.Fits.{Rules, ValueFits, AllFit, Fits}
 use Rattle.job_file.specs.declared.mapping.FieldKind.{FieldKind}
+use Rattle.job_file.specs.declared.context.JobCommand.{JobCommand}
+use Rattle.job_file.specs.Jobs.{JobData, job_of_read, object_of}
+use Rattle.job_file.specs.Mappings.{fields_of, members_of}
 use Rattle.search_ctx.specs.declared.values.FieldValues.{FieldValues}
 use Rattle.search_ctx.specs.declared.line.SearchKind.{SearchKind}
 use Rattle.search_ctx.specs.Fields.{HasDistinctNames, with_fields}
@@ -26,3 +30,11 @@ LinesFit = (rules : Rules) (kind : SearchKind) (fields : List (List ℕ × Field
 
 abbrev pub FieldsStay : Type 0
 FieldsStay = (fields : List (List ℕ × FieldKind)) → HasDistinctNames fields → with_fields [] fields ≡ fields
+
+-- in a mapping that is read no name stands twice
+abbrev pub ReadFieldsAreDistinct : Type 0
+ReadFieldsAreDistinct = (text : List ℕ) (d : Data) → read text ≡ Some d → HasDistinctNames (fields_of (members_of d))
+
+-- the same of the mapping of a job that is read
+abbrev pub JobFieldsAreDistinct : Type 0
+JobFieldsAreDistinct = (command : JobCommand) (text : List ℕ) (job : JobData) → job_of_read command (object_of (read text)) ≡ Ok job → HasDistinctNames job.mapping

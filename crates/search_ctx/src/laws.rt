@@ -1,6 +1,6 @@
 //! Laws on what placing and binding keep, and on the fields of a mapping.
 
-ghost use Rattle.search_ctx.specs.Laws.{FieldsStay, LinesFit, PlacingFits};
+ghost use Rattle.search_ctx.specs.Laws.{FieldsStay, JobFieldsAreDistinct, LinesFit, PlacingFits, ReadFieldsAreDistinct};
 
 use json_bridge::binding_keeps_fit;
 
@@ -20,4 +20,14 @@ pub fn lines_fit()
 /// A law that callers may cite: where no name stands twice in a mapping, its fields are the mapping's.
 pub fn fields_stay()
     ensures { FieldsStay }
+{}
+
+/// A law that callers may cite: in a mapping that is read as JSON no name stands twice, so its fields are the mapping's.
+pub fn read_fields_are_distinct()
+    ensures { ReadFieldsAreDistinct }
+{}
+
+/// A law that callers may cite: nor does one in the mapping of a job that is read.
+pub fn job_fields_are_distinct()
+    ensures { JobFieldsAreDistinct }
 {}

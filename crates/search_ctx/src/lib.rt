@@ -14,7 +14,9 @@ mod words;
 pub use doc::FieldDoc;
 pub use error::{BindErr, DocErr};
 pub use fields::Fields;
-pub use laws::{fields_stay, lines_fit, placing_keeps_fit};
+pub use laws::{
+    fields_stay, job_fields_are_distinct, lines_fit, placing_keeps_fit, read_fields_are_distinct,
+};
 pub use line::{Bound, SearchKind, bind_line};
 pub use placing::place_doc;
 pub use values::FieldValues;

@@ -1,9 +1,9 @@
 -- What all items and members come to is what those that are left come to from here, behind those that are made.
-use Rattle.std.proofs.Common.{◌≡◌, ◌+◌, ◌*◌, [], drop, map}
+use Rattle.std.proofs.Common.{◌≡◌, ◌+◌, ◌*◌, ℕ, List, [], drop, map}
 use Rattle.serde_json.specs.Data.{no_members}
 use Rattle.serde_json.specs.View.{view, members_view}
 use Rattle.json_bridge.specs.Giving as spec
-use Rattle.json_bridge.specs.Giving.{AValue, node_at}
+use Rattle.json_bridge.specs.Giving.{AValue, HasNames, node_at}
 use Rattle.json_bridge.proofs.giving.+giving.Given as goal
 
 abbrev pub decreases-value_at : goal.decreases-value_at
@@ -48,5 +48,6 @@ invariant-all_shown-loop-at l =
 
 abbrev pub invariant-members_given-loop-at : goal.invariant-members_given-loop-at
 invariant-members_given-loop-at l =
-    spec.members_given (λ value. node_at l.levels l.heap.objects (AValue value)) no_members l.pairs l.fn.nodes
-    ≡ spec.members_given (λ value. node_at l.levels l.heap.objects (AValue value)) (members_view l.members.entries) (drop l.at l.pairs) l.nodes
+    (names : List (List ℕ)) × HasNames (members_view l.members.entries) names × (spec.are_new_names [] l.pairs ≡ spec.are_new_names names (drop l.at l.pairs))
+    × (spec.members_given (λ value. node_at l.levels l.heap.objects (AValue value)) no_members l.pairs l.fn.nodes
+    ≡ spec.members_given (λ value. node_at l.levels l.heap.objects (AValue value)) (members_view l.members.entries) (drop l.at l.pairs) l.nodes)
