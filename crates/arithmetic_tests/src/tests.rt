@@ -1,4 +1,5 @@
-// Values of the Java Language Specification's rules, worked out by hand.
+//! Values of the Java Language Specification's rules, worked out by hand.
+
 use arithmetic::{Num, Op, arith};
 use std::test::Fail as TestFail;
 

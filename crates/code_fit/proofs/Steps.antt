@@ -1,6 +1,6 @@
 -- Each instruction keeps a run within its rules.
 use Rattle.std.proofs.Common.{◌≡◌, ℕ, ℤ, zero, suc, Bool, true, false, List, [], ◌∷◌, Option, Some, None, sym, subst}
-use Rattle.std.specs.Prelude.{slice_get, map, length, pos, negsuc, if◌then◌else◌}
+use Rattle.std.specs.Prelude.{slice_get, map, length, if◌then◌else◌}
 use Rattle.pl_types.specs.declared.ty.Ty.{Ty}
 use Rattle.pl_types.specs.declared.ty.Ty.TheVariants as ty
 use Rattle.pl_types.specs.Texts.{type_of_full}
@@ -38,16 +38,18 @@ use Rattle.run_state.specs.World.{World, Limits, Outcome, Given, Raised, Full, a
 use Rattle.run_fit.specs.Laws.{DoneFits}
 use Rattle.run_fit.specs.Worlds.{WorldFits, count_in, OutcomeFits}
 use Rattle.run_fit.proofs.Counted.{SameStore, turn_keeps, call_keeps, member_keeps}
+use Rattle.run_fit.proofs.Values.{MadeFits}
 use Rattle.run_fit.proofs.Effects.{beginnings_fit, outcomes_fit, casts_fit, concatenation_fits, equality_fits, members_fit, throwing_fits}
 use Rattle.code_meaning.specs.declared.word.Word.{Word}
 use Rattle.code_meaning.specs.declared.word.Word.TheVariants.{I, J, R}
 use Rattle.code_meaning.specs.Members.{Receiving, Unfit, OnNull, Receives, Reads, count_of, given_as, received}
 use Rattle.code_meaning.specs.Words.{Calculation, NoRow, Calculates, boxed, calculation, unboxed, word_of, start_of, takes_one, is_shift, one_int, two_ints, one_long, two_longs, long_and_int, op_of}
 use Rattle.arithmetic.specs.declared.operator.Op.{Op}
-use Rattle.code_meaning.specs.Machine.{Codes, code_in, function_of, Frame, Next, Goes, Ends, Stuck, Handlers, is_instance, lands, traps_of, unwind, on_top, on_int, on_long, on_reference, on_type, on_value, on_local, on_stack, on_words, on_loops, unless_zero, if_null, to_line, take_words, copied, pushed, depth_of, is_written, on_outcome, on_thrown, on_calculation, gives_back, returns, returns_of, on_turn, on_enter, on_call, on_act, on_paid, on_received, plain_act, numbered_act, quoted_act, typed_act, member_act, act, acts, lines_of, step, start_at, after}
+use Rattle.code_meaning.specs.Machine.{Codes, code_in, function_of, Frame, Next, Goes, Ends, Stuck, Handlers, is_instance, lands, traps_of, unwind, on_top, on_int, on_reference, on_value, on_local, on_stack, on_words, to_line, take_words, copied, pushed, depth_of, is_written, on_outcome, on_thrown, on_calculation, gives_back, returns, returns_of, on_turn, on_enter, on_call, on_act, on_paid, on_received, plain_act, numbered_act, quoted_act, typed_act, member_act, act, acts, lines_of, step, start_at, after}
 use Rattle.code_fit.specs.Laws.{StartsFit, StepsFit, RunsFit}
 use Rattle.code_fit.specs.Moments.{WordFits, WordsFit, FramesFit, ResultFits, NextFits}
-use Rattle.code_fit.proofs.Words.{frames_grow, words_grow, words_join, starts_fit, words_set, FoundFits, word_at, CopiedFit, pop_fits, dup_fits, dup2_fits, dupx1_fits, dupx2_fits, TakenFit, take_fits, unboxed_fits, number_fits, given_fits, MadeFits, boxed_fits, ReceivingFits, received_fits}
+use Rattle.code_fit.proofs.Nexts.{int_holds, long_holds, type_holds, loops_hold, either_holds, null_holds}
+use Rattle.code_fit.proofs.Words.{frames_grow, words_grow, words_join, starts_fit, words_set, FoundFits, word_at, CopiedFit, pop_fits, dup_fits, dup2_fits, dupx1_fits, dupx2_fits, TakenFit, take_fits, unboxed_fits, number_fits, given_fits, boxed_fits, ReceivingFits, received_fits}
 
 -- ---- the operands of a calculation
 
@@ -131,24 +133,10 @@ module _ (rules : Rules) (before : List Object) where
   top_fits n [] next f k = tt
   top_fits n (word ∷ stack) next f k = k word stack f.0 f.1
 
-  int_fits : (word : Word) (next : ℤ → Next) → ((a : ℤ) → N (next a)) → N (on_int word next)
-  int_fits (I a) next k = k a
-  int_fits (J a) next k = tt
-  int_fits (R value) next k = tt
-
-  long_fits : (word : Word) (next : ℤ → Next) → ((a : ℤ) → N (next a)) → N (on_long word next)
-  long_fits (I a) next k = tt
-  long_fits (J a) next k = k a
-  long_fits (R value) next k = tt
-
   reference_fits : (n : ℕ) (word : Word) (next : Value → Next) → WordFits n word → ((value : Value) → ValueFits n value → N (next value)) → N (on_reference word next)
   reference_fits n (I a) next f k = tt
   reference_fits n (J a) next f k = tt
   reference_fits n (R value) next f k = k value f
-
-  type_fits : (o : Option Ty) (next : Ty → Next) → ((of : Ty) → N (next of)) → N (on_type o next)
-  type_fits None next k = tt
-  type_fits (Some of) next k = k of
 
   value_fits : (n : ℕ) (o : Option Value) (next : Value → Next) → MadeFits n o → ((value : Value) → ValueFits n value → N (next value)) → N (on_value o next)
   value_fits n None next f k = tt
@@ -167,27 +155,7 @@ module _ (rules : Rules) (before : List Object) where
   words_fit n None next f k = tt
   words_fit n (Some p) next f k = k p.0 p.1 f.0 f.1
 
-  either_fits : (a : ℤ) (first second : Next) → N first → N second → N (unless_zero a first second)
-  either_fits (pos zero) first second x y = y
-  either_fits (pos (suc a)) first second x y = x
-  either_fits (negsuc a) first second x y = x
-
-  null_fits : (value : Value) (first second : Next) → N first → N second → N (if_null value first second)
-  null_fits v.Null first second x y = x
-  null_fits (v.Bool a) first second x y = y
-  null_fits (v.Byte a) first second x y = y
-  null_fits (v.Short a) first second x y = y
-  null_fits (v.Char a) first second x y = y
-  null_fits (v.Int a) first second x y = y
-  null_fits (v.Long a) first second x y = y
-  null_fits (v.Str a) first second x y = y
-  null_fits (v.Ref a) first second x y = y
-
   module _ (codes : Codes) (limits : Limits) where
-    loops_fit : (o : Option FunCode) (next : Bool → Next) → ((limited : Bool) → N (next limited)) → N (on_loops codes limits o next)
-    loops_fit None next k = tt
-    loops_fit (Some g) next k = k g.loops
-
     -- ---- what is thrown
 
     lands_fit : (hs : Handlers) (f : Frame) (fs : List Frame) (id : ℕ) (w : World) (further : Next) → Here w (f ∷ fs) → ThrownFits w.store.objects id → N further
@@ -306,7 +274,7 @@ module _ (rules : Rules) (before : List Object) where
           top_fits count rest _ s (λ lower stack g' s'. reference_fits count lower _ g' (λ a y. k a b stack s'))))
 
       on_number : (next : ℤ → List Word → Next) → ((a : ℤ) (stack : List Word) → WordsFit count stack → N (next a stack)) → N (on_top f.stack (λ word stack. on_int word (λ a. next a stack)))
-      on_number next k = top_fits count f.stack _ here.1.0.1 (λ word stack g s. int_fits word _ (λ a. k a stack s))
+      on_number next k = top_fits count f.stack _ here.1.0.1 (λ word stack g s. int_holds N tt word _ (λ a. k a stack s))
 
       to : (line : ℕ) (stack : List Word) → WordsFit count stack → N (to_line f below w line stack)
       to line stack s = line_fits f below w line stack here s
@@ -322,7 +290,7 @@ module _ (rules : Rules) (before : List Object) where
       plain_fits plain.DupX1 = copies_fit (copied plain.DupX1 f.stack) (dupx1_fits count f.stack here.1.0.1)
       plain_fits plain.DupX2 = copies_fit (copied plain.DupX2 f.stack) (dupx2_fits count f.stack here.1.0.1)
       plain_fits plain.IntToLong = on_number _ (λ a stack s. to _ _ (tt, s))
-      plain_fits plain.LongToInt = top_fits count f.stack _ here.1.0.1 (λ word stack g s. long_fits word _ (λ a. to _ _ (tt, s)))
+      plain_fits plain.LongToInt = top_fits count f.stack _ here.1.0.1 (λ word stack g s. long_holds N tt word _ (λ a. to _ _ (tt, s)))
       plain_fits plain.IntToByte = on_number _ (λ a stack s. to _ _ (tt, s))
       plain_fits plain.IntToShort = on_number _ (λ a stack s. to _ _ (tt, s))
       plain_fits plain.IntToChar = on_number _ (λ a stack s. to _ _ (tt, s))
@@ -345,12 +313,12 @@ module _ (rules : Rules) (before : List Object) where
       numbered_fits numbered.Store k =
           top_fits count f.stack _ here.1.0.1 (λ word stack g s. record { world = here.0; frames = ((words_set count f.locals k word here.1.0.0 g, s), here.1.1) })
       numbered_fits numbered.Goto k = to k f.stack here.1.0.1
-      numbered_fits numbered.IfZero k = on_number _ (λ a stack s. either_fits a _ _ (to _ _ s) (to _ _ s))
-      numbered_fits numbered.IfNotZero k = on_number _ (λ a stack s. either_fits a _ _ (to _ _ s) (to _ _ s))
-      numbered_fits numbered.IfNull k = on_one _ (λ value stack x s. null_fits value _ _ (to _ _ s) (to _ _ s))
+      numbered_fits numbered.IfZero k = on_number _ (λ a stack s. either_holds N a _ _ (to _ _ s) (to _ _ s))
+      numbered_fits numbered.IfNotZero k = on_number _ (λ a stack s. either_holds N a _ _ (to _ _ s) (to _ _ s))
+      numbered_fits numbered.IfNull k = on_one _ (λ value stack x s. null_holds N value _ _ (to _ _ s) (to _ _ s))
       numbered_fits numbered.Loop k =
-          loops_fit (function_of codes f) _ (λ limited. on_number _ (λ a stack s.
-          either_fits a _ _ (turn_fits (take_turn limits limited f.turns w) k stack s (turn_keeps limits limited f.turns w)) (to _ _ s)))
+          loops_hold N tt codes limits (function_of codes f) _ (λ limited. on_number _ (λ a stack s.
+          either_holds N a _ _ (turn_fits (take_turn limits limited f.turns w) k stack s (turn_keeps limits limited f.turns w)) (to _ _ s)))
       numbered_fits numbered.Call k = call_fits (slice_get (code_in codes f.text) k) k
       numbered_fits numbered.List k = tt
       numbered_fits numbered.Map k = tt
@@ -379,9 +347,9 @@ module _ (rules : Rules) (before : List Object) where
       act_fits_here (i.Dynamic o) = tt
       act_fits_here (i.Quoted q text) = quoted_fits q text
       act_fits_here (i.Cast of way) =
-          type_fits (type_of_full of) _ (λ to. on_one _ (λ value stack x s.
+          type_holds N tt (type_of_full of) _ (λ to. on_one _ (λ value stack x s.
           outcome_fits (acts_in w (effect w.store (cast_at_run_time w.store.objects value to (is_written way)))) R (λ n value x. x) f below w stack here s (casts_fit rules before w value to (is_written way) here.0 x)))
-      act_fits_here (i.Typed t of) = type_fits (type_of_full of) _ (λ of. typed_fits t of)
+      act_fits_here (i.Typed t of) = type_holds N tt (type_of_full of) _ (λ of. typed_fits t of)
       act_fits_here (i.Sized t of n) = tt
       act_fits_here (i.DefCall word n) = tt
       act_fits_here (i.Invoke method) = member_fits (method_of (allowed_in limits f.text) method)

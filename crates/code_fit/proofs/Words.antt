@@ -2,7 +2,6 @@
 use Rattle.std.proofs.Common.{ℕ, zero, suc, ℤ, ◌≤◌, List, [], ◌∷◌, ◌++◌, Option, Some, None}
 use Rattle.std.specs.Prelude.{map, slice_get, slice_set}
 use Rattle.pl_types.specs.declared.primitive.Primitive.{Primitive}
-use Rattle.pl_types.specs.declared.primitive.Primitive.TheVariants as prim
 use Rattle.pl_types.specs.declared.ty.Ty.{Ty, out-Ty}
 use Rattle.pl_types.specs.declared.ty.Ty.TheOpen.{Ty-F}
 use Rattle.allowlist.specs.declared.member.MemberKind.{MemberKind}
@@ -21,7 +20,7 @@ use Rattle.code_meaning.specs.declared.word.Word.TheVariants.{I, J, R}
 use Rattle.code_meaning.specs.Machine.{Frame, take_words, copied}
 use Rattle.code_meaning.specs.Members.{Receiving, Unfit, OnNull, Receives, Reads, reference_in, taken_layer, taken_all, before, receives, receives_on, received_by, received, given_layer, given_as}
 use Rattle.code_meaning.specs.Words.{start_of, word_of, boxed, boxed_int, boxed_long, unboxed, plain_value}
-use Rattle.run_fit.proofs.Values.{value_grows}
+use Rattle.run_fit.proofs.Values.{value_grows, MadeFits, AllMadeFit, by_primitive}
 use Rattle.code_fit.specs.Moments.{WordFits, WordsFit, FramesFit}
 
 -- ---- more objects
@@ -133,25 +132,11 @@ given_layer_fits n (Ty-F.Array elem) value f = f
 pub given_fits : (of : Ty) (n : ℕ) (value : Value) → ValueFits n value → WordFits n (given_as of value)
 given_fits of n value f = given_layer_fits n (out-Ty of) value f
 
-abbrev pub MadeFits : ℕ → Option Value → Type 0
-MadeFits n None = Unit {0}
-MadeFits n (Some value) = ValueFits n value
-
 int_boxed_fits : (n : ℕ) (p : Primitive) (a : ℤ) → MadeFits n (boxed_int p a)
-int_boxed_fits n prim.Boolean a = tt
-int_boxed_fits n prim.Byte a = tt
-int_boxed_fits n prim.Short a = tt
-int_boxed_fits n prim.Char a = tt
-int_boxed_fits n prim.Int a = tt
-int_boxed_fits n prim.Long a = tt
+int_boxed_fits n p a = by_primitive (λ p. MadeFits n (boxed_int p a)) tt tt tt tt tt tt p
 
 long_boxed_fits : (n : ℕ) (p : Primitive) (a : ℤ) → MadeFits n (boxed_long p a)
-long_boxed_fits n prim.Boolean a = tt
-long_boxed_fits n prim.Byte a = tt
-long_boxed_fits n prim.Short a = tt
-long_boxed_fits n prim.Char a = tt
-long_boxed_fits n prim.Int a = tt
-long_boxed_fits n prim.Long a = tt
+long_boxed_fits n p a = by_primitive (λ p. MadeFits n (boxed_long p a)) tt tt tt tt tt tt p
 
 pub boxed_fits : (n : ℕ) (p : Primitive) (word : Word) → MadeFits n (boxed p word)
 boxed_fits n p (I a) = int_boxed_fits n p a
@@ -177,10 +162,6 @@ taken_layer_fits n Ty-F.Def word f = reference_fits n word f
 taken_layer_fits n (Ty-F.Prim p) word f = boxed_fits n p word
 taken_layer_fits n (Ty-F.Class class) word f = reference_fits n word f
 taken_layer_fits n (Ty-F.Array elem) word f = reference_fits n word f
-
-abbrev AllMadeFit : ℕ → Option (List Value) → Type 0
-AllMadeFit n None = Unit {0}
-AllMadeFit n (Some values) = AllFit n values
 
 before_fits : (n : ℕ) (value : Option Value) (values : Option (List Value)) → MadeFits n value → AllMadeFit n values → AllMadeFit n (before value values)
 before_fits n None None f g = tt

@@ -9,35 +9,43 @@ use typed_tree::{
     StatementNode, Target, Typed, TypedFunction, TypedStatement, TypedVariable,
 };
 
+/// The type `int`.
 pub fn int() -> Ty {
     Ty::Prim(Primitive::Int)
 }
 
+/// The type `long`.
 pub fn long() -> Ty {
     Ty::Prim(Primitive::Long)
 }
 
+/// The type `boolean`.
 pub fn boolean() -> Ty {
     Ty::Prim(Primitive::Boolean)
 }
 
+/// A typed node, held as a tree.
 pub fn expression(alloc: Global, of: Ty, node: Node) -> Result<Subtree<Typed>, AllocError> {
     Typed::held(alloc, Typed { at: 0, of, node })
 }
 
+/// A constant.
 pub fn constant(alloc: Global, of: Ty, it: Constant) -> Result<Subtree<Typed>, AllocError> {
     expression(alloc, of, Node::Constant(it))
 }
 
+/// An int.
 pub fn number(alloc: Global, it: i32) -> Result<Subtree<Typed>, AllocError> {
     constant(alloc, int(), Constant::Int(it))
 }
 
+/// A variable that is read.
 pub fn local(alloc: Global, of: Ty, name: &str) -> Result<Subtree<Typed>, AllocError> {
     let name = Text::new(alloc, name)?;
     expression(alloc, of, Node::Local(name))
 }
 
+/// An operation on one part.
 pub fn one_part(
     alloc: Global,
     of: Ty,
@@ -49,6 +57,7 @@ pub fn one_part(
     expression(alloc, of, Node::Apply { operation, parts })
 }
 
+/// An operator of ints on two parts.
 pub fn binary(
     alloc: Global,
     of: Ty,
@@ -63,6 +72,7 @@ pub fn binary(
     expression(alloc, of, Node::Apply { operation, parts })
 }
 
+/// A cast between primitive types.
 pub fn cast(
     alloc: Global,
     from: Primitive,
@@ -73,6 +83,7 @@ pub fn cast(
     one_part(alloc, Ty::Prim(to), operation, part)
 }
 
+/// `left && right`.
 pub fn both(
     alloc: Global,
     left: Subtree<Typed>,
@@ -111,6 +122,7 @@ pub fn changed(
     expression(alloc, int(), node)
 }
 
+/// A statement, held as a tree.
 pub fn statement(
     alloc: Global,
     node: StatementNode,
@@ -135,11 +147,13 @@ pub fn variable(
     statement(alloc, StatementNode::Declare(variables))
 }
 
+/// A variable with its type.
 pub fn named(alloc: Global, name: &str, of: Ty) -> Result<Named, AllocError> {
     let name = Text::new(alloc, name)?;
     Ok(Named { name, of })
 }
 
+/// A function `f`.
 pub fn function(
     alloc: Global,
     kind: FunctionKind,

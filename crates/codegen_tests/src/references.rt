@@ -95,15 +95,18 @@ throw
 end
 ";
 
+/// The type `String`.
 pub fn string() -> Ty {
     Ty::Class(STRING)
 }
 
+/// A text.
 pub fn text(alloc: Global, it: &str) -> Result<Subtree<Typed>, AllocError> {
     let it = Text::new(alloc, it)?;
     expression(alloc, string(), Node::Text(it))
 }
 
+/// A cast to a type.
 pub fn cast_to(
     alloc: Global,
     to: Ty,
@@ -127,7 +130,7 @@ fn two_parts(
     expression(alloc, of, Node::Apply { operation, parts })
 }
 
-// A script of one parameter `x` and one statement.
+/// A script of one parameter `x` and one statement.
 pub fn script(
     alloc: Global,
     of: Ty,

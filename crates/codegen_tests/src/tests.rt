@@ -107,6 +107,7 @@ fn less(alloc: Global, name: &str, bound: i32) -> Result<Subtree<Typed>, AllocEr
     binary(alloc, boolean(), Op::Lt, left, right)
 }
 
+/// `return value;`
 pub fn returned(
     alloc: Global,
     value: Subtree<Typed>,
@@ -276,7 +277,7 @@ fn deep_statements(rt: HostRuntime) -> Result<(), Fail> {
     Ok(())
 }
 
-// Whether a program's code has this listing.
+/// Whether a program's code has this listing.
 pub fn has_listing(alloc: Global, program: &Program, text: &str) -> Result<bool, AllocError> {
     let catalogue = Catalogue::full(alloc)?;
     match generate(alloc, &catalogue, program) {

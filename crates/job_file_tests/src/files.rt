@@ -6,8 +6,10 @@ use std::alloc::Global;
 /// What reading a file answers: the name of the step that refuses it, or `ok`, and the key.
 pub type Answer = &'static str;
 
+/// The file is read.
 pub const OK: Answer = "ok";
 
+/// It is no JSON object.
 pub const SYNTAX: Answer = "syntax";
 
 const CONTEXT: Answer = "field context";

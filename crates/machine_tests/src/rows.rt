@@ -11,6 +11,7 @@ pub struct Row {
     pub left: &'static str,
 }
 
+/// The rows.
 pub const ROWS: [Row; 68] = [
     // int s = 0; for (int i = 0; i < 5; i++) { s += i } s
     Row {

@@ -1,3 +1,5 @@
+//! The listings of the rows, run turn by turn; and what a run keeps of the heap that it begins with.
+
 use crate::rows::{ROWS, Row};
 use allowlist::{Allow, Catalogue};
 use code_meaning::Word;

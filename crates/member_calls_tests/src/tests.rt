@@ -1,3 +1,5 @@
+//! Calls of members by their numbers in the catalogue.
+
 use member_calls::{call, is_built};
 use object_heap::{Answer, Heap};
 use object_values::Value;

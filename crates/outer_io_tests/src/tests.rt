@@ -1,3 +1,5 @@
+//! Reading and writing in pieces, with faults at each call.
+
 use outer_io::{
     FileErr, Files, Found, LONGEST, Line, LineReader, MemFiles, MemSink, MemSource, ReadErr, Sink,
     SinkErr, Source, StdFiles, StdSink, StdSource, SureFiles, SureSink, SureSource, give_all,

@@ -1,3 +1,5 @@
+//! What is known of a run when it is over.
+
 use crate::status::Status;
 
 /// What a run came to, beside what it wrote.

@@ -11,8 +11,10 @@ use pl_types::Primitive;
 use plain_data::Items;
 use std::alloc::{AllocError, Global};
 
+/// The two ways of a cast.
 pub const WAYS: [Way; 2] = [Way::Implicit, Way::Explicit];
 
+/// The primitive types that a listing names.
 pub const PRIMITIVES: [Primitive; 6] = [
     Primitive::Boolean,
     Primitive::Byte,
@@ -22,8 +24,10 @@ pub const PRIMITIVES: [Primitive; 6] = [
     Primitive::Long,
 ];
 
+/// Whether a function counts its turns against the limit: `loop`, and `free`.
 pub const LOOPS: [bool; 2] = [true, false];
 
+/// The kinds of words: an int, a long and a reference.
 pub const SLOTS: [Slot; 3] = [Slot::I, Slot::J, Slot::R];
 
 pub(crate) fn way_word(way: Way) -> &'static str

@@ -1,3 +1,5 @@
+//! Texts as UTF-16 units, and numbers as texts, against values of the Unicode standard and of the Java Language Specification.
+
 use pl_units::{UText, decimal, order_is_total, parse_int, parse_long, utf8_is_kept};
 use std::alloc::{AllocError, Global};
 use std::cmp::Ordering;

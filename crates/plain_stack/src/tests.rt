@@ -1,4 +1,4 @@
-// Each call once, on numbers.
+//! Each call once, on numbers.
 
 use crate::stack::Stack;
 

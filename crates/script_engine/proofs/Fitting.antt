@@ -12,16 +12,15 @@ use Rattle.object_heap.specs.Store.{Store}
 use Rattle.object_heap.specs.declared.outcome.End as left_end
 use Rattle.object_heap.specs.declared.outcome.End.TheVariants as l
 use Rattle.object_heap.specs.declared.outcome.Outcome.{Outcome}
-use Rattle.pl_code.specs.declared.code.FunCode.{FunCode}
 use Rattle.pl_code.specs.declared.kinds.Slot.{Slot}
 use Rattle.pl_code.specs.declared.kinds.Slot.TheVariants as slot
 use Rattle.member_calls.specs.Laws.{StillThere}
-use Rattle.run_state.specs.World.{World, Limits as run_limits, End, Result, Uncaught, Limited}
+use Rattle.run_state.specs.World.{World, Limits as run_limits, End, Result}
 use Rattle.run_fit.specs.Worlds.{EndFits, WorldFits, count_in}
 use Rattle.run_fit.proofs.Effects.{beginnings_fit}
 use Rattle.code_meaning.specs.declared.word.Word.{Word}
 use Rattle.code_meaning.specs.declared.word.Word.TheVariants.{I, J, R}
-use Rattle.code_meaning.specs.Words.{boxed, plain_value}
+use Rattle.code_meaning.specs.Words.{boxed}
 use Rattle.code_fit.specs.Moments.{WordFits, WordsFit, ResultFits}
 use Rattle.code_fit.proofs.Words.{MadeFits, unboxed_fits, boxed_fits, plain_fits}
 use Rattle.code_fit.proofs.Steps.{starts_fit_all}
@@ -41,7 +40,7 @@ use Rattle.machine.specs.Activations.{Activation}
 use Rattle.machine.specs.Fitting as machine
 use Rattle.machine.specs.Seen.{codes_alone}
 use Rattle.script_engine.specs.declared.compiling.Script.{Script}
-use Rattle.script_engine.specs.Ends.{alone, given, given_layer, end_of, end_with, end_in, RunsTo}
+use Rattle.script_engine.specs.Ends.{alone, given, given_layer, end_of, end_with, end_in}
 use Rattle.script_engine.specs.Fitting.{EndFits as LeftEndFits, LeavesFit}
 use Rattle.script_engine.specs.Laws.{ProgramsFit}
 use Rattle.script_engine.specs.Running.{word_in, words_in, params_of, value_by, value_of, end_left, LeftOf, world_at, begun}

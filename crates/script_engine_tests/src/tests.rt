@@ -1,3 +1,5 @@
+//! Scripts from their texts to their outcomes.
+
 mod catches;
 mod operands;
 mod operators;

@@ -36,7 +36,8 @@ use Rattle.source_meaning.specs.Members.{Sending, Unsent, OnNull, Sends, Reads, 
 use Rattle.source_meaning.specs.Meaning.{State, Env, Place, Out, Done, Thrown, Over, More, Flow, Normal, Broke, Continued, Returned, bind, leave, lookup, entry, found, effect, operated, choose, goes_next, goes_again, is_of_class, returned, back, Meaning, entered, called, acted, paid, member_called, member_applied, of_member, applied, logic, modified, expr_of, exprs_of, value_if, turned, done_turn, caught, handled, stmt_of, value_or, stmts_of, layer, meaning}
 use Rattle.source_fit.specs.Laws.{MeaningFits, MeaningsFit}
 use Rattle.source_fit.specs.Outs.{EnvFits, StateFits, FlowFits, OutFits}
-use Rattle.source_fit.proofs.Values.{env_grows, older_fits, MadeFits, lookup_fits, assigned_fits, EntryFits, entry_fits, constant_fits, default_fits, returned_fits, given_by_fits, SendingFits, sent_fits, OperatedFits, operates_fit, cast_fits}
+use Rattle.run_fit.proofs.Values.{MadeFits}
+use Rattle.source_fit.proofs.Values.{env_grows, older_fits, lookup_fits, assigned_fits, EntryFits, entry_fits, constant_fits, default_fits, returned_fits, given_by_fits, SendingFits, sent_fits, OperatedFits, operates_fit, cast_fits}
 
 abbrev Any : ℕ → Value → Type 0
 Any count value = Unit {0}

@@ -35,7 +35,7 @@ use Rattle.run_state.specs.World.{World, acts_in}
 use Rattle.run_fit.specs.Laws.{ToldFits}
 use Rattle.run_fit.specs.Worlds.{WorldFits, count_in, OutcomeFits}
 use Rattle.run_fit.proofs.Effects.{outcomes_fit, casts_fit, concatenation_fits, equality_fits, equal_fits}
-use Rattle.run_fit.proofs.Values.{value_grows}
+use Rattle.run_fit.proofs.Values.{value_grows, MadeFits, AllMadeFit, by_primitive}
 use Rattle.source_meaning.specs.Tree.{Name, Variable}
 use Rattle.source_meaning.specs.Members.{Sending, Unsent, OnNull, Sends, Reads, passed_layer, passed_all, before as joined, sends, sends_to, sent_by, sent}
 use Rattle.source_meaning.specs.Meaning.{Env, Flow, Normal, Broke, Continued, Returned, lookup, assigned, entry, older, default_of, default_of_layer, default_of_primitive, given_by, returned}
@@ -51,10 +51,6 @@ env_grows n m h (b ∷ e) f = (value_grows n m h b.value f.0, env_grows n m h e 
 pub older_fits : (n : ℕ) (e : Env) → EnvFits n e → EnvFits n (older e)
 older_fits n [] f = tt
 older_fits n (b ∷ e) f = f.1
-
-abbrev pub MadeFits : ℕ → Option Value → Type 0
-MadeFits n None = Unit {0}
-MadeFits n (Some value) = ValueFits n value
 
 chosen_made : (n : ℕ) (test : Bool) (x y : Option Value) → MadeFits n x → MadeFits n y → MadeFits n (if test then x else y)
 chosen_made n true x y f g = f
@@ -94,12 +90,7 @@ constant_fits n (constant.Int number) = tt
 constant_fits n (constant.Long number) = tt
 
 primitive_default_fits : (n : ℕ) (p : Primitive) → ValueFits n (default_of_primitive p)
-primitive_default_fits n prim.Boolean = tt
-primitive_default_fits n prim.Byte = tt
-primitive_default_fits n prim.Short = tt
-primitive_default_fits n prim.Char = tt
-primitive_default_fits n prim.Int = tt
-primitive_default_fits n prim.Long = tt
+primitive_default_fits n p = by_primitive (λ p. ValueFits n (default_of_primitive p)) tt tt tt tt tt tt p
 
 layer_default_fits : (n : ℕ) (layer : Ty-F Ty) → ValueFits n (default_of_layer layer)
 layer_default_fits n Ty-F.Void = tt
@@ -125,44 +116,19 @@ given_by_fits n gives.New old new f g = g
 -- ---- operators and casts
 
 int_made : (n : ℕ) (p : Primitive) (a : ℤ) → MadeFits n (from_int_to p a)
-int_made n prim.Boolean a = tt
-int_made n prim.Byte a = tt
-int_made n prim.Short a = tt
-int_made n prim.Char a = tt
-int_made n prim.Int a = tt
-int_made n prim.Long a = tt
+int_made n p a = by_primitive (λ p. MadeFits n (from_int_to p a)) tt tt tt tt tt tt p
 
 long_made : (n : ℕ) (p : Primitive) (a : ℤ) → MadeFits n (from_long_to p a)
-long_made n prim.Boolean a = tt
-long_made n prim.Long a = tt
-long_made n prim.Byte a = tt
-long_made n prim.Short a = tt
-long_made n prim.Char a = tt
-long_made n prim.Int a = tt
+long_made n p a = by_primitive (λ p. MadeFits n (from_long_to p a)) tt tt tt tt tt tt p
 
 byte_made : (n : ℕ) (p : Primitive) (a : ℤ) → MadeFits n (from_byte_to p a)
-byte_made n prim.Boolean a = tt
-byte_made n prim.Byte a = tt
-byte_made n prim.Short a = tt
-byte_made n prim.Char a = tt
-byte_made n prim.Int a = tt
-byte_made n prim.Long a = tt
+byte_made n p a = by_primitive (λ p. MadeFits n (from_byte_to p a)) tt tt tt tt tt tt p
 
 short_made : (n : ℕ) (p : Primitive) (a : ℤ) → MadeFits n (from_short_to p a)
-short_made n prim.Boolean a = tt
-short_made n prim.Byte a = tt
-short_made n prim.Short a = tt
-short_made n prim.Char a = tt
-short_made n prim.Int a = tt
-short_made n prim.Long a = tt
+short_made n p a = by_primitive (λ p. MadeFits n (from_short_to p a)) tt tt tt tt tt tt p
 
 char_made : (n : ℕ) (p : Primitive) (unit : ℕ) → MadeFits n (from_char_to p unit)
-char_made n prim.Boolean unit = tt
-char_made n prim.Byte unit = tt
-char_made n prim.Short unit = tt
-char_made n prim.Char unit = tt
-char_made n prim.Int unit = tt
-char_made n prim.Long unit = tt
+char_made n p unit = by_primitive (λ p. MadeFits n (from_char_to p unit)) tt tt tt tt tt tt p
 
 flag_made : (n : ℕ) (p : Primitive) (flag : Bool) → MadeFits n (from_flag_to p flag)
 flag_made n prim.Boolean flag = tt
@@ -228,10 +194,6 @@ passed_layer_fits n Ty-F.Def value f = f
 passed_layer_fits n (Ty-F.Prim p) value f = in_box_fits n p value
 passed_layer_fits n (Ty-F.Class class) value f = f
 passed_layer_fits n (Ty-F.Array elem) value f = f
-
-abbrev AllMadeFit : ℕ → Option (List Value) → Type 0
-AllMadeFit n None = Unit {0}
-AllMadeFit n (Some values) = AllFit n values
 
 joined_fits : (n : ℕ) (value : Option Value) (values : Option (List Value)) → MadeFits n value → AllMadeFit n values → AllMadeFit n (joined value values)
 joined_fits n None None f g = tt

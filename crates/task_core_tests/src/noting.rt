@@ -1,4 +1,5 @@
-// A task that notes when it had which turn.
+//! A task that notes when it had which turn.
+
 ghost use Rattle.std.specs.Prelude.{◌≡◌};
 
 use std::cell::Cell;
@@ -19,6 +20,7 @@ pub struct Noting<'a> {
 }
 
 impl<'a> Noting<'a> {
+    /// A task of a place, with so many turns left, that reads the clock.
     pub fn new(place: u32, left: u64, clock: &'a Cell<u64>) -> Noting<'a> {
         Noting {
             place,

@@ -1,3 +1,5 @@
+//! The order in which tasks have their turns.
+
 use crate::noting::Noting;
 use std::cell::Cell;
 use task_core::run_order;

@@ -1,5 +1,5 @@
 -- What a run of verified code leaves fits, where it stood in a moment that fits.
-use Rattle.std.proofs.Common.{◌≡◌, ℕ, List, Option, Some, None, subst, ap}
+use Rattle.std.proofs.Common.{◌≡◌, ℕ, List, Option, Some, None, subst}
 use Rattle.std.specs.Prelude.{IfSome}
 use Rattle.object_values.specs.declared.object.Object.{Object}
 use Rattle.object_heap.specs.Fits.{Rules}

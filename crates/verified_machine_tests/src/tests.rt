@@ -1,3 +1,5 @@
+//! Listings from outside, verified and run.
+
 ghost use Rattle.std.specs.Prelude.{◌<◌};
 
 use allowlist::{Allow, Catalogue};

@@ -1,3 +1,5 @@
+//! Stacks of kinds as nodes of a table, and what stands at a line.
+
 use pl_code::Slot;
 
 /// A stack that is not empty: its top and what lies below, how many kinds it has, the number of its top 31 kinds and what lies

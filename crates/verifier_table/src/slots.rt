@@ -1,3 +1,5 @@
+//! Equality of kinds.
+
 ghost use Rattle.std.specs.Prelude.{◌≡◌};
 ghost use Rattle.instruction_types.specs.Effects.{same_slots};
 

@@ -43,6 +43,7 @@ pub struct Compiler {
 }
 
 impl Compiler {
+    /// Every class of the catalogue is allowed.
     pub fn new(alloc: Global) -> Result<Compiler, AllocError> {
         let allow = Catalogue::full(alloc)?;
         Ok(Compiler { alloc, allow })

@@ -1,4 +1,4 @@
-use Rattle.std.proofs.Common.{◌≡◌, ℕ, List, arith, ◌+◌, ◌++◌, ◌∙◌, ap, sym, subst, drop}
+use Rattle.std.proofs.Common.{◌≡◌, arith, ◌+◌, ◌++◌, ◌∙◌, ap, sym, subst, drop}
 use Rattle.std.specs.Prelude.{map}
 use Rattle.std.proofs.lemmas.List.{drop_all}
 use Rattle.value_walks.proofs.Stepping.{got}

@@ -1,4 +1,4 @@
-use Rattle.std.proofs.Common.{◌≡◌, ℕ, List, arith, ◌+◌, ◌++◌, ◌∙◌, ap, sym, subst, drop}
+use Rattle.std.proofs.Common.{◌≡◌, ◌+◌, ◌++◌, ◌∙◌, ap, sym, subst, drop}
 use Rattle.std.specs.Prelude.{map}
 use Rattle.value_walks.specs.Texts.{AValue}
 use Rattle.std.proofs.lemmas.List.{drop_all}
