@@ -2,8 +2,8 @@ use Rattle.std.proofs.Common.{sym, ◌∙◌}
 use Rattle.codegen.proofs.Called.{not_beyond, other_text, named_so}
 use Rattle.codegen.proofs.members.called.Goals as goal
 
-pub returns-then-named-ge-count-clause-total : goal.returns-then-named-ge-count-clause-total
-returns-then-named-ge-count-clause-total c = λ member h. absurd (not_beyond c.member_count-count.result c.args.named.now.number member c.member_count-count.ensures.whole c.if-named-ge-count.true h.is)
+pub returns-then-named-count-clause-total : goal.returns-then-named-count-clause-total
+returns-then-named-count-clause-total c = λ member h. absurd (not_beyond c.member_count-count.result c.args.named.now.number member c.member_count-count.ensures.whole c.if-named-count.true h.is)
 
 pub returns-in_err-same_text-clause-total : goal.returns-in_err-same_text-clause-total
 returns-in_err-same_text-clause-total c = λ member h. absurd (other_text c.args.kind c.args.named.now c.args.of.now member h _ c.in_ok-text.ensures c.in_err-same_text.ensures)
