@@ -12,6 +12,8 @@ mod many;
 #[cfg(test)]
 mod maps;
 #[cfg(test)]
+mod maps_further;
+#[cfg(test)]
 mod rows;
 #[cfg(test)]
 mod running;
