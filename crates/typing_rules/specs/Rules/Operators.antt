@@ -9,6 +9,7 @@ use Rattle.pl_types.specs.declared.primitive.Primitive.{Primitive}
 use Rattle.pl_types.specs.declared.primitive.Primitive.TheVariants as p
 use Rattle.pl_types.specs.declared.rules.TheConstants.{BAD_OPERAND, BAD_NULLABLE, OUT_OF_PROFILE}
 use Rattle.pl_types.specs.declared.classes.TheConstants.{STRING, ITERABLE, MAP}
+use Rattle.pl_types.specs.Casts.{unboxed}
 use Rattle.pl_types.specs.Classes.{class_is_below}
 use Rattle.pl_types.specs.Types.{same_types}
 use Rattle.pl_types.specs.Promotions.{promote_of}
@@ -39,12 +40,22 @@ primitive_layer _ = None
 abbrev pub primitive_of : Ty → Option Primitive
 primitive_of of = primitive_layer (out-Ty of)
 
+abbrev pub unboxed_layer : Ty-F Ty → Option Primitive
+unboxed_layer (Ty-F.Prim q) = Some q
+unboxed_layer (Ty-F.Class c) = unboxed c
+unboxed_layer _ = None
+
+-- the primitive type that a type is, or whose box it is
+abbrev pub unboxed_of : Ty → Option Primitive
+unboxed_of of = unboxed_layer (out-Ty of)
+
 -- an operator of numbers that are longs, or else ints
 abbrev pub on_numbers : Primitive → Op → Operator
 on_numbers p.Long op = operator.Long op
 on_numbers q op = operator.Int op
 
--- What is done with two sides of primitive types: to which types they are cast, what then is done, and of which type that is.
+-- What is done with two sides that are primitives to an operator: to which types they are cast, what then is done, and of which type that
+-- is.
 abbrev pub plan : Operator → Primitive → Primitive → Primitive → Plan
 plan operator left right result = record { operator = operator; left = left; right = right; result = result }
 
@@ -104,15 +115,26 @@ abbrev pub plan_if : BinaryOperator → Option Primitive → Option Primitive �
 plan_if operator (Some x) (Some y) = plan_of operator x y
 plan_if operator _ _ = None
 
+abbrev pub is_equality : BinaryOperator → Bool
+is_equality b.Equal = true
+is_equality b.NotEqual = true
+is_equality b.Same = true
+is_equality b.NotSame = true
+is_equality operator = false
+
+-- The primitive type that a side has to an operator: a box has that of what is in it, but is itself to `==`, `!=`, `===` and `!==`.
+abbrev pub primitive_to : BinaryOperator → Ty → Option Primitive
+primitive_to operator of = if is_equality operator then primitive_of of else unboxed_of of
+
 -- void has no operator
 abbrev pub plan_between : BinaryOperator → Ty → Ty → Option Plan
-plan_between operator x y = plan_if operator (primitive_of x) (primitive_of y)
+plan_between operator x y = plan_if operator (primitive_to operator x) (primitive_to operator y)
 
 -- a side as an operator takes it, the cast standing at a place
 abbrev pub operand : ℕ → Primitive → Part → Out Typed
 operand at to x = cast_at at (t.Prim to) x true
 
--- ---- sides that are not both of primitive types
+-- ---- sides that are not both primitives to an operator
 
 -- what a side is to an operator
 pub data Side : Type 0 where
@@ -170,7 +192,7 @@ identifies x y = false
 abbrev pub only_if : Bool → Operator → Option Operator
 only_if test o = if test then Some o else None
 
--- What is done with two sides that are not both of primitive types, as references.
+-- What is done with two sides that are not both primitives to an operator, as references.
 abbrev pub relation_of : BinaryOperator → Side → Side → Option Operator
 relation_of b.Add x y = only_if (joins x y) operator.Concat
 relation_of b.Equal x y = only_if (compares x y) operator.Equal
@@ -238,9 +260,9 @@ abbrev pub promoted_if : Option Primitive → Option Primitive
 promoted_if None = None
 promoted_if (Some q) = promote_of q p.Int
 
--- a number's type, promoted
+-- the type of a number, or of the one in a box, promoted
 abbrev pub promoted : Part → Option Primitive
-promoted x = promoted_if (primitive_of (type_of_part x))
+promoted x = promoted_if (unboxed_of (type_of_part x))
 
 -- an operator on one def is not built, and no other type than a number's has one
 abbrev pub refused_one : {A : Type 0} → ℕ → Part → Out A
@@ -263,10 +285,6 @@ unary_of u.Plus at x = plus_as (promoted x) at x
 unary_of u.Minus at x = signed op.Neg (promoted x) at x
 unary_of u.Complement at x = signed op.Not (promoted x) at x
 unary_of u.Not at x = not_of at x
-
-abbrev pub promoted_both : Option Primitive → Option Primitive → Option Primitive
-promoted_both (Some q) (Some r) = promote_of q r
-promoted_both _ _ = None
 
 abbrev pub common_if : Option Primitive → Ty
 common_if None = t.Def

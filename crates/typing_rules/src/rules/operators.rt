@@ -10,7 +10,7 @@ use crate::part::{Form, Part};
 use crate::refuse::refuse;
 use crate::rules::casts::{cast_at, cast_to, cast_to_boolean};
 use crate::rules::nodes::{boolean, is_void, one_part, part, plain, two_parts};
-use crate::rules::plans::{Plan, on_numbers, plan_between, primitive_of};
+use crate::rules::plans::{Plan, on_numbers, plan_between, unboxed_of};
 use crate::rules::references::{common, related};
 pub use crate::rules::references::{elvis_of, instance_of};
 use crate::rules::sides::{refused_alone, relation_between};
@@ -107,7 +107,7 @@ pub fn binary_of(
 fn promoted(x: &Part) -> Option<Primitive>
     ensures { result ≡ spec.promoted x.now }
 {
-    match primitive_of(x.of()) {
+    match unboxed_of(x.of()) {
         None => None,
         Some(primitive) => promote(primitive, Primitive::Int),
     }

@@ -1,14 +1,15 @@
-//! What an operator does with two sides of primitive types.
+//! What an operator does with two sides that are primitives to it.
 
 ghost use Rattle.std.specs.Prelude.{◌≡◌, Some};
 ghost use Rattle.typing_rules.specs.Rules.Operators as spec;
 
 use arithmetic::Op;
 use pl_tree::BinaryOperator;
-use pl_types::{Primitive, Ty, promote};
+use pl_types::{Primitive, Ty, promote, unboxed};
 use typed_tree::Operator;
 
-/// What is done with two sides of primitive types: to which types they are cast, what then is done, and of which type that is.
+/// What is done with two sides that are primitives to an operator: to which types they are cast, what then is done, and of which type
+/// that is.
 #[derive(Clone, Copy)]
 pub struct Plan {
     pub operator: Operator,
@@ -23,6 +24,17 @@ pub(crate) fn primitive_of(of: &Ty) -> Option<Primitive>
 {
     match of {
         Ty::Prim(primitive) => Some(*primitive),
+        _ => None,
+    }
+}
+
+/// The primitive type that a type is, or whose box it is.
+pub(crate) fn unboxed_of(of: &Ty) -> Option<Primitive>
+    ensures { result ≡ spec.unboxed_of of.now }
+{
+    match of {
+        Ty::Prim(primitive) => Some(*primitive),
+        Ty::Class(class) => unboxed(*class),
         _ => None,
     }
 }
@@ -142,11 +154,34 @@ fn plan_of(operator: BinaryOperator, a: Primitive, b: Primitive) -> Option<Plan>
     }
 }
 
+fn is_equality(operator: BinaryOperator) -> bool
+    ensures { result ≡ spec.is_equality operator }
+{
+    match operator {
+        BinaryOperator::Equal => true,
+        BinaryOperator::NotEqual => true,
+        BinaryOperator::Same => true,
+        BinaryOperator::NotSame => true,
+        _ => false,
+    }
+}
+
+/// The primitive type that a side has to an operator: a box has that of what is in it, but is itself to `==`, `!=`, `===` and `!==`.
+fn primitive_to(operator: BinaryOperator, of: &Ty) -> Option<Primitive>
+    ensures { result ≡ spec.primitive_to operator of.now }
+{
+    if is_equality(operator) {
+        primitive_of(of)
+    } else {
+        unboxed_of(of)
+    }
+}
+
 /// What an operator that takes both sides does with two types. `None` where it does not take them.
 pub fn plan_between(operator: BinaryOperator, a: &Ty, b: &Ty) -> Option<Plan>
     ensures { result ≡ spec.plan_between operator a.now b.now }
 {
-    match (primitive_of(a), primitive_of(b)) {
+    match (primitive_to(operator, a), primitive_to(operator, b)) {
         (Some(a), Some(b)) => plan_of(operator, a, b),
         _ => None,
     }

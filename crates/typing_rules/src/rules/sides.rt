@@ -1,4 +1,4 @@
-//! What the sides of an operator are to it where they are not both of primitive types.
+//! What the sides of an operator are to it where they are not both primitives to it.
 
 ghost use Rattle.std.specs.Prelude.{◌≡◌};
 ghost use Rattle.pl_tree.specs.declared.operator.BinaryOperator.TheVariants as binary;
@@ -116,7 +116,7 @@ fn relation_of(operator: BinaryOperator, x: Side, y: Side) -> Option<Operator>
     }
 }
 
-/// What is done with two sides that are not both of primitive types. `None` where nothing is.
+/// What is done with two sides that are not both primitives to an operator. `None` where nothing is.
 pub(crate) fn relation_between(operator: BinaryOperator, x: &Ty, y: &Ty) -> Option<Operator>
     ensures { result ≡ spec.relation_between operator x.now y.now }
 {

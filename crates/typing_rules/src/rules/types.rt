@@ -8,15 +8,12 @@ use crate::refuse::refuse;
 use pl_tree::{TypeBase, TypeName};
 use pl_types::{Fail, Ty, classes, rules};
 
-/// Whether a class is built: Object, Comparable, CharSequence, String, StringBuilder, and those of exceptions.
+/// Whether a class is built: those from Object to StringBuilder, the boxes among them, and those of exceptions.
 pub(crate) fn is_built_class(class: u32) -> bool
     ensures { result ≡ spec.is_built_class class }
 {
-    class <= classes::CHAR_SEQUENCE
-        || (class == classes::STRING
-            || (class == classes::STRING_BUILDER
-                || (classes::EXCEPTION <= class
-                    && class <= classes::STRING_INDEX_OUT_OF_BOUNDS_EXCEPTION)))
+    class <= classes::STRING_BUILDER
+        || (classes::EXCEPTION <= class && class <= classes::STRING_INDEX_OUT_OF_BOUNDS_EXCEPTION)
 }
 
 /// Whether variables of a type are built.
