@@ -5,5 +5,4 @@ pub mod Leaving
 pub mod Needing
 pub mod NumberTypes
 pub mod Owners
-pub mod Receivers
 pub mod Types

@@ -39,7 +39,7 @@ use Rattle.number_ops.specs.Numbers as values
 use Rattle.number_ops.specs.Operators as operators
 use Rattle.number_ops.specs.Order as order
 use Rattle.number_ops.specs.Outcomes as number_outcomes
-use Rattle.member_calls.specs.Types.{Asked, Anything, Of, OfNumbers, suits, suit_all}
+use Rattle.member_calls.specs.Types.{Asked, Anything, Of, suits}
 
 -- ---- outcomes of numbers
 
@@ -57,71 +57,18 @@ chosen : (asked : Asked) (test : Bool) (a b : NumberOutcome) → NumberGives ask
 chosen asked true a b h g = h
 chosen asked false a b h g = g
 
--- ---- arguments
+-- ---- arguments, which throw where they are of another kind
 
-int_in : (arguments : List Value) → suit_all (Of prim.Int ∷ []) arguments ≡ true → (a : ℤ) × (int_at arguments 0 ≡ Some a)
-int_in (v.Int a ∷ []) h = (a, refl)
-int_in arguments h = cc
+one_gives : {A : Type 0} → (asked : Asked) (f : A → NumberOutcome) (found : Option A) → ((a : A) → NumberGives asked (f a)) → NumberGives asked (with_one f found)
+one_gives asked f None h = tt
+one_gives asked f (Some a) h = h a
 
-long_in : (arguments : List Value) → suit_all (Of prim.Long ∷ []) arguments ≡ true → (a : ℤ) × (long_at arguments 0 ≡ Some a)
-long_in (v.Long a ∷ []) h = (a, refl)
-long_in arguments h = cc
+two_give : {A : Type 0} → (asked : Asked) (f : A → A → NumberOutcome) (first second : Option A) → ((a b : A) → NumberGives asked (f a b)) → NumberGives asked (with_two f first second)
+two_give asked f None second h = tt
+two_give asked f (Some a) None h = tt
+two_give asked f (Some a) (Some b) h = h a b
 
-byte_in : (arguments : List Value) → suit_all (Of prim.Byte ∷ []) arguments ≡ true → (a : ℤ) × (byte_at arguments 0 ≡ Some a)
-byte_in (v.Byte a ∷ []) h = (a, refl)
-byte_in arguments h = cc
-
-char_in : (arguments : List Value) → suit_all (Of prim.Char ∷ []) arguments ≡ true → (a : ℕ) × (char_at arguments 0 ≡ Some a)
-char_in (v.Char a ∷ []) h = (a, refl)
-char_in arguments h = cc
-
-flag_in : (arguments : List Value) → suit_all (Of prim.Boolean ∷ []) arguments ≡ true → (a : Bool) × (flag_at arguments 0 ≡ Some a)
-flag_in (v.Bool a ∷ []) h = (a, refl)
-flag_in arguments h = cc
-
-one_in : (arguments : List Value) → suit_all (Anything ∷ []) arguments ≡ true → (a : Value) × (slice_get arguments 0 ≡ Some a)
-one_in (a ∷ []) h = (a, refl)
-one_in arguments h = cc
-
-two_in : (arguments : List Value) → suit_all (Anything ∷ Anything ∷ []) arguments ≡ true → (a b : Value) × (slice_get arguments 0 ≡ Some a) × (slice_get arguments 1 ≡ Some b)
-two_in (a ∷ b ∷ []) h = (a, b, refl, refl)
-two_in arguments h = cc
-
-ints_in : (arguments : List Value) → suit_all (Of prim.Int ∷ Of prim.Int ∷ []) arguments ≡ true → (a b : ℤ) × (int_at arguments 0 ≡ Some a) × (int_at arguments 1 ≡ Some b)
-ints_in (v.Int a ∷ v.Int b ∷ []) h = (a, b, refl, refl)
-ints_in arguments h = cc
-
-longs_in : (arguments : List Value) → suit_all (Of prim.Long ∷ Of prim.Long ∷ []) arguments ≡ true → (a b : ℤ) × (long_at arguments 0 ≡ Some a) × (long_at arguments 1 ≡ Some b)
-longs_in (v.Long a ∷ v.Long b ∷ []) h = (a, b, refl, refl)
-longs_in arguments h = cc
-
-flags_in : (arguments : List Value) → suit_all (Of prim.Boolean ∷ Of prim.Boolean ∷ []) arguments ≡ true → (a b : Bool) × (flag_at arguments 0 ≡ Some a) × (flag_at arguments 1 ≡ Some b)
-flags_in (v.Bool a ∷ v.Bool b ∷ []) h = (a, b, refl, refl)
-flags_in arguments h = cc
-
-kept : (b : Bool) → (b && true) ≡ true → b ≡ true
-kept true h = refl
-kept false h = cc
-
-no_more : (b : Bool) → (b && false) ≡ true → ⊥
-no_more true h = false≢true h
-no_more false h = false≢true h
-
-numeric_in : (arguments : List Value) → suit_all (OfNumbers ∷ []) arguments ≡ true → (value : Value) × (slice_get arguments 0 ≡ Some value) × (is_some (operators.number_in value) ≡ true)
-numeric_in [] h = cc
-numeric_in (a ∷ []) h = (a, refl, kept (is_some (operators.number_in a)) h)
-numeric_in (a ∷ b ∷ more) h = absurd (no_more (is_some (operators.number_in a)) h)
-
-one_gives : {A : Type 0} → (asked : Asked) (f : A → NumberOutcome) (found : Option A) → (a : A) × (found ≡ Some a) → ((a : A) → NumberGives asked (f a)) → NumberGives asked (with_one f found)
-one_gives asked f found there h = subst (λ (o : Option _). NumberGives asked (with_one f o)) (sym there.1) (h there.0)
-
-two_give : {A : Type 0} → (asked : Asked) (f : A → A → NumberOutcome) (first second : Option A) → (a b : A) × (first ≡ Some a) × (second ≡ Some b)
-    → ((a b : A) → NumberGives asked (f a b)) → NumberGives asked (with_two f first second)
-two_give asked f first second there h =
-    subst (λ (o : Option _). NumberGives asked (with_two f o second)) (sym there.2)
-    (subst (λ (o : Option _). NumberGives asked (with_two f (Some there.0) o)) (sym there.3) (h there.0 there.1))
-
--- ---- what each takes and gives
+-- ---- what each gives
 
 abbrev pub int_given : OneInt → Asked
 int_given int.BitCount = Of prim.Int
@@ -167,23 +114,23 @@ abbrev pub number_given : Primitive → Asked
 number_given prim.Boolean = Anything
 number_given other = Of other
 
-abbrev pub signature_of : NumberMember → List Asked × Asked
-signature_of m.Equals = (Anything ∷ Anything ∷ [], Of prim.Boolean)
-signature_of m.ToText = (Anything ∷ [], Anything)
-signature_of m.CompareTo = (Anything ∷ Anything ∷ [], Of prim.Int)
-signature_of (m.NumberAs p) = (OfNumbers ∷ [], number_given p)
-signature_of (m.Field field) = ([], field_given field)
-signature_of m.UnsignedByte = (Of prim.Byte ∷ [], Of prim.Int)
-signature_of (m.OfInt member) = (Of prim.Int ∷ [], int_given member)
-signature_of (m.OfInts member) = (Of prim.Int ∷ Of prim.Int ∷ [], ints_given member)
-signature_of (m.OfLong member) = (Of prim.Long ∷ [], long_given member)
-signature_of (m.OfLongs member) = (Of prim.Long ∷ Of prim.Long ∷ [], longs_given member)
-signature_of m.ParseInt = (Anything ∷ [], Of prim.Int)
-signature_of m.ParseLong = (Anything ∷ [], Of prim.Long)
-signature_of (m.OfChar member) = (Of prim.Char ∷ [], char_given member)
-signature_of m.BooleanValue = (Of prim.Boolean ∷ [], Of prim.Boolean)
-signature_of m.BooleanCompare = (Of prim.Boolean ∷ Of prim.Boolean ∷ [], Of prim.Int)
-signature_of m.ParseBoolean = (Anything ∷ [], Of prim.Boolean)
+abbrev pub given_of : NumberMember → Asked
+given_of m.Equals = Of prim.Boolean
+given_of m.ToText = Anything
+given_of m.CompareTo = Of prim.Int
+given_of (m.NumberAs p) = number_given p
+given_of (m.Field field) = field_given field
+given_of m.UnsignedByte = Of prim.Int
+given_of (m.OfInt member) = int_given member
+given_of (m.OfInts member) = ints_given member
+given_of (m.OfLong member) = long_given member
+given_of (m.OfLongs member) = longs_given member
+given_of m.ParseInt = Of prim.Int
+given_of m.ParseLong = Of prim.Long
+given_of (m.OfChar member) = char_given member
+given_of m.BooleanValue = Of prim.Boolean
+given_of m.BooleanCompare = Of prim.Int
+given_of m.ParseBoolean = Of prim.Boolean
 
 -- ---- that it gives it
 
@@ -209,14 +156,9 @@ as_gives prim.Char number = refl
 as_gives prim.Int number = refl
 as_gives prim.Long number = refl
 
-number_gives : (p : Primitive) (number : Option Num) → is_some number ≡ true → NumberGives (number_given p) (numbers.number_as_of p number)
-number_gives p None h = cc
-number_gives p (Some number) h = as_gives p number
-
-numeric_gives : (p : Primitive) (found : Option Value) → (value : Value) × (found ≡ Some value) × (is_some (operators.number_in value) ≡ true)
-    → NumberGives (number_given p) (with_one (numbers.number_value p) found)
-numeric_gives p found there =
-    subst (λ (o : Option Value). NumberGives (number_given p) (with_one (numbers.number_value p) o)) (sym there.1) (number_gives p (operators.number_in there.0) there.2)
+number_gives : (p : Primitive) (number : Option Num) → NumberGives (number_given p) (numbers.number_as_of p number)
+number_gives p None = tt
+number_gives p (Some number) = as_gives p number
 
 field_gives : (field : Constant) → suits (field_given field) (values.constant_of field) ≡ true
 field_gives constant.ByteMost = refl
@@ -301,24 +243,22 @@ char_gives char.IsWhitespace unit = refl
 char_gives char.ToLowerCase unit = refl
 char_gives char.ToUpperCase unit = refl
 
-pub does_gives : (objects : List Object) (member : NumberMember) (arguments : List Value) → suit_all (signature_of member).0 arguments ≡ true
-    → NumberGives (signature_of member).1 (numbers.does objects member arguments)
-does_gives objects m.Equals arguments h =
-    two_give {A = Value} (Of prim.Boolean) (order.equals objects) _ _ (two_in arguments h) (λ a b. found_gives (equal_of objects a b VISITS))
-does_gives objects m.ToText arguments h = one_gives {A = Value} Anything (order.to_text objects) _ (one_in arguments h) (λ value. text_gives (text_of objects value VISITS))
-does_gives objects m.CompareTo arguments h =
-    two_give {A = Value} (Of prim.Int) (order.compare objects) _ _ (two_in arguments h) (λ a b. ordered_gives objects a b (order.natural a b))
-does_gives objects (m.NumberAs p) arguments h = numeric_gives p _ (numeric_in arguments h)
-does_gives objects (m.Field field) arguments h = field_gives field
-does_gives objects m.UnsignedByte arguments h = one_gives {A = ℤ} (Of prim.Int) values.unsigned_byte _ (byte_in arguments h) (λ a. refl)
-does_gives objects (m.OfInt member) arguments h = one_gives {A = ℤ} (int_given member) (values.of_int member) _ (int_in arguments h) (int_gives member)
-does_gives objects (m.OfInts member) arguments h = two_give {A = ℤ} (ints_given member) (values.of_ints member) _ _ (ints_in arguments h) (ints_give member)
-does_gives objects (m.OfLong member) arguments h = one_gives {A = ℤ} (long_given member) (values.of_long member) _ (long_in arguments h) (long_gives member)
-does_gives objects (m.OfLongs member) arguments h = two_give {A = ℤ} (longs_given member) (values.of_longs member) _ _ (longs_in arguments h) (longs_give member)
-does_gives objects m.ParseInt arguments h = one_gives {A = Value} (Of prim.Int) values.parse_int_of _ (one_in arguments h) parse_int_gives
-does_gives objects m.ParseLong arguments h = one_gives {A = Value} (Of prim.Long) values.parse_long_of _ (one_in arguments h) parse_long_gives
-does_gives objects (m.OfChar member) arguments h = one_gives {A = ℕ} (char_given member) (numbers.char_member member) _ (char_in arguments h) (char_gives member)
-does_gives objects m.BooleanValue arguments h = one_gives {A = Bool} (Of prim.Boolean) (λ flag. outcome.Gives (v.Bool flag)) _ (flag_in arguments h) (λ flag. refl)
-does_gives objects m.BooleanCompare arguments h =
-    two_give {A = Bool} (Of prim.Int) (λ a b. outcome.Gives (v.Int (chars.flag_order a b))) _ _ (flags_in arguments h) (λ a b. refl)
-does_gives objects m.ParseBoolean arguments h = one_gives {A = Value} (Of prim.Boolean) (λ value. outcome.Gives (v.Bool (chars.parse_flag value))) _ (one_in arguments h) (λ value. refl)
+pub does_gives : (objects : List Object) (member : NumberMember) (arguments : List Value) → NumberGives (given_of member) (numbers.does objects member arguments)
+does_gives objects m.Equals arguments = two_give {A = Value} (Of prim.Boolean) (order.equals objects) (slice_get arguments 0) (slice_get arguments 1) (λ a b. found_gives (equal_of objects a b VISITS))
+does_gives objects m.ToText arguments = one_gives {A = Value} Anything (order.to_text objects) (slice_get arguments 0) (λ value. text_gives (text_of objects value VISITS))
+does_gives objects m.CompareTo arguments =
+    two_give {A = Value} (Of prim.Int) (order.compare objects) (slice_get arguments 0) (slice_get arguments 1) (λ a b. ordered_gives objects a b (order.natural a b))
+does_gives objects (m.NumberAs p) arguments = one_gives {A = Value} (number_given p) (numbers.number_value p) (slice_get arguments 0) (λ value. number_gives p (operators.number_in value))
+does_gives objects (m.Field field) arguments = field_gives field
+does_gives objects m.UnsignedByte arguments = one_gives {A = ℤ} (Of prim.Int) values.unsigned_byte (byte_at arguments 0) (λ a. refl)
+does_gives objects (m.OfInt member) arguments = one_gives {A = ℤ} (int_given member) (values.of_int member) (int_at arguments 0) (int_gives member)
+does_gives objects (m.OfInts member) arguments = two_give {A = ℤ} (ints_given member) (values.of_ints member) (int_at arguments 0) (int_at arguments 1) (ints_give member)
+does_gives objects (m.OfLong member) arguments = one_gives {A = ℤ} (long_given member) (values.of_long member) (long_at arguments 0) (long_gives member)
+does_gives objects (m.OfLongs member) arguments = two_give {A = ℤ} (longs_given member) (values.of_longs member) (long_at arguments 0) (long_at arguments 1) (longs_give member)
+does_gives objects m.ParseInt arguments = one_gives {A = Value} (Of prim.Int) values.parse_int_of (slice_get arguments 0) parse_int_gives
+does_gives objects m.ParseLong arguments = one_gives {A = Value} (Of prim.Long) values.parse_long_of (slice_get arguments 0) parse_long_gives
+does_gives objects (m.OfChar member) arguments = one_gives {A = ℕ} (char_given member) (numbers.char_member member) (char_at arguments 0) (char_gives member)
+does_gives objects m.BooleanValue arguments = one_gives {A = Bool} (Of prim.Boolean) (λ flag. outcome.Gives (v.Bool flag)) (flag_at arguments 0) (λ flag. refl)
+does_gives objects m.BooleanCompare arguments =
+    two_give {A = Bool} (Of prim.Int) (λ a b. outcome.Gives (v.Int (chars.flag_order a b))) (flag_at arguments 0) (flag_at arguments 1) (λ a b. refl)
+does_gives objects m.ParseBoolean arguments = one_gives {A = Value} (Of prim.Boolean) (λ value. outcome.Gives (v.Bool (chars.parse_flag value))) (slice_get arguments 0) (λ value. refl)

@@ -34,9 +34,9 @@ use Rattle.api_text.specs.Outcomes as text_outcomes
 use Rattle.api_text.specs.Sequences as sequences
 use Rattle.api_text.specs.Texts as parts
 use Rattle.member_calls.specs.Members.{is_of_numbers, is_of_texts, first_of_host, is_of_host, does}
-use Rattle.member_calls.specs.Types.{Asked, Anything, Of, suits, suit_all, given_by, asked_by_member, EffectGives, ActGives}
+use Rattle.member_calls.specs.Types.{Asked, Anything, Of, suits, given_by, EffectGives, ActGives}
 use Rattle.member_calls.proofs.Built.{number_range, text_range, of_numbers, of_texts, no_number, no_text}
-use Rattle.member_calls.proofs.NumberTypes.{NumberGives, signature_of, does_gives}
+use Rattle.member_calls.proofs.NumberTypes.{NumberGives, given_of, does_gives}
 
 paid_gives : (asked : Asked) (store : Store) (objects : List Object) (made : ℕ) (next : Store → Effect)
     → ((room : ℕ) → EffectGives asked (next (record { objects = objects; room = room }))) → EffectGives asked (after_paying (paid store objects made) next)
@@ -153,18 +153,15 @@ text_does_gives store other arguments = anything (text_outcomes.effect store (te
 
 -- ---- rows of the catalogue
 
-abbrev pub Signature : Type 0
-Signature = List Asked × Asked
+abbrev pub given_in : MemberType → Asked
+given_in member = given_by member.result
 
-abbrev pub signature_in : MemberType → Signature
-signature_in member = (asked_by_member member, given_by member.result)
-
-abbrev pub number_row : Option NumberMember → Option Signature
+abbrev pub number_row : Option NumberMember → Option Asked
 number_row None = None
-number_row (Some member) = Some (signature_of member)
+number_row (Some member) = Some (given_of member)
 
-abbrev pub catalogue_number_row : ℕ → Option Signature
-catalogue_number_row n = if number_range n then option_map signature_in (slice_get catalogue n) else None
+abbrev pub catalogue_number_row : ℕ → Option Asked
+catalogue_number_row n = if number_range n then option_map given_in (slice_get catalogue n) else None
 
 number_rows : map (λ n. number_row (numbers.numbered n)) (range_with_len 0 58) ≡ map catalogue_number_row (range_with_len 0 58)
 unfolding numbers.numbered numbers.members catalogue out-Ty denote.Hole.Carrier.out
@@ -174,9 +171,6 @@ abbrev pub text_row : Option TextMember → Option Asked
 text_row None = None
 text_row (Some member) = Some (text_given member)
 
-abbrev pub given_in : MemberType → Asked
-given_in member = given_by member.result
-
 abbrev pub catalogue_text_row : ℕ → Option Asked
 catalogue_text_row n = if text_range n then option_map given_in (slice_get catalogue n) else None
 
@@ -184,14 +178,14 @@ text_rows : map (λ n. text_row (texts.numbered n)) (range_with_len 0 225) ≡ m
 unfolding texts.numbered texts.of_sequences texts.of_texts texts.of_exceptions catalogue out-Ty denote.Hole.Carrier.out
 text_rows = refl
 
-number_row_at : (n : ℕ) (member : MemberType) → is_of_numbers n ≡ true → slice_get catalogue n ≡ Some member → number_row (numbers.numbered n) ≡ Some (signature_in member)
+number_row_at : (n : ℕ) (member : MemberType) → is_of_numbers n ≡ true → slice_get catalogue n ≡ Some member → number_row (numbers.numbered n) ≡ Some (given_in member)
 number_row_at n member is h = elim (cases_lt n 58) [
   | inl below ↦
       sym (get_or-map-range_with_len (λ k. number_row (numbers.numbered k)) 0 58 n n None below (omega arith))
       ∙ ap (λ rows. get_or rows n None) number_rows
       ∙ get_or-map-range_with_len catalogue_number_row 0 58 n n None below (omega arith)
-      ∙ cond-true (number_range n) (option_map signature_in (slice_get catalogue n)) None (sym (of_numbers n) ∙ is)
-      ∙ ap (option_map signature_in) h
+      ∙ cond-true (number_range n) (option_map given_in (slice_get catalogue n)) None (sym (of_numbers n) ∙ is)
+      ∙ ap (option_map given_in) h
   | inr past ↦ absurd (both_ways (is_of_numbers n) (no_number n past) is)
 ]
 
@@ -206,13 +200,13 @@ text_row_at n member is h = elim (cases_lt n 225) [
   | inr past ↦ absurd (both_ways (is_of_texts n) (no_text n past) is)
 ]
 
-number_found_gives : (store : Store) (found : Option NumberMember) (arguments : List Value) (row : Signature) → number_row found ≡ Some row → suit_all row.0 arguments ≡ true
-    → EffectGives row.1 (number_outcomes.effect store (numbers.does_found store.objects found arguments))
-number_found_gives store None arguments row is h = cc
-number_found_gives store (Some member) arguments row is h =
-    let same : signature_of member ≡ row = cc in
-    subst (λ (r : Signature). suit_all r.0 arguments ≡ true → EffectGives r.1 (number_outcomes.effect store (numbers.does store.objects member arguments))) same
-    (λ g. number_settled (signature_of member).1 store (numbers.does store.objects member arguments) (does_gives store.objects member arguments g)) h
+number_found_gives : (store : Store) (found : Option NumberMember) (arguments : List Value) (given : Asked) → number_row found ≡ Some given
+    → EffectGives given (number_outcomes.effect store (numbers.does_found store.objects found arguments))
+number_found_gives store None arguments given is = cc
+number_found_gives store (Some member) arguments given is =
+    let same : given_of member ≡ given = cc in
+    subst (λ (a : Asked). EffectGives a (number_outcomes.effect store (numbers.does store.objects member arguments))) same
+    (number_settled (given_of member) store (numbers.does store.objects member arguments) (does_gives store.objects member arguments))
 
 text_found_gives : (store : Store) (found : Option TextMember) (arguments : List Value) (given : Asked) → text_row found ≡ Some given
     → EffectGives given (text_outcomes.effect store (texts.does_found store.objects found arguments))
@@ -227,11 +221,11 @@ unfolding is_of_host
 not_of_host number member h = lt-leb first_of_host number (omega (arith, length-catalogue, slice_get_within catalogue number member h))
 
 pub act_gives : (host : HostMeaning) (number : ℕ) (member : MemberType) (arguments : List Value) (store : Store) → slice_get catalogue number ≡ Some member
-    → suit_all (asked_by_member member) arguments ≡ true → ActGives (given_by member.result) (does host number arguments store)
+    → ActGives (given_by member.result) (does host number arguments store)
 unfolding does
-act_gives host number member arguments store h suit =
+act_gives host number member arguments store h =
     cond_both (is_of_numbers number) _ _ (ActGives (given_by member.result))
-    (λ is. number_found_gives store (numbers.numbered number) arguments (signature_in member) (number_row_at number member is h) suit)
+    (λ is. number_found_gives store (numbers.numbered number) arguments (given_in member) (number_row_at number member is h))
     (λ _. cond_both (is_of_texts number) _ _ (ActGives (given_by member.result))
     (λ is. text_found_gives store (texts.numbered number) arguments (given_in member) (text_row_at number member is h))
     (λ _. cond_both (is_of_host number) _ _ (ActGives (given_by member.result)) (λ is. absurd (both_ways (is_of_host number) (not_of_host number member h) is)) (λ _. tt)))

@@ -1,6 +1,6 @@
 //! What holds of all members.
 ghost use Rattle.member_calls.specs.Laws.{BuiltAct, BuiltOwners, BuiltStand, HostStands, MembersKeepFit, MembersLeaveObjects};
-ghost use Rattle.member_calls.specs.Types.{MembersGiveTypes, ReceiversSuit};
+ghost use Rattle.member_calls.specs.Types.{MembersGiveTypes};
 
 /// Laws that callers may cite: where the heap and the arguments fit a program or a code, what comes of a member fits it too; and
 /// each object is there afterwards, of the same kind.
@@ -18,9 +18,7 @@ pub fn built_laws()
     ensures host { HostStands }
 {}
 
-/// Laws that callers may cite: where the arguments suit a member, the receiver first, a result of a primitive type is of it; and a
-/// receiver that is of its class, and not null, suits.
+/// A law that callers may cite: whatever a member is called with, a result of a primitive type is of it.
 pub fn members_give_types()
-    ensures results { MembersGiveTypes }
-    ensures receivers { ReceiversSuit }
+    ensures { MembersGiveTypes }
 {}

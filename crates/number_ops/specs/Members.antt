@@ -17,7 +17,7 @@ use Rattle.number_ops.specs.declared.chars.OneChar.{OneChar}
 use Rattle.number_ops.specs.declared.chars.OneChar.TheVariants as char
 use Rattle.number_ops.specs.declared.outcome.Outcome.{Outcome}
 use Rattle.number_ops.specs.declared.outcome.Outcome.TheVariants.{Gives}
-use Rattle.number_ops.specs.Outcomes.{nothing}
+use Rattle.number_ops.specs.Outcomes.{nothing, null_error}
 use Rattle.member_arguments.specs.Arguments.{int_at, long_at, byte_at, char_at, flag_at}
 use Rattle.number_ops.specs.Arguments.{with_one, with_two}
 use Rattle.number_ops.specs.Operators.{number_in}
@@ -29,7 +29,7 @@ use Rattle.arithmetic.specs.declared.operator.Num.{Num}
 use Rattle.pl_types.specs.declared.primitive.Primitive.{Primitive}
 
 abbrev pub number_as_of : Primitive → Option Num → Outcome
-number_as_of p None = nothing
+number_as_of p None = null_error
 number_as_of p (Some number) = Gives (number_as p number)
 
 abbrev pub number_value : Primitive → Value → Outcome
@@ -38,7 +38,7 @@ number_value p value = number_as_of p (number_in value)
 abbrev pub char_member : OneChar → ℕ → Outcome
 char_member member unit = Gives (of_char member unit)
 
--- Each member with its arguments; where one is missing or of another kind, nothing.
+-- Each member with its arguments.
 abbrev pub equals_of : List Object → List Value → Outcome
 equals_of objects arguments = with_two (equals objects) (slice_get arguments 0) (slice_get arguments 1)
 

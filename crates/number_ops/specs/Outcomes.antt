@@ -55,7 +55,7 @@ abbrev pub IsAnswered : Answer → Type 0
 IsAnswered a.NoMemory = ⊥
 IsAnswered answer = Unit {0}
 
--- what is nothing, where arguments are not of the kinds that are asked for
+-- of a number that is no member's
 abbrev pub nothing : Outcome
 nothing = outcome.Gives v.Null
 

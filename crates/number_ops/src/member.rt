@@ -7,6 +7,7 @@ ghost use Rattle.number_ops.specs.Members.{does, does_numbered, members, numbere
 
 use crate::casts::number_as;
 use crate::chars::{OneChar, flag_order, of_char, parse_flag};
+use crate::errors::null_error;
 use crate::numbers::{
     Constant, OneInt, OneLong, Two, constant_of, of_int, of_ints, of_long, of_longs, parse_int_of,
     parse_long_of, unsigned_byte,
@@ -45,7 +46,7 @@ fn equals_of(heap: &Heap, args: &[Value]) -> Outcome
 {
     match (args.get(0), args.get(1)) {
         (Some(a), Some(b)) => equals(heap, a, b),
-        _ => nothing(),
+        _ => null_error(),
     }
 }
 
@@ -54,7 +55,7 @@ fn compare_of(heap: &Heap, args: &[Value]) -> Outcome
 {
     match (args.get(0), args.get(1)) {
         (Some(a), Some(b)) => compare(heap, a, b),
-        _ => nothing(),
+        _ => null_error(),
     }
 }
 
@@ -63,7 +64,7 @@ fn text_of(heap: &Heap, args: &[Value]) -> Outcome
 {
     match args.get(0) {
         Some(value) => to_text(heap, value),
-        None => nothing(),
+        None => null_error(),
     }
 }
 
@@ -78,7 +79,7 @@ fn number_of(primitive: Primitive, args: &[Value]) -> Outcome
 {
     match args.get(0) {
         Some(value) => number_value(primitive, value),
-        None => nothing(),
+        None => null_error(),
     }
 }
 
@@ -87,7 +88,7 @@ fn number_value(primitive: Primitive, value: &Value) -> Outcome
 {
     match number_in(value) {
         Some(number) => Outcome::Gives(number_as(primitive, number)),
-        None => nothing(),
+        None => null_error(),
     }
 }
 
@@ -96,7 +97,7 @@ fn byte_member(args: &[Value]) -> Outcome
 {
     match byte_at(args, 0) {
         Some(number) => unsigned_byte(number),
-        None => nothing(),
+        None => null_error(),
     }
 }
 
@@ -105,7 +106,7 @@ fn int_member(heap: &Heap, member: OneInt, args: &[Value]) -> Outcome
 {
     match int_at(args, 0) {
         Some(a) => of_int(heap, member, a),
-        None => nothing(),
+        None => null_error(),
     }
 }
 
@@ -114,7 +115,7 @@ fn ints_member(member: Two, args: &[Value]) -> Outcome
 {
     match (int_at(args, 0), int_at(args, 1)) {
         (Some(a), Some(b)) => of_ints(member, a, b),
-        _ => nothing(),
+        _ => null_error(),
     }
 }
 
@@ -123,7 +124,7 @@ fn long_member(heap: &Heap, member: OneLong, args: &[Value]) -> Outcome
 {
     match long_at(args, 0) {
         Some(a) => of_long(heap, member, a),
-        None => nothing(),
+        None => null_error(),
     }
 }
 
@@ -132,7 +133,7 @@ fn longs_member(heap: &Heap, member: Two, args: &[Value]) -> Outcome
 {
     match (long_at(args, 0), long_at(args, 1)) {
         (Some(a), Some(b)) => of_longs(heap, member, a, b),
-        _ => nothing(),
+        _ => null_error(),
     }
 }
 
@@ -141,7 +142,7 @@ fn parse_int_member(heap: &Heap, args: &[Value]) -> Outcome
 {
     match args.get(0) {
         Some(value) => parse_int_of(heap, value),
-        None => nothing(),
+        None => null_error(),
     }
 }
 
@@ -150,7 +151,7 @@ fn parse_long_member(heap: &Heap, args: &[Value]) -> Outcome
 {
     match args.get(0) {
         Some(value) => parse_long_of(heap, value),
-        None => nothing(),
+        None => null_error(),
     }
 }
 
@@ -159,7 +160,7 @@ fn char_member(member: OneChar, args: &[Value]) -> Outcome
 {
     match char_at(args, 0) {
         Some(unit) => Outcome::Gives(of_char(member, unit)),
-        None => nothing(),
+        None => null_error(),
     }
 }
 
@@ -168,7 +169,7 @@ fn flag_value(args: &[Value]) -> Outcome
 {
     match flag_at(args, 0) {
         Some(flag) => Outcome::Gives(Value::Bool(flag)),
-        None => nothing(),
+        None => null_error(),
     }
 }
 
@@ -177,7 +178,7 @@ fn flag_compare(args: &[Value]) -> Outcome
 {
     match (flag_at(args, 0), flag_at(args, 1)) {
         (Some(a), Some(b)) => Outcome::Gives(Value::Int(flag_order(a, b))),
-        _ => nothing(),
+        _ => null_error(),
     }
 }
 
@@ -186,7 +187,7 @@ fn parse_flag_member(args: &[Value]) -> Outcome
 {
     match args.get(0) {
         Some(value) => Outcome::Gives(Value::Bool(parse_flag(value))),
-        None => nothing(),
+        None => null_error(),
     }
 }
 
@@ -303,9 +304,9 @@ fn does_numbered(heap: &Heap, number: u32, args: &[Value]) -> Outcome
 
 /// The call of a member of Object, Comparable, Number, Byte, Short, Integer, Long, Character, Boolean or Math, by its number in
 /// the catalogue; a field is a member without arguments. The receiver is the first argument. Where the number is another
-/// member's, or an argument is missing or of another kind, it gives null.
+/// member's, it gives null.
 ///
-/// `Thrown`: by `docs/CATALOGUE.md`, as the member says. `Room`: the charge, of a text its units and 1 and of an exception the
+/// `Thrown`: by `docs/CATALOGUE.md`, as the member says; NullPointerException where an argument is missing or of another kind. `Room`: the charge, of a text its units and 1 and of an exception the
 /// units of its message and 1, is above the room left. `NoMemory`: there was none for a text or an exception.
 pub fn call(number: u32, heap: &mut Heap, args: &[Value]) -> Answer
     ensures exact { Answers (effect heap.old (does_numbered heap.old.objects number args.now)) heap.old heap.new result }

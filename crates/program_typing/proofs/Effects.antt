@@ -10,6 +10,7 @@ use Rattle.pl_types.specs.declared.ty.Ty.TheVariants as t
 use Rattle.pl_types.specs.declared.ty.Ty.TheOpen.{Ty-F}
 use Rattle.pl_types.specs.Casts.{reaches}
 use Rattle.pl_units.specs.Utf16.{units}
+use Rattle.object_values.specs.declared.object.Object.{Object}
 use Rattle.object_values.specs.declared.object.Object.TheVariants as o
 use Rattle.object_values.specs.declared.value.Value.{Value}
 use Rattle.object_values.specs.declared.value.Value.TheVariants as v
@@ -22,6 +23,7 @@ use Rattle.value_walks.specs.Equality.{equal_of}
 use Rattle.arithmetic.specs.declared.operator.Num.{Num}
 use Rattle.arithmetic.specs.Operators.{as_long}
 use Rattle.number_ops.specs.declared.outcome.Outcome.{Outcome}
+use Rattle.number_ops.specs.declared.outcome.Outcome.TheVariants as outcome
 use Rattle.number_ops.specs.declared.outcome.Raised.{Raised}
 use Rattle.number_ops.specs.declared.casts.Casted.TheVariants.{To, Refused}
 use Rattle.number_ops.specs.Casts.{number_as, only_unit, char_given, to_primitive, to_layer, given, of_null, cast_at_run_time}
@@ -120,8 +122,25 @@ unequal_has of store a b x = either (number_in a) (number_in b)
 
 -- ---- casts at run time
 
-refused_has : (l : Ty-F Ty) (store : Store) (value : Value) (to : Ty) → LayerHas l (effect store (cannot_cast store.objects value to))
-refused_has l store value to = says_has l store _ (cast_message store.objects value to)
+-- what goes to a primitive type comes to a value of it, or is thrown
+abbrev pub OutcomeHas : Primitive → Outcome → Type 0
+OutcomeHas p (outcome.Gives value) = HasPrimitive p value
+OutcomeHas p (outcome.Throws raised message) = Unit {0}
+OutcomeHas p other = ⊥
+
+outcome_has : (p : Primitive) (store : Store) (o : Outcome) → OutcomeHas p o → LayerHas (Ty-F.Prim p) (effect store o)
+outcome_has p store (outcome.Gives value) h = h
+outcome_has p store (outcome.Makes text) h = absurd h
+outcome_has p store (outcome.Throws raised message) h = thrown_has (Ty-F.Prim p) store (class_raised raised) message
+outcome_has p store outcome.NoMemory h = absurd h
+
+-- what is thrown is of every type
+pub throws_has : (of : Ty) (store : Store) (raised : Raised) (message : Option (List ℕ)) → EffectHas of (effect store (outcome.Throws raised message))
+throws_has of store raised message = thrown_has (out-Ty of) store (class_raised raised) message
+
+refused_has : (p : Primitive) (objects : List Object) (value : Value) (to : Ty) → OutcomeHas p (cannot_cast objects value to)
+unfolding says
+refused_has p objects value to = tt
 
 -- a box's number goes to no boolean, and to each other primitive
 abbrev IsNumber : Primitive → Type 0
@@ -141,19 +160,18 @@ no_boolean prim.Int false h = refl
 no_boolean prim.Long true h = refl
 no_boolean prim.Long false h = refl
 
-number_has : (p from : Primitive) (explicit : Bool) (number : Num) (store : Store) (value : Value) (to : Ty) → IsNumber from
-    → LayerHas (Ty-F.Prim p) (effect store (given store.objects value to (if reaches from p explicit then To (number_as p number) else Refused)))
-number_has p from explicit number store value to h = by p
+number_has : (p from : Primitive) (explicit : Bool) (number : Num) (objects : List Object) (value : Value) (to : Ty) → IsNumber from
+    → OutcomeHas p (given objects value to (if reaches from p explicit then To (number_as p number) else Refused))
+number_has p from explicit number objects value to h = by p
   where
-    either : (p : Primitive) → HasPrimitive p (number_as p number) → (c : Bool)
-        → LayerHas (Ty-F.Prim p) (effect store (given store.objects value to (if c then To (number_as p number) else Refused)))
+    either : (p : Primitive) → HasPrimitive p (number_as p number) → (c : Bool) → OutcomeHas p (given objects value to (if c then To (number_as p number) else Refused))
     either p has true = has
-    either p has false = refused_has (Ty-F.Prim p) store value to
+    either p has false = refused_has p objects value to
 
-    by : (p : Primitive) → LayerHas (Ty-F.Prim p) (effect store (given store.objects value to (if reaches from p explicit then To (number_as p number) else Refused)))
+    by : (p : Primitive) → OutcomeHas p (given objects value to (if reaches from p explicit then To (number_as p number) else Refused))
     by prim.Boolean =
-        subst (λ c. LayerHas (Ty-F.Prim prim.Boolean) (effect store (given store.objects value to (if c then To (number_as prim.Boolean number) else Refused))))
-        (sym (no_boolean from explicit h)) (refused_has (Ty-F.Prim prim.Boolean) store value to)
+        subst (λ c. OutcomeHas prim.Boolean (given objects value to (if c then To (number_as prim.Boolean number) else Refused)))
+        (sym (no_boolean from explicit h)) (refused_has prim.Boolean objects value to)
     by prim.Byte = either prim.Byte (_, refl) (reaches from prim.Byte explicit)
     by prim.Short = either prim.Short (_, refl) (reaches from prim.Short explicit)
     by prim.Char = either prim.Char (_, refl) (reaches from prim.Char explicit)
@@ -161,67 +179,72 @@ number_has p from explicit number store value to h = by p
     by prim.Long = either prim.Long (_, refl) (reaches from prim.Long explicit)
 
 -- a truth value goes to boolean alone
-truth_stays : (p : Primitive) (explicit : Bool) (flag : Bool) (store : Store) (to : Ty)
-    → LayerHas (Ty-F.Prim p) (effect store (given store.objects (v.Bool flag) to (to_primitive p explicit (v.Bool flag))))
-truth_stays prim.Boolean explicit flag store to = (flag, refl)
-truth_stays prim.Byte true flag store to = refused_has (Ty-F.Prim prim.Byte) store (v.Bool flag) to
-truth_stays prim.Byte false flag store to = refused_has (Ty-F.Prim prim.Byte) store (v.Bool flag) to
-truth_stays prim.Short true flag store to = refused_has (Ty-F.Prim prim.Short) store (v.Bool flag) to
-truth_stays prim.Short false flag store to = refused_has (Ty-F.Prim prim.Short) store (v.Bool flag) to
-truth_stays prim.Char true flag store to = refused_has (Ty-F.Prim prim.Char) store (v.Bool flag) to
-truth_stays prim.Char false flag store to = refused_has (Ty-F.Prim prim.Char) store (v.Bool flag) to
-truth_stays prim.Int true flag store to = refused_has (Ty-F.Prim prim.Int) store (v.Bool flag) to
-truth_stays prim.Int false flag store to = refused_has (Ty-F.Prim prim.Int) store (v.Bool flag) to
-truth_stays prim.Long true flag store to = refused_has (Ty-F.Prim prim.Long) store (v.Bool flag) to
-truth_stays prim.Long false flag store to = refused_has (Ty-F.Prim prim.Long) store (v.Bool flag) to
+truth_stays : (p : Primitive) (explicit : Bool) (flag : Bool) (objects : List Object) (to : Ty)
+    → OutcomeHas p (given objects (v.Bool flag) to (to_primitive p explicit (v.Bool flag)))
+truth_stays prim.Boolean explicit flag objects to = (flag, refl)
+truth_stays prim.Byte true flag objects to = refused_has prim.Byte objects (v.Bool flag) to
+truth_stays prim.Byte false flag objects to = refused_has prim.Byte objects (v.Bool flag) to
+truth_stays prim.Short true flag objects to = refused_has prim.Short objects (v.Bool flag) to
+truth_stays prim.Short false flag objects to = refused_has prim.Short objects (v.Bool flag) to
+truth_stays prim.Char true flag objects to = refused_has prim.Char objects (v.Bool flag) to
+truth_stays prim.Char false flag objects to = refused_has prim.Char objects (v.Bool flag) to
+truth_stays prim.Int true flag objects to = refused_has prim.Int objects (v.Bool flag) to
+truth_stays prim.Int false flag objects to = refused_has prim.Int objects (v.Bool flag) to
+truth_stays prim.Long true flag objects to = refused_has prim.Long objects (v.Bool flag) to
+truth_stays prim.Long false flag objects to = refused_has prim.Long objects (v.Bool flag) to
 
 -- a text goes to char alone, where it has one unit
-text_goes : (p : Primitive) (explicit : Bool) (text : List ℕ) (store : Store) (to : Ty)
-    → LayerHas (Ty-F.Prim p) (effect store (given store.objects (v.Str text) to (to_primitive p explicit (v.Str text))))
-text_goes prim.Char true text store to = either text
+text_goes : (p : Primitive) (explicit : Bool) (text : List ℕ) (objects : List Object) (to : Ty)
+    → OutcomeHas p (given objects (v.Str text) to (to_primitive p explicit (v.Str text)))
+text_goes prim.Char true text objects to = either text
   where
-    either : (units : List ℕ) → LayerHas (Ty-F.Prim prim.Char) (effect store (given store.objects (v.Str text) to (char_given (only_unit units))))
-    either [] = refused_has (Ty-F.Prim prim.Char) store (v.Str text) to
+    either : (units : List ℕ) → OutcomeHas prim.Char (given objects (v.Str text) to (char_given (only_unit units)))
+    either [] = refused_has prim.Char objects (v.Str text) to
     either (unit ∷ []) = (unit, refl)
-    either (unit ∷ other ∷ rest) = refused_has (Ty-F.Prim prim.Char) store (v.Str text) to
-text_goes prim.Char false text store to = refused_has (Ty-F.Prim prim.Char) store (v.Str text) to
-text_goes prim.Boolean explicit text store to = refused_has (Ty-F.Prim prim.Boolean) store (v.Str text) to
-text_goes prim.Byte explicit text store to = refused_has (Ty-F.Prim prim.Byte) store (v.Str text) to
-text_goes prim.Short explicit text store to = refused_has (Ty-F.Prim prim.Short) store (v.Str text) to
-text_goes prim.Int explicit text store to = refused_has (Ty-F.Prim prim.Int) store (v.Str text) to
-text_goes prim.Long explicit text store to = refused_has (Ty-F.Prim prim.Long) store (v.Str text) to
+    either (unit ∷ other ∷ rest) = refused_has prim.Char objects (v.Str text) to
+text_goes prim.Char false text objects to = refused_has prim.Char objects (v.Str text) to
+text_goes prim.Boolean explicit text objects to = refused_has prim.Boolean objects (v.Str text) to
+text_goes prim.Byte explicit text objects to = refused_has prim.Byte objects (v.Str text) to
+text_goes prim.Short explicit text objects to = refused_has prim.Short objects (v.Str text) to
+text_goes prim.Int explicit text objects to = refused_has prim.Int objects (v.Str text) to
+text_goes prim.Long explicit text objects to = refused_has prim.Long objects (v.Str text) to
 
 -- and an object to none
-reference_refused : (p : Primitive) (explicit : Bool) (id : ℕ) (store : Store) (to : Ty)
-    → LayerHas (Ty-F.Prim p) (effect store (given store.objects (v.Ref id) to (to_primitive p explicit (v.Ref id))))
-reference_refused prim.Char true id store to = refused_has (Ty-F.Prim prim.Char) store (v.Ref id) to
-reference_refused prim.Char false id store to = refused_has (Ty-F.Prim prim.Char) store (v.Ref id) to
-reference_refused prim.Boolean explicit id store to = refused_has (Ty-F.Prim prim.Boolean) store (v.Ref id) to
-reference_refused prim.Byte explicit id store to = refused_has (Ty-F.Prim prim.Byte) store (v.Ref id) to
-reference_refused prim.Short explicit id store to = refused_has (Ty-F.Prim prim.Short) store (v.Ref id) to
-reference_refused prim.Int explicit id store to = refused_has (Ty-F.Prim prim.Int) store (v.Ref id) to
-reference_refused prim.Long explicit id store to = refused_has (Ty-F.Prim prim.Long) store (v.Ref id) to
+reference_refused : (p : Primitive) (explicit : Bool) (id : ℕ) (objects : List Object) (to : Ty)
+    → OutcomeHas p (given objects (v.Ref id) to (to_primitive p explicit (v.Ref id)))
+reference_refused prim.Char true id objects to = refused_has prim.Char objects (v.Ref id) to
+reference_refused prim.Char false id objects to = refused_has prim.Char objects (v.Ref id) to
+reference_refused prim.Boolean explicit id objects to = refused_has prim.Boolean objects (v.Ref id) to
+reference_refused prim.Byte explicit id objects to = refused_has prim.Byte objects (v.Ref id) to
+reference_refused prim.Short explicit id objects to = refused_has prim.Short objects (v.Ref id) to
+reference_refused prim.Int explicit id objects to = refused_has prim.Int objects (v.Ref id) to
+reference_refused prim.Long explicit id objects to = refused_has prim.Long objects (v.Ref id) to
 
 -- what a cast to a type comes to, by the type's outermost layer
-abbrev cast_to_layer : Store → Value → Ty → Ty-F Ty → Bool → Outcome
-cast_to_layer store value to l explicit = if is_null value then of_null l else given store.objects value to (to_layer store.objects l explicit value)
+abbrev cast_to_layer : List Object → Value → Ty → Ty-F Ty → Bool → Outcome
+cast_to_layer objects value to l explicit = if is_null value then of_null l else given objects value to (to_layer objects l explicit value)
 
-to_primitive_has : (p : Primitive) (to : Ty) (store : Store) (value : Value) (explicit : Bool) → LayerHas (Ty-F.Prim p) (effect store (cast_to_layer store value to (Ty-F.Prim p) explicit))
-to_primitive_has p to store v.Null explicit = thrown_has (Ty-F.Prim p) store NULL_POINTER_EXCEPTION None
-to_primitive_has p to store (v.Bool flag) explicit = truth_stays p explicit flag store to
-to_primitive_has p to store (v.Byte a) explicit = number_has p prim.Byte explicit _ store (v.Byte a) to tt
-to_primitive_has p to store (v.Short a) explicit = number_has p prim.Short explicit _ store (v.Short a) to tt
-to_primitive_has p to store (v.Char a) explicit = number_has p prim.Char explicit _ store (v.Char a) to tt
-to_primitive_has p to store (v.Int a) explicit = number_has p prim.Int explicit _ store (v.Int a) to tt
-to_primitive_has p to store (v.Long a) explicit = number_has p prim.Long explicit _ store (v.Long a) to tt
-to_primitive_has p to store (v.Str text) explicit = text_goes p explicit text store to
-to_primitive_has p to store (v.Ref id) explicit = reference_refused p explicit id store to
+to_primitive_has : (p : Primitive) (to : Ty) (objects : List Object) (value : Value) (explicit : Bool) → OutcomeHas p (cast_to_layer objects value to (Ty-F.Prim p) explicit)
+to_primitive_has p to objects v.Null explicit = tt
+to_primitive_has p to objects (v.Bool flag) explicit = truth_stays p explicit flag objects to
+to_primitive_has p to objects (v.Byte a) explicit = number_has p prim.Byte explicit _ objects (v.Byte a) to tt
+to_primitive_has p to objects (v.Short a) explicit = number_has p prim.Short explicit _ objects (v.Short a) to tt
+to_primitive_has p to objects (v.Char a) explicit = number_has p prim.Char explicit _ objects (v.Char a) to tt
+to_primitive_has p to objects (v.Int a) explicit = number_has p prim.Int explicit _ objects (v.Int a) to tt
+to_primitive_has p to objects (v.Long a) explicit = number_has p prim.Long explicit _ objects (v.Long a) to tt
+to_primitive_has p to objects (v.Str text) explicit = text_goes p explicit text objects to
+to_primitive_has p to objects (v.Ref id) explicit = reference_refused p explicit id objects to
 
-layer_has : (l : Ty-F Ty) (to : Ty) (store : Store) (value : Value) (explicit : Bool) → LayerHas l (effect store (cast_to_layer store value to l explicit))
+-- A cast at run time to a primitive type comes to a value of it, or is thrown.
+pub primitive_has : (p : Primitive) (objects : List Object) (value : Value) (explicit : Bool) → OutcomeHas p (cast_at_run_time objects value (t.Prim p) explicit)
+unfolding out-Ty denote.Hole.Carrier.out
+primitive_has p objects value explicit = to_primitive_has p (t.Prim p) objects value explicit
+
+layer_has : (l : Ty-F Ty) (to : Ty) (store : Store) (value : Value) (explicit : Bool) → LayerHas l (effect store (cast_to_layer store.objects value to l explicit))
 layer_has Ty-F.Void to store value explicit = made Ty-F.Void _ (λ value. tt)
 layer_has Ty-F.Null to store value explicit = made Ty-F.Null _ (λ value. tt)
 layer_has Ty-F.Def to store value explicit = made Ty-F.Def _ (λ value. tt)
-layer_has (Ty-F.Prim p) to store value explicit = to_primitive_has p to store value explicit
+layer_has (Ty-F.Prim p) to store value explicit = outcome_has p store _ (to_primitive_has p to store.objects value explicit)
 layer_has (Ty-F.Class class) to store value explicit = made (Ty-F.Class class) _ (λ value. tt)
 layer_has (Ty-F.Array of) to store value explicit = made (Ty-F.Array of) _ (λ value. tt)
 

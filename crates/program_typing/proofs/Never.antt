@@ -31,7 +31,6 @@ use Rattle.number_ops.specs.Operators.{is_null}
 use Rattle.number_ops.specs.Relations.{thrown}
 use Rattle.run_state.specs.World.{World, Limits, Loop, Depth, Ticks, acts_in, Counted, Counts, Passes, pay_tick, has_loop_limit, take_turn, goes_deeper, enter, reach, reaches, pay_member}
 use Rattle.member_calls.specs.Members.{is_built, does}
-use Rattle.member_calls.specs.Types.{asked_by_member}
 use Rattle.source_meaning.specs.Tree.{Name, Expr, Literal, Quoted, Local, Apply, Guarded, Logic, Conditional, Elvis, Assign, Modify, Lambda, Reference, NewReference, Exprs, None', One, Maybe, Missing, Given as Present, Stmt, Do, If, While, DoWhile, ForEach, Try, Block, Break, Continue, Return, Throw, Stmts, Finish, Then, Declare, Catches, NoCatch, Catch, Variable, Fun, Programs, functions_in, type_of}
 use Rattle.source_meaning.specs.Operating.{Operated, Meaningless, Gives as Gives_it, Acts}
 use Rattle.source_meaning.specs.Members.{Sending, Unsent, OnNull, Sends, Reads, sent}
@@ -41,7 +40,7 @@ use Rattle.program_typing.specs.Agreeing.{Scope, IsVariable, boolean, types_of, 
 use Rattle.program_typing.specs.Enough.{expr_size, exprs_size, maybe_size, stmt_size, stmts_size, catches_size}
 use Rattle.program_typing.proofs.Values.{has_flag, nothing_has, is_flag, text_has, class_has, constant_has, default_has}
 use Rattle.program_typing.proofs.Effects.{EffectHas, OperatedHas, null_throws}
-use Rattle.program_typing.proofs.Members.{SendingSuits, sent_suits, Comes, member_comes, null_has}
+use Rattle.program_typing.proofs.Members.{IsSent, is_sent, Comes, member_comes, null_has}
 use Rattle.program_typing.proofs.Operations.{takes_fit, casts_fit, begins_fit}
 use Rattle.program_typing.proofs.Scopes.{Bound, reads, writes, leaves, enters}
 
@@ -249,12 +248,12 @@ module _ (funs : Programs) (limits : Limits) (formed : (text : Owner) → WellFo
     paid_ends (Counts w) number arguments of s e g c x b = within (omega (arith, c)) (acted_ends of g (record { world = w; turns = s.turns }) e _ (x w.store) b)
 
     sending_ends : (x : Sending) (number : ℕ) (member : MemberType) (d : Place) (s : State) (e : Env) (g : Scope) → slice_get catalogue number ≡ Some member → is_built number ≡ true
-        → SendingSuits (asked_by_member member) x → Bound g e → Ends (Has member.result) g s.world.ticks (member_called funs limits m x number d s e)
+        → IsSent x → Bound g e → Ends (Has member.result) g s.world.ticks (member_called funs limits m x number d s e)
     sending_ends Unsent number member d s e g is built x b = absurd x
     sending_ends OnNull number member d s e g is built x b = acts_end member.result g s e _ (null_throws member.result s.world.store) b
     sending_ends (Sends arguments) number member d s e g is built x b =
-        paid_ends (pay_member d.text number s.world) number arguments member.result s e g (member_costs d.text number s.world) (λ store. member_comes limits.host number member arguments store is built x) b
-    sending_ends Reads number member d s e g is built x b = acted_ends member.result g s e _ (member_comes limits.host number member [] s.world.store is built x) b
+        paid_ends (pay_member d.text number s.world) number arguments member.result s e g (member_costs d.text number s.world) (λ store. member_comes limits.host number member arguments store is built) b
+    sending_ends Reads number member d s e g is built x b = acted_ends member.result g s e _ (member_comes limits.host number member [] s.world.store is built) b
 
     member_ends : (sort : MemberKind) (c : Member) (ofs : List Ty) (of : Ty) (values : List Value) (d : Place) (s : State) (e : Env) (g : Scope) → MemberAgrees (known_in funs limits d.text) sort c ofs of → HaveAll ofs values
         → Bound g e → Ends (Has of) g s.world.ticks (of_member funs limits m c values d s e)
@@ -263,7 +262,7 @@ module _ (funs : Programs) (limits : Limits) (formed : (text : Owner) → WellFo
         subst (λ of. Ends (Has of) g s.world.ticks (of_member funs limits m c values d s e)) (sym x.gives)
         (subst (λ is. Ends (Has x.member.result) g s.world.ticks (member_applied funs limits m is c.number values d s e)) (sym x.allowed)
         (subst (λ member. Ends (Has x.member.result) g s.world.ticks (member_called funs limits m (sent member values) c.number d s e)) (sym at)
-        (sending_ends (sent x.member values) c.number x.member d s e g x.is x.built (sent_suits c.number x.member sort ofs values x.is x.sort x.plain x.takes h) b)))
+        (sending_ends (sent x.member values) c.number x.member d s e g x.is x.built (is_sent c.number x.member sort ofs values x.is x.sort x.takes h) b)))
 
     -- ---- operations
 

@@ -17,16 +17,18 @@ use Rattle.arithmetic.specs.declared.operator.Op.TheVariants as op
 use Rattle.arithmetic.specs.declared.operator.Num.TheVariants as n
 use Rattle.arithmetic.specs.Arithmetic.{quotient_of, remainder_of}
 use Rattle.arithmetic.specs.Operators.{some_of}
+use Rattle.number_ops.specs.declared.outcome.Outcome.{Outcome}
+use Rattle.number_ops.specs.declared.outcome.Outcome.TheVariants as outcome
 use Rattle.number_ops.specs.Outcomes.{effect}
 use Rattle.number_ops.specs.Casts.{cast_at_run_time}
 use Rattle.number_ops.specs.Relations.{is_same}
 use Rattle.typed_tree.specs.declared.operation.Operator.{Operator}
 use Rattle.typed_tree.specs.declared.operation.Operator.TheVariants as operator
-use Rattle.source_meaning.specs.Operating.{Operated, of_ints, of_longs, of_flags, OneInt, TwoInts, OneLong, OneFlag, TwoFlags, number_given, number_operated, flag_operated, operates, number_cast, in_box, box_if, of_references, reference_operated, gives_if, casts}
+use Rattle.source_meaning.specs.Operating.{Operated, of_ints, of_longs, of_flags, OneInt, TwoInts, OneLong, OneFlag, TwoFlags, number_given, number_operated, flag_operated, operates, number_cast, in_box, box_if, of_references, reference_operated, gives_if, unwrapped, casts}
 use Rattle.program_typing.specs.Types.{HasPrimitive, Has, HaveAll, IsReference, Gives, of_one, of_two, right_side, of_one_flag, of_two_flags, TakesNumbers, TakesFlags, TakesReferences, Takes, Converts, Keeps, Same, References, string, Casts}
 use Rattle.program_typing.specs.Agreeing.{IsKnownBefore}
 use Rattle.program_typing.proofs.Values.{bare, dressed, has_flag, has_int, has_long, is_flag, is_int, is_long, truth_has, reference_has}
-use Rattle.program_typing.proofs.Effects.{EffectHas, OperatedHas, divides, made_has, text_acts, equal_has, unequal_has, cast_has}
+use Rattle.program_typing.proofs.Effects.{EffectHas, OperatedHas, OutcomeHas, throws_has, primitive_has, divides, made_has, text_acts, equal_has, unequal_has, cast_has}
 
 -- ---- operators
 
@@ -367,16 +369,25 @@ keeps_fit : (from to : Ty) (value : Value) → Keeps from to → Has from value 
 keeps_fit from to value (Same x) h = subst (λ of. Has of value) x h
 keeps_fit from to value (References x y) h = reference_has (out-Ty to) value y
 
+converted_fits : (p q : Primitive) (of : Ty) (value : Value) → of ≡ t.Prim q → Converts p q → HasPrimitive p value → OperatedHas of (gives_if (number_cast p q value))
+converted_fits p q of value x c h =
+    let made = converts p q value c h in
+    given_operated of _ (record { value = made.value; is = made.is; has = subst (λ of. Has of made.value) (sym x) (dressed q made.value made.has) })
+
+unwrapped_fits : (p q : Primitive) (of : Ty) (o : Outcome) (store : Store) → of ≡ t.Prim q → Converts p q → OutcomeHas p o → OperatedHas of (unwrapped p q o store)
+unwrapped_fits p q of (outcome.Gives value) store x c h = converted_fits p q of value x c h
+unwrapped_fits p q of (outcome.Makes text) store x c h = absurd h
+unwrapped_fits p q of (outcome.Throws raised message) store x c h = throws_has of store raised message
+unwrapped_fits p q of outcome.NoMemory store x c h = absurd h
+
 -- A cast comes to a value of the type that it goes to, or throws.
 pub casts_fit : (c : Cast) (from to : Ty) (value : Value) (store : Store) → Casts c from to → Has from value → OperatedHas to (casts c to value store)
 casts_fit cast.Keep from to value store x h = keeps_fit from to value x h
-casts_fit (cast.Number p q) from to value store x h =
-    let made = converts p q value x.2 (bare p value (subst (λ of. Has of value) x.0 h)) in
-    given_operated to _ (record { value = made.value; is = made.is; has = subst (λ of. Has of made.value) (sym x.1) (dressed q made.value made.has) })
+casts_fit (cast.Number p q) from to value store x h = converted_fits p q to value x.1 x.2 (bare p value (subst (λ of. Has of value) x.0 h))
 casts_fit (cast.Wrap p q) from to value store x h =
     let made = converts p q value x.2 (bare p value (subst (λ of. Has of value) x.0 h)) in
     given_operated to _ (subst (λ o. Given to (box_if q o)) (sym made.is) (boxes q made.value to made.has x.1))
-casts_fit (cast.Unwrap p q) from to value store x h = absurd x
+casts_fit (cast.Unwrap p q) from to value store x h = unwrapped_fits p q to _ store x.1 x.2 (primitive_has p store.objects value false)
 casts_fit cast.Implicit from to value store x h = cast_has to store value false
 casts_fit cast.Explicit from to value store x h = cast_has to store value true
 casts_fit cast.CharToText from to value store x h =
@@ -391,7 +402,7 @@ pub begins_fit : (c : Cast) (from to : Ty) (value : Value) (store : Store) → I
 begins_fit cast.Keep from to value store k x h = casts_fit cast.Keep from to value store x h
 begins_fit (cast.Number p q) from to value store k x h = casts_fit (cast.Number p q) from to value store x h
 begins_fit (cast.Wrap p q) from to value store k x h = casts_fit (cast.Wrap p q) from to value store x h
-begins_fit (cast.Unwrap p q) from to value store k x h = absurd x
+begins_fit (cast.Unwrap p q) from to value store k x h = casts_fit (cast.Unwrap p q) from to value store x h
 begins_fit cast.Implicit from to value store k x h = absurd k
 begins_fit cast.Explicit from to value store k x h = absurd k
 begins_fit cast.CharToText from to value store k x h = casts_fit cast.CharToText from to value store x h

@@ -15,7 +15,6 @@ use Rattle.allowlist.specs.declared.member.MemberType.{MemberType}
 use Rattle.allowlist.specs.Allow.{AllowList, flag}
 use Rattle.allowlist.specs.Catalogue.{catalogue}
 use Rattle.member_calls.specs.Members.{is_built}
-use Rattle.member_calls.specs.Types.{is_plain_member}
 use Rattle.member_names.specs.Names.{text_of}
 use Rattle.typed_tree.specs.declared.operation.Member.{Member}
 use Rattle.typed_tree.specs.declared.operation.Operation.{Operation}
@@ -89,7 +88,6 @@ pub record MemberAgrees (funs : Known) (kind : MemberKind) (m : Member) (ofs : L
   pub text : m.text ≡ text_of member
   pub built : is_built m.number ≡ true
   pub allowed : flag funs.allowed.members m.number ≡ true
-  pub plain : is_plain_member member ≡ true
   pub takes : TakesTypes kind member.params ofs
   pub gives : of ≡ member.result
 
@@ -104,7 +102,7 @@ Applies funs (operation.Constructor m) ofs of = MemberAgrees funs kind.Construct
 Applies funs (operation.Field m) ofs of = MemberAgrees funs kind.Field m ofs of
 Applies funs other ofs of = ⊥
 
--- a cast that looks at the value's type when the script runs
+-- a cast that does not ask for a type when the script runs
 abbrev pub IsKnownBefore : Cast → Type 0
 IsKnownBefore cast.Implicit = ⊥
 IsKnownBefore cast.Explicit = ⊥

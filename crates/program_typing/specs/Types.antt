@@ -176,7 +176,7 @@ abbrev pub Casts : Cast → Ty → Ty → Type 0
 Casts cast.Keep from to = Keeps from to
 Casts (cast.Number p q) from to = (from ≡ t.Prim p) × (to ≡ t.Prim q) × Converts p q
 Casts (cast.Wrap p q) from to = (from ≡ t.Prim p) × IsReference to × Converts p q
-Casts (cast.Unwrap p q) from to = ⊥
+Casts (cast.Unwrap p q) from to = IsReference from × (to ≡ t.Prim q) × Converts p q
 Casts cast.Implicit from to = IsReference from × IsNamed to
 Casts cast.Explicit from to = IsReference from × IsNamed to
 Casts cast.CharToText from to = (from ≡ t.Prim prim.Char) × (to ≡ string)

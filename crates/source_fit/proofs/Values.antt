@@ -28,6 +28,7 @@ use Rattle.typed_tree.specs.declared.operation.Operator.{Operator}
 use Rattle.typed_tree.specs.declared.operation.Operator.TheVariants as operator
 use Rattle.number_ops.specs.declared.outcome.Outcome.{Outcome as Told}
 use Rattle.number_ops.specs.declared.outcome.Outcome.TheVariants as told
+use Rattle.number_ops.specs.Casts.{cast_at_run_time}
 use Rattle.number_ops.specs.Operators.{of_result, compares, truth_in, boxed, is_null}
 use Rattle.number_ops.specs.Outcomes.{effect, says, zero_divisor}
 use Rattle.number_ops.specs.Relations.{equal}
@@ -39,7 +40,7 @@ use Rattle.run_fit.proofs.Values.{value_grows, MadeFits, AllMadeFit, by_primitiv
 use Rattle.source_meaning.specs.Tree.{Name, Variable}
 use Rattle.source_meaning.specs.Members.{Sending, Unsent, OnNull, Sends, Reads, passed_layer, passed_all, before as joined, sends, sends_to, sent_by, sent}
 use Rattle.source_meaning.specs.Meaning.{Env, Flow, Normal, Broke, Continued, Returned, lookup, assigned, entry, older, default_of, default_of_layer, default_of_primitive, given_by, returned}
-use Rattle.source_meaning.specs.Operating.{Operated, Meaningless, Gives, Acts, value_of, number_given, number_operated, of_ints, of_longs, operands_of, of_flags, flag_operated, negated, of_references, reference_operated, operates, from_int_to, from_long_to, from_byte_to, from_short_to, from_char_to, from_flag_to, number_cast, in_box, box_if, gives_if, text_if, casts}
+use Rattle.source_meaning.specs.Operating.{Operated, Meaningless, Gives, Acts, value_of, number_given, number_operated, of_ints, of_longs, operands_of, of_flags, flag_operated, negated, of_references, reference_operated, operates, from_int_to, from_long_to, from_byte_to, from_short_to, from_char_to, from_flag_to, number_cast, in_box, box_if, gives_if, text_if, unwrapped, casts}
 use Rattle.source_fit.specs.Outs.{EnvFits, FlowFits}
 
 -- ---- names
@@ -288,11 +289,17 @@ module _ (rules : Rules) (before : List Object) (w : World) (h : WorldFits rules
   text_if_fits None f = tt
   text_if_fits (Some value) f = casts_fit rules before w value (t.Class STRING) true h f
 
+  unwrapped_fits : (p q : Primitive) (o : Told) → OperatedFits (unwrapped p q o w.store)
+  unwrapped_fits p q (told.Gives value) = gives_if_fits _ (number_cast_fits (count_in w) p q value)
+  unwrapped_fits p q (told.Throws raised message) = outcomes_fit rules before w (told.Throws raised message) h tt
+  unwrapped_fits p q (told.Makes text) = tt
+  unwrapped_fits p q told.NoMemory = tt
+
   pub cast_fits : (c : Cast) (to : Ty) (value : Value) → ValueFits (count_in w) value → OperatedFits (casts c to value w.store)
   cast_fits cast.Keep to value f = f
   cast_fits (cast.Number p q) to value f = gives_if_fits _ (number_cast_fits (count_in w) p q value)
   cast_fits (cast.Wrap p q) to value f = gives_if_fits _ (box_if_fits (count_in w) q (number_cast p q value))
-  cast_fits (cast.Unwrap p q) to value f = tt
+  cast_fits (cast.Unwrap p q) to value f = unwrapped_fits p q (cast_at_run_time w.store.objects value (t.Prim p) false)
   cast_fits cast.Implicit to value f = casts_fit rules before w value to false h f
   cast_fits cast.Explicit to value f = casts_fit rules before w value to true h f
   cast_fits cast.CharToText to value f = text_if_fits _ (in_box_fits (count_in w) prim.Char value)

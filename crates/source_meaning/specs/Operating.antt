@@ -264,12 +264,20 @@ abbrev pub text_if : Option Value → Store → Operated
 text_if None store = Meaningless
 text_if (Some value) store = Acts (effect store (cast_at_run_time store.objects value (t.Class STRING) true))
 
--- A cast to a type. Those of primitives are known before the script runs, and give a value at once.
+-- What is taken out of a box of a primitive type, as a value of another one; an exception stays one. (Nothing is made where a number is
+-- taken out of its box.)
+abbrev pub unwrapped : Primitive → Primitive → Outcome → Store → Operated
+unwrapped p q (outcome.Gives value) store = gives_if (number_cast p q value)
+unwrapped p q (outcome.Throws raised message) store = Acts (effect store (outcome.Throws raised message))
+unwrapped p q other store = Meaningless
+
+-- A cast to a type. Those of primitives are known before the script runs, and give a value at once. A box is taken for one of its type as
+-- in a cast that is not written, so that null throws; then its number goes on as one that was in no box.
 abbrev pub casts : Cast → Ty → Value → Store → Operated
 casts cast.Keep to value store = Gives value
 casts (cast.Number p q) to value store = gives_if (number_cast p q value)
 casts (cast.Wrap p q) to value store = gives_if (box_if q (number_cast p q value))
-casts (cast.Unwrap p q) to value store = Meaningless
+casts (cast.Unwrap p q) to value store = unwrapped p q (cast_at_run_time store.objects value (t.Prim p) false) store
 casts cast.Implicit to value store = Acts (effect store (cast_at_run_time store.objects value to false))
 casts cast.Explicit to value store = Acts (effect store (cast_at_run_time store.objects value to true))
 casts cast.CharToText to value store = text_if (in_box prim.Char value) store
