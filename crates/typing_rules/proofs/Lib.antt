@@ -4,3 +4,4 @@ pub mod Escapes
 pub mod Members
 pub mod NamePlaces
 pub mod Quotes
+pub mod BothSides
