@@ -167,6 +167,7 @@ run_time_code to way = run_time_code_layer (out-Ty to) to way
 abbrev pub cast_code : Cast → Ty → List Instruction
 cast_code (cast.Number p q) to = number_code p q
 cast_code (cast.Wrap p q) to = number_code p q ++ i.Boxing q ∷ []
+cast_code (cast.Unwrap p q) to = i.Unboxing p way.Implicit ∷ number_code p q
 cast_code cast.Implicit to = run_time_code to way.Implicit
 cast_code cast.Explicit to = run_time_code to way.Explicit
 cast_code cast.CharToText to = i.Boxing prim.Char ∷ i.Cast (full_text (t.Class STRING)) way.Explicit ∷ []
@@ -178,6 +179,7 @@ abbrev pub cast_takes : Cast → Representation → Representation
 cast_takes (cast.Number _ _) representation = Unboxed
 cast_takes (cast.Wrap _ _) representation = Unboxed
 cast_takes cast.CharToText representation = Unboxed
+cast_takes (cast.Unwrap _ _) representation = Boxed
 cast_takes cast.Implicit representation = Boxed
 cast_takes cast.Explicit representation = Boxed
 cast_takes cast.TextToChar representation = Boxed
@@ -191,6 +193,7 @@ abbrev pub cast_gives : Cast → Ty → Representation → Representation
 cast_gives (cast.Number _ _) to representation = Unboxed
 cast_gives (cast.Wrap _ _) to representation = Boxed
 cast_gives cast.CharToText to representation = Boxed
+cast_gives (cast.Unwrap _ _) to representation = Unboxed
 cast_gives cast.Implicit to representation = run_time_representation (out-Ty to)
 cast_gives cast.Explicit to representation = run_time_representation (out-Ty to)
 cast_gives cast.TextToChar to representation = Unboxed

@@ -12,10 +12,12 @@ use Rattle.pl_types.specs.declared.conversion.Cast.TheVariants as cast
 use Rattle.pl_types.specs.declared.classes.TheConstants.{STRING, OBJECT, NUMBER}
 use Rattle.pl_types.specs.Classes.{class_is_below}
 use Rattle.pl_types.specs.Types.{same_primitives, same_types}
-use Rattle.pl_types.specs.Casts.{box_of, unboxed, is_number, widens, keeps, narrows, Row, only_if, to_itself, null_to, widening, narrowing, wrapped_as, boxing, boxing_narrowed, is_plain, boxing_to_parent, boxing_to_def, unwrapped_as, unboxing, unboxing_narrowed, to_parent, to_child, to_def, from_def, array_to_object, object_to_primitive, char_to_text, text_to_char, cast_rows, holds, given_by, first_of_two, cast_from, cast_between, cast_of}
+use Rattle.pl_types.specs.Casts.{box_of, unboxed, is_number, widens, keeps, narrows, Row, only_if, to_itself, null_to, widening, narrowing, wrapped_as, boxing, boxing_narrowed, is_plain, reaches, boxing_to_parent, boxing_to_def, unwrapped_as, unboxing, unboxing_narrowed, to_parent, to_child, to_def, from_def, array_to_object, object_to_primitive, char_to_text, text_to_char, cast_rows, holds, given_by, first_of_two, cast_from, cast_between, cast_of}
+use Rattle.pl_types.proofs.Shapes.{unboxing_box}
+use Rattle.typing_rules.specs.Rules.Operators.{unboxed_layer, unboxed_of}
 use Rattle.program_typing.specs.Types.{is_reference_layer, IsNamed, Converts, Keeps, Same as SameTypes, References as BothReferences, Casts}
 use Rattle.program_typing.specs.Agreeing.{IsKnownBefore}
-use Rattle.typing_soundness.proofs.Types.{no_unboxed, prim_by, class_by, def_layer, part_layer, IsOfPart, aim_layer, IsAim}
+use Rattle.typing_soundness.proofs.Types.{prim_by, class_by, def_layer, aim_layer, IsAim}
 
 -- ---- numbers
 
@@ -84,7 +86,7 @@ abbrev Fits : Cast → Ty-F Ty → Ty-F Ty → Type 0
 Fits cast.Keep from to = KeepsLayer from to
 Fits (cast.Number p q) from to = (from ≡ Ty-F.Prim p) × (to ≡ Ty-F.Prim q) × Converts p q
 Fits (cast.Wrap p q) from to = (from ≡ Ty-F.Prim p) × is_reference_layer to × Converts p q
-Fits (cast.Unwrap p q) from to = ⊥
+Fits (cast.Unwrap p q) from to = is_reference_layer from × (to ≡ Ty-F.Prim q) × Converts p q
 Fits cast.Implicit from to = is_reference_layer from × IsSought to
 Fits cast.Explicit from to = is_reference_layer from × IsSought to
 Fits cast.CharToText from to = (from ≡ Ty-F.Prim prim.Char) × (to ≡ Ty-F.Class STRING)
@@ -145,18 +147,19 @@ boxing_to_def_fits : (from to : Ty-F Ty) → FitsIf (boxing_to_def from to) from
 boxing_to_def_fits (Ty-F.Prim p) Ty-F.Def = (refl, tt, converts_itself p)
 boxing_to_def_fits from to = tt
 
-unwrapped_fits : (test : Primitive → Primitive → Bool) (o : Option Primitive) (q : Primitive) (from to : Ty-F Ty) → o ≡ None
-    → FitsIf (unwrapped_as test o q) from to
-unwrapped_fits test None q from to e = tt
-unwrapped_fits test (Some p) q from to e = cc
+unwrapped_fits : (test : Primitive → Primitive → Bool) (o : Option Primitive) (q : Primitive) (class : ℕ)
+    → ((p : Primitive) → test p q ≡ true → Converts p q)
+    → FitsIf (unwrapped_as test o q) (Ty-F.Class class) (Ty-F.Prim q)
+unwrapped_fits test None q class h = tt
+unwrapped_fits test (Some p) q class h = only_fits (test p q) (cast.Unwrap p q) _ _ (λ e. (tt, refl, h p e))
 
-unboxing_fits : (from to : Ty-F Ty) → part_layer from → FitsIf (unboxing from to) from to
-unboxing_fits (Ty-F.Class class) (Ty-F.Prim q) h = unwrapped_fits keeps (unboxed class) q _ _ (no_unboxed class h)
-unboxing_fits from to h = tt
+unboxing_fits : (from to : Ty-F Ty) → FitsIf (unboxing from to) from to
+unboxing_fits (Ty-F.Class class) (Ty-F.Prim q) = unwrapped_fits keeps (unboxed class) q class (λ p. keeping_converts p q)
+unboxing_fits from to = tt
 
-unboxing_narrowed_fits : (from to : Ty-F Ty) → part_layer from → FitsIf (unboxing_narrowed from to) from to
-unboxing_narrowed_fits (Ty-F.Class class) (Ty-F.Prim q) h = unwrapped_fits narrows (unboxed class) q _ _ (no_unboxed class h)
-unboxing_narrowed_fits from to h = tt
+unboxing_narrowed_fits : (from to : Ty-F Ty) → FitsIf (unboxing_narrowed from to) from to
+unboxing_narrowed_fits (Ty-F.Class class) (Ty-F.Prim q) = unwrapped_fits narrows (unboxed class) q class (λ p. narrowing_converts p q)
+unboxing_narrowed_fits from to = tt
 
 to_def_fits : (from to : Ty-F Ty) → FitsIf (to_def from to) from to
 to_def_fits (Ty-F.Class class) Ty-F.Def = References tt tt
@@ -218,8 +221,8 @@ module _ (below : ℕ → ℕ → Bool) where
     RowsFit [] = Unit {0}
     RowsFit (r ∷ rs) = RowFits r × RowsFit rs
 
-    rows_fit : part_layer from → RowsFit cast_rows
-    rows_fit h =
+    rows_fit : RowsFit cast_rows
+    rows_fit =
         itself_fits from to &
         null_fits from to &
         widening_fits from to &
@@ -228,8 +231,8 @@ module _ (below : ℕ → ℕ → Bool) where
         boxing_narrowed_fits from to &
         boxing_to_parent_fits from to &
         boxing_to_def_fits from to &
-        unboxing_fits from to h &
-        unboxing_narrowed_fits from to h &
+        unboxing_fits from to &
+        unboxing_narrowed_fits from to &
         to_parent_fits from to &
         to_child_fits from to &
         to_def_fits from to &
@@ -258,11 +261,10 @@ found_fits : (o : Option Cast) (c : Cast) (from to : Ty-F Ty) → o ≡ Some c �
 found_fits None c from to e h = cc
 found_fits (Some x) c from to e h = let same : x ≡ c = cc in subst (λ c. Fits c from to) same h
 
-fitting : (from to : Ty) (written : Bool) (c : Cast) → IsOfPart from → cast_of class_is_below from to written ≡ Some c
-    → Fits c (out-Ty from) (out-Ty to)
+fitting : (from to : Ty) (written : Bool) (c : Cast) → cast_of class_is_below from to written ≡ Some c → Fits c (out-Ty from) (out-Ty to)
 unfolding cast_of cast_between
-fitting from to written c h e =
-    found_fits _ c (out-Ty from) (out-Ty to) e (from_rows class_is_below (out-Ty from) (out-Ty to) cast_rows written (rows_fit class_is_below (out-Ty from) (out-Ty to) h.layer))
+fitting from to written c e =
+    found_fits _ c (out-Ty from) (out-Ty to) e (from_rows class_is_below (out-Ty from) (out-Ty to) cast_rows written (rows_fit class_is_below (out-Ty from) (out-Ty to)))
 
 -- ---- the same of types
 
@@ -282,16 +284,16 @@ fits_casts : (c : Cast) (from to : Ty) → IsAim to → Fits c (out-Ty from) (ou
 fits_casts cast.Keep from to h f = kept from to f
 fits_casts (cast.Number p q) from to h f = (prim_by from p f.0, prim_by to q f.1, f.2)
 fits_casts (cast.Wrap p q) from to h f = (prim_by from p f.0, f.1, f.2)
-fits_casts (cast.Unwrap p q) from to h f = absurd f
+fits_casts (cast.Unwrap p q) from to h f = (f.0, prim_by to q f.1, f.2)
 fits_casts cast.Implicit from to h f = (f.0, named_by to (out-Ty to) f.1 h.layer)
 fits_casts cast.Explicit from to h f = (f.0, named_by to (out-Ty to) f.1 h.layer)
 fits_casts cast.CharToText from to h f = (prim_by from prim.Char f.0, class_by to STRING f.1)
 fits_casts cast.TextToChar from to h f = (f.0, prim_by to prim.Char f.1)
 
 -- a cast of a part, written or added
-pub part_casts : (from to : Ty) (written : Bool) (c : Cast) → IsOfPart from → IsAim to → cast_of class_is_below from to written ≡ Some c
+pub part_casts : (from to : Ty) (written : Bool) (c : Cast) → IsAim to → cast_of class_is_below from to written ≡ Some c
     → Casts c from to
-part_casts from to written c h aim e = fits_casts c from to aim (fitting from to written c h e)
+part_casts from to written c aim e = fits_casts c from to aim (fitting from to written c e)
 
 -- nothing goes to void
 to_void : (c : Cast) (from : Ty-F Ty) → Fits c from Ty-F.Void → ⊥
@@ -299,17 +301,17 @@ to_void cast.Keep from (Same p a b) = cc
 to_void cast.Keep from (References a b) = b
 to_void (cast.Number p q) from f = let same = f.1 in cc
 to_void (cast.Wrap p q) from f = f.1
-to_void (cast.Unwrap p q) from f = f
+to_void (cast.Unwrap p q) from f = let same = f.1 in cc
 to_void cast.Implicit from f = f.1
 to_void cast.Explicit from f = f.1
 to_void cast.CharToText from f = let same = f.1 in cc
 to_void cast.TextToChar from f = let same = f.1 in cc
 
-pub none_to_void : (from to : Ty) (written : Bool) (c : Cast) → IsOfPart from → out-Ty to ≡ Ty-F.Void
+pub none_to_void : (from to : Ty) (written : Bool) (c : Cast) → out-Ty to ≡ Ty-F.Void
     → cast_of class_is_below from to written ≡ Some c → ⊥
-none_to_void from to written c h is e = to_void c (out-Ty from) (subst (Fits c (out-Ty from)) is (fitting from to written c h e))
+none_to_void from to written c is e = to_void c (out-Ty from) (subst (Fits c (out-Ty from)) is (fitting from to written c e))
 
--- a cast of a primitive type, and one to def, does not look at the value's type
+-- a cast of a primitive type, and one to def, does not ask for a type when the script runs
 prim_known : (c : Cast) (p : Primitive) (to : Ty-F Ty) → Fits c (Ty-F.Prim p) to → IsKnownBefore c
 prim_known cast.Keep p to f = tt
 prim_known (cast.Number a b) p to f = tt
@@ -330,9 +332,23 @@ def_known cast.Explicit from f = f.1
 def_known cast.CharToText from f = tt
 def_known cast.TextToChar from f = tt
 
-pub known_from_prim : (from to : Ty) (p : Primitive) (written : Bool) (c : Cast) → IsOfPart from → out-Ty from ≡ Ty-F.Prim p
-    → cast_of class_is_below from to written ≡ Some c → IsKnownBefore c
-known_from_prim from to p written c h is e = prim_known c p (out-Ty to) (subst (λ from. Fits c from (out-Ty to)) is (fitting from to written c h e))
+known_unwrapped : (test : Bool) (p q : Primitive) (c : Cast) → only_if test (cast.Unwrap p q) ≡ Some c → IsKnownBefore c
+known_unwrapped true p q c e = let same : cast.Unwrap p q ≡ c = cc in subst IsKnownBefore same tt
+known_unwrapped false p q c e = cc
 
-pub known_to_def : (from : Ty) (written : Bool) (c : Cast) → IsOfPart from → cast_of class_is_below from t.Def written ≡ Some c → IsKnownBefore c
-known_to_def from written c h e = def_known c (out-Ty from) (subst (Fits c (out-Ty from)) def_layer (fitting from t.Def written c h e))
+-- nor does one of a primitive type, or of a box, to a primitive type
+pub known_from_unboxed : (from : Ty) (p q : Primitive) (written : Bool) (c : Cast) → unboxed_of from ≡ Some p → cast_of class_is_below from (t.Prim q) written ≡ Some c → IsKnownBefore c
+known_from_unboxed from p q written c is e = by_layer (out-Ty from) refl is
+  where
+    by_layer : (l : Ty-F Ty) → out-Ty from ≡ l → unboxed_layer l ≡ Some p → IsKnownBefore c
+    by_layer (Ty-F.Prim r) at is = prim_known c r (out-Ty (t.Prim q)) (subst (λ from. Fits c from (out-Ty (t.Prim q))) at (fitting from (t.Prim q) written c e))
+    by_layer (Ty-F.Class class) at is =
+        known_unwrapped (reaches p q written) p q c
+        (unboxing_box class_is_below p q class written (only_if (reaches p q written) (cast.Unwrap p q)) is refl ∙ (ap (λ from. cast_of class_is_below from (t.Prim q) written) (sym (class_by from class at)) ∙ e))
+    by_layer Ty-F.Void at is = cc
+    by_layer Ty-F.Null at is = cc
+    by_layer Ty-F.Def at is = cc
+    by_layer (Ty-F.Array u) at is = cc
+
+pub known_to_def : (from : Ty) (written : Bool) (c : Cast) → cast_of class_is_below from t.Def written ≡ Some c → IsKnownBefore c
+known_to_def from written c e = def_known c (out-Ty from) (subst (Fits c (out-Ty from)) def_layer (fitting from t.Def written c e))

@@ -18,7 +18,6 @@ use Rattle.allowlist.specs.Index.{member_at}
 use Rattle.allowlist.proofs.Unique.{found_is_allowed}
 use Rattle.member_calls.specs.Members.{is_built}
 use Rattle.member_calls.proofs.Owners.{built_owners}
-use Rattle.member_calls.specs.Types.{is_plain_class, is_plain_layer, is_plain, is_plain_member}
 use Rattle.typed_tree.specs.declared.operation.Operation.{Operation}
 use Rattle.typed_tree.specs.declared.operation.Operation.TheVariants as o
 use Rattle.typed_tree.specs.declared.typed.Typed.{Typed}
@@ -36,7 +35,7 @@ use Rattle.source_meaning.specs.Programs.{exprs_of, expr_of}
 use Rattle.program_typing.specs.Types.{IsReference}
 use Rattle.program_typing.specs.Agreeing.{Known as Script, Scope, types_of, TakesTypes, Applies, is_primitive_layer, is_primitive as gives_number, MemberAgrees, ExprsAgree}
 use Rattle.typing_soundness.proofs.Nodes.{applied_is, guarded_is}
-use Rattle.typing_soundness.proofs.Types.{part_layer, IsOfPart, part_aim, reference_by, plain_class, members_built}
+use Rattle.typing_soundness.proofs.Types.{part_layer, IsOfPart, part_aim, reference_by, members_built}
 use Rattle.typing_soundness.proofs.Parts.{passed, accepted, settled, PartIs, node_is, part_of, cast_is}
 use Rattle.typing_soundness.proofs.Names.{AllParts}
 
@@ -53,40 +52,18 @@ open_part of e = record { layer = by_layer (out-Ty of) e }
     by_layer (Ty-F.Class c) e = e
     by_layer (Ty-F.Array u) e = cc
 
-open_plain : (l : Ty-F Ty) → is_open_layer l ≡ true → is_plain_layer l ≡ true
-open_plain Ty-F.Void e = refl
-open_plain Ty-F.Null e = cc
-open_plain Ty-F.Def e = refl
-open_plain (Ty-F.Prim p) e = refl
-open_plain (Ty-F.Class c) e = plain_class c e
-open_plain (Ty-F.Array u) e = cc
-
-both_true : (a b : Bool) → a ≡ true → b ≡ true → (a && b) ≡ true
-both_true true true x y = refl
-both_true true false x y = cc
-both_true false b x y = cc
-
-all_plain : (ts : List Ty) → list_all is_open ts ≡ true → list_all is_plain ts ≡ true
-all_plain [] e = refl
-all_plain (t ∷ ts) e =
-    let both = and_parts (is_open t) (list_all is_open ts) e in
-    both_true (is_plain t) (list_all is_plain ts) (open_plain (out-Ty t) both.0) (all_plain ts both.1)
-
 -- what is open in a member
 record Opens (m : MemberType) : Type 0 where
   owner : is_built_class m.owner ≡ true
-  plain : is_plain_member m ≡ true
   params : list_all is_open m.params ≡ true
   result : IsOfPart m.result
 
 opens : (m : MemberType) → is_open_member m ≡ true → Opens m
-unfolding is_plain_member
 opens m e =
     let first = and_parts (is_built_class m.owner) (list_all is_open m.params && is_open m.result) e in
     let second = and_parts (list_all is_open m.params) (is_open m.result) first.1 in
     record {
       owner = first.0;
-      plain = both_true (is_plain_class m.owner) (list_all is_plain m.params) (plain_class m.owner first.0) (all_plain m.params second.0);
       params = second.0;
       result = open_part m.result second.1;
     }
@@ -269,7 +246,6 @@ module _ (funs : Script) (g : Scope) where
     text = refl;
     built = c.built;
     allowed = c.found.allowed;
-    plain = c.opens.plain;
     takes = takes;
     gives = refl;
   }

@@ -48,8 +48,8 @@ use Rattle.program_typing.specs.Types.{IsReference, string, Takes, Casts}
 use Rattle.program_typing.specs.Agreeing.{Known as Script, Scope, variable_of, IsVariable, types_of, types_in, IsKnownBefore, Changes, ExprsAgree, scope_of}
 use Rattle.typing_soundness.proofs.Nodes.{local_is, applied_is, assign_is, change_is}
 use Rattle.typing_soundness.proofs.Types.{IsBuilt, built_part, built_aim, IsOfPart, prim_part, IsAim, prim_aim, def_aim, def_reference}
-use Rattle.typing_soundness.proofs.Casts.{part_casts, known_from_prim, known_to_def}
-use Rattle.typing_soundness.proofs.Plans.{PlanFits, IsWide, plans_fit, add_right, subtract_right, IsPrimitive, left_primitive}
+use Rattle.typing_soundness.proofs.Casts.{part_casts, known_from_unboxed, known_to_def}
+use Rattle.typing_soundness.proofs.Plans.{PlanFits, IsWide, plans_fit, add_right, subtract_right, IsUnboxed, left_unboxed}
 use Rattle.typing_soundness.proofs.Parts.{passed, accepted, settled, string_part, TypedIs, PartIs, node_is, part_of, constant_typed, operand_is, cast_is, reference_is}
 
 -- ---- names in sight
@@ -209,13 +209,13 @@ module _ (funs : Script) where
         (node_is funs g at of _ _ (change_is at of (target.Local name) [] x y gives) refl (h.agrees, v, c x refl)))
 
     changed_is : (at : ℕ) (name : Name) (of : Ty) (plan : Plan) (y : Typed) (gives : Gives) (z : Part) → IsVariable g name of → IsBuilt of
-        → PlanFits plan → IsPrimitive of
+        → PlanFits plan → IsUnboxed of
         → changed at name of plan y gives ≡ Ok z → TypedIs funs g y (t.Prim plan.right) → PartIs funs g z
     changed_is at name of plan y gives z v b fits p e h =
         changed_if (change_of plan of) at name of y (t.Prim plan.right) gives z v b e h (λ x found.
         changes (cast_before plan of) (cast_after plan of) plan of x _ found
-        (λ c found. (known_from_prim of (t.Prim plan.left) p.primitive true c (built_part of b) p.layer found, part_casts of (t.Prim plan.left) true c (built_part of b) (prim_aim plan.left) found))
-        (λ c found. part_casts (t.Prim plan.result) of true c (prim_part plan.result) (built_aim of b) found) fits h.is)
+        (λ c found. (known_from_unboxed of p.primitive plan.left true c p.is found, part_casts of (t.Prim plan.left) true c (prim_aim plan.left) found))
+        (λ c found. part_casts (t.Prim plan.result) of true c (built_aim of b) found) fits h.is)
 
     joined_is : (found : Option Operator) (operator : BinaryOperator) (at : ℕ) (name : Name) (of : Ty) (x z : Part) → IsVariable g name of
         → IsBuilt of
@@ -226,11 +226,11 @@ module _ (funs : Script) where
         let right = reference_is funs g x a.given a.first h in
         changed_if (joining_of of) at name of a.given t.Def gv.New z v b a.then' right (λ x found.
         joins (cast_of class_is_below of t.Def true) (cast_of class_is_below string of true) of x _ found
-        (λ c found. (known_to_def of true c (built_part of b) found, part_casts of t.Def true c (built_part of b) def_aim found))
-        (λ c found. part_casts string of true c string_part (built_aim of b) found) right.is)
+        (λ c found. (known_to_def of true c found, part_casts of t.Def true c def_aim found))
+        (λ c found. part_casts string of true c (built_aim of b) found) right.is)
 
     compound_is : (found : Option Plan) (operator : BinaryOperator) (at : ℕ) (name : Name) (of : Ty) (x z : Part) → IsVariable g name of → IsBuilt of
-        → ((p : Plan) → found ≡ Some p → PlanFits p × IsPrimitive of) → compound found operator at name of x ≡ Ok z → PartIs funs g x
+        → ((p : Plan) → found ≡ Some p → PlanFits p × IsUnboxed of) → compound found operator at name of x ≡ Ok z → PartIs funs g x
         → PartIs funs g z
     compound_is None operator at name of x z v b fits e h = joined_is (relation_between operator of (type_of_part x)) operator at name of x z v b e h
     compound_is (Some plan) operator at name of x z v b fits e h =
@@ -244,7 +244,7 @@ module _ (funs : Script) where
     assigned_is None at name of x z v b e h = set_is at name of x z v b e h
     assigned_is (Some operator) at name of x z v b e h =
         compound_is (plan_between operator of (type_of_part x)) operator at name of x z v b
-        (λ p found. (plans_fit operator of (type_of_part x) p found, left_primitive operator of (type_of_part x) p found)) e h
+        (λ p found. (plans_fit operator of (type_of_part x) p found, left_unboxed operator of (type_of_part x) p found)) e h
 
     -- an assignment
     pub assign_part : (p : Place) (at : ℕ) (operator : Option BinaryOperator) (x z : Part) → PlaceIs g p → assign_of at operator p x ≡ Ok z → PartIs funs g x → PartIs funs g z
@@ -260,7 +260,7 @@ module _ (funs : Script) where
     one_is at prim.Char w = absurd w
 
     counted_is : (found : Option Plan) (at : ℕ) (name : Name) (of : Ty) (gives : Gives) (z : Part) → IsVariable g name of → IsBuilt of
-        → ((p : Plan) → found ≡ Some p → PlanFits p × IsPrimitive of) → ((p : Plan) → found ≡ Some p → IsWide p.right)
+        → ((p : Plan) → found ≡ Some p → PlanFits p × IsUnboxed of) → ((p : Plan) → found ≡ Some p → IsWide p.right)
         → counted found at name of gives ≡ Ok z → PartIs funs g z
     counted_is None at name of gives z v b fits wide e = cc
     counted_is (Some plan) at name of gives z v b fits wide e =
@@ -276,7 +276,7 @@ module _ (funs : Script) where
     step_part place.Fixed at s gives z v e = cc
     step_part (place.Local name of) at s gives z v e =
         counted_is (plan_between (operator_of s) of (t.Prim prim.Int)) at name of gives z v.0 v.1
-        (λ p found. (plans_fit (operator_of s) of (t.Prim prim.Int) p found, left_primitive (operator_of s) of (t.Prim prim.Int) p found)) (step_right s of (t.Prim prim.Int)) e
+        (λ p found. (plans_fit (operator_of s) of (t.Prim prim.Int) p found, left_unboxed (operator_of s) of (t.Prim prim.Int) p found)) (step_right s of (t.Prim prim.Int)) e
 
     -- ---- calls
 

@@ -39,7 +39,7 @@ use Rattle.typing_rules.specs.Rules.Nodes.{boolean, typed, applied, type_in, typ
 use Rattle.typing_rules.specs.Rules.Literals.{int_literal, long_literal, integer, negated_integer, constant, unescaped, unquoted, text}
 use Rattle.typing_rules.specs.Rules.Digits.{is_long, magnitude, unmarked}
 use Rattle.typing_rules.specs.Rules.Casts.{within, unit_of, standing_layer, standing, cast_by, cast_at, literal_or, cast_to, asked}
-use Rattle.typing_rules.specs.Rules.Operators.{primitive_layer, primitive_of, on_numbers, operand, Side, side_layer, side_of, joins, compares, identifies, only_if, relation_of, relation_between, type_given, reference, related, strict, side, logical, binary_of, promoted_if, promoted, signed, plus_as, not_of, unary_of, common_if, common_layer, common, choice_as, choice_of, is_literal, is_primitive, needs_no_other, elvis_by, common_of, elvis_of, may_be_instance, has_instances_layer, instance_of}
+use Rattle.typing_rules.specs.Rules.Operators.{primitive_layer, primitive_of, unboxed_of, on_numbers, operand, Side, side_layer, side_of, joins, compares, identifies, only_if, relation_of, relation_between, type_given, reference, related, strict, side, logical, binary_of, promoted_if, promoted, signed, plus_as, not_of, unary_of, common_if, common_layer, common, choice_as, choice_of, is_literal, is_primitive, needs_no_other, elvis_by, common_of, elvis_of, may_be_instance, has_instances_layer, instance_of}
 use Rattle.typing_rules.specs.Rules.Types.{is_built_class}
 use Rattle.source_meaning.specs.Tree.{Expr, Literal, type_of}
 use Rattle.source_meaning.specs.Programs.{expr_of}
@@ -239,7 +239,7 @@ module _ (funs : Script) (g : Scope) where
   -- an operand that is cast to a primitive type
   pub operand_is : (at : ℕ) (q : Primitive) (x : Part) (y : Typed) → operand at q x ≡ Ok y → PartIs x → TypedIs y (t.Prim q)
   operand_is at q x y e h =
-      cast_given _ x.at at (t.Prim q) x.typed y e (λ cast found. part_casts (type_in x.typed) (t.Prim q) true cast h.built (prim_aim q) found) h.typed
+      cast_given _ x.at at (t.Prim q) x.typed y e (λ cast found. part_casts (type_in x.typed) (t.Prim q) true cast (prim_aim q) found) h.typed
 
   as_if : (c : Bool) (v w : Constant) (of : Ty) → (if c then Some v else None) ≡ Some w → IsOf v of → IsOf w of
   as_if true v w of e a = let same : v ≡ w = cc in subst (λ w. IsOf w of) same a
@@ -273,7 +273,7 @@ module _ (funs : Script) (g : Scope) where
   -- what is cast to a type where none is written
   pub cast_is : (to : Ty) (x : Part) (y : Typed) → IsAim to → cast_to to x ≡ Ok y → PartIs x → TypedIs y to
   cast_is to x y aim e h = literal_given (standing x.form to) x.at to _ y e (λ v found. standing_is x.form to (out-Ty to) v refl found)
-      (λ e. cast_given _ x.at x.at to x.typed y e (λ cast found. part_casts (type_in x.typed) to false cast h.built aim found) h.typed)
+      (λ e. cast_given _ x.at x.at to x.typed y e (λ cast found. part_casts (type_in x.typed) to false cast aim found) h.typed)
 
   void_standing : (form : Form) (l : Ty-F Ty) → l ≡ Ty-F.Void → standing_layer form l ≡ None
   void_standing (f.Number value) Ty-F.Void e = refl
@@ -297,12 +297,12 @@ module _ (funs : Script) (g : Scope) where
   no_void : (to : Ty) (x : Part) (y : Typed) → out-Ty to ≡ Ty-F.Void → cast_to to x ≡ Ok y → PartIs x → ⊥
   no_void to x y is e h =
       void_given _ x.at x.at to x.typed y (void_or (standing x.form to) x.at to _ y (void_standing x.form (out-Ty to) is) e)
-      (λ cast found. none_to_void (type_in x.typed) to false cast h.built is found)
+      (λ cast found. none_to_void (type_in x.typed) to false cast is found)
 
   -- a cast that is written
   written_is : (at : ℕ) (to : Ty) (x : Part) (y : Typed) → IsAim to → cast_at at to x true ≡ Ok y → PartIs x → TypedIs y to
   written_is at to x y aim e h =
-      cast_given _ x.at at to x.typed y e (λ cast found. part_casts (type_in x.typed) to true cast h.built aim found) h.typed
+      cast_given _ x.at at to x.typed y e (λ cast found. part_casts (type_in x.typed) to true cast aim found) h.typed
 
   pub asked_is : (at : ℕ) (to : Ty) (x y : Part) → IsBuilt to → asked at to x ≡ Ok y → PartIs x → PartIs y
   asked_is at to x y b e h =
@@ -438,8 +438,8 @@ module _ (funs : Script) (g : Scope) where
 
   pub unary_is : (operator : UnaryOperator) (at : ℕ) (x y : Part) → unary_of operator at x ≡ Ok y → PartIs x → PartIs y
   unary_is u.Plus at x y e h = plus_is (promoted x) at x y e h
-  unary_is u.Minus at x y e h = signed_is op.Neg (promoted x) at x y e (promoted_wide (primitive_of (type_of_part x))) negates h
-  unary_is u.Complement at x y e h = signed_is op.Not (promoted x) at x y e (promoted_wide (primitive_of (type_of_part x))) complements h
+  unary_is u.Minus at x y e h = signed_is op.Neg (promoted x) at x y e (promoted_wide (unboxed_of (type_of_part x))) negates h
+  unary_is u.Complement at x y e h = signed_is op.Not (promoted x) at x y e (promoted_wide (unboxed_of (type_of_part x))) complements h
   unary_is u.Not at x y e h = not_is at x y e h
 
   -- ---- the conditional

@@ -1,6 +1,6 @@
 -- The plans of operators fit their operands.
-use Rattle.std.proofs.Common.{◌≡◌, [], ◌∷◌, Option, Some, None, refl, subst}
-use Rattle.std.specs.Prelude.{option_map}
+use Rattle.std.proofs.Common.{◌≡◌, Bool, true, false, [], ◌∷◌, Option, Some, None, refl, subst}
+use Rattle.std.specs.Prelude.{option_map, if◌then◌else◌}
 use Rattle.arithmetic.specs.declared.operator.Op.{Op}
 use Rattle.arithmetic.specs.declared.operator.Op.TheVariants as op
 use Rattle.pl_types.specs.declared.primitive.Primitive.{Primitive}
@@ -13,7 +13,7 @@ use Rattle.pl_tree.specs.declared.operator.BinaryOperator.{BinaryOperator}
 use Rattle.pl_tree.specs.declared.operator.BinaryOperator.TheVariants as b
 use Rattle.typed_tree.specs.declared.operation.Operator.TheVariants as operator
 use Rattle.typing_rules.specs.declared.rules.plans.Plan.{Plan}
-use Rattle.typing_rules.specs.Rules.Operators.{primitive_layer, primitive_of, plan, on_numbers, shift_of, of_booleans, bits, equality, plan_of, plan_if, plan_between}
+use Rattle.typing_rules.specs.Rules.Operators.{primitive_layer, primitive_of, unboxed_layer, unboxed_of, is_equality, primitive_to, plan, on_numbers, shift_of, of_booleans, bits, equality, plan_of, plan_if, plan_between}
 use Rattle.program_typing.specs.Types.{Takes}
 
 pub record PlanFits (x : Plan) : Type 0 where
@@ -168,7 +168,7 @@ planned_if o (Some p) None x e = cc
 planned_if o (Some p) (Some q) x e = plan_fits o p q x e
 
 pub plans_fit : (o : BinaryOperator) (p q : Ty) (x : Plan) → plan_between o p q ≡ Some x → PlanFits x
-plans_fit o p q x e = planned_if o (primitive_of p) (primitive_of q) x e
+plans_fit o p q x e = planned_if o (primitive_to o p) (primitive_to o q) x e
 
 right_if : (o : BinaryOperator) (p q : Option Primitive) (x : Plan) → ((p q : Primitive) → plan_of o p q ≡ Some x → IsWide x.right) → plan_if o p q ≡ Some x → IsWide x.right
 right_if o None q x f e = cc
@@ -176,24 +176,33 @@ right_if o (Some p) None x f e = cc
 right_if o (Some p) (Some q) x f e = f p q e
 
 pub add_right : (p q : Ty) (x : Plan) → plan_between b.Add p q ≡ Some x → IsWide x.right
-add_right p q x e = right_if b.Add (primitive_of p) (primitive_of q) x (λ p q e. arithmetic_right op.Add (promote_of p q) (promotes p q) x e) e
+add_right p q x e = right_if b.Add (unboxed_of p) (unboxed_of q) x (λ p q e. arithmetic_right op.Add (promote_of p q) (promotes p q) x e) e
 
 pub subtract_right : (p q : Ty) (x : Plan) → plan_between b.Subtract p q ≡ Some x → IsWide x.right
-subtract_right p q x e = right_if b.Subtract (primitive_of p) (primitive_of q) x (λ p q e. arithmetic_right op.Sub (promote_of p q) (promotes p q) x e) e
+subtract_right p q x e = right_if b.Subtract (unboxed_of p) (unboxed_of q) x (λ p q e. arithmetic_right op.Sub (promote_of p q) (promotes p q) x e) e
 
--- a plan is there for primitive types alone
-pub record IsPrimitive (of : Ty) : Type 0 where
+-- a plan is there for primitive types and boxes alone
+pub record IsUnboxed (of : Ty) : Type 0 where
   pub primitive : Primitive
-  pub layer : out-Ty of ≡ Ty-F.Prim primitive
+  pub is : unboxed_of of ≡ Some primitive
 
-primitive_if : (o : BinaryOperator) (of : Ty) (l : Ty-F Ty) (q : Option Primitive) (x : Plan) → out-Ty of ≡ l
-    → plan_if o (primitive_layer l) q ≡ Some x → IsPrimitive of
-primitive_if o of (Ty-F.Prim p) q x is e = record { primitive = p; layer = is }
-primitive_if o of Ty-F.Void q x is e = cc
-primitive_if o of Ty-F.Null q x is e = cc
-primitive_if o of Ty-F.Def q x is e = cc
-primitive_if o of (Ty-F.Class c) q x is e = cc
-primitive_if o of (Ty-F.Array u) q x is e = cc
+primitive_unboxed : (l : Ty-F Ty) (p : Primitive) → primitive_layer l ≡ Some p → unboxed_layer l ≡ Some p
+primitive_unboxed (Ty-F.Prim q) p e = e
+primitive_unboxed Ty-F.Void p e = cc
+primitive_unboxed Ty-F.Null p e = cc
+primitive_unboxed Ty-F.Def p e = cc
+primitive_unboxed (Ty-F.Class c) p e = cc
+primitive_unboxed (Ty-F.Array u) p e = cc
 
-pub left_primitive : (o : BinaryOperator) (p q : Ty) (x : Plan) → plan_between o p q ≡ Some x → IsPrimitive p
-left_primitive o p q x e = primitive_if o p (out-Ty p) (primitive_of q) x refl e
+unboxed_by : (test : Bool) (of : Ty) (p : Primitive) → (if test then primitive_of of else unboxed_of of) ≡ Some p → unboxed_of of ≡ Some p
+unboxed_by true of p e = primitive_unboxed (out-Ty of) p e
+unboxed_by false of p e = e
+
+left_there : (o : BinaryOperator) (p q : Option Primitive) (x : Plan) → plan_if o p q ≡ Some x → (r : Primitive) × (p ≡ Some r)
+left_there o None q x e = cc
+left_there o (Some r) q x e = (r, refl)
+
+pub left_unboxed : (o : BinaryOperator) (p q : Ty) (x : Plan) → plan_between o p q ≡ Some x → IsUnboxed p
+left_unboxed o p q x e =
+    let left = left_there o (primitive_to o p) (primitive_to o q) x e in
+    record { primitive = left.0; is = unboxed_by (is_equality o) p left.0 left.1 }

@@ -2,94 +2,33 @@
 use Rattle.std.proofs.Common.{◌≡◌, ℕ, Bool, true, false, ◌||◌, ◌&&◌, Some, None, refl, sym, ap, ◌∙◌, subst, arith, ◌≤◌, ◌<◌, nat_lt, ◌⊎◌, inl, inr}
 use Rattle.std.specs.Prelude.{nat_le, not, ◌==◌, if◌then◌else◌}
 use Rattle.std.proofs.lemmas.Bool.{and_parts, or_cases, or_left, or_right, eqb-true, leb-true, le-leb, lt-ltb, ne_eqb}
-use Rattle.pl_types.specs.declared.classes.TheConstants.{CHAR_SEQUENCE, STRING, STRING_BUILDER, EXCEPTION, STRING_INDEX_OUT_OF_BOUNDS_EXCEPTION, PRELUDE, NUMBER, BYTE, SHORT, INTEGER, LONG, CHARACTER, BOOLEAN}
+use Rattle.pl_types.specs.declared.classes.TheConstants.{STRING_BUILDER, EXCEPTION, STRING_INDEX_OUT_OF_BOUNDS_EXCEPTION, PRELUDE}
 use Rattle.pl_types.specs.declared.primitive.Primitive.{Primitive}
 use Rattle.pl_types.specs.declared.primitive.Primitive.TheVariants as prim
 use Rattle.pl_types.specs.declared.ty.Ty.{Ty, out-Ty, roll-Ty, roll-out-Ty}
 use Rattle.pl_types.specs.declared.ty.Ty.TheVariants as t
 use Rattle.pl_types.specs.declared.ty.Ty.TheOpen.{Ty-F}
 use Rattle.pl_types.specs.declared.ty.Ty.TheFolds.{fold-roll-Ty, map-Ty}
-use Rattle.pl_types.specs.Casts.{unboxed}
 use Rattle.member_calls.specs.Laws.{is_built_class as has_members}
-use Rattle.member_calls.specs.Types.{is_plain_class}
 use Rattle.typing_rules.specs.Rules.Types.{is_built_class, is_built_layer, is_built}
 use Rattle.program_typing.specs.Types.{is_reference_layer, IsReference, has_values_layer, HasValues, listed_layer, is_listed, IsNamed}
 use Rattle.typing_soundness.specs.Laws.{may_be_result, MayBeResult}
 
 -- ---- the classes that are built
 
-data Lies (c : ℕ) : Type 0 where
-  Low : c ≤ 2 → Lies c
-  High : 11 ≤ c → c < 55 → Lies c
-
-lies : (c : ℕ) → is_built_class c ≡ true → Lies c
-lies c e = first (or_cases (nat_le c CHAR_SEQUENCE) _ e)
+-- scripts may have them
+built_listed : (c : ℕ) → is_built_class c ≡ true → nat_lt c PRELUDE ≡ true
+built_listed c e = pick (or_cases (nat_le c STRING_BUILDER) _ e)
   where
-    fourth : ((nat_le EXCEPTION c && nat_le c STRING_INDEX_OUT_OF_BOUNDS_EXCEPTION) ≡ true) → Lies c
-    fourth e =
-        let both = and_parts (nat_le EXCEPTION c) (nat_le c STRING_INDEX_OUT_OF_BOUNDS_EXCEPTION) e in
-        let least = leb-true EXCEPTION c both.0 in
-        let most = leb-true c STRING_INDEX_OUT_OF_BOUNDS_EXCEPTION both.1 in
-        High (omega (arith, least)) (omega (arith, most))
-
-    third : ((c == STRING_BUILDER) ≡ true) ⊎ ((nat_le EXCEPTION c && nat_le c STRING_INDEX_OUT_OF_BOUNDS_EXCEPTION) ≡ true) → Lies c
-    third (inl e) = let is = eqb-true c STRING_BUILDER e in High (omega (arith, is)) (omega (arith, is))
-    third (inr e) = fourth e
-
-    second : ((c == STRING) ≡ true) ⊎ ((c == STRING_BUILDER || (nat_le EXCEPTION c && nat_le c STRING_INDEX_OUT_OF_BOUNDS_EXCEPTION)) ≡ true) → Lies c
-    second (inl e) = let is = eqb-true c STRING e in High (omega (arith, is)) (omega (arith, is))
-    second (inr e) = third (or_cases (c == STRING_BUILDER) _ e)
-
-    first : (nat_le c CHAR_SEQUENCE ≡ true) ⊎ ((c == STRING || (c == STRING_BUILDER || (nat_le EXCEPTION c && nat_le c STRING_INDEX_OUT_OF_BOUNDS_EXCEPTION))) ≡ true) → Lies c
-    first (inl e) = let most = leb-true c CHAR_SEQUENCE e in Low most
-    first (inr e) = second (or_cases (c == STRING) _ e)
-
-lies_listed : (c : ℕ) → Lies c → nat_lt c PRELUDE ≡ true
-lies_listed c (Low most) = lt-ltb c 55 (omega (arith, most))
-lies_listed c (High least most) = lt-ltb c 55 most
-
--- neither Number nor a box is built
-no_box : (c k : ℕ) → 3 ≤ k → k ≤ 9 → Lies c → (c == k) ≡ false
-no_box c k a b (Low most) = ne_eqb c k (λ same. absurd (omega (arith, a, most, same)))
-no_box c k a b (High least most) = ne_eqb c k (λ same. absurd (omega (arith, b, least, same)))
-
-unboxed_by : (a b c d e f : Bool) → a ≡ false → b ≡ false → c ≡ false → d ≡ false → e ≡ false → f ≡ false
-    → (if a then Some prim.Boolean else (if b then Some prim.Byte else (if c then Some prim.Short else (if d then Some prim.Char else (if e then Some prim.Int else (if f then Some prim.Long else None)))))) ≡ None
-unboxed_by a b c d e f u v w x y z = cc
-
-pub no_unboxed : (c : ℕ) → is_built_class c ≡ true → unboxed c ≡ None
-no_unboxed c e =
-    let x = lies c e in
-    unboxed_by (c == BOOLEAN) (c == BYTE) (c == SHORT) (c == CHARACTER) (c == INTEGER) (c == LONG)
-    (no_box c 9 (omega arith) (omega arith) x) (no_box c 4 (omega arith) (omega arith) x) (no_box c 5 (omega arith) (omega arith) x)
-    (no_box c 8 (omega arith) (omega arith) x) (no_box c 6 (omega arith) (omega arith) x) (no_box c 7 (omega arith) (omega arith) x)
-
-pub plain_class : (c : ℕ) → is_built_class c ≡ true → is_plain_class c ≡ true
-plain_class c e =
-    let x = lies c e in
-    plain_by (c == NUMBER) (c == CHARACTER) (c == BOOLEAN) (no_box c 3 (omega arith) (omega arith) x) (no_box c 8 (omega arith) (omega arith) x) (no_box c 9 (omega arith) (omega arith) x)
-  where
-    plain_by : (a b c : Bool) → a ≡ false → b ≡ false → c ≡ false → (not a && (not b && not c)) ≡ true
-    plain_by a b c x y z = cc
+    pick : (nat_le c STRING_BUILDER ≡ true) ⊎ ((nat_le EXCEPTION c && nat_le c STRING_INDEX_OUT_OF_BOUNDS_EXCEPTION) ≡ true) → nat_lt c PRELUDE ≡ true
+    pick (inl low) = let most = leb-true c STRING_BUILDER low in lt-ltb c PRELUDE (omega (arith, most))
+    pick (inr high) =
+        let most = leb-true c STRING_INDEX_OUT_OF_BOUNDS_EXCEPTION (and_parts (nat_le EXCEPTION c) (nat_le c STRING_INDEX_OUT_OF_BOUNDS_EXCEPTION) high).1 in
+        lt-ltb c PRELUDE (omega (arith, most))
 
 -- the members of a class that is built are built
 pub members_built : (c : ℕ) → is_built_class c ≡ true → has_members c ≡ true
-members_built c e = first (or_cases (nat_le c CHAR_SEQUENCE) _ e)
-  where
-    low : c ≤ STRING_BUILDER → has_members c ≡ true
-    low most = or_left (nat_le c STRING_BUILDER) _ (le-leb c STRING_BUILDER most)
-
-    third : ((c == STRING_BUILDER) ≡ true) ⊎ ((nat_le EXCEPTION c && nat_le c STRING_INDEX_OUT_OF_BOUNDS_EXCEPTION) ≡ true) → has_members c ≡ true
-    third (inl e) = let is = eqb-true c STRING_BUILDER e in low (omega (arith, is))
-    third (inr e) = or_right (nat_le c STRING_BUILDER) _ e
-
-    second : ((c == STRING) ≡ true) ⊎ ((c == STRING_BUILDER || (nat_le EXCEPTION c && nat_le c STRING_INDEX_OUT_OF_BOUNDS_EXCEPTION)) ≡ true) → has_members c ≡ true
-    second (inl e) = let is = eqb-true c STRING e in low (omega (arith, is))
-    second (inr e) = third (or_cases (c == STRING_BUILDER) _ e)
-
-    first : (nat_le c CHAR_SEQUENCE ≡ true) ⊎ ((c == STRING || (c == STRING_BUILDER || (nat_le EXCEPTION c && nat_le c STRING_INDEX_OUT_OF_BOUNDS_EXCEPTION))) ≡ true) → has_members c ≡ true
-    first (inl e) = let most = leb-true c CHAR_SEQUENCE e in low (omega (arith, most))
-    first (inr e) = second (or_cases (c == STRING) _ e)
+members_built c e = e
 
 -- ---- types by their layers
 
@@ -162,7 +101,7 @@ built_named of b = record { listed = listed_by of (out-Ty of) refl ∙ by_layer 
     by_layer : (l : Ty-F Ty) → is_built_layer l ≡ true → listed_layer (map-Ty Ty Bool is_listed l) ≡ true
     by_layer (Ty-F.Prim p) is = refl
     by_layer Ty-F.Def is = refl
-    by_layer (Ty-F.Class c) is = lies_listed c (lies c is)
+    by_layer (Ty-F.Class c) is = built_listed c is
     by_layer Ty-F.Void is = cc
     by_layer Ty-F.Null is = cc
     by_layer (Ty-F.Array u) is = cc

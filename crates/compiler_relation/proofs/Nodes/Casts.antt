@@ -1,5 +1,5 @@
 -- Casts: of numbers, and those that are done when the script runs.
-use Rattle.std.proofs.Common.{◌≡◌, ℕ, suc, Bool, true, false, List, [], ◌∷◌, ◌++◌, Option, Some, None, refl, sym, ap, ◌∙◌, subst}
+use Rattle.std.proofs.Common.{◌≡◌, ℕ, suc, Bool, true, false, List, [], ◌∷◌, ◌++◌, length, Option, Some, None, refl, sym, ap, ◌∙◌, subst}
 use Rattle.std.specs.Prelude.{ℤ, pos}
 use Rattle.pl_types.specs.declared.classes.TheConstants.{STRING}
 use Rattle.pl_types.specs.declared.primitive.Primitive.{Primitive}
@@ -19,11 +19,15 @@ use Rattle.pl_code.specs.declared.kinds.Way.TheVariants as way
 use Rattle.pl_code.specs.declared.code.FunCode.{FunCode}
 use Rattle.pl_code.specs.declared.code.Instruction.{Instruction}
 use Rattle.pl_code.specs.declared.code.Instruction.TheVariants as i
+use Rattle.object_heap.specs.Effects.{Effect, Throws, after_paying}
+use Rattle.object_heap.specs.Store.{Store}
 use Rattle.number_ops.specs.Casts.{cast_at_run_time}
+use Rattle.number_ops.specs.declared.outcome.Outcome.{Outcome}
+use Rattle.number_ops.specs.declared.outcome.Outcome.TheVariants as outcome
 use Rattle.number_ops.specs.Outcomes.{effect}
 use Rattle.run_state.specs.World.{Limits, acts_in}
 use Rattle.source_meaning.specs.Tree.{Programs}
-use Rattle.source_meaning.specs.Operating.{Acts, number_cast, in_box, box_if, gives_if, text_if, casts}
+use Rattle.source_meaning.specs.Operating.{Acts, number_cast, in_box, box_if, gives_if, text_if, unwrapped, casts}
 use Rattle.source_meaning.specs.Meaning.{State, Env, Out, found, operated, bind}
 use Rattle.code_meaning.specs.declared.word.Word.{Word}
 use Rattle.code_meaning.specs.declared.word.Word.TheVariants.{I, J, R}
@@ -249,6 +253,28 @@ module _ (funs : Programs) (codes : Codes) (limits : Limits) (c : Ctx codes) (h 
   found_gives None s e = refl
   found_gives (Some value) s e = refl
 
+  -- what is taken out of a box, and goes on as a number
+  abbrev goes_on : Primitive → Primitive → Effect → State → Env → Out Value
+  goes_on p q given s e = bind (operated (Acts given) s e) (λ value s e. found (number_cast p q value) s e)
+
+  given_goes_on : (p q : Primitive) (value : Value) (s : State) (e : Env) → goes_on p q (effect s.world.store (outcome.Gives value)) s e ≡ operated (unwrapped p q (outcome.Gives value) s.world.store) s e
+  unfolding acts_in
+  given_goes_on p q value s e = found_gives (number_cast p q value) s e
+
+  thrown_goes_on : (p q : Primitive) (o : Option Store) (id : ℕ) (s : State) (e : Env)
+      → goes_on p q (after_paying o (λ paid. Throws id paid)) s e ≡ operated (Acts (after_paying o (λ paid. Throws id paid))) s e
+  unfolding acts_in
+  thrown_goes_on p q None id s e = refl
+  thrown_goes_on p q (Some paid) id s e = refl
+
+  unwrapped_runs : (p q : Primitive) (o : Outcome) (s : State) (e : Env) {land : Value → State → List Word → Next} {good : Value → Type 0} {n : Next}
+      → Sim codes limits c h g land good n (goes_on p q (effect s.world.store o) s e) → Sim codes limits c h g land good n (operated (unwrapped p q o s.world.store) s e)
+  unwrapped_runs p q (outcome.Gives value) s e {land = land} {good = good} {n = n} d = subst (λ o. Sim codes limits c h g land good n o) (given_goes_on p q value s e) d
+  unwrapped_runs p q (outcome.Throws raised message) s e {land = land} {good = good} {n = n} d =
+      subst (λ o. Sim codes limits c h g land good n o) (thrown_goes_on p q _ (length s.world.store.objects) s e) d
+  unwrapped_runs p q (outcome.Makes text) s e d = record { by = tt }
+  unwrapped_runs p q outcome.NoMemory s e d = record { by = tt }
+
 -- casts that are done when the script runs
 module _ (funs : Programs) (codes : Codes) (limits : Limits) (reads : ReadsBack) (c : Ctx codes) (h : Handlers) (g : Scope) where
   -- the type of an instruction
@@ -313,7 +339,11 @@ module _ (funs : Programs) (codes : Codes) (limits : Limits) (reads : ReadsBack)
       step_to codes limits l (unboxed value ∷ st) s second.0 (box_runs funs codes limits c h g onto value _ s e l st (unboxed value ∷ st) f))))
   cast_does (cast.Wrap from onto) to value Boxed q s e l st is asks x f = absurd (boxed_unboxed is)
   cast_does (cast.Wrap from onto) to value Absent q s e l st is asks x f = absurd (absent_unboxed is)
-  cast_does (cast.Unwrap from onto) to value k q s e l st is asks x f = record { by = tt }
+  cast_does (cast.Unwrap from onto) to value Boxed q s e l st is asks x f =
+      unwrapped_runs funs codes limits c h g from onto (cast_at_run_time s.world.store.objects value (t.Prim from) false) s e
+      (and_then codes limits (primitive_runs from way.Implicit value q s e l st (x.0, tt) f) (λ value s e l f _. number_runs funs codes limits c h g from onto value (suc q) s e l st x.1 f))
+  cast_does (cast.Unwrap from onto) to value Unboxed q s e l st is asks x f = absurd (unboxed_boxed is)
+  cast_does (cast.Unwrap from onto) to value Absent q s e l st is asks x f = absurd (absent_boxed is)
   cast_does cast.Implicit to value Boxed q s e l st is asks x f = layer_runs (out-Ty to) to way.Implicit value q s e l st refl asks x f
   cast_does cast.Implicit to value Unboxed q s e l st is asks x f = absurd (unboxed_boxed is)
   cast_does cast.Implicit to value Absent q s e l st is asks x f = absurd (absent_boxed is)
