@@ -47,10 +47,10 @@ use Rattle.source_meaning.specs.Programs.{exprs_of, expr_of}
 use Rattle.program_typing.specs.Types.{IsReference, string, Takes, Casts}
 use Rattle.program_typing.specs.Agreeing.{Known as Script, Scope, variable_of, IsVariable, types_of, types_in, IsKnownBefore, Changes, ExprsAgree, scope_of}
 use Rattle.typing_soundness.proofs.Nodes.{local_is, applied_is, assign_is, change_is}
-use Rattle.typing_soundness.proofs.Types.{IsBuilt, built_part, built_aim, IsOfPart, prim_part, IsAim, prim_aim, def_aim, def_reference}
+use Rattle.typing_soundness.proofs.Types.{IsBuilt, built_part, built_aim, IsOfPart, IsAim, prim_aim, def_aim, def_reference}
 use Rattle.typing_soundness.proofs.Casts.{part_casts, known_from_unboxed, known_to_def}
 use Rattle.typing_soundness.proofs.Plans.{PlanFits, IsWide, plans_fit, add_right, subtract_right, IsUnboxed, left_unboxed}
-use Rattle.typing_soundness.proofs.Parts.{passed, accepted, settled, string_part, TypedIs, PartIs, node_is, part_of, constant_typed, operand_is, cast_is, reference_is}
+use Rattle.typing_soundness.proofs.Parts.{passed, accepted, settled, TypedIs, PartIs, node_is, part_of, constant_typed, operand_is, cast_is, reference_is}
 
 -- ---- names in sight
 

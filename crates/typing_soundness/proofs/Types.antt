@@ -1,10 +1,9 @@
 -- Types that parts of expressions have, and types to which they are cast.
-use Rattle.std.proofs.Common.{◌≡◌, ℕ, Bool, true, false, ◌||◌, ◌&&◌, Some, None, refl, sym, ap, ◌∙◌, subst, arith, ◌≤◌, ◌<◌, nat_lt, ◌⊎◌, inl, inr}
-use Rattle.std.specs.Prelude.{nat_le, not, ◌==◌, if◌then◌else◌}
-use Rattle.std.proofs.lemmas.Bool.{and_parts, or_cases, or_left, or_right, eqb-true, leb-true, le-leb, lt-ltb, ne_eqb}
+use Rattle.std.proofs.Common.{◌≡◌, ℕ, Bool, true, ◌&&◌, refl, sym, ap, ◌∙◌, subst, arith, nat_lt, ◌⊎◌, inl, inr}
+use Rattle.std.specs.Prelude.{nat_le}
+use Rattle.std.proofs.lemmas.Bool.{and_parts, or_cases, leb-true, lt-ltb}
 use Rattle.pl_types.specs.declared.classes.TheConstants.{STRING_BUILDER, EXCEPTION, STRING_INDEX_OUT_OF_BOUNDS_EXCEPTION, PRELUDE}
 use Rattle.pl_types.specs.declared.primitive.Primitive.{Primitive}
-use Rattle.pl_types.specs.declared.primitive.Primitive.TheVariants as prim
 use Rattle.pl_types.specs.declared.ty.Ty.{Ty, out-Ty, roll-Ty, roll-out-Ty}
 use Rattle.pl_types.specs.declared.ty.Ty.TheVariants as t
 use Rattle.pl_types.specs.declared.ty.Ty.TheOpen.{Ty-F}
