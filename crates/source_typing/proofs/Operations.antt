@@ -1,5 +1,6 @@
 -- What operators and casts come to is of its type in the store that they leave.
 use Rattle.std.proofs.Common.{◌≡◌, ℕ, ℤ, Bool, true, false, List, [], ◌∷◌, Option, Some, None, refl, sym, subst}
+use Rattle.std.proofs.lemmas.Bool.{and_parts}
 use Rattle.pl_types.specs.declared.classes.TheConstants.{STRING}
 use Rattle.pl_types.specs.declared.conversion.Cast.{Cast}
 use Rattle.pl_types.specs.declared.conversion.Cast.TheVariants as cast
@@ -27,15 +28,16 @@ use Rattle.source_fit.proofs.Values.{OperatedFits, operates_fit, cast_fits}
 use Rattle.program_typing.specs.Types.{HasPrimitive, HasLayer, HaveAll, Gives as GivesType, of_one, of_two, of_one_flag, of_two_flags, TakesNumbers, TakesFlags, Takes, Casts, string}
 use Rattle.program_typing.specs.Agreeing.{IsKnownBefore}
 use Rattle.program_typing.proofs.Effects.{EffectHas, OperatedHas}
-use Rattle.program_typing.proofs.Operations.{takes_fit}
+use Rattle.program_typing.proofs.Operations.{takes_fit, casts_fit}
 use Rattle.program_typing.proofs.Values.{bare}
-use Rattle.value_typing.specs.Typing.{is_typed_layer, is_typed, OutcomeTyped}
+use Rattle.value_typing.specs.Typing.{is_typed_layer, is_typed, are_typed, OutcomeTyped}
 use Rattle.value_typing.proofs.Casts.{casts_give_types, texts_give_types}
 use Rattle.value_typing.proofs.Effects.{in_world, settled}
 use Rattle.value_typing.proofs.Kept.{kept_is_typed, boxed_is_typed}
 use Rattle.source_typing.specs.Suiting.{IsGiven}
-use Rattle.source_typing.specs.Outs.{IsTyped, AreTyped}
-use Rattle.source_typing.proofs.Values.{primitive_typed, of_primitive}
+use Rattle.source_typing.specs.Outs.{IsTyped, AreTyped, OperatedTyped}
+use Rattle.source_typing.specs.Laws.{OperatorsGiveTypes, CastsGiveStaticTypes}
+use Rattle.source_typing.proofs.Values.{all_are, primitive_typed, of_primitive}
 
 -- ---- outcomes
 
@@ -82,11 +84,13 @@ layer_has ks (Ty-F.Prim p) value h = has_primitive p value h
 layer_has ks (Ty-F.Class class) value h = tt
 layer_has ks (Ty-F.Array elem) value h = tt
 
-all_have : (objects : List Object) (ofs : List Ty) (values : List Value) → AreTyped objects ofs values → HaveAll ofs values
+all_have : (objects : List Object) (ofs : List Ty) (values : List Value) → are_typed objects ofs values ≡ true → HaveAll ofs values
 all_have objects [] [] h = tt
-all_have objects [] (value ∷ values) h = absurd h
-all_have objects (of ∷ ofs) [] h = absurd h
-all_have objects (of ∷ ofs) (value ∷ values) h = (layer_has (kinds objects) (out-Ty of) value h.0.is, all_have objects ofs values h.1)
+all_have objects [] (value ∷ values) h = cc
+all_have objects (of ∷ ofs) [] h = cc
+all_have objects (of ∷ ofs) (value ∷ values) h =
+    let both = and_parts (is_typed objects of value) (are_typed objects ofs values) h in
+    (layer_has (kinds objects) (out-Ty of) value both.0, all_have objects ofs values both.1)
 
 -- what may have been made is of a primitive type
 abbrev pub MadeOf : Primitive → Option Value → Type 0
@@ -151,31 +155,12 @@ flags_give o (a ∷ []) of h = gives_primitive (of_one_flag o) of h.1
 flags_give o (a ∷ b ∷ []) of h = gives_primitive (of_two_flags o) of h.2
 flags_give o (a ∷ b ∷ c ∷ ofs) of h = absurd h
 
-module _ (rules : Rules) (w : World) (f : Fits rules w.store.objects) where
-  -- what an operator or a cast comes to, from a world that fits
-  abbrev pub OperatedIs : Ty → Operated → Type 0
-  OperatedIs of Meaningless = Unit {0}
-  OperatedIs of (Gives value) = IsTyped w.store.objects of value
-  OperatedIs of (Acts e) = OutcomeIs rules w.store.objects of (acts_in w e)
-
+module _ (w : World) where
+  -- where it comes to a value, one of a type
   abbrev Types : Ty → Operated → Type 0
   Types of Meaningless = Unit {0}
   Types of (Gives value) = is_typed w.store.objects of value ≡ true
   Types of (Acts e) = OutcomeTyped of (acts_in w e)
-
-  abbrev here : WorldFits rules w.store.objects w
-  here = beginnings_fit rules w f
-
-  operated_is : (of : Ty) (x : Operated) → OperatedFits rules w.store.objects w here x → Types of x → OperatedIs of x
-  operated_is of Meaningless g h = tt
-  operated_is of (Gives value) g h = record { there = g; is = h }
-  operated_is of (Acts e) g h = outcome_is rules w.store.objects (count_in w) of (acts_in w e) g h
-
-  -- a receiver that is null
-  pub null_is : (of : Ty) → OutcomeIs rules w.store.objects of (acts_in w (effect w.store null_error))
-  null_is of =
-      outcome_is rules w.store.objects (count_in w) of (acts_in w (effect w.store null_error)) (outcomes_fit rules w.store.objects w null_error here tt)
-      (in_world of w (effect w.store null_error) (settled (out-Ty of) w.store null_error tt))
 
   -- ---- operators
 
@@ -199,7 +184,7 @@ module _ (rules : Rules) (w : World) (f : Fits rules w.store.objects) where
   texts_types (a ∷ b ∷ []) = texts_give_types w a b
   texts_types (a ∷ b ∷ c ∷ values) = tt
 
-  operator_types : (o : Operator) (ofs : List Ty) (of : Ty) (values : List Value) → Takes o ofs of → AreTyped w.store.objects ofs values → Types of (operates o values w.store)
+  operator_types : (o : Operator) (ofs : List Ty) (of : Ty) (values : List Value) → Takes o ofs of → are_typed w.store.objects ofs values ≡ true → Types of (operates o values w.store)
   operator_types (operator.Int o) ofs of values x h =
       same_types of _ (numbers_give prim.Int o ofs of x) (takes_fit (operator.Int o) ofs of values w.store x (all_have w.store.objects ofs values h))
   operator_types (operator.Long o) ofs of values x h =
@@ -218,9 +203,6 @@ module _ (rules : Rules) (w : World) (f : Fits rules w.store.objects) where
   operator_types operator.ArrayOf ofs of values x h = absurd x
   operator_types operator.Element ofs of values x h = absurd x
   operator_types operator.Length ofs of values x h = absurd x
-
-  pub operates_is : (o : Operator) (ofs : List Ty) (of : Ty) (values : List Value) → Takes o ofs of → AreTyped w.store.objects ofs values → OperatedIs of (operates o values w.store)
-  operates_is o ofs of values x h = operated_is of (operates o values w.store) (operates_fit rules w.store.objects w here o values) (operator_types o ofs of values x h)
 
   -- ---- casts
 
@@ -258,8 +240,49 @@ module _ (rules : Rules) (w : World) (f : Fits rules w.store.objects) where
   begin_types cast.CharToText from to value k x g h = cast_types cast.CharToText from to value x g h
   begin_types cast.TextToChar from to value k x g h = cast_types cast.TextToChar from to value x g h
 
+  -- ---- both, and that they come to something
+
+  comes_to : (of : Ty) (x : Operated) → OperatedHas of x → Types of x → OperatedTyped w of x
+  comes_to of Meaningless h x = h
+  comes_to of (Gives value) h x = x
+  comes_to of (Acts e) h x = x
+
+pub operators_give_types : OperatorsGiveTypes
+operators_give_types w o ofs of values x h =
+    comes_to w of (operates o values w.store) (takes_fit o ofs of values w.store x (all_have w.store.objects ofs values h)) (operator_types w o ofs of values x h)
+
+pub casts_give_static_types : CastsGiveStaticTypes
+casts_give_static_types w c from to value x g h =
+    comes_to w to (casts c to value w.store) (casts_fit c from to value w.store x (layer_has (kinds w.store.objects) (out-Ty from) value h)) (cast_types w c from to value x g h)
+
+-- ---- in a store that fits
+
+module _ (rules : Rules) (w : World) (f : Fits rules w.store.objects) where
+  -- what an operator or a cast comes to, from a world that fits
+  abbrev pub OperatedIs : Ty → Operated → Type 0
+  OperatedIs of Meaningless = Unit {0}
+  OperatedIs of (Gives value) = IsTyped w.store.objects of value
+  OperatedIs of (Acts e) = OutcomeIs rules w.store.objects of (acts_in w e)
+
+  abbrev here : WorldFits rules w.store.objects w
+  here = beginnings_fit rules w f
+
+  operated_is : (of : Ty) (x : Operated) → OperatedFits rules w.store.objects w here x → Types w of x → OperatedIs of x
+  operated_is of Meaningless g h = tt
+  operated_is of (Gives value) g h = record { there = g; is = h }
+  operated_is of (Acts e) g h = outcome_is rules w.store.objects (count_in w) of (acts_in w e) g h
+
+  -- a receiver that is null
+  pub null_is : (of : Ty) → OutcomeIs rules w.store.objects of (acts_in w (effect w.store null_error))
+  null_is of =
+      outcome_is rules w.store.objects (count_in w) of (acts_in w (effect w.store null_error)) (outcomes_fit rules w.store.objects w null_error here tt)
+      (in_world of w (effect w.store null_error) (settled (out-Ty of) w.store null_error tt))
+
+  pub operates_is : (o : Operator) (ofs : List Ty) (of : Ty) (values : List Value) → Takes o ofs of → AreTyped w.store.objects ofs values → OperatedIs of (operates o values w.store)
+  operates_is o ofs of values x h = operated_is of (operates o values w.store) (operates_fit rules w.store.objects w here o values) (operator_types w o ofs of values x (all_are w.store.objects ofs values h))
+
   pub casts_is : (c : Cast) (from to : Ty) (value : Value) → Casts c from to → IsGiven c from to → IsTyped w.store.objects from value → OperatedIs to (casts c to value w.store)
-  casts_is c from to value x g h = operated_is to (casts c to value w.store) (cast_fits rules w.store.objects w here c to value h.there) (cast_types c from to value x g h.is)
+  casts_is c from to value x g h = operated_is to (casts c to value w.store) (cast_fits rules w.store.objects w here c to value h.there) (cast_types w c from to value x g h.is)
 
   pub begins_is : (c : Cast) (from to : Ty) (value : Value) → IsKnownBefore c → Casts c from to → IsGiven c from to → IsTyped w.store.objects from value → OperatedIs to (casts c from value w.store)
-  begins_is c from to value k x g h = operated_is to (casts c from value w.store) (cast_fits rules w.store.objects w here c from value h.there) (begin_types c from to value k x g h.is)
+  begins_is c from to value k x g h = operated_is to (casts c from value w.store) (cast_fits rules w.store.objects w here c from value h.there) (begin_types w c from to value k x g h.is)

@@ -1,16 +1,32 @@
 -- In a well-formed program whose casts and receivers suit, each value is of its type: from a store that fits and names with values of
 -- their types, an expression comes to a value of its type in the store that it leaves.
-use Rattle.std.specs.Prelude.{◌≡◌, ℕ, Bool, List, [], Some, slice_get}
+use Rattle.std.specs.Prelude.{◌≡◌, true, ℕ, Bool, List, [], Some, slice_get}
 use Rattle.pl_types.specs.declared.ty.Ty.{Ty}
+use Rattle.pl_types.specs.declared.conversion.Cast.{Cast}
+use Rattle.typed_tree.specs.declared.operation.Operator.{Operator}
 use Rattle.object_values.specs.declared.object.Owner.TheVariants.{Script}
 use Rattle.object_values.specs.declared.value.Value.{Value}
 use Rattle.object_heap.specs.Fits.{Rules, Fits}
 use Rattle.run_state.specs.World.{World, Limits}
 use Rattle.source_meaning.specs.Tree.{Expr, Exprs, Stmt, Stmts, Fun, Programs, type_of}
+use Rattle.source_meaning.specs.Operating.{operates, casts}
 use Rattle.source_meaning.specs.Meaning.{State, Env, Place, Meaning, entry, meaning}
+use Rattle.program_typing.specs.Types.{Takes, Casts}
+use Rattle.value_typing.specs.Typing.{is_typed, are_typed}
 use Rattle.program_typing.specs.Agreeing.{Scope, types_of, types_in, scope_of, ExprAgrees, ExprsAgree, StmtAgrees, StmtsAgree, AreWellFormed, known_in}
-use Rattle.source_typing.specs.Suiting.{ExprSuits, ExprsSuit, StmtSuits, StmtsSuit, BothSuit}
-use Rattle.source_typing.specs.Outs.{IsTyped, AreTyped, StateTyped, FlowTyped, OutTyped}
+use Rattle.source_typing.specs.Suiting.{IsGiven, ExprSuits, ExprsSuit, StmtSuits, StmtsSuit, BothSuit}
+use Rattle.source_typing.specs.Outs.{OperatedTyped, IsTyped, AreTyped, StateTyped, FlowTyped, OutTyped}
+
+-- What an operator comes to whose operands' types are known, and what a cast of the table comes to.
+abbrev pub OperatorsGiveTypes : Type 0
+OperatorsGiveTypes =
+    (w : World) (o : Operator) (ofs : List Ty) (of : Ty) (values : List Value) → Takes o ofs of → are_typed w.store.objects ofs values ≡ true
+    → OperatedTyped w of (operates o values w.store)
+
+abbrev pub CastsGiveStaticTypes : Type 0
+CastsGiveStaticTypes =
+    (w : World) (c : Cast) (from to : Ty) (value : Value) → Casts c from to → IsGiven c from to → is_typed w.store.objects from value ≡ true
+    → OperatedTyped w to (casts c to value w.store)
 
 pub record MeaningTyped (rules : Rules) (funs : Programs) (limits : Limits) (m : Meaning) : Type 0 where
   pub expr : (x : Expr) (d : Place) (s : State) (e : Env) (g : Scope) → ExprAgrees (known_in funs limits d.text) g x → ExprSuits x → StateTyped rules g s e

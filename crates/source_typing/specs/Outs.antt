@@ -6,8 +6,10 @@ use Rattle.object_values.specs.declared.object.Object.{Object}
 use Rattle.object_values.specs.declared.value.Value.{Value}
 use Rattle.object_heap.specs.Fits.{Rules, Fits, ValueFits, ThrownFits}
 use Rattle.run_fit.specs.Worlds.{WorldFits}
+use Rattle.run_state.specs.World.{World, acts_in}
+use Rattle.source_meaning.specs.Operating.{Operated, Meaningless, Gives, Acts}
 use Rattle.source_meaning.specs.Meaning.{State, Env, Out, Done, Thrown, Over, More, Flow, Returned}
-use Rattle.value_typing.specs.Typing.{is_typed}
+use Rattle.value_typing.specs.Typing.{is_typed, OutcomeTyped}
 use Rattle.program_typing.specs.Agreeing.{Scope}
 
 -- a value that is there, and of a type
@@ -19,6 +21,12 @@ abbrev pub AreTyped : List Object → List Ty → List Value → Type 0
 AreTyped objects [] [] = Unit {0}
 AreTyped objects (of ∷ ofs) (value ∷ values) = IsTyped objects of value × AreTyped objects ofs values
 AreTyped objects ofs values = ⊥
+
+-- what an operator or a cast comes to in a world: a value of a type, or an effect that gives one
+abbrev pub OperatedTyped : World → Ty → Operated → Type 0
+OperatedTyped w of Meaningless = ⊥
+OperatedTyped w of (Gives value) = is_typed w.store.objects of value ≡ true
+OperatedTyped w of (Acts e) = OutcomeTyped of (acts_in w e)
 
 -- each name has a value of its type
 abbrev pub EnvTyped : List Object → Scope → Env → Type 0

@@ -6,5 +6,6 @@ pub mod MemberTables
 pub mod MemberNumbers
 pub mod MemberTexts
 pub mod Members
+pub mod Elements
 pub mod Kept
 pub mod Operators

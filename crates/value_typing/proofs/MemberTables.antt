@@ -32,7 +32,8 @@ string = ty.Class STRING
 abbrev pub builder : Ty
 builder = ty.Class STRING_BUILDER
 
--- a type of which not every value is and no primitive's is alone
+-- The type, where it is one of references that not every value is of. (Of void and def every value is, and what a member gives of a primitive
+-- type is said by `members_give_types`.)
 abbrev pub reference_layer : Ty → Ty-F Ty → Option Ty
 reference_layer of Ty-F.Void = None
 reference_layer of Ty-F.Def = None
@@ -87,7 +88,7 @@ text_reference (m.NewExceptionSaying class) = Some (ty.Class (number_of class))
 text_reference m.GetMessage = Some string
 text_reference other = None
 
--- whose receiver is what they give: a builder
+-- those that give their receiver, a builder
 abbrev pub gives_receiver : TextMember → Bool
 gives_receiver m.Append = true
 gives_receiver m.DeleteCharAt = true

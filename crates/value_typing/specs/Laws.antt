@@ -1,5 +1,5 @@
--- What keeps the types of values, and which types operators, casts and catches give.
-use Rattle.std.specs.Prelude.{◌≡◌, ℕ, Bool, true, false, Some, List}
+-- What keeps the types of values, and which types casts, operators, elements and members give.
+use Rattle.std.specs.Prelude.{◌≡◌, ℕ, Bool, true, false, Some, List, slice_get}
 use Rattle.pl_types.specs.declared.ty.Ty.{Ty, out-Ty}
 use Rattle.pl_types.specs.declared.ty.Ty.TheVariants as ty
 use Rattle.pl_types.specs.declared.ty.Ty.TheOpen.{Ty-F}
@@ -14,7 +14,8 @@ use Rattle.allowlist.specs.Index.{member_at}
 use Rattle.object_values.specs.declared.object.Object.{Object}
 use Rattle.object_values.specs.declared.value.Value.{Value}
 use Rattle.object_values.specs.declared.value.Value.TheVariants as v
-use Rattle.object_heap.specs.Fits.{Rules, Fits, is_primitive}
+use Rattle.object_heap.specs.Fits.{Rules, Fits, is_primitive, layer_asked}
+use Rattle.object_heap.specs.Parts.{items_of}
 use Rattle.object_heap.specs.Store.{Store}
 use Rattle.member_calls.specs.Laws.{StillThere}
 use Rattle.member_calls.specs.Members.{is_built, is_of_host, does}
@@ -25,6 +26,13 @@ use Rattle.number_ops.specs.Outcomes.{effect}
 use Rattle.number_ops.specs.Relations.{equal}
 use Rattle.run_state.specs.World.{World, acts_in}
 use Rattle.value_typing.specs.Typing.{is_typed, are_typed, takes_typed, OutcomeTyped, ActIsOf}
+
+-- What a run leaves of a store is all of it where nothing was done, and behind two parts of a run what both have left.
+abbrev pub StoresBegin : Type 0
+StoresBegin = (objects : List Object) → StillThere objects objects
+
+abbrev pub StoresGoOn : Type 0
+StoresGoOn = (before between after : List Object) → StillThere before between → StillThere between after → StillThere before after
 
 -- A value stays of its type as a run adds objects and changes what they hold.
 abbrev pub TypesStay : Type 0
@@ -40,13 +48,20 @@ ClassesWiden =
     (objects : List Object) (class above : ℕ) (value : Value) → class_is_below class above ≡ true → is_typed objects (ty.Class class) value ≡ true
     → is_typed objects (ty.Class above) value ≡ true
 
--- neither void nor a primitive type
+-- no primitive type
 abbrev pub takes_null_layer : Ty-F Ty → Bool
 takes_null_layer (Ty-F.Prim p) = false
 takes_null_layer layer = true
 
 abbrev pub NullIsTyped : Type 0
 NullIsTyped = (objects : List Object) (of : Ty) → takes_null_layer (out-Ty of) ≡ true → is_typed objects of v.Null ≡ true
+
+-- An element of an array is of the element type, as far as the rules ask for it: in a program's store always, and in a code's where that is
+-- a primitive type.
+abbrev pub ElementsAreTyped : Type 0
+ElementsAreTyped =
+    (rules : Rules) (objects : List Object) (id at : ℕ) (elem : Ty) (value : Value) → Fits rules objects → layer_asked rules.typed (out-Ty elem) ≡ true
+    → is_typed objects (ty.Array elem) (v.Ref id) ≡ true → slice_get (items_of objects id) at ≡ Some value → is_typed objects elem value ≡ true
 
 -- a value that the table of casts keeps is of the type that it is cast to
 abbrev pub KeptIsTyped : Type 0

@@ -5,22 +5,29 @@ ghost use Rattle.value_typing.specs.Laws.{
   CastsGiveTypes,
   ClassesWiden,
   ComparisonsGiveFlags,
+  ElementsAreTyped,
   EqualityGivesTypes,
   HostKeepsTypes,
   KeptIsTyped,
   MembersKeepTypes,
   NullIsTyped,
+  StoresBegin,
+  StoresGoOn,
   TextsGiveTypes,
   TypesStay,
 };
 
-/// Laws that callers may cite: values stay of their types as a run goes on, a value of a class is of each class above it, and what casts
-/// keep, put in a box or make, and what concatenations and comparisons give, is of its type.
+/// Laws that callers may cite: values stay of their types as a run goes on, a value of a class is of each class above it, an element
+/// of an array is of the element type, and what casts keep, put in a box or make, and what concatenations and comparisons give, is of
+/// its type.
 pub fn values_keep_types()
+    ensures begin { StoresBegin }
+    ensures go_on { StoresGoOn }
     ensures stay { TypesStay }
     ensures all_stay { AllTypesStay }
     ensures widen { ClassesWiden }
     ensures null { NullIsTyped }
+    ensures elements { ElementsAreTyped }
     ensures kept { KeptIsTyped }
     ensures boxed { BoxedIsTyped }
     ensures casts { CastsGiveTypes }

@@ -1,5 +1,8 @@
 use Rattle.value_typing.proofs.Typing.{types_stay, all_types_stay, classes_widen, null_is_typed}
 use Rattle.value_typing.proofs.Casts.{casts_give_types, texts_give_types}
+use Rattle.member_calls.proofs.Leaving.{there_refl}
+use Rattle.run_fit.proofs.Leaving.{there_trans}
+use Rattle.value_typing.proofs.Elements.{elements_are_typed}
 use Rattle.value_typing.proofs.Kept.{kept_is_typed, boxed_is_typed}
 use Rattle.value_typing.proofs.Operators.{comparisons_give_flags, equality_gives_types}
 use Rattle.value_typing.proofs.laws.values_keep_types.Goals as goal
@@ -33,3 +36,12 @@ returns-clause-comparisons c = comparisons_give_flags
 
 pub returns-clause-equality : goal.returns-clause-equality
 returns-clause-equality c = equality_gives_types
+
+pub returns-clause-begin : goal.returns-clause-begin
+returns-clause-begin c = there_refl
+
+pub returns-clause-go_on : goal.returns-clause-go_on
+returns-clause-go_on c = there_trans
+
+pub returns-clause-elements : goal.returns-clause-elements
+returns-clause-elements c = elements_are_typed
