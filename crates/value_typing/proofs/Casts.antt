@@ -143,7 +143,7 @@ primitive_typed ks p explicit (v.Ref id) = reference_goes ks p explicit id
 -- ---- to a class
 
 -- what is of a primitive type is of its box's class
-boxed_is : (ks : List Kind) (p : Primitive) (value : Value) → is_primitive p value ≡ true → value_is_of ks (box_of p) value ≡ true
+pub boxed_is : (ks : List Kind) (p : Primitive) (value : Value) → is_primitive p value ≡ true → value_is_of ks (box_of p) value ≡ true
 boxed_is ks prim.Boolean (v.Bool a) h = below_itself BOOLEAN
 boxed_is ks prim.Boolean value h = cc
 boxed_is ks prim.Byte (v.Byte a) h = below_itself BYTE
@@ -241,7 +241,7 @@ pub string_layer : (ks : List Kind) (text : List ℕ) → is_typed_layer ks (out
 unfolding out-Ty denote.Hole.Carrier.out
 string_layer ks text = below_itself STRING
 
-follows : (ks : List Kind) (x : Text) (next : List ℕ → Told) → ((text : List ℕ) → ToldTyped ks (out-Ty (ty.Class STRING)) (next text)) → ToldTyped ks (out-Ty (ty.Class STRING)) (followed_by x next)
+pub follows : (ks : List Kind) (x : Text) (next : List ℕ → Told) → ((text : List ℕ) → ToldTyped ks (out-Ty (ty.Class STRING)) (next text)) → ToldTyped ks (out-Ty (ty.Class STRING)) (followed_by x next)
 unfolding says
 follows ks (Wrote text visits) next h = h text
 follows ks TooDeep next h = tt

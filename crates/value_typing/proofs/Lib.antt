@@ -1,3 +1,11 @@
 pub mod Typing
 pub mod Effects
 pub mod Casts
+pub mod MemberArguments
+pub mod MemberTables
+pub mod MemberNumbers
+pub mod MemberTexts
+pub mod Members
+pub mod Elements
+pub mod Kept
+pub mod Operators

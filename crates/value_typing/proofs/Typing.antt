@@ -6,7 +6,6 @@ use Rattle.pl_types.specs.declared.ty.Ty.{Ty, out-Ty}
 use Rattle.pl_types.specs.declared.ty.Ty.TheOpen.{Ty-F}
 use Rattle.pl_types.specs.Classes.{class_is_below, lineage_of, parents_of, class_row, class_table, itself}
 use Rattle.pl_types.proofs.Lineages.{complete, descends_from, descends_on}
-use Rattle.object_values.specs.declared.object.Object.{Object}
 use Rattle.object_values.specs.declared.value.Value.{Value}
 use Rattle.object_values.specs.declared.value.Value.TheVariants as v
 use Rattle.object_heap.specs.Fits.{kinds, passes, class_is_of, class_of_kind, kind_is_of, value_is_of, has_layer, Every}

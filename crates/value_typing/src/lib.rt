@@ -3,4 +3,4 @@
 
 mod laws;
 
-pub use laws::values_keep_types;
+pub use laws::{members_keep_types, values_keep_types};

@@ -1,0 +1,513 @@
+-- Each expression and each statement gives values of their types, and keeps those of the names.
+use Rattle.std.proofs.Common.{◌≡◌, ℕ, zero, suc, ◌==◌, Bool, true, false, List, [], ◌∷◌, Option, Some, None, refl, sym, ap, ◌∙◌, subst}
+use Rattle.std.specs.Prelude.{slice_get, if◌then◌else◌}
+use Rattle.std.proofs.lemmas.Bool.{or_right}
+use Rattle.std.proofs.lemmas.Option.{get_or_from_slice_get}
+use Rattle.pl_types.specs.declared.classes.TheConstants.{OBJECT}
+use Rattle.pl_types.specs.declared.ty.Ty.{Ty}
+use Rattle.pl_types.specs.declared.ty.Ty.TheVariants as t
+use Rattle.pl_types.specs.Classes.{class_is_below}
+use Rattle.allowlist.specs.declared.member.MemberKind.{MemberKind}
+use Rattle.allowlist.specs.declared.member.MemberKind.TheVariants as kind
+use Rattle.allowlist.specs.declared.member.MemberType.{MemberType}
+use Rattle.allowlist.specs.Allow.{flag}
+use Rattle.allowlist.specs.Catalogue.{catalogue, constructor}
+use Rattle.allowlist.specs.Index.{member_at}
+use Rattle.object_values.specs.declared.object.Object.{Object}
+use Rattle.object_values.specs.declared.object.Object.TheVariants as o
+use Rattle.object_values.specs.declared.object.Owner.{Owner}
+use Rattle.object_values.specs.declared.object.Owner.TheVariants.{Script, Prelude}
+use Rattle.object_values.specs.declared.value.Value.{Value}
+use Rattle.object_values.specs.declared.value.Value.TheVariants as v
+use Rattle.object_heap.specs.Effects.{Effect}
+use Rattle.object_heap.specs.Fits.{kind_is_of, Rules, Fits, ThrownFits}
+use Rattle.object_heap.specs.Objects.{kind_of}
+use Rattle.object_heap.specs.Parts.{asked}
+use Rattle.object_heap.specs.Store.{Store}
+use Rattle.typed_tree.specs.declared.operation.Member.{Member}
+use Rattle.typed_tree.specs.declared.operation.Operation.{Operation}
+use Rattle.typed_tree.specs.declared.operation.Operation.TheVariants as operation
+use Rattle.typed_tree.specs.declared.operation.Logical.{Logical}
+use Rattle.typed_tree.specs.declared.operation.Logical.TheVariants.{And, Or}
+use Rattle.typed_tree.specs.declared.operation.Target.{Target}
+use Rattle.typed_tree.specs.declared.operation.Target.TheVariants as target
+use Rattle.typed_tree.specs.declared.operation.Change.{Change}
+use Rattle.typed_tree.specs.declared.operation.Gives.{Gives as Given_by}
+use Rattle.number_ops.specs.Operators.{is_null}
+use Rattle.number_ops.specs.Relations.{is_instance, thrown}
+use Rattle.number_ops.proofs.KindsOf.{kind_passes}
+use Rattle.member_calls.specs.Laws.{StillThere}
+use Rattle.member_calls.specs.Members.{is_built, does}
+use Rattle.run_state.specs.World.{World, Limits, Outcome, Given, Raised, Full, acts_in, Counted, Counts, Passes, allowed_in, has_loop_limit, take_turn, enter, pay_member}
+use Rattle.run_fit.specs.Worlds.{WorldFits, count_in, OutcomeFits}
+use Rattle.run_fit.proofs.Counted.{SameStore, turn_keeps, call_keeps, member_keeps}
+use Rattle.run_fit.proofs.Effects.{beginnings_fit, throwing_fits}
+use Rattle.run_fit.proofs.Leaving.{there_trans}
+use Rattle.source_meaning.specs.Tree.{Name, Expr, Literal, Quoted, Local, Apply, Guarded, Logic, Conditional, Elvis, Assign, Modify, Lambda, Reference, NewReference, Exprs, None', One, Maybe, Missing, Given as Present, Stmt, Do, If, While, DoWhile, ForEach, Try, Block, Break, Continue, Return, Throw, Stmts, Finish, Then, Declare, Catches, NoCatch, Catch, Variable, Fun, Programs, functions_in, type_of}
+use Rattle.source_meaning.specs.Operating.{Operated, Meaningless, Gives, Acts, operates, casts}
+use Rattle.source_meaning.specs.Members.{Sending, Unsent, OnNull, Sends, Reads, sent_by, sent}
+use Rattle.source_meaning.specs.Meaning.{State, Env, Place, Out, Done, Thrown, Over, More, Flow, Normal, Broke, Continued, Returned, bind, leave, lookup, entry, found, effect, operated, choose, goes_next, goes_again, is_of_class, returned, back, Meaning, entered, called, acted, paid, member_called, member_applied, of_member, applied, logic, modified, expr_of, exprs_of, value_if, turned, done_turn, caught, handled, stmt_of, value_or, stmts_of, layer, meaning}
+use Rattle.program_typing.specs.Agreeing.{Scope, IsVariable, boolean, types_of, Calls, TakesTypes, MemberAgrees, Applies, ExprAgrees, ExprsAgree, TestAgrees, UpdateAgrees, BeginAgrees, ReturnAgrees, StmtAgrees, StmtsAgree, CatchesAgree, scope_of, FunAgrees, WellFormed, AreWellFormed, known_in}
+use Rattle.source_typing.specs.Suiting.{OperationSuits, ChangeSuits, ExprSuits, ExprsSuit, MaybeSuits, StmtSuits, StmtsSuit, CatchesSuit, Suits, BothSuit}
+use Rattle.source_typing.specs.Outs.{IsTyped, AreTyped, EnvTyped, StateTyped, FlowTyped, OutTyped}
+use Rattle.source_typing.specs.Laws.{MeaningTyped, MeaningsAreTyped, ResultsAreTyped}
+use Rattle.source_typing.proofs.Values.{typed_grows, env_grows, MadeTyped, object_typed, lookup_typed, assigned_typed, older_typed, EntryTyped, entry_typed, null_typed, constant_typed, text_typed, flag_typed, default_typed, nothing_typed, returned_typed, given_by_typed}
+use Rattle.source_typing.proofs.Operations.{OutcomeIs, OperatedIs, null_is, operates_is, casts_is, begins_is}
+use Rattle.source_typing.proofs.Members.{ReceiverSuits, Taken, SendingTyped, sent_typed, DoneIs, member_is}
+
+abbrev Any : List Object → Value → Type 0
+Any objects value = Unit {0}
+
+abbrev Of : Ty → List Object → Value → Type 0
+Of of objects value = IsTyped objects of value
+
+-- an exception of a class is of it as a value
+class_passes : (class : ℕ) (found : Option Object) → is_of_class class found ≡ true → asked (λ object. kind_is_of class (kind_of object)) false found ≡ true
+unfolding is_of_class
+class_passes class None h = cc
+class_passes class (Some (o.Exc raised message)) h = or_right (class == OBJECT) (class_is_below raised class) h
+class_passes class (Some other) h = cc
+
+module _ (rules : Rules) where
+  abbrev Here : Scope → State → Env → Type 0
+  Here g s e = StateTyped rules g s e
+
+  -- the same as a record, so that what stands in it is found
+  record Keeps {A : Type 0} (good : List Object → A → Type 0) (start : List Object) (g : Scope) (o : Out A) : Type 0 where
+    by : OutTyped good rules start g o
+
+  -- a world that is where it began
+  begun : (w : World) → Fits rules w.store.objects → WorldFits rules w.store.objects w
+  begun w f = beginnings_fit rules w f
+
+  on_from : (start middle : List Object) (w : World) → StillThere start middle → WorldFits rules middle w → WorldFits rules start w
+  on_from start middle w there h = record { fits = h.fits; there = there_trans start middle w.store.objects there h.there }
+
+  done : {A : Type 0} {good : List Object → A → Type 0} {g : Scope} {a : A} {s : State} {e : Env} → Here g s e → good s.world.store.objects a → Keeps good s.world.store.objects g (Done a s e)
+  done {s = s} h x = record { by = (begun s.world h.0, h.1, x) }
+
+  lower_by : {A : Type 0} (good : List Object → A → Type 0) (start middle : List Object) (g : Scope) (o : Out A) → StillThere start middle → OutTyped good rules middle g o → OutTyped good rules start g o
+  lower_by good start middle g (Done a s e) there x = (on_from start middle s.world there x.0, x.1, x.2)
+  lower_by good start middle g (Thrown id s e) there x = (on_from start middle s.world there x.0, x.1, x.2)
+  lower_by good start middle g (Over limit w) there x = on_from start middle w there x
+  lower_by good start middle g More there x = tt
+
+  binds : {A B : Type 0} (good : List Object → A → Type 0) (also : List Object → B → Type 0) (start : List Object) (g : Scope) (o : Out A) (next : A → State → Env → Out B) → OutTyped good rules start g o
+      → ((a : A) (s : State) (e : Env) → Here g s e → StillThere start s.world.store.objects → good s.world.store.objects a → Keeps also s.world.store.objects g (next a s e))
+      → OutTyped also rules start g (bind o next)
+  binds good also start g (Done a s e) next x f = lower_by also start s.world.store.objects g (next a s e) x.0.there (f a s e (x.0.fits, x.1) x.0.there x.2).by
+  binds good also start g (Thrown id s e) next x f = x
+  binds good also start g (Over limit w) next x f = x
+  binds good also start g More next x f = tt
+
+  then' : {A B : Type 0} {good : List Object → A → Type 0} {also : List Object → B → Type 0} {start : List Object} {g : Scope} {o : Out A} {next : A → State → Env → Out B} → Keeps good start g o
+      → ((a : A) (s : State) (e : Env) → Here g s e → StillThere start s.world.store.objects → good s.world.store.objects a → Keeps also s.world.store.objects g (next a s e))
+      → Keeps also start g (bind o next)
+  then' {good = good} {also = also} {start = start} {g = g} {o = o} {next = next} x f = record { by = binds good also start g o next x.by f }
+
+  leaves : {A : Type 0} (good : List Object → A → Type 0) (start : List Object) (y : Variable) (g : Scope) (o : Out A) → OutTyped good rules start (y ∷ g) o → OutTyped good rules start g (leave o)
+  leaves good start y g (Done a s e) x = (x.0, older_typed s.world.store.objects y g e x.1, x.2)
+  leaves good start y g (Thrown id s e) x = (x.0, older_typed s.world.store.objects y g e x.1, x.2)
+  leaves good start y g (Over limit w) x = x
+  leaves good start y g More x = tt
+
+  leaving : {A : Type 0} {good : List Object → A → Type 0} {start : List Object} {g : Scope} {o : Out A} (y : Variable) → Keeps good start (y ∷ g) o → Keeps good start g (leave o)
+  leaving {good = good} {start = start} {g = g} {o = o} y x = record { by = leaves good start y g o x.by }
+
+  found_typed : (of : Ty) (o : Option Value) (s : State) (e : Env) (g : Scope) → Here g s e → MadeTyped s.world.store.objects of o → Keeps (Of of) s.world.store.objects g (found o s e)
+  found_typed of None s e g h x = record { by = tt }
+  found_typed of (Some value) s e g h x = done h x
+
+  chosen : {A : Type 0} {good : List Object → A → Type 0} {start : List Object} {g : Scope} {o p : Out A} (value : Value) → Keeps good start g o → Keeps good start g p → Keeps good start g (choose value o p)
+  chosen (v.Bool true) x y = x
+  chosen (v.Bool false) x y = y
+  chosen v.Null x y = record { by = tt }
+  chosen (v.Byte a) x y = record { by = tt }
+  chosen (v.Short a) x y = record { by = tt }
+  chosen (v.Char a) x y = record { by = tt }
+  chosen (v.Int a) x y = record { by = tt }
+  chosen (v.Long a) x y = record { by = tt }
+  chosen (v.Str a) x y = record { by = tt }
+  chosen (v.Ref a) x y = record { by = tt }
+
+  either : {A : Type 0} {good : List Object → A → Type 0} {start : List Object} {g : Scope} {o p : Out A} (test : Bool) → Keeps good start g o → Keeps good start g p → Keeps good start g (if test then p else o)
+  either true x y = y
+  either false x y = x
+
+  next : (of : Ty) {g : Scope} {o : Out Flow} (flow : Flow) (s : State) (e : Env) → Here g s e → FlowTyped of s.world.store.objects flow → Keeps (FlowTyped of) s.world.store.objects g o
+      → Keeps (FlowTyped of) s.world.store.objects g (goes_next flow s e o)
+  next of Normal s e h f x = x
+  next of Broke s e h f x = done h tt
+  next of Continued s e h f x = done h tt
+  next of (Returned value) s e h f x = done h f
+
+  again : (of : Ty) {g : Scope} {o : Out Flow} (flow : Flow) (s : State) (e : Env) → Here g s e → FlowTyped of s.world.store.objects flow → Keeps (FlowTyped of) s.world.store.objects g o
+      → Keeps (FlowTyped of) s.world.store.objects g (goes_again flow s e o)
+  again of Normal s e h f x = x
+  again of Broke s e h f x = done h tt
+  again of Continued s e h f x = x
+  again of (Returned value) s e h f x = done h f
+
+  effect_by : (of : Ty) (o : Outcome Value) (s : State) (e : Env) (g : Scope) → Here g s e → OutcomeIs rules s.world.store.objects of o → OutTyped (Of of) rules s.world.store.objects g (effect o s e)
+  effect_by of (Given value w) s e g h x = (x.0, env_grows s.world.store.objects w.store.objects x.0.there g e h.1, x.1)
+  effect_by of (Raised id w) s e g h x = (x.0, env_grows s.world.store.objects w.store.objects x.0.there g e h.1, x.1)
+  effect_by of Full s e g h x = begun s.world h.0
+
+  effect_typed : (of : Ty) (o : Outcome Value) (s : State) (e : Env) (g : Scope) → Here g s e → OutcomeIs rules s.world.store.objects of o → Keeps (Of of) s.world.store.objects g (effect o s e)
+  effect_typed of o s e g h x = record { by = effect_by of o s e g h x }
+
+  operated_typed : (of : Ty) (o : Operated) (s : State) (e : Env) (g : Scope) (h : Here g s e) → OperatedIs rules s.world h.0 of o → Keeps (Of of) s.world.store.objects g (operated o s e)
+  operated_typed of Meaningless s e g h x = record { by = tt }
+  operated_typed of (Gives value) s e g h x = done h x
+  operated_typed of (Acts given) s e g h x = effect_typed of (acts_in s.world given) s e g h x
+
+  -- what is thrown, whatever a value would be
+  thrown_by : (o : Outcome Value) (s : State) (e : Env) (g : Scope) → Here g s e → OutcomeFits rules s.world.store.objects (count_in s.world) o → OutTyped Any rules s.world.store.objects g (effect o s e)
+  thrown_by (Given value w) s e g h x = (x.0, env_grows s.world.store.objects w.store.objects x.0.there g e h.1, tt)
+  thrown_by (Raised id w) s e g h x = (x.0, env_grows s.world.store.objects w.store.objects x.0.there g e h.1, x.2)
+  thrown_by Full s e g h x = begun s.world h.0
+
+  -- ---- in a world of the same store
+
+  same_state : (w after : World) (turns turns' : ℕ) (g : Scope) (e : Env) → after.store ≡ w.store → Here g (record { world = w; turns = turns }) e → Here g (record { world = after; turns = turns' }) e
+  same_state w after turns turns' g e is h = subst (λ (x : Store). Fits rules x.objects × EnvTyped x.objects g e) (sym is) h
+
+  passes_on : (w after : World) → after.store ≡ w.store → Fits rules w.store.objects → WorldFits rules w.store.objects after
+  passes_on w after is f = subst (λ (x : Store). WorldFits rules x.objects after) is (begun after (subst (λ (x : Store). Fits rules x.objects) (sym is) f))
+
+  moved : {A : Type 0} (good : List Object → A → Type 0) (g : Scope) (w after : World) (o : Out A) → after.store ≡ w.store → Keeps good after.store.objects g o → Keeps good w.store.objects g o
+  moved good g w after o is x = subst (λ (y : Store). Keeps good y.objects g o) is x
+
+  module _ (funs : Programs) (limits : Limits) (formed : (text : Owner) → WellFormed (known_in funs limits text)) (suited : (text : Owner) → Suits (functions_in funs text)) (m : Meaning)
+      (ih : MeaningTyped rules funs limits m) where
+    expr_ih : (x : Expr) (d : Place) (s : State) (e : Env) (g : Scope) → ExprAgrees (known_in funs limits d.text) g x → ExprSuits x → Here g s e → Keeps (Of (type_of x)) s.world.store.objects g (m.expr d s e x)
+    expr_ih x d s e g a b h = record { by = ih.expr x d s e g a b h }
+
+    exprs_ih : (x : Exprs) (d : Place) (s : State) (e : Env) (g : Scope) → ExprsAgree (known_in funs limits d.text) g x → ExprsSuit x → Here g s e
+        → Keeps (λ objects values. AreTyped objects (types_of x) values) s.world.store.objects g (m.exprs d s e x)
+    exprs_ih x d s e g a b h = record { by = ih.exprs x d s e g a b h }
+
+    stmt_ih : (x : Stmt) (d : Place) (s : State) (e : Env) (g : Scope) (of : Ty) (looped : Bool) → StmtAgrees (known_in funs limits d.text) of looped g x → StmtSuits x → Here g s e
+        → Keeps (FlowTyped of) s.world.store.objects g (m.stmt d s e x)
+    stmt_ih x d s e g of looped a b h = record { by = ih.stmt x d s e g of looped a b h }
+
+    stmts_ih : (x : Stmts) (d : Place) (s : State) (e : Env) (g : Scope) (of : Ty) (looped : Bool) → StmtsAgree (known_in funs limits d.text) of looped g x → StmtsSuit x → Here g s e
+        → Keeps (FlowTyped of) s.world.store.objects g (m.stmts d s e x)
+    stmts_ih x d s e g of looped a b h = record { by = ih.stmts x d s e g of looped a b h }
+
+    -- an expression whose type is this one
+    expr_of_type : (x : Expr) (of : Ty) (d : Place) (s : State) (e : Env) (g : Scope) → type_of x ≡ of → ExprAgrees (known_in funs limits d.text) g x → ExprSuits x → Here g s e
+        → Keeps (Of of) s.world.store.objects g (m.expr d s e x)
+    expr_of_type x of d s e g same a b h = subst (λ (of : Ty). Keeps (Of of) s.world.store.objects g (m.expr d s e x)) same (expr_ih x d s e g a b h)
+
+    -- ---- calls of functions
+
+    backs : (of : Ty) (inner g : Scope) (start : List Object) (turns : ℕ) (e : Env) (o : Out Flow) → EnvTyped start g e → OutTyped (FlowTyped of) rules start inner o → OutTyped (Of of) rules start g (back of o turns e)
+    backs of inner g start turns e (Done flow s e') h x =
+        lower_by (Of of) start s.world.store.objects g (found (returned of flow) (record { world = s.world; turns = turns }) e) x.0.there
+        (found_typed of (returned of flow) (record { world = s.world; turns = turns }) e g (x.0.fits, env_grows start s.world.store.objects x.0.there g e h) (returned_typed s.world.store.objects of flow x.2)).by
+    backs of inner g start turns e (Thrown id s e') h x = (x.0, env_grows start s.world.store.objects x.0.there g e h, x.2)
+    backs of inner g start turns e (Over limit w) h x = x
+    backs of inner g start turns e More h x = tt
+
+    enters : (c : Counted) (d : Place) (s : State) (e : Env) (g : Scope) (f : Fun) (o : Option Env) → FunAgrees (known_in funs limits d.text) f → StmtsSuit f.body → Here g s e
+        → EntryTyped s.world.store.objects (scope_of f.params []) o → SameStore s.world c → Keeps (Of f.result) s.world.store.objects g (entered funs limits m c d s e f.result f.body o)
+    enters c d s e g f None a b h x p = record { by = tt }
+    enters (Passes limit w) d s e g f (Some args) a b h x p = record { by = passes_on s.world w p h.0 }
+    enters (Counts w) d s e g f (Some args) a b h x p =
+        let inner = same_state s.world w s.turns 0 (scope_of f.params []) args p (h.0, x) in
+        let outer = same_state s.world w s.turns 0 g e p h in
+        moved (Of f.result) g s.world w _ p
+        (record { by = backs f.result (scope_of f.params []) g w.store.objects s.turns e _ outer.1 (ih.stmts f.body (record { text = d.text; depth = suc d.depth }) (record { world = w; turns = 0 }) args (scope_of f.params []) f.result false a.body b inner) })
+
+    calls : (number : ℕ) (ofs : List Ty) (of : Ty) (d : Place) (s : State) (e : Env) (g : Scope) (values : List Value) → Calls (known_in funs limits d.text) number ofs of → Here g s e
+        → AreTyped s.world.store.objects ofs values → Keeps (Of of) s.world.store.objects g (called funs limits m (slice_get (functions_in funs d.text) number) d s e values)
+    calls number ofs of d s e g values c h x =
+        let args = entry_typed s.world.store.objects c.fun.params values [] [] (subst (λ (ofs : List Ty). AreTyped s.world.store.objects ofs values) c.takes x) tt in
+        subst (λ (found : Option Fun). Keeps (Of of) s.world.store.objects g (called funs limits m found d s e values)) (sym c.is)
+        (subst (λ (of : Ty). Keeps (Of of) s.world.store.objects g (called funs limits m (Some c.fun) d s e values)) (sym c.gives)
+        (enters (enter limits d.depth s.world) d s e g c.fun (entry c.fun.params values []) ((formed d.text).each number c.fun c.is) ((suited d.text).each number c.fun c.is) h args (call_keeps limits d.depth s.world)))
+
+    -- ---- members
+
+    acts : (of : Ty) (o : Option Effect) (s : State) (e : Env) (g : Scope) → Here g s e → DoneIs rules s.world.store.objects of s.world o → Keeps (Of of) s.world.store.objects g (acted funs limits m o s e)
+    acts of None s e g h x = record { by = tt }
+    acts of (Some given) s e g h x = effect_typed of (acts_in s.world given) s e g h x
+
+    pays : (number : ℕ) (arguments : List Value) (c : Counted) (s : State) (e : Env) (g : Scope) → Here g s e → is_built number ≡ true
+        → Taken s.world.store.objects (member_at number).kind (member_at number).owner (member_at number).params arguments → SameStore s.world c
+        → Keeps (Of (member_at number).result) s.world.store.objects g (paid funs limits m c number arguments s e)
+    pays number arguments (Passes limit w) s e g h b x p = record { by = passes_on s.world w p h.0 }
+    pays number arguments (Counts w) s e g h b x p =
+        let here = same_state s.world w s.turns s.turns g e p h in
+        moved (Of (member_at number).result) g s.world w _ p
+        (acts (member_at number).result (does limits.host number arguments w.store) (record { world = w; turns = s.turns }) e g here (member_is rules w limits.host number arguments here.0 b
+        (subst (λ (y : Store). Taken y.objects (member_at number).kind (member_at number).owner (member_at number).params arguments) (sym p) x)))
+
+    member_calls : (c : Sending) (number : ℕ) (d : Place) (s : State) (e : Env) (g : Scope) → Here g s e → is_built number ≡ true
+        → SendingTyped s.world.store.objects (member_at number).kind (member_at number).owner (member_at number).params c
+        → Keeps (Of (member_at number).result) s.world.store.objects g (member_called funs limits m c number d s e)
+    member_calls Unsent number d s e g h b x = record { by = tt }
+    member_calls OnNull number d s e g h b x = effect_typed (member_at number).result _ s e g h (null_is rules s.world h.0 (member_at number).result)
+    member_calls (Sends arguments) number d s e g h b x = pays number arguments (pay_member d.text number s.world) s e g h b x (member_keeps d.text number s.world)
+    member_calls Reads number d s e g h b x = acts (member_at number).result (does limits.host number [] s.world.store) s e g h (member_is rules s.world limits.host number [] h.0 b x)
+
+    allowed_members : (allowed : Bool) (number : ℕ) (values : List Value) (d : Place) (s : State) (e : Env) (g : Scope) → Here g s e → is_built number ≡ true
+        → SendingTyped s.world.store.objects (member_at number).kind (member_at number).owner (member_at number).params (sent (member_at number) values)
+        → Keeps (Of (member_at number).result) s.world.store.objects g (member_applied funs limits m allowed number values d s e)
+    allowed_members false number values d s e g h b x = record { by = tt }
+    allowed_members true number values d s e g h b x = member_calls (sent (member_at number) values) number d s e g h b x
+
+    -- a member of a kind, on a receiver that suits it
+    members : (sort : MemberKind) (x : Member) (ofs : List Ty) (of : Ty) (values : List Value) (d : Place) (s : State) (e : Env) (g : Scope) → MemberAgrees (known_in funs limits d.text) sort x ofs of
+        → ReceiverSuits sort (member_at x.number).owner ofs → Here g s e → AreTyped s.world.store.objects ofs values → Keeps (Of of) s.world.store.objects g (of_member funs limits m x values d s e)
+    members sort x ofs of values d s e g a b h args =
+        let same : member_at x.number ≡ a.member = get_or_from_slice_get catalogue x.number a.member (constructor 0 []) a.is in
+        let sorted : (member_at x.number).kind ≡ sort = ap (λ (y : MemberType). y.kind) same ∙ a.sort in
+        let takes : TakesTypes sort (member_at x.number).params ofs = subst (λ (y : MemberType). TakesTypes sort y.params ofs) (sym same) a.takes in
+        let gives : (member_at x.number).result ≡ of = ap (λ (y : MemberType). y.result) same ∙ sym a.gives in
+        let sending = sent_typed s.world.store.objects sort (member_at x.number).owner (member_at x.number).params ofs values takes b args in
+        let sending' = subst (λ (k : MemberKind). SendingTyped s.world.store.objects k (member_at x.number).owner (member_at x.number).params (sent_by k (member_at x.number).params values)) (sym sorted) sending in
+        subst (λ (of : Ty). Keeps (Of of) s.world.store.objects g (of_member funs limits m x values d s e)) gives
+        (allowed_members (flag (allowed_in limits d.text).members x.number) x.number values d s e g h a.built sending')
+
+    -- ---- expressions
+
+    applies : (o : Operation) (ofs : List Ty) (of : Ty) (values : List Value) (d : Place) (s : State) (e : Env) (g : Scope) → Applies (known_in funs limits d.text) o ofs of → OperationSuits o ofs of
+        → Here g s e → AreTyped s.world.store.objects ofs values → Keeps (Of of) s.world.store.objects g (applied funs limits m o d s e of values)
+    applies (operation.Operator o) ofs of values d s e g a b h x = operated_typed of (operates o values s.world.store) s e g h (operates_is rules s.world h.0 o ofs of values a x)
+    applies (operation.Cast c) [] of values d s e g a b h x = absurd a
+    applies (operation.Cast c) (from ∷ []) of [] d s e g a b h x = absurd x
+    applies (operation.Cast c) (from ∷ []) of (value ∷ []) d s e g a b h x = operated_typed of (casts c of value s.world.store) s e g h (casts_is rules s.world h.0 c from of value a b x.0)
+    applies (operation.Cast c) (from ∷ []) of (value ∷ other ∷ values) d s e g a b h x = absurd x.1
+    applies (operation.Cast c) (from ∷ other ∷ ofs) of values d s e g a b h x = absurd a
+    applies (operation.InstanceOf is) [] of values d s e g a b h x = absurd a
+    applies (operation.InstanceOf is) (from ∷ []) of [] d s e g a b h x = absurd x
+    applies (operation.InstanceOf is) (from ∷ []) of (value ∷ []) d s e g a b h x = done h (flag_typed s.world.store.objects of (is_instance s.world.store.objects value is) a.2)
+    applies (operation.InstanceOf is) (from ∷ []) of (value ∷ other ∷ values) d s e g a b h x = absurd x.1
+    applies (operation.InstanceOf is) (from ∷ other ∷ ofs) of values d s e g a b h x = absurd a
+    applies (operation.Function number) ofs of values d s e g a b h x = calls number ofs of d s e g values a h x
+    applies (operation.Instance member) [] of values d s e g a b h x = absurd a.takes
+    applies (operation.Instance member) (from ∷ ofs) of values d s e g a b h x = members kind.Instance member (from ∷ ofs) of values d s e g a b h x
+    applies (operation.Static member) ofs of values d s e g a b h x = members kind.Static member ofs of values d s e g a tt h x
+    applies (operation.Constructor member) ofs of values d s e g a b h x = members kind.Constructor member ofs of values d s e g a tt h x
+    applies (operation.Field member) ofs of values d s e g a b h x = members kind.Field member ofs of values d s e g a tt h x
+    applies (operation.Host member) ofs of values d s e g a b h x = absurd a
+    applies (operation.DefCall name) ofs of values d s e g a b h x = absurd a
+    applies (operation.DefName name) ofs of values d s e g a b h x = absurd a
+    applies operation.DefIndex ofs of values d s e g a b h x = absurd a
+
+    logic_typed : (o : Logical) (of : Ty) (value : Value) (right : Expr) (d : Place) (s : State) (e : Env) (g : Scope) → of ≡ boolean → type_of right ≡ of → ExprAgrees (known_in funs limits d.text) g right
+        → ExprSuits right → Here g s e → Keeps (Of of) s.world.store.objects g (logic funs limits m o d s e value right)
+    logic_typed And of value right d s e g is same a b h = chosen value (expr_of_type right of d s e g same a b h) (done h (flag_typed s.world.store.objects of false is))
+    logic_typed Or of value right d s e g is same a b h = chosen value (done h (flag_typed s.world.store.objects of true is)) (expr_of_type right of d s e g same a b h)
+
+    modifies : (x : Name) (of : Ty) (change : Change) (right : Expr) (given : Given_by) (old : Value) (d : Place) (s : State) (e : Env) (g : Scope) → IsVariable g x of
+        → ExprAgrees (known_in funs limits d.text) g right → ExprSuits right → ChangeSuits change of (type_of right) → Here g s e → IsTyped s.world.store.objects of old
+        → Keeps (Of of) s.world.store.objects g (modified funs limits m x of change d s e right given old)
+    modifies x of change right given old d s e g v a b c h f =
+        let k = c.changes in
+        then' (operated_typed k.left (casts change.before of old s.world.store) s e g h (begins_is rules s.world h.0 change.before of k.left old k.known k.before c.before f)) (λ left s1 e1 h1 n1 f1.
+        then' (expr_ih right d s1 e1 g a b h1) (λ value s2 e2 h2 n2 f2.
+        let left2 = typed_grows s1.world.store.objects s2.world.store.objects n2 k.left left f1 in
+        then' (operated_typed k.result (operates change.operator (left ∷ value ∷ []) s2.world.store) s2 e2 g h2
+        (operates_is rules s2.world h2.0 change.operator (k.left ∷ type_of right ∷ []) k.result (left ∷ value ∷ []) k.does (left2, (f2, tt)))) (λ result s3 e3 h3 n3 f3.
+        then' (operated_typed of (casts change.after of result s3.world.store) s3 e3 g h3 (casts_is rules s3.world h3.0 change.after k.result of result k.after c.after f3)) (λ new s4 e4 h4 n4 f4.
+        let there = there_trans s.world.store.objects s1.world.store.objects s4.world.store.objects n1
+        (there_trans s1.world.store.objects s2.world.store.objects s4.world.store.objects n2 (there_trans s2.world.store.objects s3.world.store.objects s4.world.store.objects n3 n4)) in
+        done (h4.0, assigned_typed s4.world.store.objects g e4 x of new v f4 h4.1)
+        (given_by_typed s4.world.store.objects given of old new (typed_grows s.world.store.objects s4.world.store.objects there of old f) f4)))))
+
+    assigns : (at : ℕ) (of : Ty) (to : Target) (parts : Exprs) (value : Expr) (d : Place) (s : State) (e : Env) (g : Scope) → ExprAgrees (known_in funs limits d.text) g (Assign at of to parts value)
+        → ExprSuits (Assign at of to parts value) → Here g s e → Keeps (Of of) s.world.store.objects g (expr_of funs limits m d s e (Assign at of to parts value))
+    assigns at of (target.Local x) parts value d s e g a b h =
+        then' (expr_of_type value of d s e g a.2 a.0 b h) (λ value s e h n f. done (h.0, assigned_typed s.world.store.objects g e x of value a.1 f h.1) f)
+    assigns at of target.Element parts value d s e g a b h = absurd a
+    assigns at of (target.Members read write) parts value d s e g a b h = absurd a
+    assigns at of target.DefIndex parts value d s e g a b h = absurd a
+    assigns at of (target.DefName name) parts value d s e g a b h = absurd a
+
+    changes : (at : ℕ) (of : Ty) (to : Target) (parts : Exprs) (change : Change) (right : Expr) (given : Given_by) (d : Place) (s : State) (e : Env) (g : Scope)
+        → ExprAgrees (known_in funs limits d.text) g (Modify at of to parts change right given) → ExprSuits (Modify at of to parts change right given) → Here g s e
+        → Keeps (Of of) s.world.store.objects g (expr_of funs limits m d s e (Modify at of to parts change right given))
+    changes at of (target.Local x) parts change right given d s e g a b h =
+        then' (found_typed of (lookup e x) s e g h (lookup_typed s.world.store.objects g e x of a.1 h.1)) (λ old s e h n f. modifies x of change right given old d s e g a.1 a.0 b.0 b.1 h f)
+    changes at of target.Element parts change right given d s e g a b h = absurd a
+    changes at of (target.Members read write) parts change right given d s e g a b h = absurd a
+    changes at of target.DefIndex parts change right given d s e g a b h = absurd a
+    changes at of (target.DefName name) parts change right given d s e g a b h = absurd a
+
+    expr_keeps : (x : Expr) (d : Place) (s : State) (e : Env) (g : Scope) → ExprAgrees (known_in funs limits d.text) g x → ExprSuits x → Here g s e
+        → Keeps (Of (type_of x)) s.world.store.objects g (expr_of funs limits m d s e x)
+    expr_keeps (Literal at of c) d s e g a b h = done h (constant_typed s.world.store.objects c of a)
+    expr_keeps (Quoted at of text) d s e g a b h = done h (text_typed s.world.store.objects of _ a)
+    expr_keeps (Local at of x) d s e g a b h = found_typed of (lookup e x) s e g h (lookup_typed s.world.store.objects g e x of a h.1)
+    expr_keeps (Apply at of o parts) d s e g a b h = then' (exprs_ih parts d s e g a.0 b.0 h) (λ values s e h n f. applies o (types_of parts) of values d s e g a.1 b.1 h f)
+    expr_keeps (Guarded at of o None') d s e g a b h = absurd a
+    expr_keeps (Guarded at of o (One x others)) d s e g a b h =
+        then' (expr_ih x d s e g a.0 b.0.0 h) (λ value s1 e1 h1 n1 f1. either (is_null value)
+        (then' (exprs_ih others d s1 e1 g a.1 b.0.1 h1) (λ values s2 e2 h2 n2 f2.
+        applies o (type_of x ∷ types_of others) of (value ∷ values) d s2 e2 g
+        (subst (λ (o : Operation). Applies (known_in funs limits d.text) o (type_of x ∷ types_of others) of) (sym a.2.is) a.2.agrees) b.1 h2
+        (typed_grows s1.world.store.objects s2.world.store.objects n2 (type_of x) value f1, f2)))
+        (done h1 (null_typed s1.world.store.objects of a.2.whole)))
+    expr_keeps (Logic at of o left right) d s e g a b h =
+        then' (expr_ih left d s e g a.0 b.0 h) (λ value s e h n f. logic_typed o of value right d s e g a.4 (a.3 ∙ sym a.4) a.1 b.1 h)
+    expr_keeps (Conditional at of c x y) d s e g a b h =
+        then' (expr_ih c d s e g a.0 b.0 h) (λ value s e h n f. chosen value (expr_of_type x of d s e g a.4 a.1 b.1 h) (expr_of_type y of d s e g a.5 a.2 b.2 h))
+    expr_keeps (Elvis at of left right) d s e g a b h =
+        then' (expr_of_type left of d s e g a.2 a.0 b.0 h) (λ value s e h n f. either (is_null value) (done h f) (expr_of_type right of d s e g a.3 a.1 b.1 h))
+    expr_keeps (Assign at of to parts value) d s e g a b h = assigns at of to parts value d s e g a b h
+    expr_keeps (Modify at of to parts change right given) d s e g a b h = changes at of to parts change right given d s e g a b h
+    expr_keeps (Lambda at of interface function) d s e g a b h = absurd a
+    expr_keeps (Reference at of interface class name) d s e g a b h = absurd a
+    expr_keeps (NewReference at of interface made) d s e g a b h = absurd a
+
+    exprs_keep : (x : Exprs) (d : Place) (s : State) (e : Env) (g : Scope) → ExprsAgree (known_in funs limits d.text) g x → ExprsSuit x → Here g s e
+        → Keeps (λ objects values. AreTyped objects (types_of x) values) s.world.store.objects g (exprs_of funs limits m d s e x)
+    exprs_keep None' d s e g a b h = done h tt
+    exprs_keep (One x others) d s e g a b h =
+        then' (expr_ih x d s e g a.0 b.0 h) (λ value s1 e1 h1 n1 f1.
+        then' (exprs_ih others d s1 e1 g a.1 b.1 h1) (λ values s2 e2 h2 n2 f2. done h2 (typed_grows s1.world.store.objects s2.world.store.objects n2 (type_of x) value f1, f2)))
+
+    -- ---- statements
+
+    any_by : (of : Ty) (start : List Object) (g : Scope) (o : Out Value) → OutTyped (Of of) rules start g o → OutTyped Any rules start g o
+    any_by of start g (Done a s e) x = (x.0, x.1, tt)
+    any_by of start g (Thrown id s e) x = x
+    any_by of start g (Over limit w) x = x
+    any_by of start g More x = tt
+
+    -- an expression whose value is not looked at
+    any_expr : (x : Expr) (d : Place) (s : State) (e : Env) (g : Scope) → ExprAgrees (known_in funs limits d.text) g x → ExprSuits x → Here g s e → Keeps Any s.world.store.objects g (m.expr d s e x)
+    any_expr x d s e g a b h = record { by = any_by (type_of x) s.world.store.objects g (m.expr d s e x) (ih.expr x d s e g a b h) }
+
+    test_keeps : (test : Maybe) (d : Place) (s : State) (e : Env) (g : Scope) → TestAgrees (known_in funs limits d.text) g test → MaybeSuits test → Here g s e
+        → Keeps Any s.world.store.objects g (value_if funs limits m test (v.Bool true) d s e)
+    test_keeps Missing d s e g a b h = done h tt
+    test_keeps (Present x) d s e g a b h = any_expr x d s e g a.0 b h
+
+    update_keeps : (update : Maybe) (d : Place) (s : State) (e : Env) (g : Scope) → UpdateAgrees (known_in funs limits d.text) g update → MaybeSuits update → Here g s e
+        → Keeps Any s.world.store.objects g (value_if funs limits m update v.Null d s e)
+    update_keeps Missing d s e g a b h = done h tt
+    update_keeps (Present x) d s e g a b h = any_expr x d s e g a b h
+
+    turns_keep : (c : Counted) (test update : Maybe) (body : Stmts) (d : Place) (s : State) (e : Env) (g : Scope) (of : Ty) (looped : Bool)
+        → StmtAgrees (known_in funs limits d.text) of looped g (While test update body) → StmtSuits (While test update body) → Here g s e → SameStore s.world c
+        → Keeps (FlowTyped of) s.world.store.objects g (turned funs limits m c d s e test update body)
+    turns_keep (Passes limit w) test update body d s e g of looped a b h p = record { by = passes_on s.world w p h.0 }
+    turns_keep (Counts w) test update body d s e g of looped a b h p =
+        moved (FlowTyped of) g s.world w _ p
+        (then' (stmts_ih body d (record { world = w; turns = suc s.turns }) e g of true a.2 b.2 (same_state s.world w s.turns (suc s.turns) g e p h)) (λ flow s e h n f.
+        again of flow s e h f (then' (update_keeps update d s e g a.1 b.1 h) (λ value s e h n f. stmt_ih (While test update body) d s e g of looped a b h))))
+
+    done_turns_keep : (c : Counted) (body : Stmts) (test : Maybe) (d : Place) (s : State) (e : Env) (g : Scope) (of : Ty) (looped : Bool)
+        → StmtAgrees (known_in funs limits d.text) of looped g (DoWhile body test) → StmtSuits (DoWhile body test) → Here g s e → SameStore s.world c
+        → Keeps (FlowTyped of) s.world.store.objects g (done_turn funs limits m c d s e body test)
+    done_turns_keep (Passes limit w) body test d s e g of looped a b h p = record { by = passes_on s.world w p h.0 }
+    done_turns_keep (Counts w) body test d s e g of looped a b h p =
+        moved (FlowTyped of) g s.world w _ p
+        (then' (stmts_ih body d (record { world = w; turns = suc s.turns }) e g of true a.0 b.0 (same_state s.world w s.turns (suc s.turns) g e p h)) (λ flow s e h n f.
+        again of flow s e h f (then' (test_keeps test d s e g a.1 b.1 h) (λ value s e h n f. chosen value (stmt_ih (DoWhile body test) d s e g of looped a b h) (done h tt)))))
+
+    -- the exception is the catch's variable, and of its class
+    catches_keep : (x : Catches) (id : ℕ) (d : Place) (s : State) (e : Env) (g : Scope) (of : Ty) (looped : Bool) → CatchesAgree (known_in funs limits d.text) of looped g x → CatchesSuit x → Here g s e
+        → ThrownFits s.world.store.objects id → Keeps (FlowTyped of) s.world.store.objects g (caught funs limits m d x id s e)
+    catches_keep NoCatch id d s e g of looped a b h f = record { by = (begun s.world h.0, h.1, f) }
+    catches_keep (Catch class x body rest) id d s e g of looped a b h f =
+        takes (catches_keep rest id d s e g of looped a.2 b.1 h f) (is_of_class class (slice_get s.world.store.objects id)) refl
+      where
+        takes : Keeps (FlowTyped of) s.world.store.objects g (caught funs limits m d rest id s e) → (c : Bool) → is_of_class class (slice_get s.world.store.objects id) ≡ c
+            → Keeps (FlowTyped of) s.world.store.objects g (if c then leave (m.stmts d s (record { name = x; value = v.Ref id } ∷ e) body) else caught funs limits m d rest id s e)
+        takes others true is_so =
+            let there = sym (kind_passes (kind_is_of class) s.world.store.objects id) ∙ class_passes class (slice_get s.world.store.objects id) is_so in
+            let exception : IsTyped s.world.store.objects (t.Class class) (v.Ref id) = record { there = f.0; is = object_typed s.world.store.objects class id there } in
+            leaving (record { name = x; of = t.Class class })
+            (stmts_ih body d s (record { name = x; value = v.Ref id } ∷ e) (record { name = x; of = t.Class class } ∷ g) of looped a.1 b.0 (h.0, (refl, exception, h.1)))
+        takes others false not_so = others
+
+    handles : (x : Catches) (d : Place) (g : Scope) (of : Ty) (looped : Bool) (start : List Object) (o : Out Flow) → CatchesAgree (known_in funs limits d.text) of looped g x → CatchesSuit x
+        → OutTyped (FlowTyped of) rules start g o → OutTyped (FlowTyped of) rules start g (handled funs limits m d x o)
+    handles x d g of looped start (Done flow s e) a b h = h
+    handles x d g of looped start (Thrown id s e) a b h =
+        lower_by (FlowTyped of) start s.world.store.objects g (caught funs limits m d x id s e) h.0.there (catches_keep x id d s e g of looped a b (h.0.fits, h.1) h.2).by
+    handles x d g of looped start (Over limit w) a b h = h
+    handles x d g of looped start More a b h = tt
+
+    returns : (value : Maybe) (of : Ty) (d : Place) (s : State) (e : Env) (g : Scope) → ReturnAgrees (known_in funs limits d.text) g value of → MaybeSuits value → Here g s e
+        → Keeps (FlowTyped of) s.world.store.objects g (bind (value_if funs limits m value v.Null d s e) (λ value s e. Done (Returned value) s e))
+    returns Missing of d s e g a b h = done h (nothing_typed s.world.store.objects of a)
+    returns (Present x) of d s e g a b h = then' (expr_of_type x of d s e g a.1 a.0 b h) (λ value s e h n f. done h f)
+
+    stmt_keeps : (x : Stmt) (d : Place) (s : State) (e : Env) (g : Scope) (of : Ty) (looped : Bool) → StmtAgrees (known_in funs limits d.text) of looped g x → StmtSuits x → Here g s e
+        → Keeps (FlowTyped of) s.world.store.objects g (stmt_of funs limits m d s e x)
+    stmt_keeps (Do x) d s e g of looped a b h = then' (any_expr x d s e g a b h) (λ value s e h n f. done h tt)
+    stmt_keeps (If c x y) d s e g of looped a b h =
+        then' (any_expr c d s e g a.0 b.0 h) (λ value s e h n f. chosen value (stmts_ih x d s e g of looped a.2 b.1 h) (stmts_ih y d s e g of looped a.3 b.2 h))
+    stmt_keeps (While test update body) d s e g of looped a b h =
+        then' (test_keeps test d s e g a.0 b.0 h) (λ value s e h n f.
+        chosen value (turns_keep (take_turn limits (has_loop_limit d.text) s.turns s.world) test update body d s e g of looped a b h (turn_keeps limits (has_loop_limit d.text) s.turns s.world)) (done h tt))
+    stmt_keeps (DoWhile body test) d s e g of looped a b h =
+        done_turns_keep (take_turn limits (has_loop_limit d.text) s.turns s.world) body test d s e g of looped a b h (turn_keeps limits (has_loop_limit d.text) s.turns s.world)
+    stmt_keeps (ForEach x to element over body) d s e g of looped a b h = absurd a
+    stmt_keeps (Try body catches) d s e g of looped a b h =
+        record { by = handles catches d g of looped s.world.store.objects (m.stmts d s e body) a.1 b.1 (ih.stmts body d s e g of looped a.0 b.0 h) }
+    stmt_keeps (Block body) d s e g of looped a b h = stmts_ih body d s e g of looped a b h
+    stmt_keeps Break d s e g of looped a b h = done h tt
+    stmt_keeps Continue d s e g of looped a b h = done h tt
+    stmt_keeps (Return value) d s e g of looped a b h = returns value of d s e g a b h
+    stmt_keeps (Throw x) d s e g of looped a b h =
+        then' (any_expr x d s e g a.0 b h) (λ value s e h n f.
+        then' (throws_keep value s e g h) (λ value s e h n f. done h tt))
+      where
+        throws_keep : (value : Value) (s : State) (e : Env) (g : Scope) → Here g s e → Keeps Any s.world.store.objects g (effect (acts_in s.world (thrown s.world.store value)) s e)
+        throws_keep value s e g h = record { by = thrown_by _ s e g h (throwing_fits rules s.world.store.objects s.world value (begun s.world h.0)) }
+
+    begins : (value : Maybe) (of : Ty) (d : Place) (s : State) (e : Env) (g : Scope) → BeginAgrees (known_in funs limits d.text) g value of → MaybeSuits value → Here g s e
+        → Keeps (Of of) s.world.store.objects g (value_or funs limits m value of d s e)
+    begins Missing of d s e g a b h = done h (default_typed s.world.store.objects of)
+    begins (Present x) of d s e g a b h = expr_of_type x of d s e g a.1 a.0 b h
+
+    stmts_keep : (x : Stmts) (d : Place) (s : State) (e : Env) (g : Scope) (of : Ty) (looped : Bool) → StmtsAgree (known_in funs limits d.text) of looped g x → StmtsSuit x → Here g s e
+        → Keeps (FlowTyped of) s.world.store.objects g (stmts_of funs limits m d s e x)
+    stmts_keep Finish d s e g of looped a b h = done h tt
+    stmts_keep (Then x rest) d s e g of looped a b h =
+        then' (stmt_ih x d s e g of looped a.0 b.0 h) (λ flow s e h n f. next of flow s e h f (stmts_ih rest d s e g of looped a.1 b.1 h))
+    stmts_keep (Declare x to value rest) d s e g of looped a b h =
+        then' (begins value to d s e g a.0 b.0 h) (λ first s e h n f.
+        leaving (record { name = x; of = to }) (stmts_ih rest d s (record { name = x; value = first } ∷ e) (record { name = x; of = to } ∷ g) of looped a.2 b.1 (h.0, (refl, f, h.1))))
+
+    deeper : MeaningTyped rules funs limits (layer funs limits m)
+    deeper = record {
+      expr = λ x d s e g a b h. (expr_keeps x d s e g a b h).by;
+      exprs = λ x d s e g a b h. (exprs_keep x d s e g a b h).by;
+      stmt = λ x d s e g of looped a b h. (stmt_keeps x d s e g of looped a b h).by;
+      stmts = λ x d s e g of looped a b h. (stmts_keep x d s e g of looped a b h).by;
+    }
+
+formed_in : (funs : Programs) (limits : Limits) → AreWellFormed funs limits → (text : Owner) → WellFormed (known_in funs limits text)
+formed_in funs limits h Script = h.script
+formed_in funs limits h Prelude = h.prelude
+
+suited_in : (funs : Programs) → BothSuit funs → (text : Owner) → Suits (functions_in funs text)
+suited_in funs h Script = h.script
+suited_in funs h Prelude = h.prelude
+
+pub meanings_are_typed : MeaningsAreTyped
+meanings_are_typed rules funs limits zero a b = record {
+  expr = λ x d s e g a b h. tt;
+  exprs = λ x d s e g a b h. tt;
+  stmt = λ x d s e g of looped a b h. tt;
+  stmts = λ x d s e g of looped a b h. tt;
+}
+meanings_are_typed rules funs limits (suc n) a b =
+    deeper rules funs limits (formed_in funs limits a) (suited_in funs b) (meaning funs limits n) (meanings_are_typed rules funs limits n a b)
+
+entered_typed : (objects : List Object) (g : Scope) (o : Option Env) (e : Env) → o ≡ Some e → EntryTyped objects g o → EnvTyped objects g e
+entered_typed objects g o e is h = subst (EntryTyped objects g) is h
+
+pub results_are_typed : ResultsAreTyped
+results_are_typed rules funs limits bound a b main is w arguments f h e entered =
+    let fun = a.script.each 0 main is in
+    (meanings_are_typed rules funs limits bound a b).stmts main.body (record { text = Script; depth = 0 }) (record { world = w; turns = 0 }) e (scope_of main.params []) main.result false fun.body
+    (b.script.each 0 main is) (f, entered_typed w.store.objects (scope_of main.params []) _ e entered (entry_typed w.store.objects main.params arguments [] [] h tt))

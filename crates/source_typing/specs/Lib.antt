@@ -1,0 +1,3 @@
+pub mod Suiting
+pub mod Outs
+pub mod Laws
