@@ -3,6 +3,10 @@
 use Rattle.std.specs.Prelude.{◌≡◌, true, ℕ, Bool, List, [], Some, slice_get}
 use Rattle.pl_types.specs.declared.ty.Ty.{Ty}
 use Rattle.pl_types.specs.declared.conversion.Cast.{Cast}
+use Rattle.pl_types.specs.declared.conversion.Cast.TheVariants as cast
+use Rattle.pl_types.specs.declared.ty.Ty.TheVariants as t
+use Rattle.allowlist.specs.Allow.{AllowList, member_of}
+use Rattle.allowlist.specs.Index.{member_at}
 use Rattle.typed_tree.specs.declared.operation.Operator.{Operator}
 use Rattle.object_values.specs.declared.object.Owner.TheVariants.{Script}
 use Rattle.object_values.specs.declared.value.Value.{Value}
@@ -27,6 +31,12 @@ abbrev pub CastsGiveStaticTypes : Type 0
 CastsGiveStaticTypes =
     (w : World) (c : Cast) (from to : Ty) (value : Value) → Casts c from to → IsGiven c from to → is_typed w.store.objects from value ≡ true
     → OperatedTyped w to (casts c to value w.store)
+
+-- The member that is found for a class is that class's own or of one above it, at which the table keeps a receiver.
+abbrev pub ReceiversAreGiven : Type 0
+ReceiversAreGiven =
+    (allow : AllowList) (class : ℕ) (name : List ℕ) (arity number : ℕ) → member_of allow class name arity ≡ Some number
+    → IsGiven cast.Keep (t.Class class) (t.Class (member_at number).owner)
 
 pub record MeaningTyped (rules : Rules) (funs : Programs) (limits : Limits) (m : Meaning) : Type 0 where
   pub expr : (x : Expr) (d : Place) (s : State) (e : Env) (g : Scope) → ExprAgrees (known_in funs limits d.text) g x → ExprSuits x → StateTyped rules g s e
