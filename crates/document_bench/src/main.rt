@@ -4,6 +4,7 @@
 
 use job_file::Mapping;
 use json_bridge::{bind, give};
+use json_reading::{Scratch, read_json};
 use object_heap::Heap;
 use search_ctx::{Fields, SearchKind, bind_line};
 use serde_json::Value as Json;
@@ -51,6 +52,8 @@ fn job_of(alloc: Global) -> Option<Job> {
 /// How far a document is taken.
 #[derive(Clone, Copy)]
 enum Part {
+    /// By `serde_json`, which takes memory anew for each.
+    ReadAnew,
     Read,
     Bound,
     Answered,
@@ -60,6 +63,7 @@ enum Part {
 
 fn name(part: Part) -> &'static str {
     match part {
+        Part::ReadAnew => "read by serde_json",
         Part::Read => "read",
         Part::Bound => "read and bound",
         Part::Answered => "read, bound, given back and written",
@@ -112,7 +116,7 @@ fn goes_on(alloc: Global, part: Part, json: &Json) -> bool {
     }
 }
 
-fn is_started(job: &Job, line: &str) -> bool {
+fn is_started(job: &Job, line: &str, scratch: &mut Scratch) -> bool {
     bind_line(
         job.alloc,
         SearchKind::Filter,
@@ -120,15 +124,17 @@ fn is_started(job: &Job, line: &str) -> bool {
         &job.params,
         line.as_bytes(),
         ROOM,
+        scratch,
     )
     .is_ok()
 }
 
 // Whether a line comes so far.
-fn comes(job: &Job, part: Part, line: &str) -> bool {
+fn comes(job: &Job, part: Part, line: &str, scratch: &mut Scratch) -> bool {
     match part {
-        Part::Started => is_started(job, line),
-        _ => match Json::from_slice(job.alloc, line.as_bytes()) {
+        Part::ReadAnew => Json::from_slice(job.alloc, line.as_bytes()).is_ok(),
+        Part::Started => is_started(job, line, scratch),
+        _ => match read_json(job.alloc, line.as_bytes(), scratch) {
             Ok(json) => goes_on(job.alloc, part, &json),
             Err(_) => false,
         },
@@ -137,8 +143,9 @@ fn comes(job: &Job, part: Part, line: &str) -> bool {
 
 fn come_often(job: &Job, part: Part, lines: &[String]) -> u32 {
     let mut done = 0u32;
+    let mut scratch = Scratch::new(job.alloc);
     for line in lines {
-        if comes(job, part, line.as_str()) {
+        if comes(job, part, line.as_str(), &mut scratch) {
             done = done.saturating_add(1);
         }
     }
@@ -158,7 +165,13 @@ fn least(rt: &impl Clock, job: &Job, part: Part, lines: &[String]) -> io::Result
 }
 
 fn measure(rt: &(impl Clock + Print), job: &Job, lines: &[String]) -> io::Result<()> {
-    for part in [Part::Read, Part::Bound, Part::Answered, Part::Started] {
+    for part in [
+        Part::ReadAnew,
+        Part::Read,
+        Part::Bound,
+        Part::Answered,
+        Part::Started,
+    ] {
         let (spent, done) = least(rt, job, part, lines)?;
         let name = name(part);
         println!(rt; "{name}: {spent} ns ({done} of {DOCUMENTS})")?;

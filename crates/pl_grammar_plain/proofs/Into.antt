@@ -71,11 +71,11 @@ form_into (suc n) f v x after e h =
 -- ---- and what meets them is plainly derived
 
 module _ (n : ℕ) (out_of : (f : Form) (v : TreeOf f) (x after : List Lexeme) → Derives n f v x after → Plain n f v x after) where
-  sequence_out : (f : Form) (vs : List (TreeOf f)) (x after : List Lexeme) → Sequence (Derives n) f vs x after → Sequence (Plain n) f vs x after
+  pub sequence_out : (f : Form) (vs : List (TreeOf f)) (x after : List Lexeme) → Sequence (Derives n) f vs x after → Sequence (Plain n) f vs x after
   sequence_out f [] x after h = h
   sequence_out f (v ∷ vs) x after h = (h.0, h.1, h.2, out_of f v h.0 (h.1 ++ after) h.3, sequence_out f vs h.1 after h.4)
 
-  symbol_out : (sy : Symbol) (v : SymbolTree sy) (x after : List Lexeme) → DerivesSymbol (Derives n) sy v x after → PlainSymbol (Plain n) sy v x after
+  pub symbol_out : (sy : Symbol) (v : SymbolTree sy) (x after : List Lexeme) → DerivesSymbol (Derives n) sy v x after → PlainSymbol (Plain n) sy v x after
   symbol_out (token take w) v x after h = h
   symbol_out (phrase f) v x after h = out_of f v x after h
   symbol_out (repeated f) vs x after h = (sequence_out f vs x after h.0, ends_of f (next after) h.1)

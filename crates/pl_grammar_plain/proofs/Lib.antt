@@ -7,3 +7,7 @@ mod Walks
 mod Calm
 mod Allowed
 mod Into
+mod Texts
+mod Rights
+mod Going
+mod Readings

@@ -3,6 +3,7 @@
 ghost use Rattle.std.specs.Prelude.{◌≡◌};
 
 use json_bridge::NumErr;
+use json_reading::ReadErr;
 use std::alloc::AllocError;
 
 /// Why a document has no doc values.
@@ -50,6 +51,19 @@ impl From<AllocError> for BindErr {
 
     fn from(_error: AllocError) -> BindErr {
         BindErr::NoMemory
+    }
+}
+
+impl From<ReadErr> for BindErr {
+    ghost use Rattle.search_ctx.specs.Errors.{bind_of_reading};
+
+    ghost from_gives = { λ cause e. e ≡ bind_of_reading cause };
+
+    fn from(error: ReadErr) -> BindErr {
+        match error {
+            ReadErr::Syntax => BindErr::Syntax,
+            ReadErr::NoMemory => BindErr::NoMemory,
+        }
     }
 }
 

@@ -15,6 +15,7 @@ use crate::fields::Fields;
 use crate::placing::place_doc;
 use crate::walk::SCORE_KEY;
 use json_bridge::bind;
+use json_reading::{Scratch, read_json};
 use object_heap::Heap;
 use object_values::{Elements, Value};
 use serde_json::{Map, Value as Json};
@@ -202,7 +203,7 @@ fn args_of(
 /// the context's variables. Of the causes why not the first is answered: `Syntax` where `serde_json` does not read the line,
 /// `Number` where some number of it or of `params` is no whole one of 64 bits with a sign, `Field` where it is no object, a value
 /// stands at a field that does not take it or, in the context score, `_score` is no number from 0. What is bound takes nothing
-/// from the room.
+/// from the room. The scratch is kept from line to line, and what lies in it changes nothing.
 pub fn bind_line(
     alloc: Global,
     kind: SearchKind,
@@ -210,16 +211,11 @@ pub fn bind_line(
     params: &Json,
     line: &[u8],
     room: u64,
+    scratch: &mut Scratch,
 ) -> Result<Bound, BindErr>
     ensures text { IsUtf8 line.now → Answered result (bound_line kind fields.now (view params.now) room (read line.now)) }
     ensures bytes { ¬ IsUtf8 line.now → Answered result (Err syntax) }
 {
-    match Json::from_slice(alloc, line) {
-        Ok(json) => bind_document(alloc, kind, fields, params, &json, room),
-        Err(error) => if error.is_memory() {
-            Err(BindErr::NoMemory)
-        } else {
-            Err(BindErr::Syntax)
-        },
-    }
+    let json = read_json(alloc, line, scratch)?;
+    bind_document(alloc, kind, fields, params, &json, room)
 }

@@ -1,6 +1,7 @@
 //! Lines that are bound, as texts.
 use crate::shown::{lists_shown, start_shown};
 use job_file::Mapping;
+use json_reading::Scratch;
 use search_ctx::{BindErr, Bound, Fields, SearchKind, bind_line};
 use serde_json::Value as Json;
 use std::alloc::{AllocError, Global};
@@ -21,12 +22,13 @@ pub fn bound(
     kind: SearchKind,
     texts: (&str, &str),
     line: &[u8],
+    scratch: &mut Scratch,
 ) -> Result<Bound, BindErr> {
     let Some(fields) = fields_of(alloc, texts.0) else {
         return Err(BindErr::NoMemory);
     };
     match Json::from_str(alloc, texts.1) {
-        Ok(params) => bind_line(alloc, kind, &fields, &params, line, ROOM),
+        Ok(params) => bind_line(alloc, kind, &fields, &params, line, ROOM, scratch),
         Err(_) => Err(BindErr::NoMemory),
     }
 }
@@ -51,7 +53,15 @@ fn is_text(shown: Result<String, AllocError>, wanted: &str) -> bool {
 
 /// Whether the doc values of a line are those.
 pub fn has_values(alloc: Global, mapping: &str, line: &str, wanted: &str) -> bool {
-    match bound(alloc, SearchKind::Filter, (mapping, "{}"), line.as_bytes()) {
+    let texts = (mapping, "{}");
+    let mut scratch = Scratch::new(alloc);
+    match bound(
+        alloc,
+        SearchKind::Filter,
+        texts,
+        line.as_bytes(),
+        &mut scratch,
+    ) {
         Ok(bound) => is_text(lists_shown(alloc, &bound.heap), wanted),
         Err(error) => cause(error) == wanted,
     }
@@ -64,8 +74,9 @@ pub fn starts_so(
     texts: (&str, &str),
     line: &str,
     wanted: &str,
+    scratch: &mut Scratch,
 ) -> bool {
-    match bound(alloc, kind, texts, line.as_bytes()) {
+    match bound(alloc, kind, texts, line.as_bytes(), scratch) {
         Ok(bound) => is_text(start_shown(alloc, &bound), wanted),
         Err(error) => cause(error) == wanted,
     }

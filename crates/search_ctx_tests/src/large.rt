@@ -1,6 +1,7 @@
 //! Mappings with many fields, and documents with many levels.
 use crate::binding::bound;
 use job_file::{MapErr, Mapping};
+use json_reading::Scratch;
 use search_ctx::{BindErr, SearchKind};
 use serde_json::Value as Json;
 use std::alloc::Global;
@@ -37,6 +38,7 @@ fn objects_of(alloc: Global, count: u32) -> Option<usize> {
         SearchKind::Filter,
         (mapping.as_str(), "{}"),
         line.as_str().as_bytes(),
+        &mut Scratch::new(alloc),
     )
     .ok()?;
     Some(start.heap.len())
@@ -77,7 +79,9 @@ fn is_refused_so(
         return false;
     };
     let texts = ("{\"f\":\"long\",\"x\":\"long\"}", "{}");
-    bound(alloc, SearchKind::Filter, texts, line.as_str().as_bytes()).err() == wanted
+    let mut scratch = Scratch::new(alloc);
+    let line = line.as_str().as_bytes();
+    bound(alloc, SearchKind::Filter, texts, line, &mut scratch).err() == wanted
 }
 
 #[test]

@@ -1,5 +1,6 @@
 //! Starts of runs over lines.
 use crate::binding::{bound, starts_so};
+use json_reading::Scratch;
 use search_ctx::{BindErr, SearchKind};
 
 /// A mapping with a field that has the name of a score.
@@ -130,8 +131,9 @@ const ROWS: [(SearchKind, (&str, &str), &str, &str); 26] = [
 
 #[test]
 fn starts(rt: HostRuntime) {
+    let mut scratch = Scratch::new(rt.alloc());
     for (kind, texts, line, wanted) in ROWS {
-        let as_wanted = starts_so(rt.alloc(), kind, texts, line, wanted);
+        let as_wanted = starts_so(rt.alloc(), kind, texts, line, wanted, &mut scratch);
         assert!(rt; as_wanted, "{line}");
     }
 }
@@ -141,6 +143,15 @@ const NO_TEXT: [u8; 7] = [b'{', b'"', 0xff, b'"', b':', b'1', b'}'];
 
 #[test]
 fn bytes_that_are_no_text(rt: HostRuntime) {
-    let cause = bound(rt.alloc(), SearchKind::Filter, ("{}", "{}"), &NO_TEXT).err();
+    let texts = ("{}", "{}");
+    let mut scratch = Scratch::new(rt.alloc());
+    let cause = bound(
+        rt.alloc(),
+        SearchKind::Filter,
+        texts,
+        &NO_TEXT,
+        &mut scratch,
+    )
+    .err();
     assert!(rt; cause == Some(BindErr::Syntax));
 }
