@@ -1,5 +1,5 @@
 -- What each member comes to fits the store.
-use Rattle.std.proofs.Common.{◌≡◌, ℕ, zero, suc, ℤ, Bool, true, Option, Some, None, List, [], ◌∷◌, ◌++◌, ◌<◌, length, reverse, refl, ap, sym, ◌∙◌, subst, slice_get, if◌then◌else◌}
+use Rattle.std.proofs.Common.{◌≡◌, ℕ, zero, suc, ◌==◌, ℤ, Bool, true, false, Option, Some, None, List, [], ◌∷◌, ◌++◌, ◌<◌, length, reverse, refl, ap, sym, ◌∙◌, subst, slice_get, if◌then◌else◌}
 use Rattle.pl_types.specs.declared.classes.TheConstants.{LIST}
 use Rattle.std.specs.Prelude.{pos, negsuc}
 use Rattle.std.proofs.lemmas.List.{reverse-append}
@@ -31,6 +31,12 @@ use Rattle.api_list.specs.Arguments.{if_list, list_at, list_named}
 use Rattle.api_list.specs.Lists as lists
 use Rattle.api_list.specs.Making as making
 use Rattle.api_list.specs.Members as members
+use Rattle.api_list.specs.Taking as taking
+use Rattle.api_list.specs.declared.told.Told.{Told}
+use Rattle.api_list.specs.declared.told.Told.TheVariants.{Says}
+use Rattle.container_parts.specs.declared.containers.Container.{Container}
+use Rattle.container_values.specs.Elements.{collection_at}
+use Rattle.api_list.proofs.KeepingTaken.{ToldFits, add_all_at_fits, add_all_fits, array_taken_fits, as_list_fits, collection_fits, list_taken_fits}
 use Rattle.api_list.specs.Searching.{first_from, last_before}
 
 place_fits : (rules : Rules) (objects : List Object) (count : ℕ) (at : ℤ) (place : Option ℕ) (next : ℕ → Outcome) → ((at : ℕ) → OutcomeFits rules objects (next at)) → OutcomeFits rules objects (lists.at_place count at place next)
@@ -103,39 +109,6 @@ one_list_fits : (rules : Rules) (objects : List Object) (item : Value) → Value
 unfolding class_is_below lineage_of parents_of class_row class_table
 one_list_fits rules objects item h = (refl, (counted objects item h, tt))
 
--- an array of what a list has
-of_layer : (typed : Typed) (ks : List Kind) (elem : Ty) (layer : Ty-F Ty) (value : Value) → out-Ty elem ≡ layer → (if layer_asked typed layer then has_layer ks layer value else true) ≡ true
-    → is_element typed ks elem value ≡ true
-of_layer typed ks elem layer value e h = subst (λ (found : Ty-F Ty). (if layer_asked typed found then has_layer ks found value else true) ≡ true) (sym e) h
-
-any_layer : (typed : Typed) (ks : List Kind) (value : Value) → (if layer_asked typed Ty-F.Def then has_layer ks Ty-F.Def value else true) ≡ true
-any_layer Every ks value = refl
-any_layer Primitives ks value = refl
-
-any_element : (typed : Typed) (ks : List Kind) (value : Value) → is_element typed ks Def value ≡ true
-any_element typed ks value = of_layer typed ks Def Ty-F.Def value outs-Def (any_layer typed ks value)
-
-any_elements : (typed : Typed) (ks : List Kind) (items : List Value) → AreElements typed ks Def items
-any_elements typed ks [] = tt
-any_elements typed ks (item ∷ items) = (any_element typed ks item, any_elements typed ks items)
-
-def_is : is_type Def ≡ true
-unfolding is_type
-def_is = ap is_type (sym rolls-Def) ∙ fold-roll-Ty Bool layer_is_type Ty-F.Def
-
-array_fits : (rules : Rules) (objects : List Object) (list : ℕ) → Fits rules objects → OutcomeFits rules objects (lists.array_of objects list)
-array_fits rules objects list f = (def_is, all_counted objects (items_of objects list) (items_fit rules objects list f), any_elements rules.typed (kinds objects) (items_of objects list))
-
--- the receiver is there
-found_there : (objects : List Object) (at id : ℕ) (found : Option Object) → slice_get objects at ≡ found → if_list at found ≡ Some id → id < length objects
-found_there objects at id None e h = cc
-found_there objects at id (Some (o.List class items guard changes)) e h = let same : at ≡ id = cc in subst (λ (n : ℕ). n < length objects) same (slice_get_within objects at _ e)
-found_there objects at id (Some object) e h = cc
-
-named_there : (objects : List Object) (named : Option ℕ) (id : ℕ) → list_named objects named ≡ Some id → id < length objects
-named_there objects None id h = cc
-named_there objects (Some at) id h = found_there objects at id (slice_get objects at) refl h
-
 -- items in the opposite order
 all_joined : (n : ℕ) (front more : List Value) → AllFit n front → AllFit n more → AllFit n (front ++ more)
 all_joined n [] more f g = g
@@ -204,12 +177,16 @@ does_fits rules objects m.Set arguments f a =
     three_fit {B = ℤ} {C = Value} rules objects (lists.written objects) (list_at objects arguments 0) (int_at arguments 1) (slice_get arguments 2)
     (λ list at item e k w. open_fits rules objects list _ (place_fits rules objects (length (items_of objects list)) at (lists.place_of (length (items_of objects list)) at) _
     (λ place. (value_there (length objects) arguments 2 item a w, named_takes rules.typed (kinds objects) objects item (object_at arguments 0) list e))))
-does_fits rules objects m.ToArray arguments f a = one_fits rules objects (lists.array_of objects) (list_at objects arguments 0) (λ list e. array_fits rules objects list f)
+does_fits rules objects m.ToArray arguments f a =
+    one_fits {A = Container} rules objects (taking.array_taken objects) (collection_at objects arguments 0) (λ container e. array_taken_fits rules objects container f (collection_fits rules objects arguments 0 container f e))
 does_fits rules objects m.LastIndexOf arguments f a =
     two_fit {B = Value} rules objects (lists.last_place_found objects) (list_at objects arguments 0) (slice_get arguments 1)
     (λ list value e k. search_fits rules objects (last_before objects value (items_of objects list) (length (items_of objects list))) _ _ (λ at. tt) tt)
-does_fits rules objects m.AsList arguments f a = one_fits rules objects (λ list. outcome.Gives (v.Ref list)) (list_at objects arguments 0) (λ list e. named_there objects (object_at arguments 0) list e)
+does_fits rules objects m.AsList arguments f a =
+    one_fits {A = Container} rules objects (taking.as_list_of objects) (collection_at objects arguments 0) (λ container e. as_list_fits rules objects arguments 0 container f e)
 does_fits rules objects m.NewList arguments f a = new_list_fits rules objects
+does_fits rules objects m.NewListOf arguments f a =
+    one_fits {A = Container} rules objects (taking.list_taken objects) (collection_at objects arguments 0) (λ container e. list_taken_fits rules objects container f (collection_fits rules objects arguments 0 container f e))
 does_fits rules objects m.EmptyList arguments f a = empty_list_fits rules objects
 does_fits rules objects m.EmptyMap arguments f a = empty_map_fits rules objects
 does_fits rules objects m.Reverse arguments f a =
@@ -222,6 +199,16 @@ does_fits rules objects m.Swap arguments f a =
 does_fits rules objects m.SingletonList arguments f a =
     one_fits {A = Value} rules objects making.list_of_one (slice_get arguments 0) (λ item e. one_list_fits rules objects item (value_there (length objects) arguments 0 item a e))
 
-pub found_fits : (rules : Rules) (objects : List Object) (found : Option Member) (arguments : List Value) → Fits rules objects → AllFit (length objects) arguments → OutcomeFits rules objects (members.does_found objects found arguments)
+found_fits : (rules : Rules) (objects : List Object) (found : Option Member) (arguments : List Value) → Fits rules objects → AllFit (length objects) arguments → OutcomeFits rules objects (members.does_found objects found arguments)
 found_fits rules objects None arguments f a = tt
 found_fits rules objects (Some member) arguments f a = does_fits rules objects member arguments f a
+
+chosen_fits : (rules : Rules) (objects : List Object) (one two : Bool) (a b c : Told) → ToldFits rules objects a → ToldFits rules objects b → ToldFits rules objects c → ToldFits rules objects (if one then a else (if two then b else c))
+chosen_fits rules objects true two a b c f g h = f
+chosen_fits rules objects false true a b c f g h = g
+chosen_fits rules objects false false a b c f g h = h
+
+pub comes_fits : (rules : Rules) (objects : List Object) (number : ℕ) (arguments : List Value) → Fits rules objects → AllFit (length objects) arguments → ToldFits rules objects (members.comes_to objects number arguments)
+comes_fits rules objects number arguments f a =
+    chosen_fits rules objects (number == 98) (number == 114) (taking.add_all objects arguments) (taking.add_all_at objects arguments) (Says (members.does_numbered objects number arguments))
+    (add_all_fits rules objects arguments f) (add_all_at_fits rules objects arguments f) (found_fits rules objects (members.numbered number) arguments f a)

@@ -1,2 +1,5 @@
+pub mod Entries
 pub mod Keeping
+pub mod KeepingTaken
 pub mod Steps
+pub mod Telling

@@ -3,10 +3,10 @@ use Rattle.std.specs.Prelude.{ℕ, List, length}
 use Rattle.object_values.specs.declared.value.Value.{Value}
 use Rattle.object_heap.specs.Fits.{Rules, Fits, AllFit, EffectFits}
 use Rattle.object_heap.specs.Store.{Store}
-use Rattle.api_list.specs.Members.{does_numbered}
-use Rattle.container_outcomes.specs.Outcomes.{effect}
+use Rattle.api_list.specs.Members.{comes_to}
+use Rattle.api_list.specs.Taking.{told_effect}
 
 -- what members keep: where the heap and the arguments fit a program or a code, the heap fits it afterwards
 abbrev pub MembersKeepFit : Type 0
 MembersKeepFit = (rules : Rules) (store : Store) (number : ℕ) (arguments : List Value) → Fits rules store.objects → AllFit (length store.objects) arguments
-    → EffectFits rules (effect store (does_numbered store.objects number arguments))
+    → EffectFits rules (told_effect store (comes_to store.objects number arguments))

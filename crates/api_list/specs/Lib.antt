@@ -4,3 +4,4 @@ pub mod Lists
 pub mod Making
 pub mod Members
 pub mod Searching
+pub mod Taking

@@ -1,6 +1,5 @@
 -- The members of Collection and List, of lists. What changes a frozen list is refused before any other test.
 use Rattle.std.specs.Prelude.{ℕ, ◌==◌, true, false, Option, Some, None, List, [], ◌∷◌, length, nat_le, nat_lt, ℤ, pos, negsuc, reverse, slice_get, if◌then◌else◌}
-use Rattle.pl_types.specs.declared.ty.Ty.TheVariants.{Def}
 use Rattle.object_values.specs.declared.object.Guard.TheVariants as g
 use Rattle.object_values.specs.declared.object.Object.{Object}
 use Rattle.object_values.specs.declared.object.Object.TheVariants as o
@@ -10,7 +9,7 @@ use Rattle.object_heap.specs.Objects.{changed}
 use Rattle.object_heap.specs.Parts.{items_of}
 use Rattle.member_arguments.specs.Arguments.{int_at}
 use Rattle.container_outcomes.specs.declared.outcome.Outcome.{Outcome}
-use Rattle.container_outcomes.specs.declared.outcome.Outcome.TheVariants.{Becomes, Gives, Inserts, New, Sets, SetsTwo, Cuts, Drops, Empties}
+use Rattle.container_outcomes.specs.declared.outcome.Outcome.TheVariants.{Becomes, Gives, Inserts, Sets, SetsTwo, Cuts, Drops, Empties}
 use Rattle.container_outcomes.specs.Choices.{with_one, with_two, with_three}
 use Rattle.container_outcomes.specs.Comparing.{where_found}
 use Rattle.container_outcomes.specs.Guards.{where_open}
@@ -84,10 +83,6 @@ place_found objects list value = search objects list value place_given (Gives (v
 -- the place of the last that is equal to a value, or -1
 abbrev pub last_place_found : List Object → ℕ → Value → Outcome
 last_place_found objects list value = where_found (last_before objects value (items_of objects list) (length (items_of objects list))) place_given (Gives (v.Int (negsuc 0)))
-
--- an array of the items, whose elements are of any type
-abbrev pub array_of : List Object → ℕ → Outcome
-array_of objects list = New (o.Array Def (items_of objects list))
 
 -- with the items in the opposite order, which is no change of the count
 abbrev pub list_reversed : ℕ → Option Object → Outcome
@@ -170,13 +165,6 @@ set objects arguments = with_three (written objects) (list_at objects arguments 
 
 abbrev pub last_index_of : List Object → List Value → Outcome
 last_index_of objects arguments = with_two (last_place_found objects) (list_at objects arguments 0) (slice_get arguments 1)
-
-abbrev pub to_array : List Object → List Value → Outcome
-to_array objects arguments = with_one (array_of objects) (list_at objects arguments 0)
-
--- the receiver itself
-abbrev pub as_list : List Object → List Value → Outcome
-as_list objects arguments = with_one (λ list. Gives (v.Ref list)) (list_at objects arguments 0)
 
 abbrev pub reverse_all : List Object → List Value → Outcome
 reverse_all objects arguments = with_one (reversed objects) (list_at objects arguments 0)

@@ -7,6 +7,9 @@ use Rattle.api_list.specs.declared.member.Member.TheVariants as m
 use Rattle.container_outcomes.specs.declared.outcome.Outcome.{Outcome}
 use Rattle.api_list.specs.Lists as lists
 use Rattle.api_list.specs.Making as making
+use Rattle.api_list.specs.Taking as taking
+use Rattle.api_list.specs.declared.told.Told.{Told}
+use Rattle.api_list.specs.declared.told.Told.TheVariants.{Says}
 use Rattle.container_outcomes.specs.Outcomes.{nothing}
 
 -- what a member comes to
@@ -22,10 +25,11 @@ does objects m.Get arguments = lists.get objects arguments
 does objects m.IndexOf arguments = lists.index_of objects arguments
 does objects m.RemoveAt arguments = lists.remove_at objects arguments
 does objects m.Set arguments = lists.set objects arguments
-does objects m.ToArray arguments = lists.to_array objects arguments
+does objects m.ToArray arguments = taking.to_array objects arguments
 does objects m.LastIndexOf arguments = lists.last_index_of objects arguments
-does objects m.AsList arguments = lists.as_list objects arguments
+does objects m.AsList arguments = taking.as_list objects arguments
 does objects m.NewList arguments = making.new_list
+does objects m.NewListOf arguments = taking.new_list_of objects arguments
 does objects m.EmptyList arguments = making.empty_list
 does objects m.EmptyMap arguments = making.empty_map
 does objects m.Reverse arguments = lists.reverse_all objects arguments
@@ -39,7 +43,7 @@ of_lists =
     Some m.Add ∷ None ∷ Some m.Clear ∷ Some m.Contains ∷ None ∷ Some m.IsEmpty ∷ Some m.Remove ∷ None ∷ None ∷ Some m.Size
     ∷ Some m.ToArray ∷ None ∷ None ∷ None ∷ None ∷ None
     ∷ Some m.AddAt ∷ None ∷ Some m.Get ∷ Some m.Size ∷ Some m.IndexOf ∷ Some m.LastIndexOf ∷ Some m.RemoveAt ∷ None ∷ Some m.Set ∷ None
-    ∷ Some m.NewList
+    ∷ Some m.NewList ∷ Some m.NewListOf
     ∷ []
 
 unfoldable pub of_makers : List (Option Member)
@@ -68,3 +72,10 @@ does_found objects (Some member) arguments = does objects member arguments
 -- what the member of a number comes to; any other number's is nothing
 abbrev pub does_numbered : List Object → ℕ → List Value → Outcome
 does_numbered objects number arguments = does_found objects (numbered number) arguments
+
+-- what comes of a number: addAll at the end and at a place, 98 and 114, may make entries; every other comes to an outcome
+abbrev pub comes_to : List Object → ℕ → List Value → Told
+comes_to objects number arguments =
+    if number == 98 then taking.add_all objects arguments
+    else (if number == 114 then taking.add_all_at objects arguments
+    else Says (does_numbered objects number arguments))

@@ -2,12 +2,15 @@
 #![tactic(auto)]
 
 mod arguments;
+mod entering;
 mod laws;
 mod lists;
 mod making;
 mod member;
 mod orders;
 mod searching;
+mod taking;
+mod told;
 
 pub use laws::members_keep_fit;
 pub use member::call;

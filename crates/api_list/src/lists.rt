@@ -10,13 +10,12 @@ ghost use Rattle.api_list.specs.Searching.{first_from, last_before};
 use crate::arguments::list_at;
 use crate::searching::{first_of, last_of};
 use container_outcomes::{
-    Found, Outcome, copied, given, index_error, is_open, null_error, shared, too_deep, too_large,
+    Found, Outcome, given, index_error, is_open, null_error, shared, too_deep, too_large,
     unsupported,
 };
 use member_arguments::{int_at, value_at};
 use object_heap::Heap;
 use object_values::{Elements, Guard, Object, Value};
-use pl_types::Ty;
 
 /// A count as an int, at most the greatest one.
 fn count_as_int(count: usize) -> i32
@@ -40,8 +39,8 @@ pub fn place_of(count: usize, at: i32) -> Option<usize>
     if place < count { Some(place) } else { None }
 }
 
-// The place at which an item may be inserted.
-fn place_into(count: usize, at: i32) -> Option<usize>
+/// The place at which an item may be inserted.
+pub fn place_into(count: usize, at: i32) -> Option<usize>
     ensures { result ≡ spec.place_into count at }
 {
     if at < 0 {
@@ -198,18 +197,6 @@ fn last_place_found(heap: &Heap, list: u32, value: &Value) -> Outcome
         Found::Nowhere => Outcome::Gives(Value::Int(-1)),
         Found::Deep => too_deep(heap),
         Found::Large => too_large(heap),
-    }
-}
-
-fn array_of(heap: &Heap, list: u32) -> Outcome
-    ensures { Tells (spec.array_of heap.now.objects list) result }
-{
-    match copied(heap.alloc(), heap.items(list)) {
-        Ok(items) => Outcome::New(Object::Array {
-            elem: Ty::Def,
-            items,
-        }),
-        Err(_) => Outcome::NoMemory,
     }
 }
 
@@ -397,25 +384,5 @@ pub fn last_index_of(heap: &Heap, args: &[Value]) -> Outcome
     match (list_at(heap, args, 0), value_at(args, 1)) {
         (Some(list), Some(value)) => last_place_found(heap, list, value),
         _ => null_error(),
-    }
-}
-
-/// `toArray()`.
-pub fn to_array(heap: &Heap, args: &[Value]) -> Outcome
-    ensures { Tells (spec.to_array heap.now.objects args.now) result }
-{
-    match list_at(heap, args, 0) {
-        Some(list) => array_of(heap, list),
-        None => null_error(),
-    }
-}
-
-/// `asList()`, which is the list itself.
-pub fn as_list(heap: &Heap, args: &[Value]) -> Outcome
-    ensures { Tells (spec.as_list heap.now.objects args.now) result }
-{
-    match list_at(heap, args, 0) {
-        Some(list) => Outcome::Gives(Value::Ref(list)),
-        None => null_error(),
     }
 }

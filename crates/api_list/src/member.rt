@@ -2,11 +2,13 @@
 ghost use Rattle.std.specs.Prelude.{◌≡◌, length};
 ghost use Rattle.object_heap.specs.Effects.{Answers};
 ghost use Rattle.object_heap.specs.Fits.{Rules, Fits, AllFit, AnswerFits};
-ghost use Rattle.container_outcomes.specs.Outcomes.{Tells, WantsMemory, effect};
+ghost use Rattle.container_outcomes.specs.Outcomes.{Tells};
 ghost use Rattle.api_list.specs.Members as spec;
-ghost use Rattle.api_list.specs.Members.{does, does_numbered, numbered};
+ghost use Rattle.api_list.specs.Members.{does, does_found, numbered};
+ghost use Rattle.api_list.specs.Taking.{Comes, ToldWants, told_effect};
 
-use crate::{lists, making, orders};
+use crate::told::Told;
+use crate::{lists, making, orders, taking};
 use container_outcomes::Outcome;
 use object_heap::{Answer, Heap};
 use object_values::Value;
@@ -28,6 +30,7 @@ pub enum Member {
     RemoveAt,
     Set,
     NewList,
+    NewListOf,
     EmptyList,
     EmptyMap,
     Reverse,
@@ -51,10 +54,11 @@ fn tells(heap: &Heap, member: Member, args: &[Value]) -> Outcome
         Member::IndexOf => lists::index_of(heap, args),
         Member::RemoveAt => lists::remove_at(heap, args),
         Member::Set => lists::set(heap, args),
-        Member::ToArray => lists::to_array(heap, args),
+        Member::ToArray => taking::to_array(heap, args),
         Member::LastIndexOf => lists::last_index_of(heap, args),
-        Member::AsList => lists::as_list(heap, args),
+        Member::AsList => taking::as_list(heap, args),
         Member::NewList => making::new_list(heap),
+        Member::NewListOf => taking::new_list_of(heap, args),
         Member::EmptyList => making::empty_list(heap),
         Member::EmptyMap => making::empty_map(heap),
         Member::Reverse => orders::reverse_all(heap, args),
@@ -64,7 +68,7 @@ fn tells(heap: &Heap, member: Member, args: &[Value]) -> Outcome
 }
 
 /// The members of Collection, List and ArrayList in the order of their numbers in the catalogue, from 97.
-static OF_LISTS: [Option<Member>; 27] = [
+static OF_LISTS: [Option<Member>; 28] = [
     Some(Member::Add),
     None,
     Some(Member::Clear),
@@ -92,6 +96,7 @@ static OF_LISTS: [Option<Member>; 27] = [
     Some(Member::Set),
     None,
     Some(Member::NewList),
+    Some(Member::NewListOf),
 ];
 
 /// The members of Collections, from 169.
@@ -145,28 +150,41 @@ fn member_of(number: u32) -> Option<Member>
     }
 }
 
-fn called(member: Member, heap: &mut Heap, args: &[Value]) -> Answer
-    ensures does { Answers (effect heap.old (does heap.old.objects member args.now)) heap.old heap.new result }
-    ensures memory { WantsMemory (does heap.old.objects member args.now) result }
+fn found_tells(heap: &Heap, member: Option<Member>, args: &[Value]) -> Outcome
+    ensures { Tells (does_found heap.now.objects member args.now) result }
 {
-    let told = tells(heap, member, args);
-    told.settle(heap)
+    match member {
+        Some(member) => tells(heap, member, args),
+        None => Outcome::Gives(Value::Null),
+    }
 }
 
-/// The call of a member of Collection or List whose receiver is a list, of the constructor of a list, or of a maker of Collections,
-/// by its number in the catalogue. The receiver is the first argument; a constructor and a static member have none. A number that
-/// is no such member's gives null, and an argument that is missing or of another kind counts as null.
+// What the member of a number comes to.
+fn comes_to(number: u32, heap: &Heap, args: &[Value]) -> Told
+    ensures { Comes (spec.comes_to heap.now.objects number args.now) result }
+{
+    if number == 98 {
+        taking::add_all(heap, args)
+    } else if number == 114 {
+        taking::add_all_at(heap, args)
+    } else {
+        Told::Says(found_tells(heap, member_of(number), args))
+    }
+}
+
+/// The call of a member of Collection or List whose receiver is a list, of `asList` and `toArray` of any collection, of a
+/// constructor of lists, or of a maker of Collections, by its number in the catalogue. The receiver is the first argument; a
+/// constructor and a static member have none. A number that is no such member's gives null, and an argument that is missing or of
+/// another kind counts as null.
 ///
 /// `Thrown`: by `docs/CATALOGUE.md`, as the member says. `Room`: the charge is above the room left; it is for a new object its
-/// weight, for an item that is added 1, and nothing for what is written or taken out. `NoMemory`: there was none for what is made
-/// or added, or for a text that is given or written; nothing else takes any.
+/// weight, for each item that is added 1, and nothing for what is written or taken out; entries of a view that are taken are new
+/// objects. `NoMemory`: there was none for what is made or added, or for a text that is given or written; nothing else takes any.
 pub fn call(number: u32, heap: &mut Heap, args: &[Value]) -> Answer
-    ensures does { Answers (effect heap.old (does_numbered heap.old.objects number args.now)) heap.old heap.new result }
-    ensures memory { WantsMemory (does_numbered heap.old.objects number args.now) result }
+    ensures does { Answers (told_effect heap.old (spec.comes_to heap.old.objects number args.now)) heap.old heap.new result }
+    ensures memory { ToldWants (spec.comes_to heap.old.objects number args.now) result }
     ensures keeps { (rules : Rules) → Fits rules heap.old.objects → AllFit (length heap.old.objects) args.now → AnswerFits rules heap.new result }
 {
-    match member_of(number) {
-        Some(member) => called(member, heap, args),
-        None => Answer::Value(Value::Null),
-    }
+    let told = comes_to(number, heap, args);
+    told.settle(heap)
 }

@@ -11,3 +11,5 @@ mod rows;
 mod running;
 #[cfg(test)]
 mod sample;
+#[cfg(test)]
+mod taking;

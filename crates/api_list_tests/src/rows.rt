@@ -18,9 +18,9 @@ pub enum Wanted {
     Flag(bool),
     Int(i32),
     Word(&'static str),
-    /// An object of the sample heap, by its number.
+    /// An object, by its number.
     Sample(u32),
-    /// A new object.
+    /// The first new object.
     New,
     NullPointer,
     Unsupported,

@@ -1,12 +1,13 @@
 //! The heap of the rows.
 use object_heap::Heap;
-use object_values::{Elements, Guard, Object, Value};
-use pl_types::classes::ARRAY_LIST;
+use object_values::{Elements, Guard, Object, Pairs, Part, Value};
+use pl_types::Ty;
+use pl_types::classes::{ARRAY_LIST, HASH_MAP, HASH_SET};
 use pl_units::UText;
 use std::alloc::{AllocError, Global};
 
 /// How many objects there are, which is the number of a new one.
-pub const NEXT: u32 = 5;
+pub const NEXT: u32 = 13;
 
 pub fn word(alloc: Global, text: &str) -> Result<Value, AllocError> {
     Ok(Value::Str(UText::from_utf8(alloc, text)?))
@@ -58,11 +59,61 @@ fn place_mixed(alloc: Global, heap: &mut Heap) -> Result<(), AllocError> {
     place_list(heap, nested, Guard::Open, 0)
 }
 
+fn place_map(heap: &mut Heap, pairs: Pairs) -> Result<(), AllocError> {
+    heap.place(Object::Map {
+        class: HASH_MAP,
+        pairs,
+        guard: Guard::Open,
+        changes: 3,
+    })?;
+    Ok(())
+}
+
+fn place_view(heap: &mut Heap, map: u32, part: Part) -> Result<(), AllocError> {
+    heap.place(Object::View { map, part })?;
+    Ok(())
+}
+
+// 5: {a=1, b=null}, and 6 to 8: its keys, its values and its entries
+fn place_views(alloc: Global, heap: &mut Heap) -> Result<(), AllocError> {
+    let mut pairs = Pairs::new(alloc);
+    pairs.put(word(alloc, "a")?, Value::Int(1))?;
+    pairs.put(word(alloc, "b")?, Value::Null)?;
+    place_map(heap, pairs)?;
+    place_view(heap, 5, Part::Keys)?;
+    place_view(heap, 5, Part::Values)?;
+    place_view(heap, 5, Part::Entries)
+}
+
+// 9: the set ['x', 1], 10: the array [4, 5], 11: {}, and 12: its entries
+fn place_others(alloc: Global, heap: &mut Heap) -> Result<(), AllocError> {
+    let mut keys = Pairs::new(alloc);
+    keys.put(word(alloc, "x")?, Value::Null)?;
+    keys.put(Value::Int(1), Value::Null)?;
+    heap.place(Object::Set {
+        class: HASH_SET,
+        items: keys,
+        guard: Guard::Open,
+        changes: 0,
+    })?;
+    let mut items = Elements::new(alloc);
+    items.push(Value::Int(4))?;
+    items.push(Value::Int(5))?;
+    heap.place(Object::Array {
+        elem: Ty::Def,
+        items,
+    })?;
+    place_map(heap, Pairs::new(alloc))?;
+    place_view(heap, 11, Part::Entries)
+}
+
 /// The heap of the rows, with so much room.
 pub fn sample(alloc: Global, room: u64) -> Result<Heap, AllocError> {
     let mut heap = Heap::new(alloc, room);
     place_open(alloc, &mut heap)?;
     place_frozen(alloc, &mut heap)?;
     place_mixed(alloc, &mut heap)?;
+    place_views(alloc, &mut heap)?;
+    place_others(alloc, &mut heap)?;
     Ok(heap)
 }

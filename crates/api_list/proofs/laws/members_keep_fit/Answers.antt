@@ -1,8 +1,7 @@
-use Rattle.api_list.specs.Members.{does_numbered, numbered}
-use Rattle.api_list.proofs.Keeping.{found_fits}
-use Rattle.container_outcomes.proofs.Settling.{settled}
+use Rattle.api_list.specs.Members.{comes_to}
+use Rattle.api_list.proofs.Keeping.{comes_fits}
+use Rattle.api_list.proofs.KeepingTaken.{told_settled}
 use Rattle.api_list.proofs.laws.members_keep_fit.Goals as goal
 
 pub returns : goal.returns
-returns c = λ rules store number arguments f h.
-    settled rules store (does_numbered store.objects number arguments) f (found_fits rules store.objects (numbered number) arguments f h)
+returns c = λ rules store number arguments f h. told_settled rules store (comes_to store.objects number arguments) f (comes_fits rules store.objects number arguments f h)
