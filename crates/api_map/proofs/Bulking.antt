@@ -10,12 +10,12 @@ use Rattle.api_map.specs.declared.bulk.Choice.{Choice}
 use Rattle.api_map.specs.declared.bulk.Choice.TheVariants as choice
 use Rattle.api_map.specs.declared.bulk.SiftErr.{SiftErr}
 use Rattle.api_map.specs.declared.bulk.SiftErr.TheVariants as sift_err
-use Rattle.api_map.specs.declared.outcome.Outcome.{Outcome}
-use Rattle.api_map.specs.declared.outcome.Outcome.TheVariants as outcome
-use Rattle.api_map.specs.declared.searching.Compared.{Compared}
+use Rattle.container_outcomes.specs.declared.outcome.Outcome.{Outcome}
+use Rattle.container_outcomes.specs.declared.outcome.Outcome.TheVariants as outcome
+use Rattle.container_outcomes.specs.declared.comparing.Compared.{Compared}
 use Rattle.api_map.specs.Bulk.{Put, Sifted, Left, TooDeep, TooLarge, Sifts, Stops, chosen, each_found, found_and, is_true, sift}
 use Rattle.api_map.specs.Holding.{among, or_else}
-use Rattle.api_map.specs.Outcomes.{NeedsMemory, Tells, flag}
+use Rattle.container_outcomes.specs.Outcomes.{NeedsMemory, Tells, flag}
 use Rattle.api_map.specs.Sources.{with_pairs}
 use Rattle.api_map.proofs.Copying.{absent_one, absent_rest, all_copied}
 
@@ -47,13 +47,22 @@ same_stops asked told rest e h = ap (λ (x : Outcome). found_and x rest) e ∙ h
 pub stops : (asked told rest : Outcome) → Tells asked told → is_true told ≡ false → Tells (found_and asked rest) told
 stops asked (outcome.Gives value) rest h e = same_stops asked (outcome.Gives value) rest h (given_stops value rest e)
 stops asked outcome.NoMemory rest h e = needs_stops asked rest h
+stops asked (outcome.Writes text) rest h e = same_stops asked (outcome.Writes text) rest h refl
 stops asked (outcome.New object) rest h e = same_stops asked (outcome.New object) rest h refl
+stops asked (outcome.Makes before object) rest h e = same_stops asked (outcome.Makes before object) rest h refl
+stops asked (outcome.Inserts id at item value) rest h e = same_stops asked (outcome.Inserts id at item value) rest h refl
+stops asked (outcome.Extends id at items value) rest h e = same_stops asked (outcome.Extends id at items value) rest h refl
+stops asked (outcome.Sets id at item) rest h e = same_stops asked (outcome.Sets id at item) rest h refl
+stops asked (outcome.SetsTwo id at item other_at other) rest h e = same_stops asked (outcome.SetsTwo id at item other_at other) rest h refl
+stops asked (outcome.Cuts id at) rest h e = same_stops asked (outcome.Cuts id at) rest h refl
+stops asked (outcome.Drops id at) rest h e = same_stops asked (outcome.Drops id at) rest h refl
 stops asked (outcome.Puts id key value) rest h e = same_stops asked (outcome.Puts id key value) rest h refl
 stops asked (outcome.Adds id key) rest h e = same_stops asked (outcome.Adds id key) rest h refl
-stops asked (outcome.Cuts id key) rest h e = same_stops asked (outcome.Cuts id key) rest h refl
-stops asked (outcome.Drops id key) rest h e = same_stops asked (outcome.Drops id key) rest h refl
+stops asked (outcome.CutsKey id key) rest h e = same_stops asked (outcome.CutsKey id key) rest h refl
+stops asked (outcome.DropsKey id key) rest h e = same_stops asked (outcome.DropsKey id key) rest h refl
 stops asked (outcome.DropsEntry id key) rest h e = same_stops asked (outcome.DropsEntry id key) rest h refl
-stops asked (outcome.CutsAt id at) rest h e = same_stops asked (outcome.CutsAt id at) rest h refl
+stops asked (outcome.CutsPair id at) rest h e = same_stops asked (outcome.CutsPair id at) rest h refl
+stops asked (outcome.Empties id object) rest h e = same_stops asked (outcome.Empties id object) rest h refl
 stops asked (outcome.Becomes id object value) rest h e = same_stops asked (outcome.Becomes id object value) rest h refl
 stops asked (outcome.Throws raised message) rest h e = same_stops asked (outcome.Throws raised message) rest h refl
 

@@ -1,39 +1,23 @@
--- What choices among outcomes, and outcomes of arguments, keep.
-use Rattle.std.proofs.Common.{◌≡◌, ℕ, zero, suc, Bool, true, false, Option, Some, None, List, [], ◌∷◌, refl, subst, slice_get, if◌then◌else◌}
+-- What choices by a key, and the text of a walk, keep.
+use Rattle.std.proofs.Common.{◌≡◌, Bool, true, false, List, refl, if◌then◌else◌}
 use Rattle.object_values.specs.declared.object.Object.{Object}
 use Rattle.object_values.specs.declared.value.Value.{Value}
 use Rattle.object_values.specs.Values.{is_simple}
-use Rattle.object_heap.specs.Fits.{Rules, AllFit, ObjectFits, ObjectsFit, ValueFits}
-use Rattle.object_heap.specs.Objects.{Kind}
+use Rattle.object_heap.specs.Fits.{Rules}
 use Rattle.value_walks.specs.Texts.{Text, Wrote, TooDeep, TooLarge}
-use Rattle.api_map.specs.declared.outcome.Raised.{Raised}
-use Rattle.api_map.specs.declared.outcome.Raised.TheVariants as raised
-use Rattle.api_map.specs.declared.outcome.Outcome.{Outcome}
-use Rattle.api_map.specs.declared.searching.Compared.{Compared}
-use Rattle.api_map.specs.declared.searching.Compared.TheVariants as c
-use Rattle.api_map.specs.declared.searching.Found.{Found}
-use Rattle.api_map.specs.declared.searching.Found.TheVariants as f
-use Rattle.api_map.specs.Arguments.{with_one, with_two, with_three}
+use Rattle.container_outcomes.specs.declared.outcome.Raised.TheVariants as raised
+use Rattle.container_outcomes.specs.declared.outcome.Outcome.{Outcome}
+use Rattle.container_outcomes.specs.Laws.{OutcomeFits}
+use Rattle.container_outcomes.specs.Outcomes.{not_simple}
+use Rattle.container_outcomes.proofs.Fitting.{says_fits}
+use Rattle.api_map.specs.Arguments.{with_key}
 use Rattle.api_map.specs.Maps as maps
-use Rattle.api_map.specs.Outcomes.{followed_by, not_simple, says, with_key}
-use Rattle.api_map.specs.Searching.{where_equal, where_found}
-use Rattle.api_map.proofs.Settling.{OutcomeFits}
 
--- exceptions
-pub says_fits : (rules : Rules) (objects : List Object) (raised : Raised) (message : List ℕ) → OutcomeFits rules objects (says raised message)
-unfolding says
-says_fits rules objects raised message = tt
-
-pub field_fits : (rules : Rules) (objects : List Object) (walk : Text) → OutcomeFits rules objects (followed_by walk maps.no_field)
+pub field_fits : (rules : Rules) (objects : List Object) (walk : Text) → OutcomeFits rules objects (maps.followed_by walk maps.no_field)
 unfolding maps.no_field
 field_fits rules objects (Wrote text visits) = tt
 field_fits rules objects TooDeep = says_fits rules objects raised.IllegalState _
 field_fits rules objects TooLarge = says_fits rules objects raised.IllegalState _
-
--- choices
-pub if_fits : (rules : Rules) (objects : List Object) (test : Bool) (told other : Outcome) → OutcomeFits rules objects told → OutcomeFits rules objects other → OutcomeFits rules objects (if test then told else other)
-if_fits rules objects true told other h k = h
-if_fits rules objects false told other h k = k
 
 pub tested_fits : (rules : Rules) (objects : List Object) (test : Bool) (told : Outcome) → (test ≡ true → OutcomeFits rules objects told) → OutcomeFits rules objects (if test then told else not_simple)
 tested_fits rules objects true told h = h refl
@@ -41,44 +25,3 @@ tested_fits rules objects false told h = says_fits rules objects raised.IllegalA
 
 pub key_fits : (rules : Rules) (objects : List Object) (key : Value) (told : Outcome) → (is_simple key ≡ true → OutcomeFits rules objects told) → OutcomeFits rules objects (with_key key told)
 key_fits rules objects key told h = tested_fits rules objects (is_simple key) told h
-
-pub equal_fits : (rules : Rules) (objects : List Object) (is : Compared) (same other : Outcome) → OutcomeFits rules objects same → OutcomeFits rules objects other → OutcomeFits rules objects (where_equal is same other)
-equal_fits rules objects c.Same same other h k = h
-equal_fits rules objects c.Other same other h k = k
-equal_fits rules objects c.Deep same other h k = says_fits rules objects raised.IllegalState _
-equal_fits rules objects c.Large same other h k = says_fits rules objects raised.IllegalState _
-
-pub search_fits : (rules : Rules) (objects : List Object) (found : Found) (told : ℕ → Outcome) (none : Outcome) → ((at : ℕ) → OutcomeFits rules objects (told at)) → OutcomeFits rules objects none
-    → OutcomeFits rules objects (where_found found told none)
-search_fits rules objects (f.At at) told none h k = h at
-search_fits rules objects f.Nowhere told none h k = k
-search_fits rules objects f.Deep told none h k = says_fits rules objects raised.IllegalState _
-search_fits rules objects f.Large told none h k = says_fits rules objects raised.IllegalState _
-
--- arguments
-pub one_fits : {A : Type 0} → (rules : Rules) (objects : List Object) (f : A → Outcome) (a : Option A) → ((x : A) → a ≡ Some x → OutcomeFits rules objects (f x)) → OutcomeFits rules objects (with_one f a)
-one_fits rules objects f None h = tt
-one_fits rules objects f (Some x) h = h x refl
-
-pub two_fit : {A B : Type 0} → (rules : Rules) (objects : List Object) (f : A → B → Outcome) (a : Option A) (b : Option B) → ((x : A) (y : B) → a ≡ Some x → b ≡ Some y → OutcomeFits rules objects (f x y))
-    → OutcomeFits rules objects (with_two f a b)
-two_fit rules objects f None b h = tt
-two_fit rules objects f (Some x) None h = tt
-two_fit rules objects f (Some x) (Some y) h = h x y refl refl
-
-pub three_fit : {A B C : Type 0} → (rules : Rules) (objects : List Object) (f : A → B → C → Outcome) (a : Option A) (b : Option B) (c : Option C)
-    → ((x : A) (y : B) (z : C) → a ≡ Some x → b ≡ Some y → c ≡ Some z → OutcomeFits rules objects (f x y z)) → OutcomeFits rules objects (with_three f a b c)
-three_fit rules objects f None b c h = tt
-three_fit rules objects f (Some x) None c h = tt
-three_fit rules objects f (Some x) (Some y) None h = tt
-three_fit rules objects f (Some x) (Some y) (Some z) h = h x y z refl refl refl
-
-pub value_there : (n : ℕ) (values : List Value) (at : ℕ) (value : Value) → AllFit n values → slice_get values at ≡ Some value → ValueFits n value
-value_there n [] at value f e = cc
-value_there n (x ∷ values) zero value f e = let same : x ≡ value = cc in subst (ValueFits n) same f.0
-value_there n (x ∷ values) (suc at) value f e = value_there n values at value f.1 e
-
-pub object_there : (rules : Rules) (ks : List Kind) (objects : List Object) (id : ℕ) (object : Object) → ObjectsFit rules ks objects → slice_get objects id ≡ Some object → ObjectFits rules ks object
-object_there rules ks [] id object f e = cc
-object_there rules ks (x ∷ objects) zero object f e = let same : x ≡ object = cc in subst (ObjectFits rules ks) same f.0
-object_there rules ks (x ∷ objects) (suc id) object f e = object_there rules ks objects id object f.1 e

@@ -27,24 +27,28 @@ use Rattle.api_map.specs.declared.member.Member.{Member}
 use Rattle.api_map.specs.declared.member.Member.TheVariants as m
 use Rattle.api_map.specs.declared.member.Telling.{Telling}
 use Rattle.api_map.specs.declared.member.Telling.TheVariants as t
-use Rattle.api_map.specs.declared.outcome.Raised.TheVariants as raised
-use Rattle.api_map.specs.declared.outcome.Outcome.TheVariants as outcome
+use Rattle.container_outcomes.specs.declared.outcome.Raised.TheVariants as raised
+use Rattle.container_outcomes.specs.declared.outcome.Outcome.TheVariants as outcome
 use Rattle.api_map.specs.Arguments.{if_map, map_at, map_named, if_entry, entry_at, entry_named, entry_of, holder_of, keyed_at}
 use Rattle.api_map.specs.Bulk as bulk
 use Rattle.api_map.specs.Collections as collections
 use Rattle.api_map.specs.Entries as entries
-use Rattle.api_map.specs.Guards.{is_mapped, is_open, may_put}
+use Rattle.api_map.specs.Guards.{is_mapped, may_put}
+use Rattle.container_outcomes.specs.Guards.{is_open}
 use Rattle.api_map.specs.Making as making
 use Rattle.api_map.specs.Maps as maps
 use Rattle.api_map.specs.Members as members
-use Rattle.api_map.specs.Outcomes.{has_key, unsupported, with_key}
+use Rattle.container_outcomes.specs.Outcomes.{has_key, unsupported}
+use Rattle.api_map.specs.Arguments.{with_key}
 use Rattle.api_map.specs.Searching.{compared_with, first_from}
 use Rattle.api_map.specs.Whole as whole
 use Rattle.api_map.specs.Sources.{source_at}
-use Rattle.api_map.proofs.Choosing.{says_fits, field_fits, if_fits, key_fits, equal_fits, search_fits, one_fits, two_fit, three_fit, value_there, object_there}
+use Rattle.container_outcomes.proofs.Fitting.{says_fits, if_fits, equal_fits, search_fits, one_fits, two_fit, three_fit, value_there, object_there}
+use Rattle.api_map.proofs.Choosing.{field_fits, key_fits}
 use Rattle.api_map.proofs.KeepingBulk.{contains_all_fits, sifted_fits}
 use Rattle.api_map.proofs.KeepingWhole.{added_all_fits, map_of_fits, put_all_fits, set_of_fits}
-use Rattle.api_map.proofs.Settling.{OutcomeFits, now_fits}
+use Rattle.container_outcomes.specs.Laws.{OutcomeFits}
+use Rattle.container_outcomes.proofs.Settling.{now_fits}
 
 -- a map that is an argument is a map
 map_passes : (objects : List Object) (at : ℕ) (class : ℕ) (pairs : List (Value × Value)) (guard : Guard) (changes : ℕ) → slice_get objects at ≡ Some (o.Map class pairs guard changes)
@@ -80,11 +84,11 @@ simple_fits n value h = tt
 -- maps
 map_emptied_fits : (rules : Rules) (objects : List Object) (id class : ℕ) (pairs : List (Value × Value)) (changes : ℕ) → class_is_below class MAP ≡ true → OutcomeFits rules objects (maps.map_emptied id class pairs changes)
 map_emptied_fits rules objects id class [] changes h = tt
-map_emptied_fits rules objects id class (pair ∷ pairs) changes h = ((h, tt, tt), tt)
+map_emptied_fits rules objects id class (pair ∷ pairs) changes h = (h, tt, tt)
 
 set_emptied_fits : (rules : Rules) (objects : List Object) (id class : ℕ) (items : List (Value × Value)) (changes : ℕ) → class_is_below class SET ≡ true → OutcomeFits rules objects (maps.set_emptied id class items changes)
 set_emptied_fits rules objects id class [] changes h = tt
-set_emptied_fits rules objects id class (item ∷ items) changes h = ((h, tt, tt), tt)
+set_emptied_fits rules objects id class (item ∷ items) changes h = (h, tt, tt)
 
 emptied_fits : (rules : Rules) (objects : List Object) (id : ℕ) (found : Option Object) → ObjectsFit rules (kinds objects) objects → slice_get objects id ≡ found → OutcomeFits rules objects (maps.emptied id found)
 emptied_fits rules objects id None f e = tt
@@ -178,7 +182,7 @@ again_fits rules objects id key value h =
     (key_fits rules objects key (maps.put_present objects id key value) (λ simple. if_fits rules objects (has_key objects id key) (outcome.Puts id key value) (outcome.Gives v.Null) (simple, h) tt)) tt
 
 cut_fits : (rules : Rules) (objects : List Object) (id : ℕ) (key : Value) → OutcomeFits rules objects (maps.cut_key objects id key)
-cut_fits rules objects id key = if_fits rules objects (is_open (guard_of objects id)) _ unsupported (key_fits rules objects key (outcome.Cuts id key) (λ simple. tt)) tt
+cut_fits rules objects id key = if_fits rules objects (is_open (guard_of objects id)) _ unsupported (key_fits rules objects key (outcome.CutsKey id key) (λ simple. tt)) tt
 
 cut_pair_fits : (rules : Rules) (objects : List Object) (id : ℕ) (key value : Value) → OutcomeFits rules objects (maps.cut_pair objects id key value)
 cut_pair_fits rules objects id key value =

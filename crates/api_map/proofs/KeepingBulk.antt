@@ -13,21 +13,22 @@ use Rattle.api_map.specs.declared.arguments.Keyed.{Keyed}
 use Rattle.api_map.specs.declared.arguments.Keyed.TheVariants as keyed
 use Rattle.api_map.specs.declared.bulk.Bulk.{Bulk}
 use Rattle.api_map.specs.declared.bulk.Choice.{Choice}
-use Rattle.api_map.specs.declared.outcome.Outcome.{Outcome}
-use Rattle.api_map.specs.declared.outcome.Outcome.TheVariants as outcome
-use Rattle.api_map.specs.declared.outcome.Raised.TheVariants as raised
+use Rattle.container_outcomes.specs.declared.outcome.Outcome.{Outcome}
+use Rattle.container_outcomes.specs.declared.outcome.Outcome.TheVariants as outcome
+use Rattle.container_outcomes.specs.declared.outcome.Raised.TheVariants as raised
 use Rattle.api_map.specs.declared.sources.Source.{Source}
 use Rattle.api_map.specs.declared.sources.Source.TheVariants.{Items, Pairs}
-use Rattle.api_map.specs.Arguments.{holder_of, with_one}
+use Rattle.api_map.specs.Arguments.{holder_of}
+use Rattle.container_outcomes.specs.Choices.{with_one}
 use Rattle.api_map.specs.Bulk as bulk
 use Rattle.api_map.specs.Collections.{found_in}
-use Rattle.api_map.specs.Guards.{is_open}
+use Rattle.container_outcomes.specs.Guards.{is_open}
 use Rattle.api_map.specs.Holding.{entry_in}
-use Rattle.api_map.specs.Outcomes.{unsupported}
+use Rattle.container_outcomes.specs.Outcomes.{unsupported}
 use Rattle.api_map.specs.Sources.{elements}
 use Rattle.api_map.proofs.Bulking.{AreDistinct, KeysLeftFit, LeftFit, sift_distinct, sift_fit, sift_keys}
-use Rattle.api_map.proofs.Choosing.{equal_fits, if_fits, object_there, one_fits, says_fits}
-use Rattle.api_map.proofs.Settling.{OutcomeFits}
+use Rattle.container_outcomes.proofs.Fitting.{equal_fits, if_fits, object_there, one_fits, says_fits}
+use Rattle.container_outcomes.specs.Laws.{OutcomeFits}
 
 -- containsAll
 given_fits : (rules : Rules) (objects : List Object) (value : Value) (rest : Outcome) → OutcomeFits rules objects (outcome.Gives value) → OutcomeFits rules objects rest → OutcomeFits rules objects (bulk.found_and (outcome.Gives value) rest)

@@ -18,14 +18,17 @@ use Rattle.api_map.specs.declared.making.MapClass.TheVariants as map
 use Rattle.api_map.specs.declared.making.SetClass.{SetClass}
 use Rattle.api_map.specs.declared.making.SetClass.TheVariants as set
 use Rattle.api_map.specs.declared.sources.Source.{Source}
-use Rattle.api_map.specs.Arguments.{if_map, map_named, with_one}
-use Rattle.api_map.specs.Guards.{is_open, may_put_all, takes_puts}
+use Rattle.api_map.specs.Arguments.{if_map, map_named}
+use Rattle.container_outcomes.specs.Choices.{with_one}
+use Rattle.container_outcomes.specs.Guards.{is_open}
+use Rattle.api_map.specs.Guards.{may_put_all, takes_puts}
 use Rattle.api_map.specs.Making.{number_of_map, number_of_set}
-use Rattle.api_map.specs.Outcomes.{unsupported}
+use Rattle.container_outcomes.specs.Outcomes.{unsupported}
 use Rattle.api_map.specs.Sources.{all_simple, are_keys, elements, has_entries, with_keys, with_pairs}
 use Rattle.api_map.specs.Whole as whole
-use Rattle.api_map.proofs.Choosing.{if_fits, object_there, one_fits, tested_fits}
-use Rattle.api_map.proofs.Settling.{OutcomeFits}
+use Rattle.container_outcomes.proofs.Fitting.{if_fits, object_there, one_fits}
+use Rattle.api_map.proofs.Choosing.{tested_fits}
+use Rattle.container_outcomes.specs.Laws.{OutcomeFits}
 
 both_simple : (test : Bool) (rest : Bool) → (if test then rest else false) ≡ true → (test ≡ true) × (rest ≡ true)
 both_simple true rest h = (refl, h)

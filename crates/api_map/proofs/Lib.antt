@@ -5,5 +5,4 @@ pub mod Keeping
 pub mod KeepingBulk
 pub mod KeepingWhole
 pub mod Needing
-pub mod Settling
 pub mod Steps

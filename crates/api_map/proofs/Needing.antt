@@ -6,7 +6,8 @@ use Rattle.value_walks.specs.declared.TheConstants.{VISITS}
 use Rattle.value_walks.specs.Texts.{Text, Wrote, TooDeep, TooLarge, text_of}
 use Rattle.api_map.specs.Bulk as bulk
 use Rattle.api_map.specs.Maps.{no_field}
-use Rattle.api_map.specs.Outcomes.{NeedsMemory, followed_by, says}
+use Rattle.container_outcomes.specs.Outcomes.{NeedsMemory, says}
+use Rattle.api_map.specs.Maps.{followed_by}
 
 walk_needs : (walk : Text) → NeedsMemory (followed_by walk no_field)
 unfolding says no_field

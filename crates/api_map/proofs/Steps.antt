@@ -3,8 +3,9 @@ use Rattle.std.proofs.Common.{◌≡◌, ℕ, ◌+◌, List, Some, drop, slice_g
 use Rattle.object_values.specs.declared.object.Object.{Object}
 use Rattle.object_values.specs.declared.value.Value.{Value}
 use Rattle.value_walks.proofs.Stepping.{got}
-use Rattle.api_map.specs.declared.searching.Compared.{Compared}
-use Rattle.api_map.specs.Searching.{comparison, first_from, found_by}
+use Rattle.container_outcomes.specs.declared.comparing.Compared.{Compared}
+use Rattle.container_outcomes.specs.Comparing.{comparison, found_by}
+use Rattle.api_map.specs.Searching.{first_from}
 
 pub first_step : (objects : List Object) (value : Value) (pairs : List (Value × Value)) (at : ℕ) (pair : Value × Value) (is : Compared) → slice_get pairs at ≡ Some pair → comparison objects value pair.1 ≡ is
     → first_from objects value at (drop at pairs) ≡ found_by at is (first_from objects value (at + 1) (drop (at + 1) pairs))

@@ -1,29 +1,18 @@
--- What members come to by the arguments that they have, and what those arguments are.
-use Rattle.std.specs.Prelude.{ℕ, Option, Some, None, List, slice_get}
+-- What arguments are: simple keys, maps, entries and collections with keys.
+use Rattle.std.specs.Prelude.{ℕ, Option, Some, None, List, slice_get, if◌then◌else◌}
 use Rattle.object_values.specs.declared.object.Object.{Object}
 use Rattle.object_values.specs.declared.object.Object.TheVariants as o
 use Rattle.object_values.specs.declared.value.Value.{Value}
+use Rattle.object_values.specs.Values.{is_simple}
 use Rattle.member_arguments.specs.Arguments.{object_at, object_in}
 use Rattle.api_map.specs.declared.arguments.Keyed.{Keyed}
 use Rattle.api_map.specs.declared.arguments.Keyed.TheVariants.{Set, View}
-use Rattle.api_map.specs.declared.outcome.Outcome.{Outcome}
-use Rattle.api_map.specs.Outcomes.{null_error}
+use Rattle.container_outcomes.specs.declared.outcome.Outcome.{Outcome}
+use Rattle.container_outcomes.specs.Outcomes.{not_simple}
 
--- What one argument, two and three come to. Where one of them is null, missing or of another kind a null is thrown
-abbrev pub with_one : {A : Type 0} → (A → Outcome) → Option A → Outcome
-with_one f None = null_error
-with_one f (Some a) = f a
-
-abbrev pub with_two : {A B : Type 0} → (A → B → Outcome) → Option A → Option B → Outcome
-with_two f None b = null_error
-with_two f (Some a) None = null_error
-with_two f (Some a) (Some b) = f a b
-
-abbrev pub with_three : {A B C : Type 0} → (A → B → C → Outcome) → Option A → Option B → Option C → Outcome
-with_three f None b c = null_error
-with_three f (Some a) None c = null_error
-with_three f (Some a) (Some b) None = null_error
-with_three f (Some a) (Some b) (Some c) = f a b c
+-- goes on where a key is simple
+abbrev pub with_key : Value → Outcome → Outcome
+with_key key told = if is_simple key then told else not_simple
 
 -- the number of an object that is a map
 abbrev pub if_map : ℕ → Option Object → Option ℕ

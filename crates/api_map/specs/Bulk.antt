@@ -18,18 +18,19 @@ use Rattle.api_map.specs.declared.bulk.Choice.TheVariants as choice
 use Rattle.api_map.specs.declared.bulk.Search.{Search}
 use Rattle.api_map.specs.declared.bulk.SiftErr.{SiftErr}
 use Rattle.api_map.specs.declared.bulk.SiftErr.TheVariants as sift_err
-use Rattle.api_map.specs.declared.outcome.Outcome.{Outcome}
-use Rattle.api_map.specs.declared.outcome.Outcome.TheVariants.{Becomes, Gives}
-use Rattle.api_map.specs.declared.searching.Compared.{Compared}
-use Rattle.api_map.specs.declared.searching.Compared.TheVariants as c
+use Rattle.container_outcomes.specs.declared.outcome.Outcome.{Outcome}
+use Rattle.container_outcomes.specs.declared.outcome.Outcome.TheVariants.{Becomes, Gives}
+use Rattle.container_outcomes.specs.declared.comparing.Compared.{Compared}
+use Rattle.container_outcomes.specs.declared.comparing.Compared.TheVariants as c
 use Rattle.api_map.specs.declared.sources.Source.{Source}
 use Rattle.api_map.specs.declared.sources.Source.TheVariants.{Items, Pairs}
-use Rattle.api_map.specs.Arguments.{holder_of, keyed_at, with_one}
+use Rattle.api_map.specs.Arguments.{holder_of, keyed_at}
+use Rattle.container_outcomes.specs.Choices.{with_one}
 use Rattle.api_map.specs.Collections.{found_in}
-use Rattle.api_map.specs.Guards.{is_open}
+use Rattle.container_outcomes.specs.Guards.{is_open}
 use Rattle.api_map.specs.Holding.{entry_in, value_in}
-use Rattle.api_map.specs.Outcomes.{flag, not_simple, too_deep, too_large, unsupported}
-use Rattle.api_map.specs.Searching.{where_equal}
+use Rattle.container_outcomes.specs.Outcomes.{flag, not_simple, too_deep, too_large, unsupported}
+use Rattle.container_outcomes.specs.Comparing.{where_equal}
 use Rattle.api_map.specs.Sources.{elements, source_at}
 use Rattle.api_map.specs.Whole.{changed_by}
 

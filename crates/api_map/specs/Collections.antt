@@ -9,15 +9,17 @@ use Rattle.object_heap.specs.Parts.{guard_of, pairs_of}
 use Rattle.value_walks.specs.Equality.{value_now}
 use Rattle.api_map.specs.declared.arguments.Keyed.{Keyed}
 use Rattle.api_map.specs.declared.arguments.Keyed.TheVariants.{Set, View}
-use Rattle.api_map.specs.declared.outcome.Outcome.{Outcome}
-use Rattle.api_map.specs.declared.outcome.Outcome.TheVariants.{Adds, CutsAt, Drops, DropsEntry}
-use Rattle.api_map.specs.Arguments.{entry_of, holder_of, keyed_at, with_one, with_two}
-use Rattle.api_map.specs.Guards.{is_open}
+use Rattle.container_outcomes.specs.declared.outcome.Outcome.{Outcome}
+use Rattle.container_outcomes.specs.declared.outcome.Outcome.TheVariants.{Adds, CutsPair, DropsKey, DropsEntry}
+use Rattle.api_map.specs.Arguments.{entry_of, holder_of, keyed_at, with_key}
+use Rattle.container_outcomes.specs.Choices.{with_one, with_two}
+use Rattle.container_outcomes.specs.Guards.{is_open}
 use Rattle.api_map.specs.Maps.{cleared, emptiness_given, key_found, size_given, value_found}
-use Rattle.api_map.specs.Outcomes.{flag, unsupported, with_key}
-use Rattle.api_map.specs.Searching.{compared_with, first_from, where_equal, where_found}
-use Rattle.api_map.specs.declared.searching.Compared.{Compared}
-use Rattle.api_map.specs.declared.searching.Compared.TheVariants.{Other}
+use Rattle.container_outcomes.specs.Outcomes.{flag, unsupported}
+use Rattle.api_map.specs.Searching.{compared_with, first_from}
+use Rattle.container_outcomes.specs.Comparing.{where_equal, where_found}
+use Rattle.container_outcomes.specs.declared.comparing.Compared.{Compared}
+use Rattle.container_outcomes.specs.declared.comparing.Compared.TheVariants.{Other}
 
 -- a key into a set that is open; nothing is added to a view
 abbrev pub added : List Object → Keyed → Value → Outcome
@@ -44,7 +46,7 @@ found_in objects (View map part.Entries) value = entry_found objects map value
 
 -- without the first pair that has this value
 abbrev pub cut_value : List Object → ℕ → Value → Outcome
-cut_value objects map value = where_found (first_from objects value 0 (pairs_of objects map)) (CutsAt map) (flag false)
+cut_value objects map value = where_found (first_from objects value 0 (pairs_of objects map)) (CutsPair map) (flag false)
 
 -- without the key of an entry
 abbrev pub key_dropped : ℕ → Option (ℕ × Value) → Outcome
@@ -56,8 +58,8 @@ cut_entry objects map value = where_equal (entry_shown objects map value) (key_d
 
 -- without an element, and whether it was there
 abbrev pub cut_from : List Object → Keyed → Value → Outcome
-cut_from objects (Set id) value = with_key value (Drops id value)
-cut_from objects (View map part.Keys) value = with_key value (Drops map value)
+cut_from objects (Set id) value = with_key value (DropsKey id value)
+cut_from objects (View map part.Keys) value = with_key value (DropsKey map value)
 cut_from objects (View map part.Values) value = cut_value objects map value
 cut_from objects (View map part.Entries) value = cut_entry objects map value
 

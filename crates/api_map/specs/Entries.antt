@@ -4,12 +4,13 @@ use Rattle.object_values.specs.declared.object.Object.{Object}
 use Rattle.object_values.specs.declared.value.Value.{Value}
 use Rattle.object_heap.specs.Parts.{guard_of}
 use Rattle.value_walks.specs.Equality.{value_now}
-use Rattle.api_map.specs.declared.outcome.Raised.TheVariants as raised
-use Rattle.api_map.specs.declared.outcome.Outcome.{Outcome}
-use Rattle.api_map.specs.declared.outcome.Outcome.TheVariants.{Gives, Puts}
-use Rattle.api_map.specs.Arguments.{entry_at, with_one, with_two}
+use Rattle.container_outcomes.specs.declared.outcome.Raised.TheVariants as raised
+use Rattle.container_outcomes.specs.declared.outcome.Outcome.{Outcome}
+use Rattle.container_outcomes.specs.declared.outcome.Outcome.TheVariants.{Gives, Puts}
+use Rattle.api_map.specs.Arguments.{entry_at}
+use Rattle.container_outcomes.specs.Choices.{with_one, with_two}
 use Rattle.api_map.specs.Guards.{may_put}
-use Rattle.api_map.specs.Outcomes.{has_key, says, unsupported}
+use Rattle.container_outcomes.specs.Outcomes.{has_key, says, unsupported}
 
 abbrev pub key_given : ℕ × Value → Outcome
 key_given entry = Gives entry.1

@@ -1,5 +1,5 @@
--- What may be changed. Of what is frozen nothing may be, and neither of the map of a document's fields; of a map with guarded keys
--- values may be put under these keys alone, and nothing may be taken out.
+-- What may be put into a map. Into what is frozen nothing may be, and neither into the map of a document's fields; into a map with
+-- guarded keys values may be put under these keys alone.
 use Rattle.std.specs.Prelude.{ℕ, Bool, true, false, Option, Some, None, List, [], ◌∷◌, if◌then◌else◌}
 use Rattle.std.specs.Str.{bytes_eq}
 use Rattle.object_values.specs.declared.object.Guard.{Guard}
@@ -37,14 +37,6 @@ takes_puts (Some g.Open) = true
 takes_puts (Some g.Frozen) = false
 takes_puts (Some (g.Keys keys)) = true
 takes_puts (Some g.Mapped) = false
-
--- whether anything may be changed: what is taken out is taken out of what is open alone
-abbrev pub is_open : Option Guard → Bool
-is_open None = true
-is_open (Some g.Open) = true
-is_open (Some g.Frozen) = false
-is_open (Some (g.Keys keys)) = false
-is_open (Some g.Mapped) = false
 
 -- whether only fields that are there may be asked for
 abbrev pub is_mapped : Option Guard → Bool

@@ -9,13 +9,14 @@ use Rattle.object_values.specs.Pairs.{value_of}
 use Rattle.object_values.specs.Values.{same_value}
 use Rattle.object_heap.specs.Parts.{items_of, pairs_of}
 use Rattle.value_walks.specs.Equality.{value_now}
-use Rattle.api_map.specs.declared.searching.Compared.{Compared}
-use Rattle.api_map.specs.declared.searching.Compared.TheVariants.{Same, Other}
+use Rattle.container_outcomes.specs.declared.comparing.Compared.{Compared}
+use Rattle.container_outcomes.specs.declared.comparing.Compared.TheVariants.{Same, Other}
 use Rattle.api_map.specs.declared.sources.Source.{Source}
 use Rattle.api_map.specs.declared.sources.Source.TheVariants.{Items, Pairs}
 use Rattle.api_map.specs.Arguments.{entry_of}
 use Rattle.api_map.specs.Collections.{entry_shown}
-use Rattle.api_map.specs.Searching.{comparison, compared_with}
+use Rattle.container_outcomes.specs.Comparing.{comparison}
+use Rattle.api_map.specs.Searching.{compared_with}
 use Rattle.api_map.specs.Sources.{values_of}
 
 -- the first of the values that is the same, or why the search stopped

@@ -8,7 +8,6 @@ pub mod Laws
 pub mod Making
 pub mod Maps
 pub mod Members
-pub mod Outcomes
 pub mod Searching
 pub mod Sources
 pub mod Whole

@@ -7,8 +7,8 @@ use Rattle.api_map.specs.declared.making.MapClass.{MapClass}
 use Rattle.api_map.specs.declared.making.MapClass.TheVariants as map
 use Rattle.api_map.specs.declared.making.SetClass.{SetClass}
 use Rattle.api_map.specs.declared.making.SetClass.TheVariants as set
-use Rattle.api_map.specs.declared.outcome.Outcome.{Outcome}
-use Rattle.api_map.specs.declared.outcome.Outcome.TheVariants.{New}
+use Rattle.container_outcomes.specs.declared.outcome.Outcome.{Outcome}
+use Rattle.container_outcomes.specs.declared.outcome.Outcome.TheVariants.{New}
 
 abbrev pub number_of_map : MapClass → ℕ
 number_of_map map.Hash = HASH_MAP

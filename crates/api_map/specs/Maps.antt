@@ -12,14 +12,17 @@ use Rattle.object_heap.specs.Objects.{changed}
 use Rattle.object_heap.specs.Parts.{guard_of, pairs_of, size_of}
 use Rattle.value_walks.specs.declared.TheConstants.{VISITS}
 use Rattle.value_walks.specs.Equality.{value_now}
-use Rattle.value_walks.specs.Texts.{text_of}
-use Rattle.api_map.specs.declared.outcome.Raised.TheVariants as raised
-use Rattle.api_map.specs.declared.outcome.Outcome.{Outcome}
-use Rattle.api_map.specs.declared.outcome.Outcome.TheVariants.{Gives, New, Puts, Cuts, Drops, Becomes, Throws}
-use Rattle.api_map.specs.Arguments.{map_at, with_one, with_two, with_three}
-use Rattle.api_map.specs.Guards.{is_mapped, is_open, may_put}
-use Rattle.api_map.specs.Outcomes.{flag, followed_by, has_key, unsupported, with_key}
-use Rattle.api_map.specs.Searching.{compared_with, first_from, where_equal, where_found}
+use Rattle.value_walks.specs.Texts.{Text, Wrote, TooDeep, TooLarge, text_of}
+use Rattle.container_outcomes.specs.declared.outcome.Raised.TheVariants as raised
+use Rattle.container_outcomes.specs.declared.outcome.Outcome.{Outcome}
+use Rattle.container_outcomes.specs.declared.outcome.Outcome.TheVariants.{Gives, New, Puts, CutsKey, DropsKey, Empties, Throws}
+use Rattle.api_map.specs.Arguments.{map_at, with_key}
+use Rattle.container_outcomes.specs.Choices.{with_one, with_two, with_three}
+use Rattle.api_map.specs.Guards.{is_mapped, may_put}
+use Rattle.container_outcomes.specs.Guards.{is_open}
+use Rattle.container_outcomes.specs.Outcomes.{flag, has_key, too_deep, too_large, unsupported}
+use Rattle.api_map.specs.Searching.{compared_with, first_from}
+use Rattle.container_outcomes.specs.Comparing.{where_equal, where_found}
 
 -- a count as an int, at most the greatest one
 abbrev pub count_as_int : ℕ → ℤ
@@ -36,10 +39,10 @@ emptiness_given objects id = flag (is_none_left (size_of objects id))
 
 -- A map or a set without its pairs, if it had any, which is one change. (What may be cleared is open.)
 abbrev pub empty_map : ℕ → ℕ → ℕ → Outcome
-empty_map id class changes = Becomes id (o.Map class [] g.Open (changed changes)) v.Null
+empty_map id class changes = Empties id (o.Map class [] g.Open (changed changes))
 
 abbrev pub empty_set : ℕ → ℕ → ℕ → Outcome
-empty_set id class changes = Becomes id (o.Set class [] g.Open (changed changes)) v.Null
+empty_set id class changes = Empties id (o.Set class [] g.Open (changed changes))
 
 abbrev pub map_emptied : ℕ → ℕ → List (Value × Value) → ℕ → Outcome
 map_emptied id class [] changes = Gives v.Null
@@ -64,6 +67,12 @@ key_found objects id key = with_key key (flag (has_key objects id key))
 -- whether a value is one of a map's
 abbrev pub value_found : List Object → ℕ → Value → Outcome
 value_found objects id value = where_found (first_from objects value 0 (pairs_of objects id)) (λ at. flag true) (flag false)
+
+-- goes on with the text of a walk
+abbrev pub followed_by : Text → (List ℕ → Outcome) → Outcome
+followed_by (Wrote text visits) next = next text
+followed_by TooDeep next = too_deep
+followed_by TooLarge next = too_large
 
 -- what a field of a document is, and where there is none of this name
 unfoldable pub no_field : List ℕ → Outcome
@@ -108,11 +117,11 @@ put_again objects map key value =
 
 -- without a key; what it had is given
 abbrev pub cut_key : List Object → ℕ → Value → Outcome
-cut_key objects map key = if is_open (guard_of objects map) then with_key key (Cuts map key) else unsupported
+cut_key objects map key = if is_open (guard_of objects map) then with_key key (CutsKey map key) else unsupported
 
 -- without a key that has this value
 abbrev pub cut_found : List Object → ℕ → Value → Value → Outcome
-cut_found objects map key value = where_equal (compared_with objects value (value_of (pairs_of objects map) key)) (Drops map key) (flag false)
+cut_found objects map key value = where_equal (compared_with objects value (value_of (pairs_of objects map) key)) (DropsKey map key) (flag false)
 
 abbrev pub cut_pair : List Object → ℕ → Value → Value → Outcome
 cut_pair objects map key value =

@@ -10,13 +10,13 @@ use Rattle.api_map.specs.declared.member.Member.{Member}
 use Rattle.api_map.specs.declared.member.Member.TheVariants as m
 use Rattle.api_map.specs.declared.member.Telling.{Telling}
 use Rattle.api_map.specs.declared.member.Telling.TheVariants as t
-use Rattle.api_map.specs.declared.outcome.Outcome.{Outcome}
+use Rattle.container_outcomes.specs.declared.outcome.Outcome.{Outcome}
 use Rattle.api_map.specs.Bulk as bulk
 use Rattle.api_map.specs.Collections as collections
 use Rattle.api_map.specs.Entries as entries
 use Rattle.api_map.specs.Making as making
 use Rattle.api_map.specs.Maps as maps
-use Rattle.api_map.specs.Outcomes.{nothing}
+use Rattle.container_outcomes.specs.Outcomes.{nothing}
 use Rattle.api_map.specs.Whole as whole
 
 -- what a member comes to that takes nothing out under a key

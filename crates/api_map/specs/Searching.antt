@@ -1,52 +1,19 @@
--- Comparing values, and the first pair that has a value.
-use Rattle.std.specs.Prelude.{ℕ, ◌+◌, true, false, Option, Some, None, List, [], ◌∷◌}
+-- Comparing with the value of a key, and the first pair that has a value.
+use Rattle.std.specs.Prelude.{ℕ, ◌+◌, Option, Some, None, List, [], ◌∷◌}
 use Rattle.object_values.specs.declared.object.Object.{Object}
 use Rattle.object_values.specs.declared.value.Value.{Value}
-use Rattle.value_walks.specs.declared.TheConstants.{VISITS}
-use Rattle.value_walks.specs.declared.equality.Walked.{Walked}
-use Rattle.value_walks.specs.declared.equality.Walked.TheVariants as w
-use Rattle.value_walks.specs.Equality.{equal_of}
-use Rattle.api_map.specs.declared.outcome.Outcome.{Outcome}
-use Rattle.api_map.specs.declared.searching.Compared.{Compared}
-use Rattle.api_map.specs.declared.searching.Compared.TheVariants as c
-use Rattle.api_map.specs.declared.searching.Found.{Found}
-use Rattle.api_map.specs.declared.searching.Found.TheVariants as f
-use Rattle.api_map.specs.Outcomes.{too_deep, too_large}
+use Rattle.container_outcomes.specs.declared.comparing.Compared.{Compared}
+use Rattle.container_outcomes.specs.declared.comparing.Compared.TheVariants as c
+use Rattle.container_outcomes.specs.declared.comparing.Found.{Found}
+use Rattle.container_outcomes.specs.declared.comparing.Found.TheVariants as f
+use Rattle.container_outcomes.specs.Comparing.{comparison, found_by}
 
-abbrev pub compared_by : Walked → Compared
-compared_by (w.On true visits) = c.Same
-compared_by (w.On false visits) = c.Other
-compared_by w.Deep = c.Deep
-compared_by w.Large = c.Large
-
--- deep equality of two values, by a walk of its own
-unfoldable pub comparison : List Object → Value → Value → Compared
-comparison objects a b = compared_by (equal_of objects a b VISITS)
-
--- the same with a value that may be there
+-- deep equality of a value and one that may be there
 abbrev pub compared_with : List Object → Value → Option Value → Compared
 compared_with objects value None = c.Other
 compared_with objects value (Some other) = comparison objects value other
 
-abbrev pub where_equal : Compared → Outcome → Outcome → Outcome
-where_equal c.Same same other = same
-where_equal c.Other same other = other
-where_equal c.Deep same other = too_deep
-where_equal c.Large same other = too_large
-
 -- the first pair, from a place on, whose value is equal to this one; or why the search stopped
-abbrev pub found_by : ℕ → Compared → Found → Found
-found_by at c.Same rest = f.At at
-found_by at c.Other rest = rest
-found_by at c.Deep rest = f.Deep
-found_by at c.Large rest = f.Large
-
 abbrev pub first_from : List Object → Value → ℕ → List (Value × Value) → Found
 first_from objects value at [] = f.Nowhere
 first_from objects value at (pair ∷ pairs) = found_by at (comparison objects value pair.1) (first_from objects value (at + 1) pairs)
-
-abbrev pub where_found : Found → (ℕ → Outcome) → Outcome → Outcome
-where_found (f.At at) found none = found at
-where_found f.Nowhere found none = none
-where_found f.Deep found none = too_deep
-where_found f.Large found none = too_large

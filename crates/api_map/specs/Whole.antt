@@ -11,13 +11,15 @@ use Rattle.api_map.specs.declared.arguments.Keyed.{Keyed}
 use Rattle.api_map.specs.declared.arguments.Keyed.TheVariants.{Set, View}
 use Rattle.api_map.specs.declared.making.MapClass.{MapClass}
 use Rattle.api_map.specs.declared.making.SetClass.{SetClass}
-use Rattle.api_map.specs.declared.outcome.Outcome.{Outcome}
-use Rattle.api_map.specs.declared.outcome.Outcome.TheVariants.{Becomes, Gives, New}
+use Rattle.container_outcomes.specs.declared.outcome.Outcome.{Outcome}
+use Rattle.container_outcomes.specs.declared.outcome.Outcome.TheVariants.{Becomes, Gives, New}
 use Rattle.api_map.specs.declared.sources.Source.{Source}
-use Rattle.api_map.specs.Arguments.{keyed_at, map_at, with_one}
-use Rattle.api_map.specs.Guards.{is_open, may_put_all, takes_puts}
+use Rattle.api_map.specs.Arguments.{keyed_at, map_at}
+use Rattle.container_outcomes.specs.Choices.{with_one}
+use Rattle.container_outcomes.specs.Guards.{is_open}
+use Rattle.api_map.specs.Guards.{may_put_all, takes_puts}
 use Rattle.api_map.specs.Making.{number_of_map, number_of_set}
-use Rattle.api_map.specs.Outcomes.{flag, not_simple, unsupported}
+use Rattle.container_outcomes.specs.Outcomes.{flag, not_simple, unsupported}
 use Rattle.api_map.specs.Sources.{are_keys, elements, source_at, with_keys, with_pairs}
 
 -- a change count after so many changes

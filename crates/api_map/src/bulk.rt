@@ -1,12 +1,12 @@
 //! The members that ask for each element of another collection.
 ghost use Rattle.std.specs.Prelude.{◌≡◌, ◌-◌, Some, true, false, length, slice_get};
 ghost use Rattle.api_map.specs.declared.arguments.Keyed.TheVariants as keyed_is;
-ghost use Rattle.api_map.specs.declared.outcome.Outcome.{Outcome};
+ghost use Rattle.container_outcomes.specs.declared.outcome.Outcome.{Outcome};
 ghost use Rattle.api_map.specs.declared.sources.Source.TheVariants as source_is;
 ghost use Rattle.object_values.specs.declared.object.Part.TheVariants as part_is;
 ghost use Rattle.api_map.specs.Collections.{found_in};
-ghost use Rattle.api_map.specs.Outcomes.{Tells, flag};
-ghost use Rattle.api_map.specs.Searching.{where_equal};
+ghost use Rattle.container_outcomes.specs.Outcomes.{Tells, flag};
+ghost use Rattle.container_outcomes.specs.Comparing.{where_equal};
 ghost use Rattle.api_map.specs.Sources.{elements};
 ghost use Rattle.api_map.specs.Whole.{changed_by};
 ghost use Rattle.api_map.specs.Bulk as spec;
@@ -14,12 +14,12 @@ ghost use Rattle.api_map.specs.declared.bulk.Choice.TheVariants as choice;
 
 use crate::arguments::{Keyed, holder_of, keyed_at};
 use crate::collections::found_in;
-use crate::errors::{not_simple, null_error, too_deep, too_large, unsupported};
-use crate::guards::is_open;
 use crate::holding::{entry_in, value_in};
-use crate::outcome::Outcome;
-use crate::searching::{Compared, pair_at};
+use crate::searching::pair_at;
 use crate::sources::{Source, count, element_at, put_pair, source_at};
+use container_outcomes::{
+    Compared, Outcome, is_open, not_simple, null_error, too_deep, too_large, unsupported,
+};
 use object_heap::Heap;
 use object_values::{Guard, Object, Pairs, Part, Value};
 

@@ -3,18 +3,18 @@ ghost use Rattle.std.specs.Prelude.{◌≡◌};
 ghost use Rattle.object_heap.specs.Parts.{pairs_of};
 ghost use Rattle.object_values.specs.Pairs.{value_of};
 ghost use Rattle.value_walks.specs.Equality.{value_now};
-ghost use Rattle.api_map.specs.declared.outcome.Outcome.{Outcome};
+ghost use Rattle.container_outcomes.specs.declared.outcome.Outcome.{Outcome};
 ghost use Rattle.api_map.specs.declared.arguments.Keyed.TheVariants as keyed;
 ghost use Rattle.api_map.specs.Collections as spec;
-ghost use Rattle.api_map.specs.Outcomes.{Tells};
+ghost use Rattle.container_outcomes.specs.Outcomes.{Tells};
 ghost use Rattle.api_map.specs.Searching.{compared_with};
 
 use crate::arguments::{Keyed, entry_of, holder_of, keyed_at};
-use crate::errors::{not_simple, null_error, too_deep, too_large, unsupported};
-use crate::guards::is_open;
 use crate::maps::{cleared, emptiness_given, key_found, size_given, value_found};
-use crate::outcome::Outcome;
-use crate::searching::{Compared, compare_with};
+use crate::searching::compare_with;
+use container_outcomes::{
+    Compared, Outcome, is_open, not_simple, null_error, too_deep, too_large, unsupported,
+};
 use member_arguments::value_at;
 use object_heap::Heap;
 use object_values::{Part, Value};

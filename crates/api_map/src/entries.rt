@@ -1,13 +1,12 @@
 //! The members of Map.Entry.
 ghost use Rattle.api_map.specs.Entries as spec;
-ghost use Rattle.api_map.specs.Outcomes.{Tells};
+ghost use Rattle.container_outcomes.specs.Outcomes.{Tells};
 
 use crate::arguments::entry_at;
-use crate::errors::{gone, null_error, unsupported};
+use crate::errors::gone;
 use crate::guards::may_put;
 use crate::maps::{has_key, puts, value_or_null};
-use crate::outcome::Outcome;
-use crate::values::given;
+use container_outcomes::{Outcome, given, null_error, unsupported};
 use member_arguments::value_at;
 use object_heap::Heap;
 use object_values::Value;

@@ -52,27 +52,6 @@ pub fn may_put(heap: &Heap, id: u32, key: &Value) -> bool
     }
 }
 
-fn lets_all(guard: &Guard) -> bool
-    ensures { result ≡ spec.is_open (Some guard.now) }
-{
-    match guard {
-        Guard::Open => true,
-        Guard::Frozen => false,
-        Guard::Keys(_) => false,
-        Guard::Mapped => false,
-    }
-}
-
-/// Whether anything may be changed.
-pub fn is_open(heap: &Heap, id: u32) -> bool
-    ensures { result ≡ spec.is_open (guard_of heap.now.objects id) }
-{
-    match heap.guard(id) {
-        Some(guard) => lets_all(guard),
-        None => true,
-    }
-}
-
 fn maps(guard: &Guard) -> bool
     ensures { result ≡ spec.is_mapped (Some guard.now) }
 {

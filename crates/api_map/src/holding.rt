@@ -2,15 +2,15 @@
 ghost use Rattle.std.specs.Prelude.{◌≡◌, Some};
 ghost use Rattle.object_heap.specs.Parts.{pairs_of};
 ghost use Rattle.value_walks.specs.Equality.{value_now};
-ghost use Rattle.api_map.specs.Searching.{comparison};
+ghost use Rattle.container_outcomes.specs.Comparing.{comparison};
 ghost use Rattle.api_map.specs.Sources.{elements};
 ghost use Rattle.api_map.specs.Holding as spec;
 
 use crate::arguments::entry_of;
 use crate::collections::{compare_now, entry_shown};
 use crate::maps::has_key;
-use crate::searching::{Compared, compare};
 use crate::sources::{Source, count, element_at};
+use container_outcomes::{Compared, compare};
 use object_heap::Heap;
 use object_values::{Part, Value};
 

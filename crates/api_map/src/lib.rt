@@ -12,12 +12,9 @@ mod laws;
 mod making;
 mod maps;
 mod member;
-mod outcome;
-mod paying;
 mod removing;
 mod searching;
 mod sources;
-mod values;
 mod whole;
 
 pub use laws::members_keep_fit;

@@ -2,7 +2,7 @@
 ghost use Rattle.std.specs.Prelude.{◌≡◌};
 ghost use Rattle.api_map.specs.Making as spec;
 
-use crate::outcome::Outcome;
+use container_outcomes::Outcome;
 use object_heap::Heap;
 use object_values::{Guard, Object, Pairs};
 use pl_types::classes::{HASH_MAP, HASH_SET, LINKED_HASH_MAP, LINKED_HASH_SET};

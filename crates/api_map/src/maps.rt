@@ -2,18 +2,19 @@
 ghost use Rattle.std.specs.Prelude.{◌≡◌, None, Some, slice_get};
 ghost use Rattle.object_heap.specs.Parts.{pairs_of};
 ghost use Rattle.object_values.specs.Pairs.{value_of};
-ghost use Rattle.api_map.specs.declared.outcome.Outcome.{Outcome};
+ghost use Rattle.container_outcomes.specs.declared.outcome.Outcome.{Outcome};
 ghost use Rattle.api_map.specs.Maps as spec;
-ghost use Rattle.api_map.specs.Outcomes.{Tells, has_key};
+ghost use Rattle.container_outcomes.specs.Outcomes.{Tells, has_key};
 ghost use Rattle.api_map.specs.Searching.{first_from};
 ghost use Rattle.value_walks.specs.Equality.{value_now};
 
 use crate::arguments::map_at;
-use crate::errors::{no_field, not_simple, null_error, too_deep, too_large, unsupported};
-use crate::guards::{is_mapped, is_open, may_put};
-use crate::outcome::Outcome;
-use crate::searching::{Found, first_of};
-use crate::values::given;
+use crate::errors::no_field;
+use crate::guards::{is_mapped, may_put};
+use crate::searching::first_of;
+use container_outcomes::{
+    Found, Outcome, given, is_open, not_simple, null_error, too_deep, too_large, unsupported,
+};
 use member_arguments::value_at;
 use object_heap::Heap;
 use object_values::{Guard, Object, Pairs, Part, Value};
@@ -53,7 +54,7 @@ fn empty_map(heap: &Heap, id: u32, class: u32, changes: u64) -> Outcome
         guard: Guard::Open,
         changes: changes.wrapping_add(1),
     };
-    Outcome::Becomes(id, object, Value::Null)
+    Outcome::Empties(id, object)
 }
 
 fn empty_set(heap: &Heap, id: u32, class: u32, changes: u64) -> Outcome
@@ -65,7 +66,7 @@ fn empty_set(heap: &Heap, id: u32, class: u32, changes: u64) -> Outcome
         guard: Guard::Open,
         changes: changes.wrapping_add(1),
     };
-    Outcome::Becomes(id, object, Value::Null)
+    Outcome::Empties(id, object)
 }
 
 fn map_emptied(heap: &Heap, id: u32, class: u32, pairs: &Pairs, changes: u64) -> Outcome

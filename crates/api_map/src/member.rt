@@ -2,15 +2,15 @@
 ghost use Rattle.std.specs.Prelude.{◌≡◌, length};
 ghost use Rattle.object_heap.specs.Effects.{Answers};
 ghost use Rattle.object_heap.specs.Fits.{Rules, Fits, AllFit, AnswerFits};
-ghost use Rattle.api_map.specs.Outcomes.{Tells, WantsMemory, effect};
+ghost use Rattle.container_outcomes.specs.Outcomes.{Tells, WantsMemory, effect};
 ghost use Rattle.api_map.specs.Members as spec;
 ghost use Rattle.api_map.specs.Members.{does, does_numbered, numbered};
 
 use crate::bulk::Bulk;
 use crate::making::{MapClass, SetClass};
-use crate::outcome::Outcome;
 use crate::removing::{remove, remove_element, remove_pair};
 use crate::{bulk, collections, entries, making, maps, whole};
+use container_outcomes::Outcome;
 use object_heap::{Answer, Heap};
 use object_values::{Part, Value};
 

@@ -4,21 +4,22 @@ ghost use Rattle.object_heap.specs.Effects.{Answers};
 ghost use Rattle.object_heap.specs.declared.answer.Answer.TheVariants as a;
 ghost use Rattle.object_values.specs.declared.value.Value.TheVariants as v;
 ghost use Rattle.api_map.specs.declared.arguments.Keyed.TheVariants as keyed;
-ghost use Rattle.api_map.specs.declared.outcome.Outcome.{Outcome};
+ghost use Rattle.container_outcomes.specs.declared.outcome.Outcome.{Outcome};
 ghost use Rattle.api_map.specs.Arguments as arguments;
 ghost use Rattle.api_map.specs.Collections as collections;
 ghost use Rattle.api_map.specs.Maps as maps;
-ghost use Rattle.api_map.specs.Outcomes as spec;
-ghost use Rattle.api_map.specs.Outcomes.{Tells, WantsMemory, effect, with_key};
+ghost use Rattle.container_outcomes.specs.Outcomes as spec;
+ghost use Rattle.container_outcomes.specs.Outcomes.{Tells, WantsMemory, effect};
+ghost use Rattle.api_map.specs.Arguments.{with_key};
 
 use crate::arguments::{Keyed, entry_of, holder_of, keyed_at, map_at};
 use crate::collections::entry_shown;
-use crate::errors::{not_simple, null_error, too_deep, too_large, unsupported};
-use crate::guards::is_open;
 use crate::maps::first_in;
-use crate::outcome::Outcome;
-use crate::paying::{cut_at, cut_key, drop_key};
-use crate::searching::{Compared, Found, compare_with};
+use crate::searching::compare_with;
+use container_outcomes::{
+    Compared, Found, Outcome, cut_key, cut_pair, drop_key, is_open, not_simple, null_error,
+    too_deep, too_large, unsupported,
+};
 use member_arguments::value_at;
 use object_heap::{Answer, Heap};
 use object_values::{Part, Value};
@@ -68,8 +69,8 @@ fn answer_false() -> Answer
 }
 
 fn cut_simple(heap: &mut Heap, map: u32, key: &Value) -> Answer
-    ensures does { Answers (effect heap.old (with_key key.now (Outcome.Cuts map key.now))) heap.old heap.new result }
-    ensures memory { WantsMemory (with_key key.now (Outcome.Cuts map key.now)) result }
+    ensures does { Answers (effect heap.old (with_key key.now (Outcome.CutsKey map key.now))) heap.old heap.new result }
+    ensures memory { WantsMemory (with_key key.now (Outcome.CutsKey map key.now)) result }
 {
     if key.is_simple() {
         cut_key(heap, map, key)
@@ -101,7 +102,7 @@ fn cut_found(heap: &mut Heap, map: u32, key: &Value, value: &Value) -> Answer
     }
 }
 
-fn cut_pair(heap: &mut Heap, map: u32, key: &Value, value: &Value) -> Answer
+fn cut_equal(heap: &mut Heap, map: u32, key: &Value, value: &Value) -> Answer
     ensures does { Answers (effect heap.old (maps.cut_pair heap.old.objects map key.now value.now)) heap.old heap.new result }
     ensures memory { WantsMemory (maps.cut_pair heap.old.objects map key.now value.now) result }
 {
@@ -116,8 +117,8 @@ fn cut_pair(heap: &mut Heap, map: u32, key: &Value, value: &Value) -> Answer
 }
 
 fn drop_simple(heap: &mut Heap, id: u32, key: &Value) -> Answer
-    ensures does { Answers (effect heap.old (with_key key.now (Outcome.Drops id key.now))) heap.old heap.new result }
-    ensures memory { WantsMemory (with_key key.now (Outcome.Drops id key.now)) result }
+    ensures does { Answers (effect heap.old (with_key key.now (Outcome.DropsKey id key.now))) heap.old heap.new result }
+    ensures memory { WantsMemory (with_key key.now (Outcome.DropsKey id key.now)) result }
 {
     if key.is_simple() {
         drop_key(heap, id, key)
@@ -131,7 +132,7 @@ fn cut_value(heap: &mut Heap, map: u32, value: &Value) -> Answer
     ensures memory { WantsMemory (collections.cut_value heap.old.objects map value.now) result }
 {
     match first_in(heap, map, value) {
-        Found::At(at) => cut_at(heap, map, at),
+        Found::At(at) => cut_pair(heap, map, at),
         Found::Nowhere => answer_false(),
         Found::Deep => throw_deep(heap),
         Found::Large => throw_large(heap),
@@ -226,7 +227,7 @@ pub fn remove_pair(heap: &mut Heap, args: &[Value]) -> Answer
     ensures memory { WantsMemory (maps.remove_pair heap.old.objects args.now) result }
 {
     match (map_at(heap, args, 0), value_at(args, 1), value_at(args, 2)) {
-        (Some(map), Some(key), Some(value)) => cut_pair(heap, map, key, value),
+        (Some(map), Some(key), Some(value)) => cut_equal(heap, map, key, value),
         _ => throw_null(heap),
     }
 }

@@ -1,51 +1,14 @@
-//! Comparing values, and the first pair that has a value.
+//! Comparing with the value of a key, and the first pair that has a value.
 ghost use Rattle.std.specs.Prelude.{◌≡◌, ◌≤◌, IfNone, IfSome, Some, length, slice_get};
 ghost use Rattle.object_heap.specs.Parts.{pairs_of};
 ghost use Rattle.object_values.specs.Pairs.{value_of};
 ghost use Rattle.api_map.specs.Searching as spec;
 
+use container_outcomes::{Compared, Found, compare};
 use object_heap::Heap;
 use object_values::{Pairs, Value};
-use value_walks::{VISITS, Walked, equal};
 
-/// What comes of comparing two values.
-#[derive(Clone, Copy)]
-pub enum Compared {
-    Same,
-    Other,
-    /// They are nested too deeply.
-    Deep,
-    /// They are too large to walk.
-    Large,
-}
-
-/// What comes of searching for a value.
-#[derive(Clone, Copy)]
-pub enum Found {
-    /// It is at this place.
-    At(usize),
-    /// It is not there.
-    Nowhere,
-    /// A value that was compared is nested too deeply.
-    Deep,
-    /// A value that was compared is too large to walk.
-    Large,
-}
-
-/// Deep equality, by a walk of its own.
-#[tactic(auto, unfolding(crate::specs::Searching::comparison))]
-pub fn compare(heap: &Heap, a: &Value, b: &Value) -> Compared
-    ensures { result ≡ spec.comparison heap.now.objects a.now b.now }
-{
-    match equal(heap, a, b, VISITS) {
-        Walked::On(true, _) => Compared::Same,
-        Walked::On(false, _) => Compared::Other,
-        Walked::Deep => Compared::Deep,
-        Walked::Large => Compared::Large,
-    }
-}
-
-/// The same with the value that a map has under a key, if it has one.
+/// Deep equality with the value that a map has under a key, if it has one.
 pub fn compare_with(heap: &Heap, value: &Value, map: u32, key: &Value) -> Compared
     ensures { result ≡ spec.compared_with heap.now.objects value.now (value_of (pairs_of heap.now.objects map) key.now) }
 {

@@ -2,16 +2,15 @@
 ghost use Rattle.std.specs.Prelude.{◌≡◌, [], IfOk, Some, length, slice_get};
 ghost use Rattle.object_heap.specs.Parts.{pairs_of};
 ghost use Rattle.api_map.specs.declared.arguments.Keyed.TheVariants as keyed_is;
-ghost use Rattle.api_map.specs.Outcomes.{Tells};
+ghost use Rattle.container_outcomes.specs.Outcomes.{Tells};
 ghost use Rattle.api_map.specs.Sources.{elements, with_keys, with_pairs};
 ghost use Rattle.api_map.specs.Whole as spec;
 
 use crate::arguments::{Keyed, keyed_at, map_at};
-use crate::errors::{not_simple, null_error, unsupported};
-use crate::guards::{is_open, may_put_all, shared, takes_puts};
+use crate::guards::{may_put_all, shared, takes_puts};
 use crate::making::{MapClass, SetClass};
-use crate::outcome::Outcome;
 use crate::sources::{Source, are_keys, copied, put_keys, put_pairs, source_at};
+use container_outcomes::{Outcome, is_open, not_simple, null_error, unsupported};
 use object_heap::Heap;
 use object_values::{Guard, Object, Pairs, Value};
 use std::alloc::AllocError;

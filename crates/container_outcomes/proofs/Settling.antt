@@ -1,6 +1,7 @@
 -- What is paid for an outcome that fits leaves a store that fits.
 use Rattle.std.proofs.Common.{◌≡◌, ℕ, zero, suc, ◌+◌, true, not, Option, Some, None, List, [], ◌∷◌, ◌++◌, length, refl, sym, subst, arith, length-append, slice_get}
 use Rattle.std.proofs.Math.ListN.{length-set}
+use Rattle.std.proofs.lemmas.Bool.{cond_both}
 use Rattle.pl_types.specs.declared.classes.TheConstants.{EXCEPTION}
 use Rattle.pl_types.specs.Classes.{class_is_below, lineage_of, parents_of, class_row, class_table}
 use Rattle.object_values.specs.declared.object.Object.{Object}
@@ -21,7 +22,7 @@ use Rattle.container_outcomes.specs.declared.outcome.Raised.TheVariants as raise
 use Rattle.container_outcomes.specs.declared.outcome.Outcome.{Outcome}
 use Rattle.container_outcomes.specs.declared.outcome.Outcome.TheVariants as outcome
 use Rattle.container_outcomes.specs.Laws.{OutcomeFits}
-use Rattle.container_outcomes.specs.Outcomes.{effect, gives_made, gives_new, has_key, item_now, list_item_now, number_of}
+use Rattle.container_outcomes.specs.Outcomes.{effect, gives_made, gives_new, gives_renewed, has_key, is_collection, item_now, list_item_now, number_of}
 
 class_is : (r : Raised) → class_is_below (number_of r) EXCEPTION ≡ true
 unfolding class_is_below lineage_of parents_of class_row class_table
@@ -75,6 +76,14 @@ or_fits n (Some value) h = h value refl
 pub now_fits : (rules : Rules) (objects : List Object) (id : ℕ) (key : Value) → Fits rules objects → ValueFits (length objects) (value_now objects id key)
 now_fits rules objects id key f = or_fits (length objects) (value_of (pairs_of objects id) key) (λ value is. values_fit rules objects id key value f is)
 
+renewed_fits : (rules : Rules) (store : Store) (id : ℕ) (object : Object) (value : Value) → Fits rules store.objects → ObjectFits rules (kinds store.objects) object → ValueFits (length store.objects) value
+    → EffectFits rules (gives_renewed store id object value)
+renewed_fits rules store id object value f h k =
+    cond_both (is_collection object) (e.gives_paid store (with_change store.objects id (renewed_by object)) value) (e.Gives value store) (EffectFits rules)
+    (λ _. after_fits rules store (with_change store.objects id (renewed_by object)) 0 (λ paid. e.Gives value paid)
+    (λ room. (renew_fits rules store.objects id object f h, still_fits store.objects id (renewed_by object) value k)))
+    (λ _. (f, k))
+
 pub settled : (rules : Rules) (store : Store) (told : Outcome) → Fits rules store.objects → OutcomeFits rules store.objects told → EffectFits rules (effect store told)
 settled rules store (outcome.Gives value) f h = (f, h)
 settled rules store (outcome.Writes text) f h = after_fits rules store store.objects (length text + 1) (λ paid. e.Gives (v.Str text) paid) (λ room. (f, tt))
@@ -103,11 +112,7 @@ settled rules store (outcome.CutsKey id key) f h =
 settled rules store (outcome.DropsKey id key) f h = (map_cut_fits rules store.objects id key f, tt)
 settled rules store (outcome.DropsEntry id key) f h = (map_cut_fits rules store.objects id key f, tt)
 settled rules store (outcome.CutsPair id at) f h = (map_cut_at_fits rules store.objects id at f, tt)
-settled rules store (outcome.Empties id object) f h =
-    after_fits rules store (with_change store.objects id (renewed_by object)) 0 (λ paid. e.Gives v.Null paid)
-    (λ room. (renew_fits rules store.objects id object f h, tt))
-settled rules store (outcome.Becomes id object value) f h =
-    after_fits rules store (with_change store.objects id (renewed_by object)) 0 (λ paid. e.Gives value paid)
-    (λ room. (renew_fits rules store.objects id object f h.0, still_fits store.objects id (renewed_by object) value h.1))
+settled rules store (outcome.Empties id object) f h = renewed_fits rules store id object v.Null f h tt
+settled rules store (outcome.Becomes id object value) f h = renewed_fits rules store id object value f h.0 h.1
 settled rules store (outcome.Throws raised message) f h = throws_fits rules store (number_of raised) message f (class_is raised)
 settled rules store outcome.NoMemory f h = (f, tt)

@@ -1,9 +1,10 @@
 -- What members of containers come to, before it is paid, and what that does to the store.
-use Rattle.std.specs.Prelude.{◌≡◌, ℕ, ℤ, ◌+◌, Bool, true, false, not, ◌||◌, Some, None, List, [], ◌∷◌, ◌++◌, length, codes, is_some, slice_get}
+use Rattle.std.specs.Prelude.{◌≡◌, ℕ, ℤ, ◌+◌, Bool, true, false, not, ◌||◌, Some, None, List, [], ◌∷◌, ◌++◌, length, codes, is_some, slice_get, if◌then◌else◌}
 use Rattle.std.specs.Fmt.{decimal, signed_decimal}
 use Rattle.pl_units.specs.Utf16.{units}
 use Rattle.pl_types.specs.declared.classes.TheConstants.{CLASS_CAST_EXCEPTION, CONCURRENT_MODIFICATION_EXCEPTION, ILLEGAL_ARGUMENT_EXCEPTION, ILLEGAL_STATE_EXCEPTION, INDEX_OUT_OF_BOUNDS_EXCEPTION, NO_SUCH_ELEMENT_EXCEPTION, NULL_POINTER_EXCEPTION, UNSUPPORTED_OPERATION_EXCEPTION}
 use Rattle.object_values.specs.declared.object.Object.{Object}
+use Rattle.object_values.specs.declared.object.Object.TheVariants as o
 use Rattle.object_values.specs.declared.value.Value.{Value}
 use Rattle.object_values.specs.declared.value.Value.TheVariants as v
 use Rattle.object_values.specs.Pairs.{value_of}
@@ -52,6 +53,17 @@ list_item_now objects id at = value_or (slice_get (list_items_of objects id) at)
 abbrev pub has_key : List Object → ℕ → Value → Bool
 has_key objects id key = is_some (value_of (pairs_of objects id) key)
 
+-- A list, a map or a set takes the place of another of its kind and class; no other object does
+abbrev pub is_collection : Object → Bool
+is_collection (o.List class items guard changes) = true
+is_collection (o.Map class pairs guard changes) = true
+is_collection (o.Set class items guard changes) = true
+is_collection object = false
+
+abbrev pub gives_renewed : Store → ℕ → Object → Value → Effect
+gives_renewed store id object value =
+    if is_collection object then gives_paid store (with_change store.objects id (renewed_by object)) value else Gives value store
+
 -- The effect of an outcome. A value is free. A text costs its units and one, and a new object its weight. What is inserted or put
 -- costs what the list, the set or the map grows by, and so does an object that takes the place of another. What is written or taken
 -- out is free. An exception is a new object. (That there is no memory is what a call says of an outcome, and no member comes to it.)
@@ -72,8 +84,8 @@ effect store (outcome.CutsKey id key) = Gives (value_now store.objects id key) (
 effect store (outcome.DropsKey id key) = Gives (v.Bool (has_key store.objects id key)) (changed_freely store id (with_key_cut key))
 effect store (outcome.DropsEntry id key) = Gives (v.Bool (has_key store.objects id key)) (changed_freely store id (with_key_cut key))
 effect store (outcome.CutsPair id at) = Gives (v.Bool true) (changed_freely store id (with_pair_cut at))
-effect store (outcome.Empties id object) = gives_paid store (with_change store.objects id (renewed_by object)) v.Null
-effect store (outcome.Becomes id object value) = gives_paid store (with_change store.objects id (renewed_by object)) value
+effect store (outcome.Empties id object) = gives_renewed store id object v.Null
+effect store (outcome.Becomes id object value) = gives_renewed store id object value
 effect store (outcome.Throws raised message) = throws store (number_of raised) message
 effect store outcome.NoMemory = Gives v.Null store
 

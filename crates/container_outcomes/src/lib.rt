@@ -16,4 +16,5 @@ pub use errors::{
 pub use guards::is_open;
 pub use laws::outcomes_keep_fit;
 pub use outcome::{Outcome, Raised};
+pub use paying::{cut_key, cut_pair, drop_key};
 pub use values::{copied, given, shared};

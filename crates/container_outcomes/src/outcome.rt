@@ -84,9 +84,9 @@ pub enum Outcome {
     DropsEntry(u32, Value),
     /// The pair at a place is taken out; the value is true.
     CutsPair(u32, usize),
-    /// An object without elements takes the place of another of its kind and class; the value is null.
+    /// A list, a map or a set without elements takes the place of another of its kind and class; the value is null.
     Empties(u32, Object),
-    /// An object takes the place of another of its kind and class; and the value.
+    /// A list, a map or a set takes the place of another of its kind and class; and the value.
     Becomes(u32, Object, Value),
     /// An exception with a message or none is thrown.
     Throws(Raised, Option<UText>),

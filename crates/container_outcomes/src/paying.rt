@@ -1,11 +1,11 @@
 //! How what members come to is paid, and what it changes.
 ghost use Rattle.std.specs.Prelude.{◌≡◌, ◌+◌, ◌++◌, IfSome, length, not, true};
 ghost use Rattle.object_heap.specs.Effects.{Answers, Gives, after_paying, gives_paid};
-ghost use Rattle.object_heap.specs.Objects.{renewed_by, with_all_inserted, with_inserted, with_item, with_key_cut, with_pair_cut, with_put, with_removed};
+ghost use Rattle.object_heap.specs.Objects.{with_all_inserted, with_inserted, with_item, with_key_cut, with_pair_cut, with_put, with_removed};
 ghost use Rattle.object_heap.specs.Store.{paid, with_change};
 ghost use Rattle.object_values.specs.declared.value.Value.TheVariants as v;
 ghost use Rattle.value_walks.specs.Equality.{value_now};
-ghost use Rattle.container_outcomes.specs.Outcomes.{changed_freely, gives_made, gives_new, has_key, item_now, list_item_now, IsGiven, MakesNothing};
+ghost use Rattle.container_outcomes.specs.Outcomes.{changed_freely, gives_made, gives_new, gives_renewed, has_key, is_collection, item_now, list_item_now, IsGiven, MakesNothing};
 
 use object_heap::{Answer, Heap, HeapErr};
 use object_values::{Elements, Object, Value};
@@ -220,11 +220,27 @@ pub fn cut_pair(heap: &mut Heap, map: u32, at: usize) -> Answer
     Answer::Value(Value::Bool(true))
 }
 
-/// Replaces an object by one of its kind and class, which costs what it grows by, and gives null. It takes no memory.
+fn is_collection(object: &Object) -> bool
+    ensures { result ≡ is_collection object.now }
+{
+    match object {
+        Object::List { .. } => true,
+        Object::Map { .. } => true,
+        Object::Set { .. } => true,
+        _ => false,
+    }
+}
+
+/// A list, a map or a set takes the place of another of its kind and class, which costs what it grows by; and gives null. It takes no
+/// memory.
 pub fn empty(heap: &mut Heap, id: u32, object: Object) -> Answer
-    ensures does { Answers (gives_paid heap.old (with_change heap.old.objects id (renewed_by object)) v.Null) heap.old heap.new result }
+    ensures does { Answers (gives_renewed heap.old id object v.Null) heap.old heap.new result }
     ensures memory { MakesNothing result }
 {
+    if !is_collection(&object) {
+        drop(object);
+        return Answer::Value(Value::Null);
+    }
     if heap.renew(id, object) {
         Answer::Value(Value::Null)
     } else {
@@ -232,10 +248,14 @@ pub fn empty(heap: &mut Heap, id: u32, object: Object) -> Answer
     }
 }
 
-/// Replaces an object by one of its kind and class, which costs what it grows by.
+/// A list, a map or a set takes the place of another of its kind and class, which costs what it grows by.
 pub fn renew(heap: &mut Heap, id: u32, object: Object, value: Value) -> Answer
-    ensures { Answers (gives_paid heap.old (with_change heap.old.objects id (renewed_by object)) value) heap.old heap.new result }
+    ensures { Answers (gives_renewed heap.old id object value) heap.old heap.new result }
 {
+    if !is_collection(&object) {
+        drop(object);
+        return Answer::Value(value);
+    }
     if heap.renew(id, object) {
         Answer::Value(value)
     } else {

@@ -1,6 +1,6 @@
 use Rattle.std.proofs.Common.{◌∙◌, sym}
-use Rattle.api_map.specs.declared.searching.Compared.TheVariants.{Same, Other, Deep, Large}
-use Rattle.api_map.specs.Searching.{comparison}
+use Rattle.container_outcomes.specs.declared.comparing.Compared.TheVariants.{Same, Other, Deep, Large}
+use Rattle.container_outcomes.specs.Comparing.{comparison}
 use Rattle.api_map.specs.Sources.{elements}
 use Rattle.api_map.proofs.Bulking.{among_step}
 use Rattle.api_map.proofs.holding.among.Goals as goal

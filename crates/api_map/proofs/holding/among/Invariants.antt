@@ -1,5 +1,5 @@
 use Rattle.std.proofs.Common.{◌≡◌, drop}
-use Rattle.api_map.specs.Searching.{comparison}
+use Rattle.container_outcomes.specs.Comparing.{comparison}
 use Rattle.api_map.specs.Sources.{elements}
 use Rattle.api_map.specs.Holding as spec
 use Rattle.api_map.proofs.holding.among.Given as goal

@@ -1,5 +1,5 @@
 use Rattle.std.proofs.Common.{◌∙◌, sym}
-use Rattle.api_map.specs.declared.searching.Compared.TheVariants.{Same, Other, Deep, Large}
+use Rattle.container_outcomes.specs.declared.comparing.Compared.TheVariants.{Same, Other, Deep, Large}
 use Rattle.api_map.specs.Holding.{is_entry}
 use Rattle.api_map.specs.Sources.{elements}
 use Rattle.api_map.proofs.Bulking.{among_step}

@@ -1,6 +1,6 @@
 use Rattle.api_map.specs.Members.{does_numbered, numbered}
 use Rattle.api_map.proofs.Keeping.{found_fits}
-use Rattle.api_map.proofs.Settling.{settled}
+use Rattle.container_outcomes.proofs.Settling.{settled}
 use Rattle.api_map.proofs.laws.members_keep_fit.Goals as goal
 
 pub returns : goal.returns

@@ -1,9 +1,9 @@
 use Rattle.std.proofs.Common.{Some}
 use Rattle.object_heap.proofs.Keeping.{answers_fit}
 use Rattle.api_map.specs.Members.{does_found}
-use Rattle.api_map.specs.Outcomes.{effect}
+use Rattle.container_outcomes.specs.Outcomes.{effect}
 use Rattle.api_map.proofs.Keeping.{found_fits}
-use Rattle.api_map.proofs.Settling.{settled}
+use Rattle.container_outcomes.proofs.Settling.{settled}
 use Rattle.api_map.proofs.member.call.Goals as goal
 
 pub returns-in-Some-clause-keeps : goal.returns-in-Some-clause-keeps

@@ -1,7 +1,7 @@
 use Rattle.std.proofs.Common.{refl, subst, sym}
-use Rattle.api_map.specs.declared.outcome.Outcome.{Outcome}
-use Rattle.api_map.specs.Outcomes as spec
-use Rattle.api_map.specs.Outcomes.{Tells}
+use Rattle.container_outcomes.specs.declared.outcome.Outcome.{Outcome}
+use Rattle.container_outcomes.specs.Outcomes as spec
+use Rattle.container_outcomes.specs.Outcomes.{Tells}
 use Rattle.api_map.proofs.removing.throw_null.Goals as goal
 
 pub returns : goal.returns

@@ -1,5 +1,5 @@
 use Rattle.std.proofs.Common.{◌∙◌, sym}
-use Rattle.api_map.specs.declared.searching.Compared.TheVariants.{Same, Other, Deep, Large}
+use Rattle.container_outcomes.specs.declared.comparing.Compared.TheVariants.{Same, Other, Deep, Large}
 use Rattle.api_map.proofs.Steps.{first_step}
 use Rattle.api_map.proofs.searching.first_of.Goals as goal
 
