@@ -167,7 +167,7 @@ pub casts_fit : (c : Cast) (from to : Ty) → Casts c from to → CastFits c to 
 casts_fit cast.Keep from to x = record { takes = refl; representation = keeps_representation from to x; asks = tt }
 casts_fit (cast.Number p q) from to x = record { takes = is_unboxed p from x.0; representation = is_unboxed q to x.1; asks = tt }
 casts_fit (cast.Wrap p q) from to x = record { takes = is_unboxed p from x.0; representation = is_boxed to x.1; asks = tt }
-casts_fit (cast.Unwrap p q) from to x = absurd x
+casts_fit (cast.Unwrap p q) from to x = record { takes = is_boxed from x.0; representation = is_unboxed q to x.1; asks = tt }
 casts_fit cast.Implicit from to x = record { takes = is_boxed from x.0; representation = run_time to x.1; asks = named_known to x.1 }
 casts_fit cast.Explicit from to x = record { takes = is_boxed from x.0; representation = run_time to x.1; asks = named_known to x.1 }
 casts_fit cast.CharToText from to x = record { takes = is_unboxed prim.Char from x.0; representation = string_representation to x.1; asks = tt }
@@ -209,7 +209,7 @@ present_before : (c : Cast) (to : Ty) (given gives : Representation) → CastFit
 present_before cast.Keep to given gives h n e = n (h.representation ∙ e)
 present_before (cast.Number p q) to given gives h n e = let bad : Unboxed ≡ Absent = sym h.takes ∙ e in cc
 present_before (cast.Wrap p q) to given gives h n e = let bad : Unboxed ≡ Absent = sym h.takes ∙ e in cc
-present_before (cast.Unwrap p q) to given gives h n e = n (h.representation ∙ e)
+present_before (cast.Unwrap p q) to given gives h n e = let bad : Boxed ≡ Absent = sym h.takes ∙ e in cc
 present_before cast.Implicit to given gives h n e = let bad : Boxed ≡ Absent = sym h.takes ∙ e in cc
 present_before cast.Explicit to given gives h n e = let bad : Boxed ≡ Absent = sym h.takes ∙ e in cc
 present_before cast.CharToText to given gives h n e = let bad : Unboxed ≡ Absent = sym h.takes ∙ e in cc

@@ -101,6 +101,14 @@ fn put_wrapped(lines: &mut Items<Line>, from: Primitive, to: Primitive) -> Resul
     one(lines, Instruction::Boxing(to))
 }
 
+#[tactic(auto, using(crate::proofs::Lists::one_and_more))]
+fn put_unwrapped(lines: &mut Items<Line>, from: Primitive, to: Primitive) -> Result<(), AllocError>
+    ensures { OnOk result (lines.new ≡ lines.old ++ map Fixed (i.Unboxing from way.Implicit ∷ number_code from to)) }
+{
+    one(lines, Instruction::Unboxing(from, Way::Implicit))?;
+    put_number(lines, from, to)
+}
+
 /// Puts a cast of a reference to a type.
 fn put_reference(alloc: Global, lines: &mut Items<Line>, to: &Ty, way: Way) -> Result<(), CodeError>
     ensures lines { OnOk result (lines.new ≡ lines.old ++ map Fixed (i.Cast (full_text to.now) way ∷ [])) }
@@ -157,6 +165,15 @@ fn put_boxed(lines: &mut Items<Line>, from: Primitive, to: Primitive) -> Result<
     Ok(())
 }
 
+/// Puts a cast of a box to a number.
+fn put_unboxed(lines: &mut Items<Line>, from: Primitive, to: Primitive) -> Result<(), CodeError>
+    ensures lines { OnOk result (lines.new ≡ lines.old ++ map Fixed (i.Unboxing from way.Implicit ∷ number_code from to)) }
+    ensures memory { OnlyMemory result }
+{
+    put_unwrapped(lines, from, to)?;
+    Ok(())
+}
+
 /// Puts what makes a char of a text.
 fn put_char_of_text(lines: &mut Items<Line>) -> Result<(), CodeError>
     ensures lines { OnOk result (lines.new ≡ lines.old ++ map Fixed (i.Unboxing prim.Char way.Explicit ∷ [])) }
@@ -179,6 +196,7 @@ pub fn put_cast(
     match cast {
         Cast::Number(from, into) => put_between(lines, from, into),
         Cast::Wrap(from, into) => put_boxed(lines, from, into),
+        Cast::Unwrap(from, into) => put_unboxed(lines, from, into),
         Cast::Implicit => put_run_time(alloc, lines, to, Way::Implicit),
         Cast::Explicit => put_run_time(alloc, lines, to, Way::Explicit),
         Cast::CharToText => put_text_of_char(alloc, lines),

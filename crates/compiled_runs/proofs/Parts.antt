@@ -34,9 +34,6 @@ use Rattle.typed_tree.specs.declared.operation.Gives.TheVariants as gives
 use Rattle.allowlist.specs.declared.member.MemberKind.{MemberKind}
 use Rattle.allowlist.specs.declared.member.MemberKind.TheVariants as kind
 use Rattle.allowlist.specs.Allow.{AllowList}
-use Rattle.allowlist.specs.Index.{member_at}
-use Rattle.instruction_types.proofs.Named.{at_number}
-use Rattle.member_calls.specs.Types.{is_plain_member}
 use Rattle.member_names.specs.Names.{TextsName, named_by}
 use Rattle.typed_tree.specs.declared.operation.Member.{Member}
 use Rattle.source_meaning.specs.Tree.{Exprs, None', One, Program}
@@ -190,6 +187,7 @@ module _ (allow : AllowList) where
   pub cast_rows : (c : Cast) (to : Ty) → AsksKnown c to → AllRows (cast_code c to)
   cast_rows (cast.Number p q) to asks = number_rows p q
   cast_rows (cast.Wrap p q) to asks = both_rows (number_code p q) (i.Boxing q ∷ []) (number_rows p q) refl
+  cast_rows (cast.Unwrap p q) to asks = number_rows p q
   cast_rows cast.Implicit to asks = run_time_rows to way.Implicit asks
   cast_rows cast.Explicit to asks = run_time_rows to way.Explicit asks
   cast_rows cast.CharToText to asks = one_row (i.Cast (full_text (t.Class STRING)) way.Explicit) (known_row (t.Class STRING) text_is_known)
@@ -207,13 +205,12 @@ module _ (allow : AllowList) where
   row_and instruction lines row rows = λ i. row i && rows i
 
   module _ (texts : TextsName) (funs : Program) where
-    -- the text of a member that agrees names it, and it is built and plain
+    -- the text of a member that agrees names it, and it is built
     member_row : (k : MemberKind) (m : Member) (ofs : List Ty) (of : Ty) → MemberAgrees (known allow funs) k m ofs of → member_has_row (named_by k allow m.text) ≡ true
     member_row k m ofs of a =
         let named : named_by k allow m.text ≡ Some m.number =
         (λ i. named_by (sym a.sort i) allow (a.text i)) ∙ texts allow m.number a.member a.is a.allowed in
-        let plain : is_plain_member (member_at m.number) ≡ true = ap is_plain_member (at_number m.number a.member a.is) ∙ a.plain in
-        ap member_has_row named ∙ (λ i. a.built i && plain i)
+        ap member_has_row named ∙ a.built
 
     -- of a call that a null receiver leaves out
     pub guard_rows : (o : Operation) (ofs : List Ty) (of : Ty) → Guards (known allow funs) o ofs of → AllRows (member_code o)

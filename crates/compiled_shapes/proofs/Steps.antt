@@ -410,7 +410,9 @@ module _ (allow : AllowList) (functions : List FunCode) (f : FunCode) where
   cast_straight (cast.Wrap p q) from to s h =
       along (number_code p q ++ i.Boxing q ∷ []) from to _ _ s (push_is from p s h.0) (push_reference to s h.1)
       (straight_append (number_code p q) (i.Boxing q ∷ []) _ (kind_of_primitive q ∷ s) _ (number_straight p q s h.2) (only (boxing_passes q s) refl refl))
-  cast_straight (cast.Unwrap p q) from to s h = absurd h
+  cast_straight (cast.Unwrap p q) from to s h =
+      along (cast_code (cast.Unwrap p q) to) from to _ _ s (push_reference from s h.0) (push_is to q s h.1)
+      (kind_of_primitive p ∷ s, unboxing_passes p way.Implicit s, number_straight p q s h.2)
   cast_straight cast.Implicit from to s h = run_time_straight from to way.Implicit s h.0 h.1
   cast_straight cast.Explicit from to s h = run_time_straight from to way.Explicit s h.0 h.1
   cast_straight cast.CharToText from to s h =
@@ -424,7 +426,7 @@ module _ (allow : AllowList) (functions : List FunCode) (f : FunCode) where
   begins_straight cast.Keep of from to s k h = cast_straight cast.Keep from to s h
   begins_straight (cast.Number p q) of from to s k h = cast_straight (cast.Number p q) from to s h
   begins_straight (cast.Wrap p q) of from to s k h = cast_straight (cast.Wrap p q) from to s h
-  begins_straight (cast.Unwrap p q) of from to s k h = absurd h
+  begins_straight (cast.Unwrap p q) of from to s k h = cast_straight (cast.Unwrap p q) from to s h
   begins_straight cast.Implicit of from to s k h = absurd k
   begins_straight cast.Explicit of from to s k h = absurd k
   begins_straight cast.CharToText of from to s k h = cast_straight cast.CharToText from to s h

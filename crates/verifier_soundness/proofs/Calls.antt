@@ -19,7 +19,7 @@ use Rattle.instruction_types.specs.Members.{method_of, constructor_of, field_of,
 use Rattle.instruction_types.specs.Types.{kind_of_type}
 use Rattle.instruction_types.proofs.Named.{at_number}
 use Rattle.member_calls.specs.Members.{does, is_built, is_of_host}
-use Rattle.member_calls.specs.Types.{suit_all, asked_by_member, given_by, ActGives, is_plain, is_plain_class, is_plain_member}
+use Rattle.member_calls.specs.Types.{given_by, ActGives}
 use Rattle.member_calls.proofs.Doing.{built_act}
 use Rattle.member_calls.proofs.Owners.{built_stand}
 use Rattle.member_calls.proofs.Types.{act_gives}
@@ -37,33 +37,25 @@ use Rattle.verifier_soundness.proofs.Standing.{StandsIn}
 use Rattle.verifier_soundness.proofs.Lowering.{lines_in, left_at, lines_below, tick_worth}
 use Rattle.verifier_soundness.proofs.Moves.{CountsSo, tick_is_paid, Moves, Here, same_reached}
 use Rattle.verifier_soundness.proofs.Throwing.{effect_moves}
-use Rattle.verifier_soundness.proofs.Members.{method_found, constructor_found, field_found, catalogue_shaped, is_shaped_by, made_is, takes_by, method_takes, constructor_takes, field_takes, takes_many, ReceivedSo, received_suits, gives_so}
+use Rattle.verifier_soundness.proofs.Members.{method_found, constructor_found, field_found, catalogue_shaped, is_shaped_by, made_is, takes_by, method_takes, constructor_takes, field_takes, takes_many, IsReceived, is_received, gives_so}
 use Rattle.object_values.specs.declared.object.Owner.{Owner}
 use Rattle.object_values.specs.declared.object.Owner.TheVariants.{Script, Prelude}
 
--- ---- what a member that is built and plain is
+-- ---- what a member that is built is
 
 pub record Rowed (number : ℕ) : Type 0 where
   pub built : is_built number ≡ true
   pub stands : slice_get catalogue number ≡ Some (member_at number)
-  pub owner : is_plain_class (member_at number).owner ≡ true
-  pub params : list_all is_plain (member_at number).params ≡ true
   pub shaped : is_shaped_by (member_at number).kind (member_at number).params (member_at number).result ≡ true
 
 stands_at : (number : ℕ) (o : Option MemberType) → slice_get catalogue number ≡ o → is_some o ≡ true → slice_get catalogue number ≡ Some (member_at number)
 stands_at number None q h = absurd (false≢true h)
 stands_at number (Some m) q h = q ∙ ap Some (sym (at_number number m q))
 
-plain_parts : (m : MemberType) → is_plain_member m ≡ true → (is_plain_class m.owner ≡ true) × (list_all is_plain m.params ≡ true)
-unfolding is_plain_member
-plain_parts m h = and_parts (is_plain_class m.owner) (list_all is_plain m.params) h
-
-rowed : (number : ℕ) → (is_built number && is_plain_member (member_at number)) ≡ true → Rowed number
-rowed number row =
-    let x = and_parts (is_built number) (is_plain_member (member_at number)) row in
-    let plain = plain_parts (member_at number) x.1 in
-    let stands = stands_at number (slice_get catalogue number) refl (built_stand number x.0) in
-    record { built = x.0; stands = stands; owner = plain.0; params = plain.1; shaped = catalogue_shaped number (member_at number) stands }
+rowed : (number : ℕ) → is_built number ≡ true → Rowed number
+rowed number built =
+    let stands = stands_at number (slice_get catalogue number) refl (built_stand number built) in
+    record { built = built; stands = stands; shaped = catalogue_shaped number (member_at number) stands }
 
 -- ---- what is paid
 
@@ -129,32 +121,32 @@ module _ (allow : AllowList) (code prelude : List FunCode) (limits : Limits) (we
   acts_move w here m stack (Some e) some gives kinds =
       effect_moves allow code prelude limits well function f below w i s here (given_as m.result) (kind_of_type m.result) stack e goes kinds (gives_so m.result e gives)
 
-  does_move : (w : World) → Here allow code limits function f below w → (number : ℕ) (stack : List Word) (arguments : List Value) → Rowed number → suit_all (asked_by_member (member_at number)) arguments ≡ true
+  does_move : (w : World) → Here allow code limits function f below w → (number : ℕ) (stack : List Word) (arguments : List Value) → Rowed number
       → kind_of_type (member_at number).result ∷ kinds_of stack ≡ s.left
       → Moves allow code limits (left_at code limits f below w) (on_act (codes_of code prelude) limits (does limits.host number arguments w.store) (member_at number) f below w stack)
-  does_move w here number stack arguments r suit kinds =
+  does_move w here number stack arguments r kinds =
       acts_move w here (member_at number) stack (does limits.host number arguments w.store) (built_act limits.host number arguments w.store ∙ (λ i. r.built i || is_of_host number))
-      (act_gives limits.host number (member_at number) arguments w.store r.stands suit) kinds
+      (act_gives limits.host number (member_at number) arguments w.store r.stands) kinds
 
-  paid_moves : (w : World) → Here allow code limits function f below w → (number : ℕ) (stack : List Word) (arguments : List Value) → Rowed number → suit_all (asked_by_member (member_at number)) arguments ≡ true
+  paid_moves : (w : World) → Here allow code limits function f below w → (number : ℕ) (stack : List Word) (arguments : List Value) → Rowed number
       → kind_of_type (member_at number).result ∷ kinds_of stack ≡ s.left → (c : Counted) → MemberPaid allow code limits w c
       → Moves allow code limits (left_at code limits f below w) (on_paid (codes_of code prelude) limits c number arguments (member_at number) f below stack)
-  paid_moves w here number stack arguments r suit kinds (Passes limit w') paid = paid
-  paid_moves w here number stack arguments r suit kinds (Counts w') paid =
+  paid_moves w here number stack arguments r kinds (Passes limit w') paid = paid
+  paid_moves w here number stack arguments r kinds (Counts w') paid =
       sooner allow code limits (left_at code limits f below w') (left_at code limits f below w) (on_act (codes_of code prelude) limits (does limits.host number arguments w'.store) (member_at number) f below w' stack)
       (fewer_ticks allow code limits f below w w' paid.0)
-      (does_move w' (record { fits = here.fits; due = here.due; text = here.text; belows = here.belows; within = here.within; reached = paid.1 }) number stack arguments r suit kinds)
+      (does_move w' (record { fits = here.fits; due = here.due; text = here.text; belows = here.belows; within = here.within; reached = paid.1 }) number stack arguments r kinds)
 
   received_moves : (w : World) → Here allow code limits function f below w → (number : ℕ) (stack : List Word) → Rowed number → flag allow.members number ≡ true
-      → kind_of_type (member_at number).result ∷ kinds_of stack ≡ s.left → (received : Receiving) → ReceivedSo (asked_by_member (member_at number)) received
+      → kind_of_type (member_at number).result ∷ kinds_of stack ≡ s.left → (received : Receiving) → IsReceived received
       → Moves allow code limits (left_at code limits f below w) (on_received (codes_of code prelude) limits received number (member_at number) f below w stack)
   received_moves w here number stack r allowed kinds Unfit so = absurd so
   received_moves w here number stack r allowed kinds OnNull so =
       effect_moves allow code prelude limits well function f below w i s here (given_as (member_at number).result) (kind_of_type (member_at number).result) stack (effect w.store null_error) goes kinds
       (throws_is (given_as (member_at number).result) (kind_of_type (member_at number).result) w.store NULL_POINTER_EXCEPTION None)
   received_moves w here number stack r allowed kinds (Receives arguments) so =
-      paid_moves w here number stack arguments r so kinds (pay_member f.text number w) (member_is_paid allow code limits f.text number w allowed here.reached)
-  received_moves w here number stack r allowed kinds Reads so = does_move w here number stack [] r so kinds
+      paid_moves w here number stack arguments r kinds (pay_member f.text number w) (member_is_paid allow code limits f.text number w allowed here.reached)
+  received_moves w here number stack r allowed kinds Reads so = does_move w here number stack [] r kinds
 
   -- the call of a member of the list
   member_moves : (w : World) → Here allow code limits function f below w → (number : ℕ) → Rowed number → flag allow.members number ≡ true
@@ -169,7 +161,7 @@ module _ (allow : AllowList) (code prelude : List FunCode) (limits : Limits) (we
       let given : kinds_of t.words ≡ reverse takes = t.kinds ∙ append-nil (reverse takes) in
       let left : kind_of_type m.result ∷ kinds_of t.others ≡ s.left = ap (λ ks. kind_of_type m.result ∷ ks) t.left ∙ x.left_so in
       subst (λ o. Moves allow code limits (left_at code limits f below w) (on_words o (λ words stack. on_received (codes_of code prelude) limits (received m words) number m f below w stack))) (sym took)
-      (received_moves w here number t.others r allowed left (received m t.words) (received_suits m.kind m.owner m.params m.result t.words given r.owner r.params r.shaped))
+      (received_moves w here number t.others r allowed left (received m t.words) (is_received m.kind m.params t.words given))
 
   -- ---- by what names it
 

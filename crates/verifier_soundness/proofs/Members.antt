@@ -1,10 +1,9 @@
--- Members: which a list allows, how their arguments suit them, and of which kind the word of their result is.
+-- Members: which a list allows, that words of their kinds fit them, and of which kind the word of their result is.
 use Rattle.std.proofs.Common.{◌≡◌, ℕ, suc, ◌==◌, Bool, true, false, ◌&&◌, List, [], ◌∷◌, ◌++◌, map, length, reverse, Option, Some, None, refl, sym, ap, ◌∙◌, subst, append-nil}
-use Rattle.std.specs.Prelude.{not, slice_get, option_and_then, if◌then◌else◌}
+use Rattle.std.specs.Prelude.{slice_get, option_and_then, if◌then◌else◌}
 use Rattle.std.specs.List.{list_all}
 use Rattle.std.proofs.lemmas.Bool.{false≢true, and_parts}
 use Rattle.std.proofs.lemmas.List.{length-reverse, reverse-reverse, reverse-append}
-use Rattle.pl_types.specs.declared.classes.TheConstants.{NUMBER, CHARACTER, BOOLEAN}
 use Rattle.pl_types.specs.declared.primitive.Primitive.{Primitive}
 use Rattle.pl_types.specs.declared.primitive.Primitive.TheVariants as prim
 use Rattle.pl_types.specs.declared.ty.Ty.{Ty, out-Ty}
@@ -25,11 +24,11 @@ use Rattle.pl_code.specs.declared.kinds.Slot.{Slot}
 use Rattle.pl_code.specs.declared.kinds.Slot.TheVariants as slot
 use Rattle.instruction_types.specs.Members.{owner_part, name_part, called_part, arity_part, is_sought, own_sought, own_named, member_named, method_of, constructor_of, field_of, has_receiver, argument_kinds}
 use Rattle.instruction_types.specs.Types.{kind_of_primitive, kind_of_layer, kind_of_type}
-use Rattle.member_calls.specs.Types.{Asked, Anything, Of, OfNumbers, suits, suit_all, asked_of_class, asked_by_layer, asked_by, given_by_layer, given_by, with_receiver, EffectGives, is_plain_class, is_plain_layer, is_plain}
+use Rattle.member_calls.specs.Types.{suits, given_by_layer, given_by, EffectGives}
 use Rattle.code_meaning.specs.declared.word.Word.{Word}
 use Rattle.code_meaning.specs.declared.word.Word.TheVariants.{I, J, R}
 use Rattle.code_meaning.specs.Words.{boxed, unboxed}
-use Rattle.code_meaning.specs.Members.{reference_in, taken_layer, taken, before, taken_all, Receiving, Unfit, OnNull, Receives, Reads, receives, receives_on, received_by, count_by, given_layer, given_as}
+use Rattle.code_meaning.specs.Members.{reference_in, taken_layer, taken, before, taken_all, Receiving, Unfit, receives, receives_on, received_by, count_by, given_layer, given_as}
 use Rattle.verifier_soundness.specs.Fits.{kind_of, kinds_of}
 use Rattle.verifier_soundness.proofs.Casts.{EffectIs}
 use Rattle.verifier_soundness.proofs.Testing.{each_of}
@@ -205,72 +204,58 @@ many_given kind.Field params = refl
 pub takes_many : (k : MemberKind) (params : List Ty) → count_by k params ≡ length (takes_by k params)
 takes_many k params = sym (many_given k params) ∙ ap length (sym (turned_kinds k params)) ∙ length-reverse (takes_by k params)
 
--- ---- how arguments suit
+-- ---- that arguments are taken
 
-abbrev Suited : Asked → Option Value → Type 0
-Suited asked None = ⊥
-Suited asked (Some value) = suits asked value ≡ true
+abbrev IsThere : {A : Type 0} → Option A → Type 0
+IsThere None = ⊥
+IsThere (Some a) = Unit {0}
 
-abbrev AllSuited : List Asked → Option (List Value) → Type 0
-AllSuited askeds None = ⊥
-AllSuited askeds (Some values) = suit_all askeds values ≡ true
+-- what fits the member, or a receiver that is null
+abbrev pub IsReceived : Receiving → Type 0
+IsReceived Unfit = ⊥
+IsReceived other = Unit {0}
 
-abbrev pub ReceivedSo : List Asked → Receiving → Type 0
-ReceivedSo askeds Unfit = ⊥
-ReceivedSo askeds OnNull = Unit {0}
-ReceivedSo askeds (Receives arguments) = suit_all askeds arguments ≡ true
-ReceivedSo askeds Reads = suit_all askeds [] ≡ true
+boxed_there : (p : Primitive) (word : Word) → kind_of word ≡ kind_of_primitive p → IsThere (boxed p word)
+boxed_there prim.Boolean (I a) k = tt
+boxed_there prim.Boolean (J a) k = cc
+boxed_there prim.Boolean (R value) k = cc
+boxed_there prim.Byte (I a) k = tt
+boxed_there prim.Byte (J a) k = cc
+boxed_there prim.Byte (R value) k = cc
+boxed_there prim.Short (I a) k = tt
+boxed_there prim.Short (J a) k = cc
+boxed_there prim.Short (R value) k = cc
+boxed_there prim.Char (I a) k = tt
+boxed_there prim.Char (J a) k = cc
+boxed_there prim.Char (R value) k = cc
+boxed_there prim.Int (I a) k = tt
+boxed_there prim.Int (J a) k = cc
+boxed_there prim.Int (R value) k = cc
+boxed_there prim.Long (I a) k = cc
+boxed_there prim.Long (J a) k = tt
+boxed_there prim.Long (R value) k = cc
 
-boxed_suits : (p : Primitive) (word : Word) → kind_of word ≡ kind_of_primitive p → Suited (Of p) (boxed p word)
-boxed_suits prim.Boolean (I a) k = refl
-boxed_suits prim.Boolean (J a) k = cc
-boxed_suits prim.Boolean (R value) k = cc
-boxed_suits prim.Byte (I a) k = refl
-boxed_suits prim.Byte (J a) k = cc
-boxed_suits prim.Byte (R value) k = cc
-boxed_suits prim.Short (I a) k = refl
-boxed_suits prim.Short (J a) k = cc
-boxed_suits prim.Short (R value) k = cc
-boxed_suits prim.Char (I a) k = refl
-boxed_suits prim.Char (J a) k = cc
-boxed_suits prim.Char (R value) k = cc
-boxed_suits prim.Int (I a) k = refl
-boxed_suits prim.Int (J a) k = cc
-boxed_suits prim.Int (R value) k = cc
-boxed_suits prim.Long (I a) k = cc
-boxed_suits prim.Long (J a) k = refl
-boxed_suits prim.Long (R value) k = cc
+reference_there : (word : Word) → kind_of word ≡ slot.R → IsThere (reference_in word)
+reference_there (I a) k = cc
+reference_there (J a) k = cc
+reference_there (R value) k = tt
 
-reference_suits : (word : Word) → kind_of word ≡ slot.R → Suited Anything (reference_in word)
-reference_suits (I a) k = cc
-reference_suits (J a) k = cc
-reference_suits (R value) k = refl
+layer_there : (layer : Ty-F Ty) (word : Word) → kind_of word ≡ kind_of_layer layer → IsThere (taken_layer layer word)
+layer_there Ty-F.Void word k = reference_there word k
+layer_there Ty-F.Null word k = reference_there word k
+layer_there Ty-F.Def word k = reference_there word k
+layer_there (Ty-F.Prim p) word k = boxed_there p word k
+layer_there (Ty-F.Class class) word k = reference_there word k
+layer_there (Ty-F.Array elem) word k = reference_there word k
 
-plain_by : (a b c : Bool) → (not a && (not b && not c)) ≡ true → (if a then OfNumbers else (if b then Of prim.Char else (if c then Of prim.Boolean else Anything))) ≡ Anything
-plain_by false false false h = refl
-plain_by true b c h = absurd (false≢true h)
-plain_by false true c h = absurd (false≢true h)
-plain_by false false true h = absurd (false≢true h)
-
-pub plain_asks_nothing : (class : ℕ) → is_plain_class class ≡ true → asked_of_class class ≡ Anything
-plain_asks_nothing class h = plain_by (class == NUMBER) (class == CHARACTER) (class == BOOLEAN) h
-
-layer_suits : (layer : Ty-F Ty) (word : Word) → kind_of word ≡ kind_of_layer layer → is_plain_layer layer ≡ true → Suited (asked_by_layer layer) (taken_layer layer word)
-layer_suits Ty-F.Void word k plain = reference_suits word k
-layer_suits Ty-F.Null word k plain = reference_suits word k
-layer_suits Ty-F.Def word k plain = reference_suits word k
-layer_suits (Ty-F.Prim p) word k plain = boxed_suits p word k
-layer_suits (Ty-F.Class class) word k plain = subst (λ asked. Suited asked (reference_in word)) (sym (plain_asks_nothing class plain)) (reference_suits word k)
-layer_suits (Ty-F.Array elem) word k plain = reference_suits word k
-
-one_suits : (of : Ty) (word : Word) → kind_of word ≡ kind_of_type of → is_plain of ≡ true → Suited (asked_by of) (taken of word)
+one_there : (of : Ty) (word : Word) → kind_of word ≡ kind_of_type of → IsThere (taken of word)
 unfolding kind_of_type
-one_suits of word k plain = layer_suits (out-Ty of) word k plain
+one_there of word k = layer_there (out-Ty of) word k
 
-both_suit : (asked : Asked) (askeds : List Asked) (o : Option Value) (os : Option (List Value)) → Suited asked o → AllSuited askeds os → AllSuited (asked ∷ askeds) (before o os)
-both_suit asked askeds None os h more = absurd h
-both_suit asked askeds (Some value) None h more = absurd more
-both_suit asked askeds (Some value) (Some values) h more = (λ i. h i && more i)
+both_there : (o : Option Value) (os : Option (List Value)) → IsThere o → IsThere os → IsThere (before o os)
+both_there None os h more = absurd h
+both_there (Some value) None h more = absurd more
+both_there (Some value) (Some values) h more = tt
 
 first_is : (k j : Slot) (ks js : List Slot) → k ∷ ks ≡ j ∷ js → k ≡ j
 first_is k j ks js e = cc
@@ -278,51 +263,45 @@ first_is k j ks js e = cc
 others_are : (k j : Slot) (ks js : List Slot) → k ∷ ks ≡ j ∷ js → ks ≡ js
 others_are k j ks js e = cc
 
-all_suit : (ofs : List Ty) (words : List Word) → kinds_of words ≡ map kind_of_type ofs → list_all is_plain ofs ≡ true → AllSuited (map asked_by ofs) (taken_all ofs words)
-all_suit [] [] k plain = refl
-all_suit [] (word ∷ words) k plain = cc
-all_suit (of ∷ ofs) [] k plain = cc
-all_suit (of ∷ ofs) (word ∷ words) k plain =
-    let plains = and_parts (is_plain of) (list_all is_plain ofs) plain in
-    both_suit (asked_by of) (map asked_by ofs) (taken of word) (taken_all ofs words)
-    (one_suits of word (first_is (kind_of word) (kind_of_type of) (kinds_of words) (map kind_of_type ofs) k) plains.0)
-    (all_suit ofs words (others_are (kind_of word) (kind_of_type of) (kinds_of words) (map kind_of_type ofs) k) plains.1)
+all_there : (ofs : List Ty) (words : List Word) → kinds_of words ≡ map kind_of_type ofs → IsThere (taken_all ofs words)
+all_there [] [] k = tt
+all_there [] (word ∷ words) k = cc
+all_there (of ∷ ofs) [] k = cc
+all_there (of ∷ ofs) (word ∷ words) k =
+    both_there (taken of word) (taken_all ofs words) (one_there of word (first_is (kind_of word) (kind_of_type of) (kinds_of words) (map kind_of_type ofs) k))
+    (all_there ofs words (others_are (kind_of word) (kind_of_type of) (kinds_of words) (map kind_of_type ofs) k))
 
-received_all : (askeds : List Asked) (os : Option (List Value)) → AllSuited askeds os → ReceivedSo askeds (receives os)
-received_all askeds None h = absurd h
-received_all askeds (Some arguments) h = h
+received_all : (os : Option (List Value)) → IsThere os → IsReceived (receives os)
+received_all None h = absurd h
+received_all (Some arguments) h = tt
 
-on_receiver : (askeds : List Asked) (word : Word) (os : Option (List Value)) → kind_of word ≡ slot.R → AllSuited askeds os → ReceivedSo (Anything ∷ askeds) (receives_on (reference_in word) os)
-on_receiver askeds (I a) os k h = cc
-on_receiver askeds (J a) os k h = cc
-on_receiver askeds (R value) None k h = absurd h
-on_receiver askeds (R v.Null) (Some arguments) k h = tt
-on_receiver askeds (R (v.Bool flag)) (Some arguments) k h = h
-on_receiver askeds (R (v.Byte a)) (Some arguments) k h = h
-on_receiver askeds (R (v.Short a)) (Some arguments) k h = h
-on_receiver askeds (R (v.Char unit)) (Some arguments) k h = h
-on_receiver askeds (R (v.Int a)) (Some arguments) k h = h
-on_receiver askeds (R (v.Long a)) (Some arguments) k h = h
-on_receiver askeds (R (v.Str text)) (Some arguments) k h = h
-on_receiver askeds (R (v.Ref id)) (Some arguments) k h = h
+on_receiver : (word : Word) (os : Option (List Value)) → kind_of word ≡ slot.R → IsThere os → IsReceived (receives_on (reference_in word) os)
+on_receiver (I a) os k h = cc
+on_receiver (J a) os k h = cc
+on_receiver (R value) None k h = absurd h
+on_receiver (R v.Null) (Some arguments) k h = tt
+on_receiver (R (v.Bool flag)) (Some arguments) k h = tt
+on_receiver (R (v.Byte a)) (Some arguments) k h = tt
+on_receiver (R (v.Short a)) (Some arguments) k h = tt
+on_receiver (R (v.Char unit)) (Some arguments) k h = tt
+on_receiver (R (v.Int a)) (Some arguments) k h = tt
+on_receiver (R (v.Long a)) (Some arguments) k h = tt
+on_receiver (R (v.Str text)) (Some arguments) k h = tt
+on_receiver (R (v.Ref id)) (Some arguments) k h = tt
 
-by_kind : (k : MemberKind) (owner : ℕ) (params : List Ty) (result : Ty) (words : List Word) → kinds_of words ≡ given_by_kind k params → is_plain_class owner ≡ true → list_all is_plain params ≡ true
-    → is_shaped_by k params result ≡ true → ReceivedSo (with_receiver k owner (map asked_by params)) (received_by k params words)
-by_kind kind.Instance owner params result [] e plain plains shaped = cc
-by_kind kind.Instance owner params result (word ∷ words) e plain plains shaped =
-    subst (λ asked. ReceivedSo (asked ∷ map asked_by params) (receives_on (reference_in word) (taken_all params words))) (sym (plain_asks_nothing owner plain))
-    (on_receiver (map asked_by params) word (taken_all params words) (first_is (kind_of word) slot.R (kinds_of words) (map kind_of_type params) e)
-    (all_suit params words (others_are (kind_of word) slot.R (kinds_of words) (map kind_of_type params) e) plains))
-by_kind kind.Static owner params result words e plain plains shaped = received_all (map asked_by params) (taken_all params words) (all_suit params words e plains)
-by_kind kind.Constructor owner params result words e plain plains shaped = received_all (map asked_by params) (taken_all params words) (all_suit params words e plains)
-by_kind kind.Field owner [] result [] e plain plains shaped = refl
-by_kind kind.Field owner (param ∷ params) result [] e plain plains shaped = absurd (false≢true shaped)
-by_kind kind.Field owner params result (word ∷ words) e plain plains shaped = cc
+by_kind : (k : MemberKind) (params : List Ty) (words : List Word) → kinds_of words ≡ given_by_kind k params → IsReceived (received_by k params words)
+by_kind kind.Instance params [] e = cc
+by_kind kind.Instance params (word ∷ words) e =
+    on_receiver word (taken_all params words) (first_is (kind_of word) slot.R (kinds_of words) (map kind_of_type params) e)
+    (all_there params words (others_are (kind_of word) slot.R (kinds_of words) (map kind_of_type params) e))
+by_kind kind.Static params words e = received_all (taken_all params words) (all_there params words e)
+by_kind kind.Constructor params words e = received_all (taken_all params words) (all_there params words e)
+by_kind kind.Field params [] e = tt
+by_kind kind.Field params (word ∷ words) e = cc
 
--- words of the kinds that a member takes suit it
-pub received_suits : (k : MemberKind) (owner : ℕ) (params : List Ty) (result : Ty) (words : List Word) → kinds_of words ≡ reverse (takes_by k params) → is_plain_class owner ≡ true
-    → list_all is_plain params ≡ true → is_shaped_by k params result ≡ true → ReceivedSo (with_receiver k owner (map asked_by params)) (received_by k params words)
-received_suits k owner params result words e plain plains shaped = by_kind k owner params result words (e ∙ turned_kinds k params) plain plains shaped
+-- words of the kinds that a member takes fit it
+pub is_received : (k : MemberKind) (params : List Ty) (words : List Word) → kinds_of words ≡ reverse (takes_by k params) → IsReceived (received_by k params words)
+is_received k params words e = by_kind k params words (e ∙ turned_kinds k params)
 
 -- ---- what is given
 

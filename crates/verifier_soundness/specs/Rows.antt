@@ -1,5 +1,5 @@
 -- Which instructions have a row: the others are Stuck wherever they stand. Each row that is built is listed here.
-use Rattle.std.specs.Prelude.{◌≡◌, ℕ, ◌&&◌, Option, None, Bool, true, false, List, Some, is_some, slice_get}
+use Rattle.std.specs.Prelude.{◌≡◌, ℕ, Option, None, Bool, true, false, List, Some, is_some, slice_get}
 use Rattle.std.specs.List.{list_all}
 use Rattle.pl_types.specs.Texts.{type_of_full}
 use Rattle.pl_code.specs.declared.kinds.Plain.{Plain}
@@ -11,10 +11,8 @@ use Rattle.pl_code.specs.declared.kinds.Quoting.TheVariants as quoting
 use Rattle.pl_code.specs.declared.kinds.Typed.{Typed}
 use Rattle.pl_code.specs.declared.kinds.Typed.TheVariants as typed
 use Rattle.allowlist.specs.Allow.{AllowList}
-use Rattle.allowlist.specs.Index.{member_at}
 use Rattle.instruction_types.specs.Members.{method_of, constructor_of, field_of}
 use Rattle.member_calls.specs.Members.{is_built}
-use Rattle.member_calls.specs.Types.{is_plain_member}
 use Rattle.pl_code.specs.declared.code.FunCode.{FunCode}
 use Rattle.pl_code.specs.declared.code.Instruction.{Instruction}
 use Rattle.pl_code.specs.declared.code.Instruction.TheVariants as i
@@ -58,10 +56,10 @@ abbrev pub typed_has_row : Typed → List ℕ → Bool
 typed_has_row typed.IsA of = is_some (type_of_full of)
 typed_has_row other of = false
 
--- a member has a row where it is built, and asks nothing of the references that it takes
+-- a member has a row where it is built
 abbrev pub member_has_row : Option ℕ → Bool
 member_has_row None = false
-member_has_row (Some number) = is_built number && is_plain_member (member_at number)
+member_has_row (Some number) = is_built number
 
 -- under a list of the members that are allowed
 abbrev pub has_row : AllowList → Instruction → Bool

@@ -3,7 +3,6 @@
 
 mod arguments;
 mod laws;
-mod plain_members;
 mod rows;
 mod types;
 

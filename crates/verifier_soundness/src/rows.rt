@@ -1,12 +1,9 @@
 //! Which code has rows for all of its instructions.
-ghost use Rattle.std.specs.Prelude.{◌≡◌, ◌<◌, ◌↔◌, IfSome, IsTrue, length};
+ghost use Rattle.std.specs.Prelude.{◌≡◌, ◌↔◌, IsTrue};
 ghost use Rattle.std.specs.List.{list_all};
-ghost use Rattle.allowlist.specs.Index.{member_at};
-ghost use Rattle.member_calls.specs.Types.{is_plain_member};
 ghost use Rattle.verifier_soundness.specs.Rows as rows;
 ghost use Rattle.verifier_soundness.specs.Rows.{HaveRows};
 
-use crate::plain_members::is_plain_member;
 use crate::types::is_full_type;
 use allowlist::Allow;
 use instruction_types::{constructor_of, field_of, method_of};
@@ -49,11 +46,9 @@ fn has_row(allow: &Allow, instruction: &Instruction) -> bool
         Instruction::Quoted(kind, _) => quoting_has_row(*kind),
         Instruction::Typed(kind, ty) => typed_has_row(*kind, ty.as_str().as_bytes()),
         Instruction::Cast(ty, _) => is_full_type(ty.as_str().as_bytes()),
-        Instruction::Invoke(method) => member_has_row(allow, method_of(allow, method)),
-        Instruction::New(constructor) => {
-            member_has_row(allow, constructor_of(allow, constructor))
-        }
-        Instruction::Field(field) => member_has_row(allow, field_of(allow, field)),
+        Instruction::Invoke(method) => member_has_row(method_of(allow, method)),
+        Instruction::New(constructor) => member_has_row(constructor_of(allow, constructor)),
+        Instruction::Field(field) => member_has_row(field_of(allow, field)),
         Instruction::Arithmetic(_, _)
         | Instruction::Int(_)
         | Instruction::Long(_)
@@ -121,20 +116,12 @@ fn typed_has_row(kind: Typed, ty: &[u8]) -> bool
     }
 }
 
-/// Whether a member is built, and asks nothing of the references that it takes.
-fn member_has_row(allow: &Allow, member: Option<u32>) -> bool
-    requires within { IfSome member (λ number. number < length allow.now.members) }
+/// Whether a member is built.
+fn member_has_row(member: Option<u32>) -> bool
     ensures { result ≡ rows.member_has_row member }
 {
     match member {
-        Some(number) => is_built(number) && has_plain_member(allow, number),
+        Some(number) => is_built(number),
         None => false,
     }
-}
-
-fn has_plain_member(allow: &Allow, number: u32) -> bool
-    requires within { number < length allow.now.members }
-    ensures { result ≡ is_plain_member (member_at number) }
-{
-    is_plain_member(allow.member_type(number))
 }
