@@ -3,14 +3,15 @@ use crate::build::{
     boolean, constant, expression, function, local, named, number, one_part, statement,
 };
 use crate::tests::{has_listing, returned};
-use pl_types::classes::{EXCEPTION, STRING};
+use arithmetic::Op;
+use pl_types::classes::{EXCEPTION, INTEGER, STRING};
 use pl_types::{Cast, Primitive, Ty};
 use plain_data::{Items, Subtree, Text};
 use std::alloc::{AllocError, Global};
 use std::test::Fail;
 use typed_tree::{
-    Constant, FunctionKind, Node, Operation, Operator, Program, StatementNode, Typed,
-    TypedStatement,
+    Change, Constant, FunctionKind, Gives, Node, Operation, Operator, Program, StatementNode,
+    Target, Typed, TypedStatement,
 };
 
 // `return 'a' + 1`, beside a parameter
@@ -61,6 +62,32 @@ const UNBOXED: &str = "painless 1
 fun 0 loop J R -
 load 0
 unbox long imp
+ret
+end
+";
+
+// `return x` of an Integer, where a long is wanted
+const WIDENED: &str = "painless 1
+fun 0 loop J R -
+load 0
+unbox int imp
+i2j
+ret
+end
+";
+
+// `return x += 2L` of an Integer
+const CHANGED: &str = "painless 1
+fun 0 loop R R -
+load 0
+unbox int imp
+i2j
+j 2
+add.j
+j2i
+box int
+dup
+store 0
 ret
 end
 ";
@@ -191,6 +218,33 @@ fn cast_to_number(alloc: Global) -> Result<Program, AllocError> {
     giving(alloc, Ty::Def, Ty::Prim(long), value)
 }
 
+fn unboxed_to_long(alloc: Global) -> Result<Program, AllocError> {
+    let long = Ty::Prim(Primitive::Long);
+    let integer = Ty::Class(INTEGER);
+    let unwrap = Cast::Unwrap(Primitive::Int, Primitive::Long);
+    let value = casting(alloc, integer, long, unwrap)?;
+    giving(alloc, Ty::Class(INTEGER), Ty::Prim(Primitive::Long), value)
+}
+
+fn changed_box(alloc: Global) -> Result<Program, AllocError> {
+    let target = Target::Local(Text::new(alloc, "x")?);
+    let change = Change {
+        before: Cast::Unwrap(Primitive::Int, Primitive::Long),
+        operator: Operator::Long(Op::Add),
+        after: Cast::Wrap(Primitive::Long, Primitive::Int),
+    };
+    let right = constant(alloc, Ty::Prim(Primitive::Long), Constant::Long(2))?;
+    let node = Node::Change {
+        target,
+        parts: Items::new(alloc),
+        change,
+        right,
+        gives: Gives::New,
+    };
+    let value = expression(alloc, Ty::Class(INTEGER), node)?;
+    giving(alloc, Ty::Class(INTEGER), Ty::Class(INTEGER), value)
+}
+
 fn instance(alloc: Global) -> Result<Program, AllocError> {
     let part = local(alloc, Ty::Def, "x")?;
     let value = one_part(alloc, boolean(), Operation::InstanceOf(string()), part)?;
@@ -217,6 +271,8 @@ enum Sample {
     CastOfDef,
     CastOfChar,
     CastToNumber,
+    UnboxedToLong,
+    ChangedBox,
     Instance,
     Compared,
     Thrown,
@@ -229,18 +285,22 @@ fn program(alloc: Global, sample: Sample) -> Result<Program, AllocError> {
         Sample::CastOfDef => cast_of_def(alloc),
         Sample::CastOfChar => cast_of_char(alloc),
         Sample::CastToNumber => cast_to_number(alloc),
+        Sample::UnboxedToLong => unboxed_to_long(alloc),
+        Sample::ChangedBox => changed_box(alloc),
         Sample::Instance => instance(alloc),
         Sample::Compared => compared(alloc),
         Sample::Thrown => thrown(alloc),
     }
 }
 
-const ROWS: [(Sample, &str); 8] = [
+const ROWS: [(Sample, &str); 10] = [
     (Sample::Joined, JOINED),
     (Sample::Other, OTHER),
     (Sample::CastOfDef, CAST),
     (Sample::CastOfChar, CAST_OF_CHAR),
     (Sample::CastToNumber, UNBOXED),
+    (Sample::UnboxedToLong, WIDENED),
+    (Sample::ChangedBox, CHANGED),
     (Sample::Instance, INSTANCE),
     (Sample::Compared, NOT_EQUAL),
     (Sample::Thrown, THROW),
