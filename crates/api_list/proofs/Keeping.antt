@@ -36,6 +36,10 @@ use Rattle.api_list.specs.declared.told.Told.{Told}
 use Rattle.api_list.specs.declared.told.Told.TheVariants.{Says}
 use Rattle.container_parts.specs.declared.containers.Container.{Container}
 use Rattle.container_values.specs.Elements.{collection_at}
+use Rattle.api_sort.specs.declared.choosing.Extreme.TheVariants.{Greatest, Least}
+use Rattle.api_sort.specs.Choosing.{extreme_of}
+use Rattle.api_sort.specs.Sorting.{sorted}
+use Rattle.api_list.proofs.KeepingOrder.{extreme_fits, sorted_fits}
 use Rattle.api_list.proofs.KeepingTaken.{ToldFits, add_all_at_fits, add_all_fits, array_taken_fits, as_list_fits, collection_fits, list_taken_fits}
 use Rattle.api_list.specs.Searching.{first_from, last_before}
 
@@ -196,6 +200,11 @@ does_fits rules objects m.Swap arguments f a =
     (λ list at other_at e k w. open_fits rules objects list _ (place_fits rules objects (length (items_of objects list)) at (lists.place_of (length (items_of objects list)) at) _
     (λ place. place_fits rules objects (length (items_of objects list)) other_at (lists.place_of (length (items_of objects list)) other_at) _
     (λ other_place. places_fit rules objects (object_at arguments 0) list place other_place f e))))
+does_fits rules objects m.Max arguments f a =
+    one_fits {A = Container} rules objects (extreme_of Greatest objects) (collection_at objects arguments 0) (λ container e. extreme_fits rules objects Greatest container f (collection_fits rules objects arguments 0 container f e))
+does_fits rules objects m.Min arguments f a =
+    one_fits {A = Container} rules objects (extreme_of Least objects) (collection_at objects arguments 0) (λ container e. extreme_fits rules objects Least container f (collection_fits rules objects arguments 0 container f e))
+does_fits rules objects m.Sort arguments f a = one_fits rules objects (sorted objects) (list_at objects arguments 0) (λ list e. sorted_fits rules objects list f)
 does_fits rules objects m.SingletonList arguments f a =
     one_fits {A = Value} rules objects making.list_of_one (slice_get arguments 0) (λ item e. one_list_fits rules objects item (value_there (length objects) arguments 0 item a e))
 

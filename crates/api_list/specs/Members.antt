@@ -7,6 +7,8 @@ use Rattle.api_list.specs.declared.member.Member.TheVariants as m
 use Rattle.container_outcomes.specs.declared.outcome.Outcome.{Outcome}
 use Rattle.api_list.specs.Lists as lists
 use Rattle.api_list.specs.Making as making
+use Rattle.api_list.specs.Ordered as ordered
+use Rattle.api_sort.specs.declared.choosing.Extreme.TheVariants.{Greatest, Least}
 use Rattle.api_list.specs.Taking as taking
 use Rattle.api_list.specs.declared.told.Told.{Told}
 use Rattle.api_list.specs.declared.told.Told.TheVariants.{Says}
@@ -35,6 +37,9 @@ does objects m.EmptyMap arguments = making.empty_map
 does objects m.Reverse arguments = lists.reverse_all objects arguments
 does objects m.SingletonList arguments = making.singleton_list arguments
 does objects m.Swap arguments = lists.swap objects arguments
+does objects m.Max arguments = ordered.extreme Greatest objects arguments
+does objects m.Min arguments = ordered.extreme Least objects arguments
+does objects m.Sort arguments = ordered.sort objects arguments
 
 -- The members in the order of their numbers in the catalogue, with a gap for each that is not built: those of Collection, List and
 -- ArrayList from 97, and those of Collections from 169. Of Iterable's only asList is one, which is 89
@@ -47,7 +52,7 @@ of_lists =
     ∷ []
 
 unfoldable pub of_makers : List (Option Member)
-of_makers = Some m.EmptyList ∷ Some m.EmptyMap ∷ None ∷ None ∷ Some m.Reverse ∷ Some m.SingletonList ∷ None ∷ None ∷ Some m.Swap ∷ []
+of_makers = Some m.EmptyList ∷ Some m.EmptyMap ∷ Some m.Max ∷ Some m.Min ∷ Some m.Reverse ∷ Some m.SingletonList ∷ Some m.Sort ∷ None ∷ Some m.Swap ∷ []
 
 -- what stands at a place, if it is no gap
 abbrev pub built_in : Option (Option Member) → Option Member

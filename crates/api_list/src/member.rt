@@ -9,6 +9,7 @@ ghost use Rattle.api_list.specs.Taking.{Comes, ToldWants, told_effect};
 
 use crate::told::Told;
 use crate::{lists, making, orders, taking};
+use api_sort::Extreme;
 use container_outcomes::Outcome;
 use object_heap::{Answer, Heap};
 use object_values::Value;
@@ -37,6 +38,9 @@ pub enum Member {
     SingletonList,
     Swap,
     AsList,
+    Max,
+    Min,
+    Sort,
 }
 
 fn tells(heap: &Heap, member: Member, args: &[Value]) -> Outcome
@@ -64,6 +68,9 @@ fn tells(heap: &Heap, member: Member, args: &[Value]) -> Outcome
         Member::Reverse => orders::reverse_all(heap, args),
         Member::SingletonList => making::singleton_list(heap, args),
         Member::Swap => orders::swap(heap, args),
+        Member::Max => orders::extreme(Extreme::Greatest, heap, args),
+        Member::Min => orders::extreme(Extreme::Least, heap, args),
+        Member::Sort => orders::sort(heap, args),
     }
 }
 
@@ -103,11 +110,11 @@ static OF_LISTS: [Option<Member>; 28] = [
 static OF_MAKERS: [Option<Member>; 9] = [
     Some(Member::EmptyList),
     Some(Member::EmptyMap),
-    None,
-    None,
+    Some(Member::Max),
+    Some(Member::Min),
     Some(Member::Reverse),
     Some(Member::SingletonList),
-    None,
+    Some(Member::Sort),
     None,
     Some(Member::Swap),
 ];

@@ -6,10 +6,13 @@ ghost use Rattle.object_values.specs.declared.object.Guard.TheVariants as g;
 ghost use Rattle.container_outcomes.specs.declared.outcome.Outcome.{Outcome};
 ghost use Rattle.container_outcomes.specs.Outcomes.{Tells};
 ghost use Rattle.api_list.specs.Lists as spec;
+ghost use Rattle.api_list.specs.Ordered as ordered;
 
 use crate::arguments::list_at;
 use crate::lists::place_of;
+use api_sort::{Extreme, extreme_of, sorted};
 use container_outcomes::{Outcome, copied, index_error, is_open, null_error, shared, unsupported};
+use container_values::collection_at;
 use member_arguments::{int_at, value_at};
 use object_heap::Heap;
 use object_values::{Elements, Guard, Object, Value};
@@ -134,5 +137,25 @@ pub fn swap(heap: &Heap, args: &[Value]) -> Outcome
     match (list_at(heap, args, 0), int_at(args, 1), int_at(args, 2)) {
         (Some(list), Some(at), Some(other_at)) => swapped(heap, list, at, other_at),
         _ => null_error(),
+    }
+}
+
+/// `Collections.sort(List)`.
+pub fn sort(heap: &Heap, args: &[Value]) -> Outcome
+    ensures { Tells (ordered.sort heap.now.objects args.now) result }
+{
+    match list_at(heap, args, 0) {
+        Some(list) => sorted(heap, list),
+        None => null_error(),
+    }
+}
+
+/// `Collections.max(Collection)` and `min`.
+pub fn extreme(which: Extreme, heap: &Heap, args: &[Value]) -> Outcome
+    ensures { Tells (ordered.extreme which heap.now.objects args.now) result }
+{
+    match collection_at(heap, args, 0) {
+        Some(container) => extreme_of(which, heap, container),
+        None => null_error(),
     }
 }

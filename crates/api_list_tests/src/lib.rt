@@ -6,6 +6,8 @@ mod lists;
 #[cfg(test)]
 mod making;
 #[cfg(test)]
+mod ordering;
+#[cfg(test)]
 mod rows;
 #[cfg(test)]
 mod running;

@@ -23,6 +23,9 @@ pub enum Wanted {
     /// The first new object.
     New,
     NullPointer,
+    NoSuchElement,
+    /// A ClassCastException with this message.
+    ClassCast(&'static str),
     Unsupported,
     /// An IndexOutOfBoundsException with this message.
     Index(&'static str),

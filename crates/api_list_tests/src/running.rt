@@ -5,7 +5,8 @@ use api_list::call;
 use object_heap::{Answer, Heap};
 use object_values::Value;
 use pl_types::classes::{
-    INDEX_OUT_OF_BOUNDS_EXCEPTION, NULL_POINTER_EXCEPTION, UNSUPPORTED_OPERATION_EXCEPTION,
+    CLASS_CAST_EXCEPTION, INDEX_OUT_OF_BOUNDS_EXCEPTION, NO_SUCH_ELEMENT_EXCEPTION,
+    NULL_POINTER_EXCEPTION, UNSUPPORTED_OPERATION_EXCEPTION,
 };
 use pl_units::UText;
 use std::alloc::{AllocError, Global};
@@ -77,6 +78,8 @@ fn given(value: &Value, wanted: Wanted) -> Result<bool, AllocError> {
 fn thrown(heap: &Heap, id: u32, wanted: Wanted) -> Result<bool, AllocError> {
     match wanted {
         Wanted::NullPointer => is_exception(heap, id, NULL_POINTER_EXCEPTION, None),
+        Wanted::NoSuchElement => is_exception(heap, id, NO_SUCH_ELEMENT_EXCEPTION, None),
+        Wanted::ClassCast(message) => is_exception(heap, id, CLASS_CAST_EXCEPTION, Some(message)),
         Wanted::Unsupported => is_exception(heap, id, UNSUPPORTED_OPERATION_EXCEPTION, None),
         Wanted::Index(message) => {
             is_exception(heap, id, INDEX_OUT_OF_BOUNDS_EXCEPTION, Some(message))

@@ -7,7 +7,7 @@ use pl_units::UText;
 use std::alloc::{AllocError, Global};
 
 /// How many objects there are, which is the number of a new one.
-pub const NEXT: u32 = 13;
+pub const NEXT: u32 = 20;
 
 pub fn word(alloc: Global, text: &str) -> Result<Value, AllocError> {
     Ok(Value::Str(UText::from_utf8(alloc, text)?))
@@ -107,6 +107,48 @@ fn place_others(alloc: Global, heap: &mut Heap) -> Result<(), AllocError> {
     place_view(heap, 11, Part::Entries)
 }
 
+fn numbers(alloc: Global, numbers: &[i32]) -> Result<Elements<Value>, AllocError> {
+    let mut items = Elements::new(alloc);
+    for number in numbers {
+        items.push(Value::Int(*number))?;
+    }
+    Ok(items)
+}
+
+fn words(alloc: Global, words: &[&str]) -> Result<Elements<Value>, AllocError> {
+    let mut items = Elements::new(alloc);
+    for text in words {
+        items.push(word(alloc, text)?)?;
+    }
+    Ok(items)
+}
+
+// 13: [3, 1, 2, 1], 14: ['b', '', 'ab', 'a'], and 15: [true, false, true]
+fn place_ordered(alloc: Global, heap: &mut Heap) -> Result<(), AllocError> {
+    place_list(heap, numbers(alloc, &[3, 1, 2, 1])?, Guard::Open, 4)?;
+    place_list(heap, words(alloc, &["b", "", "ab", "a"])?, Guard::Open, 0)?;
+    let mut flags = Elements::new(alloc);
+    flags.push(Value::Bool(true))?;
+    flags.push(Value::Bool(false))?;
+    flags.push(Value::Bool(true))?;
+    place_list(heap, flags, Guard::Open, 0)
+}
+
+// 16: [the first list, the second], 17: {k=1}, 18: its entries, and 19: [null]
+fn place_unordered(alloc: Global, heap: &mut Heap) -> Result<(), AllocError> {
+    let mut lists = Elements::new(alloc);
+    lists.push(Value::Ref(0))?;
+    lists.push(Value::Ref(1))?;
+    place_list(heap, lists, Guard::Open, 0)?;
+    let mut pairs = Pairs::new(alloc);
+    pairs.put(word(alloc, "k")?, Value::Int(1))?;
+    place_map(heap, pairs)?;
+    place_view(heap, 17, Part::Entries)?;
+    let mut nulls = Elements::new(alloc);
+    nulls.push(Value::Null)?;
+    place_list(heap, nulls, Guard::Open, 0)
+}
+
 /// The heap of the rows, with so much room.
 pub fn sample(alloc: Global, room: u64) -> Result<Heap, AllocError> {
     let mut heap = Heap::new(alloc, room);
@@ -115,5 +157,7 @@ pub fn sample(alloc: Global, room: u64) -> Result<Heap, AllocError> {
     place_mixed(alloc, &mut heap)?;
     place_views(alloc, &mut heap)?;
     place_others(alloc, &mut heap)?;
+    place_ordered(alloc, &mut heap)?;
+    place_unordered(alloc, &mut heap)?;
     Ok(heap)
 }

@@ -96,7 +96,8 @@ pub fn cannot_apply(heap: &Heap, op: Op, a: &Value, b: &Value) -> Outcome
     }
 }
 
-fn compare_message(heap: &Heap, a: &Value, b: &Value) -> Result<String, AllocError>
+/// The message of values that natural order does not compare, which names their classes.
+pub fn compare_message(heap: &Heap, a: &Value, b: &Value) -> Result<String, AllocError>
     ensures { IfOk result (λ text. string_bytes text ≡ spec.compare_message heap.now.objects a.now b.now) }
 {
     let mut text = String::from_str(heap.alloc(), "Cannot compare [")?;

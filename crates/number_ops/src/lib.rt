@@ -16,7 +16,9 @@ mod values;
 
 pub use arithmetic::{Num, Op, Zero, arith};
 pub use casts::to_type;
+pub use errors::compare_message;
 pub use laws::{operators_keep_fit, relation_laws};
 pub use member::call;
 pub use operators::{concatenate, def_op};
+pub use order::natural;
 pub use relations::{equal, is_instance, is_same, throw_value};

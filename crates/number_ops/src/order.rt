@@ -122,7 +122,9 @@ fn order_of_text(a: &[u16], other: &Value) -> Option<i32>
     }
 }
 
-fn natural(a: &Value, b: &Value) -> Option<i32>
+/// Natural order of two values of one class: below 0, 0 or above 0 where the first comes before the second, with it or behind it. Other
+/// values have none.
+pub fn natural(a: &Value, b: &Value) -> Option<i32>
     ensures { result ≡ natural a.now b.now }
 {
     match a {

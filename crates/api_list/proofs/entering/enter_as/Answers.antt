@@ -15,7 +15,7 @@ enter_list-requires c =
     let keys = entry_keys_of objects c.args.container in record {
       made = entries_made objects (map_shown c.args.container) keys c.in-Ok.made c.entry_count-count.result c.in-Ok.ensures c.entry_count-count.ensures;
       all = list_made objects c.args.list c.args.at (map_shown c.args.container) keys (entry_references objects c.args.container) c.args.object c.in-Ok.made c.entry_count-count.result c.in-Ok.ensures c.entry_count-count.ensures
-      (length_references (length objects) (length keys)) c.requires;
+          (length_references (length objects) (length keys)) c.requires;
     }
 
 pub returns-in-Ok : goal.returns-in-Ok

@@ -1,0 +1,5 @@
+pub mod Agreeing
+pub mod Fitting
+pub mod Signs
+pub mod Sorts
+pub mod Steps

@@ -1,0 +1,4 @@
+pub mod Choosing
+pub mod Keys
+pub mod Ordering
+pub mod Sorting
