@@ -1,7 +1,6 @@
 pub mod Typing
 pub mod Effects
 pub mod Casts
-pub mod MemberArguments
 pub mod MemberTables
 pub mod MemberNumbers
 pub mod MemberTexts

@@ -1,6 +1,6 @@
 -- What members of numbers give is of their types, where that is a reference.
-use Rattle.std.proofs.Common.{◌≡◌, ℕ, true, ℤ, Option, Some, None, List, refl, subst}
-use Rattle.pl_types.specs.declared.classes.TheConstants.{INTEGER, LONG, STRING}
+use Rattle.std.proofs.Common.{◌≡◌, ℕ, true, ℤ, Option, Some, None, List, subst}
+use Rattle.pl_types.specs.declared.classes.TheConstants.{INTEGER, LONG}
 use Rattle.pl_types.specs.declared.ty.Ty.{Ty, out-Ty}
 use Rattle.pl_types.specs.declared.ty.Ty.TheVariants as ty
 use Rattle.pl_types.specs.declared.ty.Ty.TheOpen.{Ty-F}
@@ -37,14 +37,10 @@ use Rattle.value_typing.proofs.MemberTables.{string, int_reference, long_referen
 
 -- ---- what each comes to
 
--- null is of a type, which is what comes where an argument is missing
-one_told : {A : Type 0} → (ks : List Kind) (l : Ty-F Ty) (f : A → Told) (o : Option A) → is_typed_layer ks l v.Null ≡ true → ((a : A) → ToldTyped ks l (f a)) → ToldTyped ks l (with_one f o)
-one_told ks l f None null h = null
-one_told ks l f (Some a) null h = h a
-
-null_of_class : (ks : List Kind) (class : ℕ) → is_typed_layer ks (out-Ty (ty.Class class)) v.Null ≡ true
-unfolding out-Ty denote.Hole.Carrier.out
-null_of_class ks class = refl
+-- where the argument is missing it throws
+one_told : {A : Type 0} → (ks : List Kind) (l : Ty-F Ty) (f : A → Told) (o : Option A) → ((a : A) → ToldTyped ks l (f a)) → ToldTyped ks l (with_one f o)
+one_told ks l f None h = tt
+one_told ks l f (Some a) h = h a
 
 text_told : (ks : List Kind) (text : List ℕ) → ToldTyped ks (out-Ty string) (told.Makes text)
 text_told ks text others = string_layer others text
@@ -80,14 +76,6 @@ int_told ks int.ValueOf of a e = in_row ks (ty.Class INTEGER) of (told.Gives (v.
 int_told ks int.BitCount of a e = cc
 int_told ks int.Signum of a e = cc
 
-int_null : (ks : List Kind) (member : OneInt) (of : Ty) → int_reference member ≡ Some of → is_typed_layer ks (out-Ty of) v.Null ≡ true
-int_null ks int.ToBinary of e = in_row ks string of (told.Gives v.Null) e (null_of_class ks STRING)
-int_null ks int.ToHex of e = in_row ks string of (told.Gives v.Null) e (null_of_class ks STRING)
-int_null ks int.ToText of e = in_row ks string of (told.Gives v.Null) e (null_of_class ks STRING)
-int_null ks int.ValueOf of e = in_row ks (ty.Class INTEGER) of (told.Gives v.Null) e (null_of_class ks INTEGER)
-int_null ks int.BitCount of e = cc
-int_null ks int.Signum of e = cc
-
 long_told : (ks : List Kind) (member : OneLong) (of : Ty) (a : ℤ) → long_reference member ≡ Some of → ToldTyped ks (out-Ty of) (of_long member a)
 long_told ks long.ToBinary of a e = in_row ks string of (of_long long.ToBinary a) e (made ks (of_long long.ToBinary a) tt)
 long_told ks long.ToHex of a e = in_row ks string of (of_long long.ToHex a) e (made ks (of_long long.ToHex a) tt)
@@ -98,16 +86,6 @@ long_told ks long.Signum of a e = cc
 long_told ks long.Abs of a e = cc
 long_told ks long.ToIntExact of a e = cc
 
-long_null : (ks : List Kind) (member : OneLong) (of : Ty) → long_reference member ≡ Some of → is_typed_layer ks (out-Ty of) v.Null ≡ true
-long_null ks long.ToBinary of e = in_row ks string of (told.Gives v.Null) e (null_of_class ks STRING)
-long_null ks long.ToHex of e = in_row ks string of (told.Gives v.Null) e (null_of_class ks STRING)
-long_null ks long.ToText of e = in_row ks string of (told.Gives v.Null) e (null_of_class ks STRING)
-long_null ks long.ValueOf of e = in_row ks (ty.Class LONG) of (told.Gives v.Null) e (null_of_class ks LONG)
-long_null ks long.BitCount of e = cc
-long_null ks long.Signum of e = cc
-long_null ks long.Abs of e = cc
-long_null ks long.ToIntExact of e = cc
-
 to_text_told : (objects : List Object) (value : Value) → ToldTyped (kinds objects) (out-Ty string) (to_text objects value)
 to_text_told objects value = follows (kinds objects) (text_of objects value VISITS) told.Makes (λ text. text_told (kinds objects) text)
 
@@ -115,11 +93,11 @@ number_told : (objects : List Object) (member : Member) (of : Ty) (arguments : L
     → ToldTyped (kinds objects) (out-Ty of) (numbers.does objects member arguments)
 number_told objects number.ToText of arguments e =
     in_row (kinds objects) string of (numbers.does objects number.ToText arguments) e
-    (one_told {A = Value} (kinds objects) (out-Ty string) (to_text objects) (slice_get arguments 0) (null_of_class (kinds objects) STRING) (λ value. to_text_told objects value))
+    (one_told {A = Value} (kinds objects) (out-Ty string) (to_text objects) (slice_get arguments 0) (λ value. to_text_told objects value))
 number_told objects (number.OfInt member) of arguments e =
-    one_told {A = ℤ} (kinds objects) (out-Ty of) (of_int member) (int_at arguments 0) (int_null (kinds objects) member of e) (λ a. int_told (kinds objects) member of a e)
+    one_told {A = ℤ} (kinds objects) (out-Ty of) (of_int member) (int_at arguments 0) (λ a. int_told (kinds objects) member of a e)
 number_told objects (number.OfLong member) of arguments e =
-    one_told {A = ℤ} (kinds objects) (out-Ty of) (of_long member) (long_at arguments 0) (long_null (kinds objects) member of e) (λ a. long_told (kinds objects) member of a e)
+    one_told {A = ℤ} (kinds objects) (out-Ty of) (of_long member) (long_at arguments 0) (λ a. long_told (kinds objects) member of a e)
 number_told objects other of arguments e = cc
 
 pub number_found_typed : (store : Store) (found : Option Member) (of : Ty) (arguments : List Value) → number_row found ≡ Some of

@@ -1,6 +1,6 @@
 -- What members give is of their types, and what they throw is an exception.
-use Rattle.std.proofs.Common.{arith, ◌≡◌, ◌≤◌, ◌-◌, ℕ, ◌==◌, ◌||◌, Bool, true, false, ℤ, Option, Some, None, List, [], ◌∷◌, refl, sym, ap, ◌∙◌, subst, slice_get, is_some, if◌then◌else◌}
-use Rattle.std.proofs.lemmas.Bool.{cond_both, eqb-true, leb-true}
+use Rattle.std.proofs.Common.{arith, ◌≡◌, ◌≤◌, ◌-◌, ℕ, ◌==◌, ◌||◌, ◌&&◌, Bool, true, false, not, ℤ, Option, Some, None, List, [], ◌∷◌, refl, sym, ap, ◌∙◌, subst, slice_get, is_some, if◌then◌else◌}
+use Rattle.std.proofs.lemmas.Bool.{and_parts, cond_both, eqb-true, leb-true}
 use Rattle.std.proofs.lemmas.Option.{get_or_from_slice_get}
 use Rattle.pl_types.specs.Host.{HostMeaning}
 use Rattle.pl_types.specs.declared.classes.TheConstants.{STRING_BUILDER}
@@ -19,6 +19,7 @@ use Rattle.object_heap.specs.Effects.{Effect, Gives, Throws, NoRoom}
 use Rattle.object_heap.specs.Fits.{Rules, Fits}
 use Rattle.object_heap.specs.Store.{Store}
 use Rattle.number_ops.specs.Members as numbers
+use Rattle.number_ops.specs.Operators.{is_null}
 use Rattle.api_text.specs.Members as texts
 use Rattle.api_text.specs.Outcomes as text_outcomes
 use Rattle.member_calls.specs.Laws.{ActLeaves}
@@ -29,10 +30,9 @@ use Rattle.member_calls.proofs.Doing.{does_of_numbers, does_of_texts, does_of_ho
 use Rattle.member_calls.proofs.Leaving.{act_leaves}
 use Rattle.member_calls.proofs.Owners.{built_stand}
 use Rattle.member_calls.proofs.Types.{act_gives}
-use Rattle.value_typing.specs.Typing.{is_typed, takes_typed_by, takes_typed}
+use Rattle.value_typing.specs.Typing.{is_typed, are_typed, takes_typed_by, takes_typed}
 use Rattle.value_typing.specs.Laws.{MembersKeepTypes, HostKeepsTypes}
 use Rattle.value_typing.proofs.Effects.{EffectTyped, ActTyped, ActThrows, act_is}
-use Rattle.value_typing.proofs.MemberArguments.{received, takes_suit}
 use Rattle.value_typing.proofs.MemberNumbers.{number_found_typed, number_throws}
 use Rattle.value_typing.proofs.MemberTables.{builder, reference_in, reference_layer, is_builder, is_changer_by, number_row_at, text_row_at, receiver_row_at}
 use Rattle.value_typing.proofs.MemberTexts.{TextTyped, FirstIsBuilder, object_is, text_found_typed, text_settled, text_throws}
@@ -48,6 +48,12 @@ act_throws rules host number values store f =
 
 -- ---- references
 
+receiver_is : (objects : List Object) (owner : ℕ) (params : List Ty) (receiver : Value) (values : List Value)
+    → takes_typed_by kind.Instance owner objects params (receiver ∷ values) ≡ true → is_typed objects (ty.Class owner) receiver ≡ true
+receiver_is objects owner params receiver values h =
+    let typed = (and_parts (not (is_null receiver)) (is_typed objects (ty.Class owner) receiver && are_typed objects params values) h).1 in
+    (and_parts (is_typed objects (ty.Class owner) receiver) (are_typed objects params values) typed).0
+
 -- the receiver of a member that gives its receiver
 first_is_builder : (objects : List Object) (sort : MemberKind) (member : MemberType) (values : List Value) → is_changer_by sort member ≡ true
     → takes_typed_by sort member.owner objects member.params values ≡ true → FirstIsBuilder objects values
@@ -56,7 +62,7 @@ first_is_builder objects kind.Constructor member values c h = cc
 first_is_builder objects kind.Field member values c h = cc
 first_is_builder objects kind.Instance member [] c h = cc
 first_is_builder objects kind.Instance member (receiver ∷ values) c h = λ id e.
-    let typed = (received objects member.owner member.params receiver values h).has in
+    let typed = receiver_is objects member.owner member.params receiver values h in
     let owner : member.owner ≡ STRING_BUILDER = either (is_builder (out-Ty member.result)) c in
     subst (λ (value : Value). is_typed objects builder value ≡ true) (object_is receiver id e)
     (subst (λ (class : ℕ). is_typed objects (ty.Class class) receiver ≡ true) owner typed)
@@ -107,15 +113,15 @@ primitive_act p (Some (Gives value store)) h = h
 primitive_act p (Some (Throws id store)) h = tt
 primitive_act p (Some NoRoom) h = tt
 
-typed_act : (rules : Rules) (host : HostMeaning) (number : ℕ) (member : MemberType) (values : List Value) (store : Store) → Fits rules store.objects → is_built number ≡ true
+typed_act : (host : HostMeaning) (number : ℕ) (member : MemberType) (values : List Value) (store : Store) → is_built number ≡ true
     → slice_get catalogue number ≡ Some member → takes_typed store.objects member values ≡ true → (l : Ty-F Ty) → out-Ty member.result ≡ l → ActTyped l (does host number values store)
-typed_act rules host number member values store f built is takes Ty-F.Void e = every Ty-F.Void (does host number values store) (λ store value. refl)
-typed_act rules host number member values store f built is takes Ty-F.Def e = every Ty-F.Def (does host number values store) (λ store value. refl)
-typed_act rules host number member values store f built is takes (Ty-F.Prim p) e =
+typed_act host number member values store built is takes Ty-F.Void e = every Ty-F.Void (does host number values store) (λ store value. refl)
+typed_act host number member values store built is takes Ty-F.Def e = every Ty-F.Def (does host number values store) (λ store value. refl)
+typed_act host number member values store built is takes (Ty-F.Prim p) e =
     primitive_act p (does host number values store)
     (subst (λ (l : Ty-F Ty). ActGives (given_by_layer l) (does host number values store)) e
-    (act_gives host number member values store is (takes_suit rules store.objects number member values f is takes)))
-typed_act rules host number member values store f built is takes l e =
+    (act_gives host number member values store is))
+typed_act host number member values store built is takes l e =
     subst (λ (l : Ty-F Ty). ActTyped l (does host number values store)) e
     (reference_typed host number member values store is takes (ap (reference_layer member.result) e) built)
 
@@ -130,7 +136,7 @@ stands number built = by (slice_get catalogue number) refl (built_stand number b
 pub members_keep_types : MembersKeepTypes
 members_keep_types rules host number values store f built takes =
     act_is (member_at number).result (does host number values store)
-    (typed_act rules host number (member_at number) values store f built (stands number built) takes (out-Ty (member_at number).result) refl)
+    (typed_act host number (member_at number) values store built (stands number built) takes (out-Ty (member_at number).result) refl)
     (act_throws rules host number values store f)
 
 -- ---- functions of the host
