@@ -22,7 +22,7 @@ fn gives(alloc: Global, number: u32, rows: &[Row], wanted: Row) -> Result<bool, 
 }
 
 // Members of Object, Comparable and Number, by their numbers in the catalogue.
-const OBJECTS: [(u32, &[Row], Row); 34] = [
+const OBJECTS: [(u32, &[Row], Row); 35] = [
     (0, &[Int(1), Int(1)], Flag(true)),
     (0, &[Int(1), Long(1)], Flag(false)),
     (0, &[Object(0), Object(0)], Flag(true)),
@@ -58,6 +58,7 @@ const OBJECTS: [(u32, &[Row], Row); 34] = [
     (6, &[Long(65_601)], Short(65)),
     (7, &[Long(4_294_967_297)], Int(1)),
     (8, &[Byte(-1)], Long(-1)),
+    (8, &[Word("1")], Throws('n', "")),
     (9, &[], Byte(127)),
     (10, &[], Byte(-128)),
     (11, &[Byte(-1)], Int(255)),
@@ -99,7 +100,7 @@ const INTS: [(u32, &[Row], Row); 29] = [
     (25, &[Int(4)], Int(4)),
     (26, &[], Long(9_223_372_036_854_775_807)),
     (27, &[], Long(-9_223_372_036_854_775_808)),
-    (16, &[Long(1)], Null),
+    (16, &[Long(1)], Throws('n', "")),
     (3, &[Word("a")], Null),
 ];
 

@@ -18,11 +18,12 @@ use Rattle.member_calls.specs.Laws.{StillThere}
 use Rattle.run_state.specs.World.{World, Limits as run_limits, End, Result}
 use Rattle.run_fit.specs.Worlds.{EndFits, WorldFits, count_in}
 use Rattle.run_fit.proofs.Effects.{beginnings_fit}
+use Rattle.run_fit.proofs.Values.{MadeFits}
 use Rattle.code_meaning.specs.declared.word.Word.{Word}
 use Rattle.code_meaning.specs.declared.word.Word.TheVariants.{I, J, R}
 use Rattle.code_meaning.specs.Words.{boxed}
 use Rattle.code_fit.specs.Moments.{WordFits, WordsFit, ResultFits}
-use Rattle.code_fit.proofs.Words.{MadeFits, unboxed_fits, boxed_fits, plain_fits}
+use Rattle.code_fit.proofs.Words.{unboxed_fits, boxed_fits, plain_fits}
 use Rattle.code_fit.proofs.Steps.{starts_fit_all}
 use Rattle.source_meaning.specs.Programs.{fun_of}
 use Rattle.source_meaning.specs.Tree.{Fun}
@@ -108,7 +109,7 @@ given_layer_fits n Ty-F.Void value f = tt
 given_layer_fits n Ty-F.Null value f = f
 given_layer_fits n Ty-F.Def value f = f
 given_layer_fits n (Ty-F.Prim p) value f = either (in_box p value) (source.in_box_fits n p value) where
-  either : (boxed : Option Value) → source.MadeFits n boxed → ValueFits n (unwrap_or boxed value)
+  either : (boxed : Option Value) → MadeFits n boxed → ValueFits n (unwrap_or boxed value)
   either None g = f
   either (Some boxed) g = g
 given_layer_fits n (Ty-F.Class class) value f = f
@@ -119,7 +120,7 @@ abbrev EndsFit : Rules → List Object → Option (End Value) → Type 0
 EndsFit rules before None = Unit {0}
 EndsFit rules before (Some end) = EndFits ValueFits rules before end
 
-ends_with : (rules : Rules) (before : List Object) (of : Ty) (value : Option Value) (w : World) → WorldFits rules before w → source.MadeFits (count_in w) value → EndsFit rules before (end_with of value w)
+ends_with : (rules : Rules) (before : List Object) (of : Ty) (value : Option Value) (w : World) → WorldFits rules before w → MadeFits (count_in w) value → EndsFit rules before (end_with of value w)
 ends_with rules before of None w h f = tt
 ends_with rules before of (Some value) w h f = (h, given_layer_fits (count_in w) (out-Ty of) value f)
 

@@ -1,5 +1,6 @@
 //! Scripts from their texts to their outcomes.
 
+mod boxes;
 mod catches;
 mod operands;
 mod operators;
@@ -48,6 +49,26 @@ fn scripts_end_within_bounds(rt: HostRuntime) -> Result<(), Fail> {
     let compiler = Compiler::new(rt.alloc())?;
     for (bounds, table) in rows::BOUNDED {
         all_end(&rt, &compiler, bounds, table)?;
+    }
+    Ok(())
+}
+
+#[test]
+fn boxes_end(rt: HostRuntime) -> Result<(), Fail> {
+    let compiler = Compiler::new(rt.alloc())?;
+    for table in [
+        boxes::UNBOXED,
+        boxes::BOXED,
+        boxes::FOUND,
+        boxes::ABSENT,
+        boxes::PAIRS,
+        boxes::MIXED,
+        boxes::SINGLE,
+    ] {
+        all_cells_end(&rt, &compiler, table)?;
+    }
+    for table in [boxes::MEMBERS, boxes::RELATED] {
+        all_end(&rt, &compiler, USUAL, table)?;
     }
     Ok(())
 }
