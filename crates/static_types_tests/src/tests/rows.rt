@@ -362,7 +362,7 @@ pub const NOT_BUILT: [(&str, u8, u32); 25] = [
     ("def d = 1; d++; 1", 19, 11),
     ("def d = 1; d -= 1; 1", 19, 13),
     ("def d = 1; d << 1", 19, 13),
-    ("Integer i = 1; 1", 19, 0),
+    ("Iterable i; 1", 19, 0),
 ];
 
 /// A left side of `?:` that is never null.
