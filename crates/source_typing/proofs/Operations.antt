@@ -18,12 +18,15 @@ use Rattle.object_heap.specs.Objects.{Kind}
 use Rattle.typed_tree.specs.declared.operation.Operator.{Operator}
 use Rattle.typed_tree.specs.declared.operation.Operator.TheVariants as operator
 use Rattle.arithmetic.specs.declared.operator.Op.{Op}
+use Rattle.number_ops.specs.declared.outcome.Outcome.{Outcome as Told}
+use Rattle.number_ops.specs.declared.outcome.Outcome.TheVariants as told
+use Rattle.number_ops.specs.Casts.{cast_at_run_time}
 use Rattle.number_ops.specs.Outcomes.{effect, null_error}
 use Rattle.run_state.specs.World.{World, Outcome, Given, Raised, Full, acts_in}
 use Rattle.run_fit.specs.Worlds.{WorldFits, count_in, OutcomeFits}
 use Rattle.run_fit.proofs.Effects.{beginnings_fit, outcomes_fit}
 use Rattle.run_fit.proofs.Values.{by_primitive}
-use Rattle.source_meaning.specs.Operating.{Operated, Meaningless, Gives, Acts, operates, reference_operated, from_int_to, from_long_to, from_byte_to, from_short_to, from_char_to, from_flag_to, number_cast, in_box, box_if, gives_if, text_if, casts}
+use Rattle.source_meaning.specs.Operating.{Operated, Meaningless, Gives, Acts, operates, reference_operated, from_int_to, from_long_to, from_byte_to, from_short_to, from_char_to, from_flag_to, number_cast, in_box, box_if, gives_if, unwrapped, text_if, casts}
 use Rattle.source_fit.proofs.Values.{OperatedFits, operates_fit, cast_fits}
 use Rattle.program_typing.specs.Types.{HasPrimitive, HasLayer, HaveAll, Gives as GivesType, of_one, of_two, of_one_flag, of_two_flags, TakesNumbers, TakesFlags, Takes, Casts, string}
 use Rattle.program_typing.specs.Agreeing.{IsKnownBefore}
@@ -214,6 +217,13 @@ module _ (w : World) where
   box_types from to p q None g h = tt
   box_types from to p q (Some value) g h = boxed_is_typed w.store.objects from to g.written p q value g.is h
 
+  unwrapped_types : (to : Ty) (p q : Primitive) (o : Told) → to ≡ t.Prim q → Types to (unwrapped p q o w.store)
+  unwrapped_types to p q (told.Gives value) e = number_types to q (number_cast p q value) e (cast_made p q value)
+  unwrapped_types to p q (told.Makes text) e = tt
+  unwrapped_types to p q (told.Throws raised message) e =
+      in_world to w (effect w.store (told.Throws raised message)) (settled (out-Ty to) w.store (told.Throws raised message) tt)
+  unwrapped_types to p q told.NoMemory e = tt
+
   text_types : (o : Option Value) → Types string (text_if o w.store)
   text_types None = tt
   text_types (Some value) = casts_give_types w value (t.Class STRING) true
@@ -222,7 +232,7 @@ module _ (w : World) where
   cast_types cast.Keep from to value x g h = kept_is_typed w.store.objects from to g.written value g.is h
   cast_types (cast.Number p q) from to value x g h = number_types to q (number_cast p q value) x.1 (cast_made p q value)
   cast_types (cast.Wrap p q) from to value x g h = box_types from to p q (box_if q (number_cast p q value)) g (boxed_made q (number_cast p q value))
-  cast_types (cast.Unwrap p q) from to value x g h = absurd x
+  cast_types (cast.Unwrap p q) from to value x g h = unwrapped_types to p q (cast_at_run_time w.store.objects value (t.Prim p) false) x.1
   cast_types cast.Implicit from to value x g h = casts_give_types w value to false
   cast_types cast.Explicit from to value x g h = casts_give_types w value to true
   cast_types cast.CharToText from to value x g h = subst (λ of. Types of (text_if (in_box prim.Char value) w.store)) (sym x.1) (text_types (in_box prim.Char value))
@@ -234,7 +244,7 @@ module _ (w : World) where
   begin_types cast.Keep from to value k x g h = cast_types cast.Keep from to value x g h
   begin_types (cast.Number p q) from to value k x g h = cast_types (cast.Number p q) from to value x g h
   begin_types (cast.Wrap p q) from to value k x g h = cast_types (cast.Wrap p q) from to value x g h
-  begin_types (cast.Unwrap p q) from to value k x g h = absurd x
+  begin_types (cast.Unwrap p q) from to value k x g h = cast_types (cast.Unwrap p q) from to value x g h
   begin_types cast.Implicit from to value k x g h = absurd k
   begin_types cast.Explicit from to value k x g h = absurd k
   begin_types cast.CharToText from to value k x g h = cast_types cast.CharToText from to value x g h
