@@ -1,5 +1,5 @@
 -- What effects give.
-use Rattle.std.proofs.Common.{◌≡◌, ◌-◌, ℕ, nat_le, true, false, Option, Some, None, List, [], ◌∷◌, ◌++◌, length, refl, if◌then◌else◌}
+use Rattle.std.proofs.Common.{◌-◌, ℕ, nat_le, true, false, Option, Some, None, List, [], ◌∷◌, ◌++◌, length, refl, if◌then◌else◌}
 use Rattle.pl_types.specs.declared.primitive.Primitive.{Primitive}
 use Rattle.allowlist.specs.declared.member.MemberType.{MemberType}
 use Rattle.object_values.specs.declared.object.Object.{Object}

@@ -1,5 +1,5 @@
 -- A member of a container takes no object away and changes the kind of none.
-use Rattle.std.proofs.Common.{◌≡◌, ◌==◌, ◌<◌, ℕ, ◌+◌, Bool, true, false, nat_le, nat_lt, Option, Some, None, List, [], ◌∷◌, ◌++◌, length, take, drop, refl, sym, ap, ◌∙◌, eqb-true, slice_get, if◌then◌else◌}
+use Rattle.std.proofs.Common.{◌≡◌, ◌==◌, ℕ, ◌+◌, true, nat_le, nat_lt, Option, Some, None, List, [], ◌∷◌, ◌++◌, length, take, drop, refl, sym, ap, eqb-true, slice_get}
 use Rattle.std.specs.Prelude.{not}
 use Rattle.std.proofs.lemmas.Bool.{cond_both}
 use Rattle.pl_types.specs.declared.classes.TheConstants.{CONCURRENT_MODIFICATION_EXCEPTION, ILLEGAL_STATE_EXCEPTION, NO_SUCH_ELEMENT_EXCEPTION, NULL_POINTER_EXCEPTION, UNSUPPORTED_OPERATION_EXCEPTION}
@@ -12,12 +12,12 @@ use Rattle.object_values.specs.declared.value.Value.TheVariants as v
 use Rattle.object_heap.specs.Effects.{Effect}
 use Rattle.object_heap.specs.Effects as e
 use Rattle.object_heap.specs.Fits.{kinds}
-use Rattle.object_heap.specs.Objects.{Kind, changed_by, AList, AMap, ASet, kind_of, renewed_by, with_all_inserted, with_inserted, with_item, with_key_cut, with_pair_cut, with_put, with_removed}
+use Rattle.object_heap.specs.Objects.{changed_by, AList, AMap, ASet, kind_of, renewed_by, with_all_inserted, with_inserted, with_item, with_key_cut, with_pair_cut, with_put, with_removed}
 use Rattle.object_heap.specs.Parts.{items_of}
 use Rattle.object_heap.specs.Store.{Store, with_change}
 use Rattle.member_arguments.specs.Arguments.{object_at}
 use Rattle.value_walks.specs.Equality.{value_now}
-use Rattle.container_parts.specs.Containers.{changes_now, container_of, count_of, element_at, lets_cut}
+use Rattle.container_parts.specs.Containers.{changes_now, container_of, count_of, lets_cut}
 use Rattle.container_parts.specs.Iterators as iterators
 use Rattle.container_parts.specs.declared.containers.Container.{Container}
 use Rattle.container_parts.specs.declared.containers.Container.TheVariants as c
@@ -42,7 +42,7 @@ use Rattle.api_map.specs.Members as maps
 use Rattle.container_calls.specs.declared.family.Family.{Family}
 use Rattle.container_calls.specs.declared.family.Family.TheVariants.{Iterables, Lists, Maps}
 use Rattle.container_calls.specs.Members.{act_of, does_container, family_of, is_on_list}
-use Rattle.container_calls.specs.Laws.{EffectLeaves, StillThere}
+use Rattle.container_calls.specs.Laws.{EffectLeaves}
 use Rattle.container_calls.proofs.LeavingTexts.{text_member_leaves}
 use Rattle.container_calls.proofs.There.{kinds-changed, paid_leaves, text_leaves, there_added, there_behind, there_both, there_changed, there_refl, there_then, throw_leaves}
 

@@ -1,5 +1,5 @@
 -- What a function wants memory for does not go by the room that is left.
-use Rattle.std.proofs.Common.{◌≡◌, ◌==◌, ℕ, Bool, true, false, nat_lt, Option, Some, None, List, slice_get, if◌then◌else◌}
+use Rattle.std.proofs.Common.{◌==◌, ℕ, Bool, true, false, nat_lt, Option, Some, None, List, slice_get, if◌then◌else◌}
 use Rattle.pl_types.specs.declared.classes.TheConstants.{CONCURRENT_MODIFICATION_EXCEPTION, ILLEGAL_STATE_EXCEPTION, NULL_POINTER_EXCEPTION, UNSUPPORTED_OPERATION_EXCEPTION}
 use Rattle.object_values.specs.declared.object.Object.{Object}
 use Rattle.object_values.specs.declared.value.Value.{Value}

@@ -1,5 +1,5 @@
 -- What members of containers give is of their types.
-use Rattle.std.proofs.Common.{◌≡◌, ◌<◌, ◌==◌, ℕ, ℤ, ◌-◌, ◌&&◌, nat_le, nat_lt, Bool, true, false, Option, Some, None, List, [], ◌∷◌, ◌++◌, length, get_or, map, arith, refl, sym, ap, subst, ◌∙◌, slice_get, is_some, if◌then◌else◌}
+use Rattle.std.proofs.Common.{◌≡◌, ◌<◌, ◌==◌, ℕ, ℤ, Bool, true, false, Option, Some, None, List, [], ◌∷◌, ◌++◌, length, get_or, map, arith, refl, sym, ap, subst, ◌∙◌, slice_get, is_some, if◌then◌else◌}
 use Rattle.std.specs.Prelude.{option_map}
 use Rattle.std.specs.List.{range_with_len}
 use Rattle.std.proofs.lemmas.Bool.{and_parts, cond_both, cond-true}
@@ -13,7 +13,6 @@ use Rattle.allowlist.specs.Catalogue.{catalogue}
 use Rattle.allowlist.proofs.Tables.{length-catalogue}
 use Rattle.object_values.specs.declared.object.Object.{Object}
 use Rattle.object_values.specs.declared.object.Object.TheVariants as o
-use Rattle.object_values.specs.declared.object.Part.{Part}
 use Rattle.object_values.specs.declared.object.Part.TheVariants as part
 use Rattle.object_values.specs.declared.value.Value.{Value}
 use Rattle.object_values.specs.declared.value.Value.TheVariants as v
@@ -75,7 +74,7 @@ use Rattle.api_map.specs.Whole as whole
 use Rattle.container_calls.specs.declared.family.Family.{Family}
 use Rattle.container_calls.specs.declared.family.Family.TheVariants.{Iterables, Lists, Maps}
 use Rattle.container_calls.specs.Members.{act_of, does_container, family_of, has, is_of_containers, is_on_list, list_has}
-use Rattle.container_calls.specs.Types.{suits, primitive_of, EffectGives}
+use Rattle.container_calls.specs.Types.{suits, EffectGives}
 use Rattle.container_calls.proofs.Giving.{anything, given_in, paid_gives, throw_gives}
 
 -- ---- outcomes of members that give a primitive

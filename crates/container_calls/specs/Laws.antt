@@ -1,5 +1,5 @@
 -- Laws over the definitions.
-use Rattle.std.specs.Prelude.{◌≡◌, ℕ, Bool, true, false, Option, Some, List, ◌++◌, length, slice_get, is_some, nat_le, not, ◌==◌, ◌&&◌, ◌||◌}
+use Rattle.std.specs.Prelude.{◌≡◌, ℕ, Bool, true, false, Some, List, ◌++◌, length, slice_get, is_some, nat_le, not, ◌==◌, ◌&&◌, ◌||◌}
 use Rattle.pl_types.specs.declared.classes.TheConstants.{ITERABLE, LIST, ITERATOR, SCRIPT_DOC_VALUES}
 use Rattle.allowlist.specs.declared.member.MemberType.{MemberType}
 use Rattle.allowlist.specs.Allow.{is_in_prelude}
