@@ -1,0 +1,9 @@
+pub mod Giving
+pub mod Keeping
+pub mod Leaving
+pub mod LeavingTexts
+pub mod Needing
+pub mod Owners
+pub mod Ranges
+pub mod There
+pub mod Types

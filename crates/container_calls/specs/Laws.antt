@@ -1,0 +1,48 @@
+-- Laws over the definitions.
+use Rattle.std.specs.Prelude.{◌≡◌, ℕ, Bool, true, false, Some, List, ◌++◌, length, slice_get, is_some, nat_le, not, ◌==◌, ◌&&◌, ◌||◌}
+use Rattle.pl_types.specs.declared.classes.TheConstants.{ITERABLE, LIST, ITERATOR, SCRIPT_DOC_VALUES}
+use Rattle.allowlist.specs.declared.member.MemberType.{MemberType}
+use Rattle.allowlist.specs.Allow.{is_in_prelude}
+use Rattle.allowlist.specs.Catalogue.{catalogue}
+use Rattle.object_values.specs.declared.object.Object.{Object}
+use Rattle.object_values.specs.declared.value.Value.{Value}
+use Rattle.object_heap.specs.Effects.{Effect, Gives, Throws, NoRoom}
+use Rattle.object_heap.specs.Fits.{kinds, Rules, Fits, AllFit, EffectFits}
+use Rattle.object_heap.specs.Objects.{Kind}
+use Rattle.object_heap.specs.Store.{Store}
+use Rattle.container_calls.specs.Members.{is_of_containers, does_container}
+
+-- what members keep: where the heap and the arguments fit a program or a code, the heap fits it afterwards
+abbrev pub MembersKeepFit : Type 0
+MembersKeepFit = (rules : Rules) (store : Store) (number : ℕ) (arguments : List Value) → Fits rules store.objects → AllFit (length store.objects) arguments
+    → EffectFits rules (does_container store number arguments)
+
+-- the objects are still there, each of its kind, and there may be more
+abbrev pub StillThere : List Object → List Object → Type 0
+StillThere before after = (more : List Kind) × (kinds after ≡ kinds before ++ more)
+
+abbrev pub EffectLeaves : List Object → Effect → Type 0
+EffectLeaves objects (Gives value store) = StillThere objects store.objects
+EffectLeaves objects (Throws id store) = StillThere objects store.objects
+EffectLeaves objects NoRoom = Unit {0}
+
+-- a member takes no object away and changes the kind of none: values that fit the heap go on fitting it
+abbrev pub MembersLeaveObjects : Type 0
+MembersLeaveObjects = (number : ℕ) (arguments : List Value) (store : Store) → EffectLeaves store.objects (does_container store number arguments)
+
+-- the classes of which no member is missing but the prelude's: Iterable, those of lists, sets, maps, entries and iterators, and
+-- ScriptDocValues
+abbrev pub is_container_class : ℕ → Bool
+is_container_class class = ((class == ITERABLE) || (nat_le LIST class && nat_le class ITERATOR)) || (class == SCRIPT_DOC_VALUES)
+
+-- a member of the catalogue whose class is one of these is built where the prelude does not have it
+abbrev pub BuiltOwners : Type 0
+BuiltOwners = (number : ℕ) (member : MemberType) → slice_get catalogue number ≡ Some member → is_container_class member.owner ≡ true → is_of_containers number ≡ not (is_in_prelude member.origin)
+
+-- no member of the prelude is built, of whatever class
+abbrev pub BuiltAlone : Type 0
+BuiltAlone = (number : ℕ) (member : MemberType) → slice_get catalogue number ≡ Some member → is_of_containers number ≡ true → is_in_prelude member.origin ≡ false
+
+-- a member that is built stands in the catalogue
+abbrev pub BuiltStand : Type 0
+BuiltStand = (number : ℕ) → is_of_containers number ≡ true → is_some (slice_get catalogue number) ≡ true

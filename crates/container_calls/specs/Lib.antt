@@ -1,0 +1,4 @@
+pub mod Members
+pub mod Answers
+pub mod Laws
+pub mod Types
