@@ -10,7 +10,7 @@ fn is_within(number: u32, from: u32, to: u32) -> bool
 }
 
 /// The numbers of the members that are built: from the first of each pair to before the second.
-static CONTAINER_RANGES: [(u32, u32); 12] = [
+static CONTAINER_RANGES: [(u32, u32); 11] = [
     (86, 87),
     (89, 90),
     (96, 101),
@@ -19,8 +19,7 @@ static CONTAINER_RANGES: [(u32, u32); 12] = [
     (113, 120),
     (121, 122),
     (123, 145),
-    (159, 171),
-    (173, 175),
+    (159, 176),
     (177, 178),
     (225, 226),
 ];

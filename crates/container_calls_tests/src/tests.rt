@@ -174,7 +174,7 @@ fn members_of_views_and_iterators(rt: HostRuntime) -> Result<(), Fail> {
 }
 
 /// Members at the ends of the catalogue's parts, and whether they are built.
-const BUILT: [(u32, bool); 24] = [
+const BUILT: [(u32, bool); 25] = [
     (0, false),
     (85, false),
     (86, true),
@@ -195,7 +195,8 @@ const BUILT: [(u32, bool); 24] = [
     (145, false),
     (165, true),
     (168, true),
-    (171, false),
+    (171, true),
+    (176, false),
     (177, true),
     (225, true),
     (4_294_967_295, false),
