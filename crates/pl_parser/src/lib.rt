@@ -1,4 +1,4 @@
-//! The parser: from tokens to the tree, by the rules of the grammar.
+//! The parser: from tokens to the tree, by the rows of the grammar.
 #![tactic(auto)]
 
 ghost use Rattle.std.specs.Prelude.{◌≡◌, ◌≤◌, Result, length};
@@ -6,10 +6,11 @@ ghost use Rattle.pl_types.specs.Answers.{Answers};
 ghost use Rattle.pl_types.specs.declared.refusal.Refusal.{Refusal};
 ghost use Rattle.pl_tree.specs.declared.tree.Tree as tree;
 ghost use Rattle.pl_grammar.specs.Lexeme.{AllLieIn};
-ghost use Rattle.pl_grammar.specs.Parses.{Parses};
+ghost use Rattle.pl_grammar_plain.specs.PlainParses.{PlainParses};
 
 use parse_actions::Builder;
 use parse_driver::parse_by;
+use pl_grammar_plain::plain_laws;
 use pl_lexer::Token;
 use pl_tree::Tree;
 use pl_types::Fail;
@@ -26,9 +27,10 @@ pub fn parse(alloc: Global, text: &str, tokens: &[Token]) -> Result<Tree, Fail>
     requires short { length text.now ≤ 1048576 }
     requires placed { AllLieIn text.now tokens.now }
     // The answer is a reading of the tokens.
-    ensures exact { Answers (λ tree. tree) result (Parses text.now tokens.now) }
+    ensures exact { Answers (λ tree. tree) result (PlainParses text.now tokens.now) }
     // They have no other.
-    ensures only { (reading : Result tree.Tree Refusal) → Parses text.now tokens.now reading → Answers (λ tree. tree) result (λ answer. answer ≡ reading) }
+    ensures only { (reading : Result tree.Tree Refusal) → PlainParses text.now tokens.now reading → Answers (λ tree. tree) result (λ answer. answer ≡ reading) }
 {
+    plain_laws();
     parse_by::<Builder>(alloc, text, tokens)
 }

@@ -3,7 +3,7 @@ use Rattle.std.proofs.Common.{◌≡◌, ℕ, List, Option, Result, Ok, Err, ref
 use Rattle.pl_types.specs.declared.refusal.Refusal.{Refusal}
 use Rattle.pl_lexer.specs.declared.token.Token.{Token}
 use Rattle.pl_lexer.specs.Tokens.{Lexes}
-use Rattle.pl_grammar.specs.Parses.{Parses}
+use Rattle.pl_grammar_plain.specs.PlainParses.{PlainParses}
 use Rattle.pl_tree.specs.declared.tree.Tree.{Tree}
 use Rattle.allowlist.specs.Allow.{AllowList, class_named_of}
 use Rattle.typing_rules.specs.declared.header.ContextTypes.{ContextTypes}
@@ -27,11 +27,11 @@ then_once {A} First Next first next a b h k =
 tree_once : (allow : AllowList) (context : ContextTypes) (tree : Tree) → Once (TypesTree allow context tree)
 tree_once allow context tree a b h k = h ∙ sym k
 
-pub text_once : ((text : List ℕ) (names : List ℕ → Option ℕ) → Once (Lexes text names)) → ((text : List ℕ) (tokens : List Token) → Once (Parses text tokens))
+pub text_once : ((text : List ℕ) (names : List ℕ → Option ℕ) → Once (Lexes text names)) → ((text : List ℕ) (tokens : List Token) → Once (PlainParses text tokens))
     → (allow : AllowList) (context : ContextTypes) (text : List ℕ) → Once (IsProgramOf allow context text)
 text_once lexes parses allow context text =
     then_once (Lexes text (class_named_of allow)) (TypesTokens allow context text) (lexes text (class_named_of allow))
-    (λ tokens. then_once (Parses text tokens) (TypesTree allow context) (parses text tokens) (tree_once allow context))
+    (λ tokens. then_once (PlainParses text tokens) (TypesTree allow context) (parses text tokens) (tree_once allow context))
 
 -- ---- some answer
 
@@ -48,8 +48,8 @@ then_some First Next first next = let n = goes_some Next next first.0 in (n.0, (
 tree_some : (allow : AllowList) (context : ContextTypes) (tree : Tree) → Answered (TypesTree allow context tree)
 tree_some allow context tree = (typing_of allow context tree, refl)
 
-pub text_some : ((text : List ℕ) (names : List ℕ → Option ℕ) → Answered (Lexes text names)) → ((text : List ℕ) (tokens : List Token) → Answered (Parses text tokens))
+pub text_some : ((text : List ℕ) (names : List ℕ → Option ℕ) → Answered (Lexes text names)) → ((text : List ℕ) (tokens : List Token) → Answered (PlainParses text tokens))
     → (allow : AllowList) (context : ContextTypes) (text : List ℕ) → Answered (IsProgramOf allow context text)
 text_some lexes parses allow context text =
     then_some (Lexes text (class_named_of allow)) (TypesTokens allow context text) (lexes text (class_named_of allow))
-    (λ tokens. then_some (Parses text tokens) (TypesTree allow context) (parses text tokens) (tree_some allow context))
+    (λ tokens. then_some (PlainParses text tokens) (TypesTree allow context) (parses text tokens) (tree_some allow context))

@@ -3,7 +3,7 @@ use Rattle.std.specs.Prelude.{◌≡◌, ℕ, List, Result}
 use Rattle.pl_types.specs.declared.refusal.Refusal.{Refusal}
 use Rattle.pl_lexer.specs.declared.token.Token.{Token}
 use Rattle.pl_lexer.specs.Tokens.{Lexes}
-use Rattle.pl_grammar.specs.Parses.{Parses}
+use Rattle.pl_grammar_plain.specs.PlainParses.{PlainParses}
 use Rattle.pl_tree.specs.declared.tree.Tree.{Tree}
 use Rattle.allowlist.specs.Allow.{AllowList, class_named_of}
 use Rattle.typing_rules.specs.declared.header.ContextTypes.{ContextTypes}
@@ -17,7 +17,7 @@ TypesTree allow context tree answer = answer ≡ typing_of allow context tree
 
 -- which program the tokens of a text are
 abbrev pub TypesTokens : AllowList → ContextTypes → List ℕ → List Token → Result Program Refusal → Type 0
-TypesTokens allow context text tokens = Then (Parses text tokens) (TypesTree allow context)
+TypesTokens allow context text tokens = Then (PlainParses text tokens) (TypesTree allow context)
 
 -- which program a text is, where names mean the classes and the members of a list
 abbrev pub IsProgramOf : AllowList → ContextTypes → List ℕ → Result Program Refusal → Type 0

@@ -1,7 +1,7 @@
 //! What holds of all texts and of their programs.
 ghost use Rattle.script_engine.specs.Laws.{TextsAreAnswered, TextsAreAnsweredOnce, ProgramsEnd, ProgramsEndOnce, ProgramsFit};
 
-use pl_grammar_laws::grammar_laws;
+use pl_grammar_plain::plain_laws;
 use pl_lexer::each_text_has_one_reading;
 
 /// A text is a program or is refused by one rule, and the run of its program comes to one end, which fits where
@@ -14,5 +14,5 @@ pub fn script_laws()
     ensures fit { ProgramsFit }
 {
     each_text_has_one_reading();
-    grammar_laws();
+    plain_laws();
 }

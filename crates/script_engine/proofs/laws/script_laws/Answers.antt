@@ -9,10 +9,10 @@ use Rattle.script_engine.proofs.Texts.{text_once, text_some}
 use Rattle.script_engine.proofs.laws.script_laws.Goals as goal
 
 pub returns-clause-answered : goal.returns-clause-answered
-returns-clause-answered c = text_some c.each_text_has_one_reading.ensures.some c.grammar_laws.ensures.answered
+returns-clause-answered c = text_some c.each_text_has_one_reading.ensures.some c.plain_laws.ensures.answered
 
 pub returns-clause-answered_once : goal.returns-clause-answered_once
-returns-clause-answered_once c = text_once c.each_text_has_one_reading.ensures.once c.grammar_laws.ensures.unique
+returns-clause-answered_once c = text_once c.each_text_has_one_reading.ensures.once c.plain_laws.ensures.unique
 
 pub returns-clause-ends : goal.returns-clause-ends
 returns-clause-ends c allow context text p good is limits allowed args have =
