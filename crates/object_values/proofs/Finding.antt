@@ -2,14 +2,18 @@
 use Rattle.std.proofs.Common.{◌≡◌, false, Some, None, List, [], ◌∷◌, refl, ap, if◌then◌else◌}
 use Rattle.std.specs.Map.{lookup, remove_entry, keys_of}
 use Rattle.std.specs.List.{IsDistinct, AllByRecursion}
-use Rattle.indexmap.specs.IndexMap.{insert_entry}
+use Rattle.indexmap.specs.IndexMap.{insert_entry, insert_all}
 use Rattle.object_values.specs.declared.value.Value.{Value}
 use Rattle.object_values.specs.Values.{same_value}
-use Rattle.object_values.specs.Pairs.{value_of, with_pair, without_key, HasDistinctKeys}
+use Rattle.object_values.specs.Pairs.{value_of, with_pair, with_pairs, without_key, HasDistinctKeys}
 
 pub puts : (pairs : List (Value × Value)) (key value : Value) → insert_entry same_value pairs key value ≡ with_pair pairs key value
 puts [] key value = refl
 puts (pair ∷ pairs) key value = ap (λ rest. if same_value key pair.0 then (pair.0, value) ∷ pairs else pair ∷ rest) (puts pairs key value)
+
+pub puts_all : (pairs more : List (Value × Value)) → insert_all same_value pairs more ≡ with_pairs pairs more
+puts_all pairs [] = refl
+puts_all pairs (pair ∷ more) = rw (puts pairs pair.0 pair.1) (puts_all (with_pair pairs pair.0 pair.1) more)
 
 pub finds : (pairs : List (Value × Value)) (key : Value) → lookup (same_value key) pairs ≡ value_of pairs key
 finds [] key = refl

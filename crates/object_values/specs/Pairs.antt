@@ -13,6 +13,11 @@ abbrev pub with_pair : List (Value × Value) → Value → Value → List (Value
 with_pair [] key value = (key, value) ∷ []
 with_pair (pair ∷ pairs) key value = if same_value key pair.0 then (pair.0, value) ∷ pairs else pair ∷ with_pair pairs key value
 
+-- with further pairs put in their order
+abbrev pub with_pairs : List (Value × Value) → List (Value × Value) → List (Value × Value)
+with_pairs pairs [] = pairs
+with_pairs pairs (pair ∷ more) = with_pairs (with_pair pairs pair.0 pair.1) more
+
 -- without a key
 abbrev pub without_key : List (Value × Value) → Value → List (Value × Value)
 without_key [] key = []

@@ -1,6 +1,7 @@
 //! Pairs of keys and values, as maps and sets hold them.
 ghost use Rattle.std.specs.Prelude.{◌≡◌, ◌<◌, ◌^◌, [], ◌∷◌, IfOk, OnOk, OnErr, length, slice_get, remove};
 ghost use Rattle.std.specs.Option.{option_copied};
+ghost use Rattle.object_values.specs.Pairs.{with_pairs};
 
 use crate::table::Table;
 use crate::value::Value;
@@ -35,7 +36,7 @@ impl Drop for Pairs {
 }
 
 impl Pairs {
-    ghost use Rattle.object_values.specs.Pairs.{value_of, with_pair, without_key, HasDistinctKeys, key_at, pair_value_at};
+    ghost use Rattle.object_values.specs.Pairs.{value_of, with_pair, with_pairs, without_key, HasDistinctKeys, key_at, pair_value_at};
 
     /// No pairs. It takes no memory.
     pub fn new(alloc: Global) -> Pairs
@@ -103,6 +104,33 @@ impl Pairs {
         }
     }
 
+    /// Puts further pairs in their order, at the cost of those that come, whatever is there. After want of memory the pairs are
+    /// as before.
+    pub fn append(&mut self, more: Pairs) -> Result<(), AllocError>
+        ensures ok { OnOk result (self.new ≡ with_pairs self.old more) }
+        ensures err { OnErr result (self.new ≡ self.old) }
+    {
+        let Pairs { table, alloc: _ } = more;
+        match table {
+            Some(more) => self.append_table(Box::into_inner(more)),
+            None => Ok(()),
+        }
+    }
+
+    fn append_table(&mut self, more: Table) -> Result<(), AllocError>
+        ensures ok { OnOk result (self.new ≡ with_pairs self.old more) }
+        ensures err { OnErr result (self.new ≡ self.old) }
+    {
+        match &mut self.table {
+            Some(table) => table.append(more),
+            None => {
+                let table = first_pairs(self.alloc, more)?;
+                self.table = Some(table);
+                Ok(())
+            }
+        }
+    }
+
     /// Takes a key out, and gives the value that it had; the pairs behind it move up. It takes no memory.
     pub fn cut(&mut self, key: &Value) -> Option<Value>
         ensures before { result ≡ value_of self.old key.now }
@@ -132,5 +160,14 @@ fn first_pair(alloc: Global, key: Value, value: Value) -> Result<Box<Table>, All
 {
     let mut table = Table::new(alloc);
     table.put(key, value)?;
+    Ok(Box::new(alloc, table)?)
+}
+
+// A table of the first pairs that come.
+fn first_pairs(alloc: Global, more: Table) -> Result<Box<Table>, AllocError>
+    ensures { IfOk result (λ table. table.value ≡ with_pairs [] more) }
+{
+    let mut table = Table::new(alloc);
+    table.append(more)?;
     Ok(Box::new(alloc, table)?)
 }

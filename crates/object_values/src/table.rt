@@ -28,7 +28,7 @@ impl Drop for Table {
 }
 
 impl Table {
-    ghost use Rattle.object_values.specs.Pairs.{value_of, with_pair, without_key, HasDistinctKeys, key_at, pair_value_at};
+    ghost use Rattle.object_values.specs.Pairs.{value_of, with_pair, with_pairs, without_key, HasDistinctKeys, key_at, pair_value_at};
 
     /// No pairs. It takes no memory.
     pub fn new(alloc: Global) -> Table
@@ -87,6 +87,18 @@ impl Table {
             Err(refused) => drop(refused),
         }
         Err(AllocError)
+    }
+
+    /// Puts further pairs in their order. After want of memory the pairs are as before.
+    pub fn append(&mut self, more: Table) -> Result<(), AllocError>
+        ensures ok { OnOk result (self.new ≡ with_pairs self.old more) }
+        ensures err { OnErr result (self.new ≡ self.old) }
+    {
+        let mut more = more;
+        match self.map.append(&mut more.map) {
+            Ok(()) => Ok(()),
+            Err(_) => Err(AllocError),
+        }
     }
 
     /// Takes a key out, and gives the value that it had; the pairs behind it move up. It takes no memory.
