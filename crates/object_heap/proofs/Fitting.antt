@@ -10,13 +10,13 @@ use Rattle.object_values.specs.declared.object.Target.{Target}
 use Rattle.object_values.specs.declared.object.Target.TheVariants as t
 use Rattle.object_values.specs.Values.{is_simple}
 use Rattle.object_values.specs.Pairs.{value_of}
-use Rattle.object_heap.specs.Fits.{kinds, is_map, can_iterate, Typed, Rules, is_element, target_fits, ValueFits, AllFit, PairsFit, KeysFit, AreElements, ObjectFits, ObjectsFit, Fits, ItemFits}
-use Rattle.object_heap.specs.Objects.{Kind, AList, kind_of, may_become, changed, changed_by, with_item, with_inserted, with_all_inserted, with_removed, with_put, with_key_cut, with_pair_cut, with_units, renewed_by, retired_target, retired}
+use Rattle.object_heap.specs.Fits.{kinds, is_map, can_iterate, Typed, Rules, is_element, target_fits, ValueFits, AllFit, PairsFit, KeysFit, AreElements, ObjectFits, ObjectsFit, Fits, ItemFits, PutsFit}
+use Rattle.object_heap.specs.Objects.{Kind, AList, kind_of, may_become, changed, changed_by, with_item, with_inserted, with_all_inserted, with_removed, with_put, with_all_put, with_key_cut, with_pair_cut, with_units, renewed_by, retired_target, retired}
 use Rattle.object_heap.specs.Parts.{object_items, object_pairs, object_captures, items_of, pairs_of, captures_of}
 use Rattle.object_heap.specs.Store.{with_change}
 use Rattle.object_heap.proofs.Growth.{cons_changed}
 use Rattle.object_heap.proofs.KindLemmas.{becomes_refl, Follows, follows_refl, follows_more, follows_length, still_passes, is_map_kept, can_iterate_kept, is_element_more, target_more}
-use Rattle.object_heap.proofs.PairLemmas.{distinct_with, distinct_without, pairs_with, pairs_without, keys_with, keys_without, distinct_removed, pairs_removed, keys_removed, value_there}
+use Rattle.object_heap.proofs.PairLemmas.{distinct_with, distinct_with_all, distinct_without, pairs_with, pairs_with_all, pairs_without, keys_with, keys_with_all, keys_without, distinct_removed, pairs_removed, keys_removed, value_there}
 
 value_more : (n m : ℕ) → n ≤ m → (value : Value) → ValueFits n value → ValueFits m value
 value_more n m h (v.Ref id) f = omega arith
@@ -225,6 +225,26 @@ map_put_fits rules objects id key value f k h = changed_fits rules objects id (w
   fit = λ object is g. key_put_fit rules (kinds objects) key value k (counted objects value h) object g;
 }) f
 
+-- pairs that are put
+all_put_kind : (more : List (Value × Value)) (object : Object) → may_become (kind_of object) (kind_of (with_all_put more object)) ≡ true
+all_put_kind more (o.Map class pairs guard changes) = becomes_refl (kind_of (o.Map class pairs guard changes))
+all_put_kind more (o.Set class items guard changes) = becomes_refl (kind_of (o.Set class items guard changes))
+all_put_kind more object = becomes_refl (kind_of object)
+
+all_put_fit : (rules : Rules) (ks : List Kind) (more : List (Value × Value)) (object : Object) → PutsFit (length ks) more (Some object)
+    → ObjectFits rules ks object → ObjectFits rules ks (with_all_put more object)
+all_put_fit rules ks more (o.Map class pairs guard changes) h f = (f.0, pairs_with_all _ more pairs h f.1, distinct_with_all more pairs f.2)
+all_put_fit rules ks more (o.Set class items guard changes) h f = (f.0, keys_with_all more items h f.1, distinct_with_all more items f.2)
+all_put_fit rules ks more object h f = f
+
+pub map_extend_fits : (rules : Rules) (objects : List Object) (id : ℕ) (more : List (Value × Value)) → Fits rules objects → PutsFit (length objects) more (slice_get objects id)
+    → Fits rules (with_change objects id (with_all_put more))
+map_extend_fits rules objects id more f h = changed_fits rules objects id (with_all_put more) (record {
+  kind = all_put_kind more;
+  fit = λ object is g.
+      all_put_fit rules (kinds objects) more object (subst (λ (n : ℕ). PutsFit n more (Some object)) (sym (length-kinds objects)) (subst (PutsFit (length objects) more) is h)) g;
+}) f
+
 -- a key that is taken out
 key_cut_kind : (key : Value) (object : Object) → may_become (kind_of object) (kind_of (with_key_cut key object)) ≡ true
 key_cut_kind key (o.Map class pairs guard changes) = becomes_refl (kind_of (o.Map class pairs guard changes))
@@ -342,7 +362,7 @@ own_captures : (rules : Rules) (ks : List Kind) (object : Object) → ObjectFits
 own_captures rules ks (o.Fun iface target captures) f = f.2
 own_captures rules ks object f = tt
 
-keys_pairs : (n : ℕ) (pairs : List (Value × Value)) → KeysFit pairs → PairsFit n pairs
+pub keys_pairs : (n : ℕ) (pairs : List (Value × Value)) → KeysFit pairs → PairsFit n pairs
 keys_pairs n [] f = tt
 keys_pairs n (pair ∷ pairs) f = (f.0, subst (ValueFits n) (sym f.1) tt, keys_pairs n pairs f.2)
 

@@ -1,16 +1,18 @@
 -- How changes of objects change the weight of a store.
-use Rattle.std.proofs.Common.{◌≡◌, ℕ, zero, suc, ◌+◌, ◌-◌, ◌*◌, ◌≤◌, true, false, Option, Some, None, List, [], ◌∷◌, ◌++◌, length, take, drop, refl, ap, add-one, arith, length-append, slice_get, if◌then◌else◌}
+use Rattle.std.proofs.Common.{◌≡◌, ℕ, zero, suc, ◌+◌, ◌-◌, ◌*◌, ◌≤◌, ◌∙◌, Bool, true, false, Option, Some, None, List, [], ◌∷◌, ◌++◌, length, take, drop, refl, ap, add-one, arith, length-append, slice_get, if◌then◌else◌}
 use Rattle.std.proofs.lemmas.List.Edits.{length-insert}
 use Rattle.std.proofs.lemmas.Bool.Decides.{nat_tests}
 use Rattle.object_values.specs.declared.value.Value.{Value}
 use Rattle.object_values.specs.declared.value.Value.TheVariants as v
 use Rattle.object_values.specs.declared.object.Object.{Object}
 use Rattle.object_values.specs.declared.object.Object.TheVariants as o
-use Rattle.object_values.specs.Pairs.{value_of, with_pair}
+use Rattle.object_values.specs.Pairs.{value_of, key_at, with_pair, with_pairs, HasDistinctKeys}
 use Rattle.object_values.specs.Values.{same_value}
-use Rattle.object_heap.specs.Objects.{weight_of, with_inserted, insert_growth, with_all_inserted, insert_all_growth, with_put, with_units, units_growth, put_growth, new_growth, renewed_by, renewal_growth, may_become, kind_of}
+use Rattle.object_values.specs.Keys.{values_symm}
+use Rattle.object_heap.specs.Objects.{weight_of, with_inserted, insert_growth, with_all_inserted, insert_all_growth, with_put, with_all_put, with_units, units_growth, put_growth, put_all_growth, new_growth, new_key, new_keys, renewed_by, renewal_growth, may_become, kind_of}
 use Rattle.object_heap.specs.Parts.{asked}
 use Rattle.object_heap.specs.Store.{weight, changed_at, with_change}
+use Rattle.object_heap.proofs.PairLemmas.{not_found}
 
 weight-append : (objects : List Object) (object : Object) → weight (objects ++ object ∷ []) ≡ weight objects + weight_of object
 weight-append [] object = omega arith
@@ -99,6 +101,62 @@ put_weighs key value object = omega arith
 pub put_grows : (objects : List Object) (id : ℕ) (key value : Value)
     → weight (with_change objects id (with_put key value)) - weight objects ≡ asked (put_growth key) 0 (slice_get objects id)
 put_grows objects id key value = change_grows objects id _ _ (put_weighs key value)
+
+-- a put changes nothing of whether another key is there
+here_either : (test : Bool) (a b : Value) (rest : Option Value) → new_growth (if test then Some a else rest) 1 ≡ new_growth (if test then Some b else rest) 1
+here_either true a b rest = refl
+here_either false a b rest = refl
+
+behind_either : (test : Bool) (a : Value) (x y : Option Value) → new_growth x 1 ≡ new_growth y 1 → new_growth (if test then Some a else x) 1 ≡ new_growth (if test then Some a else y) 1
+behind_either true a x y h = refl
+behind_either false a x y h = h
+
+other_stays : (pairs : List (Value × Value)) (key value other : Value) → same_value other key ≡ false → new_growth (value_of (with_pair pairs key value) other) 1 ≡ new_growth (value_of pairs other) 1
+other_stays [] key value other h = rw h refl
+other_stays (pair ∷ pairs) key value other h =
+    elim (same_value key pair.0) as (λ b. new_growth (value_of (if b then (pair.0, value) ∷ pairs else pair ∷ with_pair pairs key value) other) 1 ≡ new_growth (value_of (pair ∷ pairs) other) 1) [
+      | true ↦ here_either (same_value other pair.0) value pair.1 (value_of pairs other)
+      | false ↦ behind_either (same_value other pair.0) pair.1 (value_of (with_pair pairs key value) other) (value_of pairs other) (other_stays pairs key value other h)
+    ]
+
+new_keys_stay : (more pairs : List (Value × Value)) (key value : Value) → value_of more key ≡ None → new_keys (with_pair pairs key value) more ≡ new_keys pairs more
+new_keys_stay [] pairs key value h = refl
+new_keys_stay (pair ∷ more) pairs key value h =
+    let apart = not_found (same_value key pair.0) pair.1 (value_of more key) h in
+    omega (arith, other_stays pairs key value pair.0 (values_symm pair.0 key ∙ apart.0), new_keys_stay more pairs key value apart.1)
+
+length-with_pairs : (more pairs : List (Value × Value)) → HasDistinctKeys more → length (with_pairs pairs more) ≡ length pairs + new_keys pairs more
+length-with_pairs [] pairs d = omega arith
+length-with_pairs (pair ∷ more) pairs d =
+    omega (arith, length-with_pairs more (with_pair pairs pair.0 pair.1) d.1, length-with_pair pairs pair.0 pair.1, new_keys_stay more pairs pair.0 pair.1 d.0)
+
+put_all_weighs : (more : List (Value × Value)) → HasDistinctKeys more → (object : Object) → weight_of (with_all_put more object) - weight_of object ≡ put_all_growth more object
+unfolding weight_of
+put_all_weighs more d (o.Map class pairs guard changes) = omega (arith, length-with_pairs more pairs d)
+put_all_weighs more d (o.Set class items guard changes) = omega (arith, length-with_pairs more items d)
+put_all_weighs more d object = omega arith
+
+pub put_all_grows : (objects : List Object) (id : ℕ) (more : List (Value × Value)) → HasDistinctKeys more
+    → weight (with_change objects id (with_all_put more)) - weight objects ≡ asked (put_all_growth more) 0 (slice_get objects id)
+put_all_grows objects id more d = change_grows objects id _ _ (put_all_weighs more d)
+
+-- the new keys from a place on are the one there and those behind it
+new_behind : (pairs more : List (Value × Value)) (at : ℕ) → new_keys pairs (drop at more) ≡ new_key pairs (key_at more at) + new_keys pairs (drop (suc at) more)
+new_behind pairs [] zero = refl
+new_behind pairs [] (suc at) = refl
+new_behind pairs (pair ∷ more) zero = refl
+new_behind pairs (pair ∷ more) (suc at) = new_behind pairs more at
+
+pub new_from : (pairs more : List (Value × Value)) (at : ℕ) → new_keys pairs (drop at more) ≡ new_key pairs (key_at more at) + new_keys pairs (drop (at + 1) more)
+new_from pairs more at = rw (add-one) (new_behind pairs more at)
+
+at_most_one : (found : Option Value) → new_growth found 1 ≤ 1
+at_most_one None = omega arith
+at_most_one (Some before) = omega arith
+
+pub one_key : (pairs : List (Value × Value)) (key : Option Value) → new_key pairs key ≤ 1
+one_key pairs None = omega arith
+one_key pairs (Some key) = at_most_one (value_of pairs key)
 
 renewal_weighs : (after object : Object) → weight_of (renewed_by after object) - weight_of object ≡ renewal_growth after object
 renewal_weighs after object =

@@ -1,14 +1,14 @@
 -- Pairs with distinct keys keep them distinct.
-use Rattle.std.proofs.Common.{remove, suc, zero, ◌≡◌, ℕ, Bool, true, false, Option, Some, None, List, [], ◌∷◌, refl, ◌∙◌, subst, if◌then◌else◌}
+use Rattle.std.proofs.Common.{remove, suc, zero, ◌≡◌, ℕ, Bool, true, false, Option, Some, None, List, [], ◌∷◌, refl, ◌∙◌, sym, subst, if◌then◌else◌}
 use Rattle.object_values.specs.declared.value.Value.{Value}
 use Rattle.object_values.specs.declared.value.Value.TheVariants as v
 use Rattle.object_values.specs.Values.{same_value, is_simple}
 use Rattle.object_values.specs.Keys.{values_symm}
-use Rattle.object_values.specs.Pairs.{value_of, with_pair, without_key, HasDistinctKeys}
+use Rattle.object_values.specs.Pairs.{value_of, with_pair, with_pairs, without_key, HasDistinctKeys}
 use Rattle.object_heap.specs.Fits.{ValueFits, PairsFit, KeysFit}
 
 -- a key that is not found is not the first, and is not found behind it
-not_found : (test : Bool) (value : Value) (rest : Option Value) → (if test then Some value else rest) ≡ None → (test ≡ false) × (rest ≡ None)
+pub not_found : (test : Bool) (value : Value) (rest : Option Value) → (if test then Some value else rest) ≡ None → (test ≡ false) × (rest ≡ None)
 not_found true value rest h = cc
 not_found false value rest h = (refl, h)
 
@@ -81,6 +81,15 @@ pairs_with n (pair ∷ pairs) key value k h f =
     elim (same_value key pair.0) as (λ b. PairsFit n (if b then (pair.0, value) ∷ pairs else pair ∷ with_pair pairs key value))
     [ true ↦ (f.0, h, f.2) | false ↦ (f.0, f.1, pairs_with n pairs key value k h f.2) ]
 
+-- pairs that are put behind one another
+pub distinct_with_all : (more pairs : List (Value × Value)) → HasDistinctKeys pairs → HasDistinctKeys (with_pairs pairs more)
+distinct_with_all [] pairs f = f
+distinct_with_all (pair ∷ more) pairs f = distinct_with_all more (with_pair pairs pair.0 pair.1) (distinct_with pairs pair.0 pair.1 f)
+
+pub pairs_with_all : (n : ℕ) (more pairs : List (Value × Value)) → PairsFit n more → PairsFit n pairs → PairsFit n (with_pairs pairs more)
+pairs_with_all n [] pairs h f = f
+pairs_with_all n (pair ∷ more) pairs h f = pairs_with_all n more (with_pair pairs pair.0 pair.1) h.2 (pairs_with n pairs pair.0 pair.1 h.0 h.1 f)
+
 pub pairs_without : (n : ℕ) (pairs : List (Value × Value)) (key : Value) → PairsFit n pairs → PairsFit n (without_key pairs key)
 pairs_without n [] key f = tt
 pairs_without n (pair ∷ pairs) key f =
@@ -92,6 +101,11 @@ keys_with [] key k f = (k, refl, tt)
 keys_with (pair ∷ pairs) key k f =
     elim (same_value key pair.0) as (λ b. KeysFit (if b then (pair.0, v.Null) ∷ pairs else pair ∷ with_pair pairs key v.Null))
     [ true ↦ (f.0, refl, f.2) | false ↦ (f.0, f.1, keys_with pairs key k f.2) ]
+
+pub keys_with_all : (more pairs : List (Value × Value)) → KeysFit more → KeysFit pairs → KeysFit (with_pairs pairs more)
+keys_with_all [] pairs h f = f
+keys_with_all (pair ∷ more) pairs h f =
+    keys_with_all more (with_pair pairs pair.0 pair.1) h.2 (subst (λ (value : Value). KeysFit (with_pair pairs pair.0 value)) (sym h.1) (keys_with pairs pair.0 h.0 f))
 
 pub keys_without : (pairs : List (Value × Value)) (key : Value) → KeysFit pairs → KeysFit (without_key pairs key)
 keys_without [] key f = tt

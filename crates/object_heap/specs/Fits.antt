@@ -252,6 +252,13 @@ ItemFits typed ks value None = Unit {0}
 ItemFits typed ks value (Some (o.Array elem items)) = is_element typed ks elem value ≡ true
 ItemFits typed ks value (Some object) = Unit {0}
 
+-- pairs that are to be put fit the map or the set that they go to
+abbrev pub PutsFit : ℕ → List (Value × Value) → Option Object → Type 0
+PutsFit count more None = Unit {0}
+PutsFit count more (Some (o.Map class pairs guard changes)) = PairsFit count more
+PutsFit count more (Some (o.Set class items guard changes)) = KeysFit more
+PutsFit count more (Some object) = Unit {0}
+
 -- what is thrown is an exception that is there
 abbrev pub ThrownFits : List Object → ℕ → Type 0
 ThrownFits objects id = (id < length objects) × (passes is_exception (slice_get (kinds objects) id) ≡ true)

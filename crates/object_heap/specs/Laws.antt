@@ -10,8 +10,8 @@ use Rattle.object_values.specs.Pairs.{value_of}
 use Rattle.object_heap.specs.declared.answer.Answer.{Answer}
 use Rattle.object_heap.specs.declared.error.HeapErr.{HeapErr}
 use Rattle.object_heap.specs.Effects.{Effect, Answers, throws}
-use Rattle.object_heap.specs.Fits.{kinds, Rules, ValueFits, AllFit, ObjectFits, Fits, ItemFits, EffectFits, AnswerFits}
-use Rattle.object_heap.specs.Objects.{with_item, with_inserted, with_all_inserted, with_removed, with_put, with_key_cut, with_pair_cut, with_units, renewed_by, retired}
+use Rattle.object_heap.specs.Fits.{kinds, Rules, ValueFits, AllFit, ObjectFits, Fits, ItemFits, PutsFit, EffectFits, AnswerFits}
+use Rattle.object_heap.specs.Objects.{with_item, with_inserted, with_all_inserted, with_removed, with_put, with_all_put, with_key_cut, with_pair_cut, with_units, renewed_by, retired}
 use Rattle.object_heap.specs.Parts.{items_of, pairs_of, captures_of}
 use Rattle.object_heap.specs.Paying.{Pays, PaysSurely}
 use Rattle.object_heap.specs.Store.{Store, with_change}
@@ -60,6 +60,11 @@ abbrev pub MapPutFits : Type 0
 MapPutFits = (rules : Rules) (old new : Store) (id : ℕ) (key value : Value) (result : Result (Option Value) HeapErr)
     → Pays old new (with_change old.objects id (with_put key value)) 0 result
     → Fits rules old.objects → is_simple key ≡ true → ValueFits (length old.objects) value → Fits rules new.objects
+
+-- keys that are put are simple, and go to a set with null
+abbrev pub MapExtendFits : Type 0
+MapExtendFits = (rules : Rules) (old new : Store) (id : ℕ) (more : List (Value × Value)) (result : Result (Unit {0}) HeapErr)
+    → Pays old new (with_change old.objects id (with_all_put more)) 0 result → Fits rules old.objects → PutsFit (length old.objects) more (slice_get old.objects id) → Fits rules new.objects
 
 abbrev pub MapCutFits : Type 0
 MapCutFits = (rules : Rules) (objects : List Object) (id : ℕ) (key : Value) → Fits rules objects → Fits rules (with_change objects id (with_key_cut key))

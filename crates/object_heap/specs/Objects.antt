@@ -1,5 +1,5 @@
 -- Objects: what each weighs, what one operation makes of one, and which may replace which.
-use Rattle.std.specs.Prelude.{Bool, true, false, ℕ, suc, ◌==◌, ◌+◌, ◌-◌, ◌*◌, ◌%◌, ◌^◌, nat_le, nat_lt, if◌then◌else◌, Option, Some, None, List, length, ◌++◌, slice_get, slice_set, insert, remove, take, drop}
+use Rattle.std.specs.Prelude.{Bool, true, false, ℕ, suc, ◌==◌, ◌+◌, ◌-◌, ◌*◌, ◌%◌, ◌^◌, nat_le, nat_lt, if◌then◌else◌, Option, Some, None, List, [], ◌∷◌, length, ◌++◌, slice_get, slice_set, insert, remove, take, drop}
 use Rattle.pl_types.specs.declared.ty.Ty.{Ty}
 use Rattle.pl_types.specs.Types.{same_types}
 use Rattle.object_values.specs.declared.value.Value.{Value}
@@ -11,7 +11,7 @@ use Rattle.object_values.specs.declared.object.Part.{Part}
 use Rattle.object_values.specs.declared.object.Part.TheVariants.{Keys, Values, Entries}
 use Rattle.object_values.specs.declared.object.Target.{Target}
 use Rattle.object_values.specs.declared.object.Target.TheVariants as t
-use Rattle.object_values.specs.Pairs.{value_of, with_pair, without_key}
+use Rattle.object_values.specs.Pairs.{value_of, with_pair, with_pairs, without_key}
 
 -- the units of the message of an exception
 abbrev pub message_units : Option (List ℕ) → ℕ
@@ -78,6 +78,12 @@ with_put key value (o.Map class pairs guard changes) = o.Map class (with_pair pa
 with_put key value (o.Set class items guard changes) = o.Set class (with_pair items key v.Null) guard (put_counted (value_of items key) changes)
 with_put key value object = object
 
+-- with pairs put into a map or a set in their order; each key that is new is a change
+abbrev pub with_all_put : List (Value × Value) → Object → Object
+with_all_put more (o.Map class pairs guard changes) = o.Map class (with_pairs pairs more) guard (changed_by changes (length (with_pairs pairs more) - length pairs))
+with_all_put more (o.Set class items guard changes) = o.Set class (with_pairs items more) guard (changed_by changes (length (with_pairs items more) - length items))
+with_all_put more object = object
+
 -- with a key taken out of a map or a set
 abbrev pub with_key_cut : Value → Object → Object
 with_key_cut key (o.Map class pairs guard changes) = o.Map class (without_key pairs key) guard (cut_counted (value_of pairs key) changes)
@@ -120,6 +126,22 @@ abbrev pub put_growth : Value → Object → ℕ
 put_growth key (o.Map class pairs guard changes) = new_growth (value_of pairs key) 2
 put_growth key (o.Set class items guard changes) = new_growth (value_of items key) 1
 put_growth key object = 0
+
+-- 1 for a key that is new
+abbrev pub new_key : List (Value × Value) → Option Value → ℕ
+new_key pairs None = 0
+new_key pairs (Some key) = new_growth (value_of pairs key) 1
+
+-- how many keys of these pairs are new, where no two of them are one
+abbrev pub new_keys : List (Value × Value) → List (Value × Value) → ℕ
+new_keys pairs [] = 0
+new_keys pairs (pair ∷ more) = new_growth (value_of pairs pair.0) 1 + new_keys pairs more
+
+-- how much pairs with distinct keys add to the weight
+abbrev pub put_all_growth : List (Value × Value) → Object → ℕ
+put_all_growth more (o.Map class pairs guard changes) = 2 * new_keys pairs more
+put_all_growth more (o.Set class items guard changes) = new_keys items more
+put_all_growth more object = 0
 
 -- What an object is, whatever it holds
 pub data Kind : Type 0 where

@@ -1,7 +1,7 @@
 //! Changes of one object. What a change does not apply to stays as it is.
-ghost use Rattle.std.specs.Prelude.{◌≡◌, ◌≤◌, ◌++◌, length, take, drop, IfOk, OnOk, OnErr, slice_get, remove};
-ghost use Rattle.object_values.specs.Pairs.{value_of, with_pair, without_key};
-ghost use Rattle.object_heap.specs.Objects.{with_inserted, with_all_inserted, with_item, with_removed, with_put, with_key_cut, with_pair_cut, with_units, put_counted, cut_counted, pair_counted};
+ghost use Rattle.std.specs.Prelude.{◌≡◌, ◌-◌, ◌≤◌, ◌++◌, length, take, drop, IfOk, OnOk, OnErr, slice_get, remove};
+ghost use Rattle.object_values.specs.Pairs.{value_of, with_pair, with_pairs, without_key};
+ghost use Rattle.object_heap.specs.Objects.{changed_by, with_inserted, with_all_inserted, with_item, with_removed, with_put, with_all_put, with_key_cut, with_pair_cut, with_units, put_counted, cut_counted, pair_counted};
 ghost use Rattle.object_heap.specs.Parts.{object_items, list_items, object_pairs, items_of, list_items_of, pairs_of};
 ghost use Rattle.object_heap.specs.Store.{with_change};
 
@@ -230,6 +230,48 @@ fn put_pair(
         Ok(Some(before)) => Ok(Some(before)),
         Err(_) => Err(AllocError),
     }
+}
+
+/// Puts pairs into a map or a set, in their order.
+pub fn put_pairs(objects: &mut Vec<Object>, id: u32, more: Pairs) -> Result<(), AllocError>
+    ensures ok { OnOk result (objects.new.items ≡ with_change objects.old.items id (with_all_put more)) }
+    ensures err { OnErr result (objects.new.items ≡ objects.old.items) }
+{
+    match objects.get_mut(id as usize) {
+        Some(object) => put_all_into(object, more),
+        None => {
+            drop(more);
+            Ok(())
+        }
+    }
+}
+
+fn put_all_into(object: &mut Object, more: Pairs) -> Result<(), AllocError>
+    ensures ok { OnOk result (object.new ≡ with_all_put more object.old) }
+    ensures err { OnErr result (object.new ≡ object.old) }
+{
+    match object {
+        Object::Map { pairs, changes, .. } => append_counted(pairs, changes, more),
+        Object::Set { items, changes, .. } => append_counted(items, changes, more),
+        _ => {
+            drop(more);
+            Ok(())
+        }
+    }
+}
+
+// Puts pairs, and counts the keys that are new.
+fn append_counted(pairs: &mut Pairs, changes: &mut u64, more: Pairs) -> Result<(), AllocError>
+    ensures pairs { OnOk result (pairs.new ≡ with_pairs pairs.old more) }
+    ensures counted { OnOk result (changes.new ≡ changed_by changes.old (length (with_pairs pairs.old more) - length pairs.old)) }
+    ensures pairs_stay { OnErr result (pairs.new ≡ pairs.old) }
+    ensures count_stays { OnErr result (changes.new ≡ changes.old) }
+{
+    let before = pairs.len();
+    pairs.append(more)?;
+    let came = pairs.len().saturating_sub(before) as u64;
+    *changes = changes.wrapping_add(came);
+    Ok(())
 }
 
 /// Takes a key out of a map or a set.

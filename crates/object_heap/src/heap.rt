@@ -4,12 +4,14 @@ ghost use Rattle.std.specs.Option.{option_copied};
 
 use crate::changes::{
     append_units, cut_item, cut_key, cut_pair_at, insert_item, insert_items, put_item, put_key,
+    put_pairs,
 };
 use crate::error::HeapErr;
 use crate::parts;
 use crate::renewal::{renew_at, renewal_growth_at, retire_all};
 use crate::weights::{
-    all_within, insert_all_growth, insert_growth, put_growth, units_growth, weight_within,
+    all_within, insert_all_growth, insert_growth, put_all_growth, put_growth, units_growth,
+    weight_within,
 };
 use object_values::{Elements, Guard, Object, Pairs, Target, Value};
 use pl_types::Ty;
@@ -51,7 +53,7 @@ impl Drop for Heap {
 
 impl Heap {
     ghost use Rattle.object_values.specs.Pairs.{value_of, key_at, pair_value_at};
-    ghost use Rattle.object_heap.specs.Objects.{with_item, with_inserted, with_all_inserted, with_removed, with_put, with_key_cut, with_pair_cut, with_units, renewed_by, retired};
+    ghost use Rattle.object_heap.specs.Objects.{with_item, with_inserted, with_all_inserted, with_removed, with_put, with_all_put, with_key_cut, with_pair_cut, with_units, renewed_by, retired};
     ghost use Rattle.object_heap.specs.Parts.{items_of, list_items_of, map_of, pairs_of, size_of, class_of, guard_of, frozen_of, changes_of, units_of, elem_of, message_of, iface_of, target_of, captures_of};
     ghost use Rattle.object_heap.specs.Store.{with_change};
     ghost use Rattle.object_heap.specs.Paying.{Pays, PaysSurely};
@@ -270,6 +272,26 @@ impl Heap {
             Ok(before) => {
                 self.room -= growth;
                 Ok(before)
+            }
+            Err(_) => Err(HeapErr::NoMemory),
+        }
+    }
+
+    /// Puts pairs into a map or a set in their order: a new key goes last, and one that is there keeps its place. Each new key is
+    /// a change. It takes the time of the pairs that come, whatever is there. What goes into a set has null for its values.
+    #[tactic(auto, using(crate::proofs::Paying::paid_if, crate::proofs::Paying::paid_not, crate::proofs::Growth::put_all_grows))]
+    pub fn map_extend(&mut self, id: u32, more: Pairs) -> Result<(), HeapErr>
+        ensures { Pays self.old self.new (with_change self.old.objects id (with_all_put more)) 0 result }
+    {
+        let growth = put_all_growth(self.objects.as_slice(), id, &more);
+        if growth > self.room {
+            drop(more);
+            return Err(HeapErr::Room);
+        }
+        match put_pairs(&mut self.objects, id, more) {
+            Ok(()) => {
+                self.room -= growth;
+                Ok(())
             }
             Err(_) => Err(HeapErr::NoMemory),
         }

@@ -1,5 +1,5 @@
 //! Laws on what the calls of the heap keep.
-ghost use Rattle.object_heap.specs.Laws.{NewFits, RefillFits, ChargeFits, PlaceFits, AddFits, RenewFits, PutFits, GrowFits, ExtendFits, CutFits, MapPutFits, MapCutFits, MapCutAtFits, AppendFits, ThrowFits, AnswersFit, ItemsFit, ValuesFit, CapturesFit};
+ghost use Rattle.object_heap.specs.Laws.{NewFits, RefillFits, ChargeFits, PlaceFits, AddFits, RenewFits, PutFits, GrowFits, ExtendFits, CutFits, MapPutFits, MapExtendFits, MapCutFits, MapCutAtFits, AppendFits, ThrowFits, AnswersFit, ItemsFit, ValuesFit, CapturesFit};
 
 /// Laws that callers may cite: each call keeps the fit of the heap.
 pub fn heap_keeps_fit()
@@ -14,6 +14,7 @@ pub fn heap_keeps_fit()
     ensures extend { ExtendFits }
     ensures cut { CutFits }
     ensures map_put { MapPutFits }
+    ensures map_extend { MapExtendFits }
     ensures map_cut { MapCutFits }
     ensures map_cut_at { MapCutAtFits }
     ensures append { AppendFits }

@@ -1,7 +1,7 @@
 //! What objects weigh, and how much a change adds.
-ghost use Rattle.std.specs.Prelude.{◌≡◌, ◌<◌, ◌≤◌, suc, MatchOption, slice_get};
-ghost use Rattle.object_values.specs.Pairs.{value_of};
-ghost use Rattle.object_heap.specs.Objects.{weight_of, new_growth};
+ghost use Rattle.std.specs.Prelude.{◌≡◌, ◌<◌, ◌≤◌, ◌^◌, suc, length, MatchOption, slice_get};
+ghost use Rattle.object_values.specs.Pairs.{value_of, key_at, HasDistinctKeys};
+ghost use Rattle.object_heap.specs.Objects.{weight_of, new_growth, new_keys};
 ghost use Rattle.object_heap.specs.Parts.{asked};
 ghost use Rattle.object_heap.specs.Store.{weight};
 ghost use Rattle.object_heap.specs.Objects as spec;
@@ -120,5 +120,49 @@ fn growth_of_new(pairs: &Pairs, key: &Value, growth: u64) -> u64
     match pairs.get(key) {
         None => growth,
         Some(_) => 0,
+    }
+}
+
+/// How much pairs that are put add to the weight.
+pub fn put_all_growth(objects: &[Object], id: u32, more: &Pairs) -> u64
+    ensures growth { result ≡ asked (spec.put_all_growth more.now) 0 (slice_get objects.now id) }
+    ensures distinct { HasDistinctKeys more.now }
+{
+    let _count = more.len();
+    match objects.get(id as usize) {
+        Some(object) => put_all_growth_in(object, more),
+        None => 0,
+    }
+}
+
+fn put_all_growth_in(object: &Object, more: &Pairs) -> u64
+    ensures { result ≡ spec.put_all_growth more.now object.now }
+{
+    match object {
+        Object::Map { pairs, .. } => count_new(pairs, more) * 2,
+        Object::Set { items, .. } => count_new(items, more),
+        _ => 0,
+    }
+}
+
+// How many keys are new.
+fn count_new(pairs: &Pairs, more: &Pairs) -> u64
+    ensures count { result ≡ new_keys pairs.now more.now }
+    ensures bound { result < 2 ^ 63 }
+{
+    let mut count = 0;
+    for at in 0..more.len() {
+        count += new_at(pairs, more, at);
+    }
+    count
+}
+
+// Whether the key at a place is new, as a number.
+fn new_at(pairs: &Pairs, more: &Pairs, at: usize) -> u64
+    ensures { result ≡ spec.new_key pairs.now (key_at more.now at) }
+{
+    match more.key_at(at) {
+        Some(key) => growth_of_new(pairs, key, 1),
+        None => 0,
     }
 }

@@ -1,7 +1,7 @@
 use Rattle.std.proofs.Common.{[], ◌∷◌, ◌++◌}
-use Rattle.object_heap.specs.Objects.{with_inserted, with_all_inserted, with_put, with_units, renewed_by}
+use Rattle.object_heap.specs.Objects.{with_inserted, with_all_inserted, with_put, with_all_put, with_units, renewed_by}
 use Rattle.object_heap.specs.Store.{with_change}
-use Rattle.object_heap.proofs.Fitting.{added_fits, put_fits, grow_fits, extend_fits, cut_fits, map_put_fits, map_cut_fits, map_cut_at_fits, append_fits, renew_fits, refill_fits, items_fit, values_fit, captures_fit}
+use Rattle.object_heap.proofs.Fitting.{added_fits, put_fits, grow_fits, extend_fits, cut_fits, map_put_fits, map_extend_fits, map_cut_fits, map_cut_at_fits, append_fits, renew_fits, refill_fits, items_fit, values_fit, captures_fit}
 use Rattle.object_heap.proofs.Keeping.{pays_fits, pays_surely_fits, throws_fits, answers_fit}
 use Rattle.object_heap.proofs.laws.heap_keeps_fit.Goals as goal
 
@@ -41,6 +41,10 @@ returns-clause-cut c = cut_fits
 pub returns-clause-map_put : goal.returns-clause-map_put
 returns-clause-map_put c rules old new id key value result p f k h =
     pays_fits rules old new (with_change old.objects id (with_put key value)) 0 result p f (map_put_fits rules old.objects id key value f k h)
+
+pub returns-clause-map_extend : goal.returns-clause-map_extend
+returns-clause-map_extend c rules old new id more result p f h =
+    pays_fits rules old new (with_change old.objects id (with_all_put more)) 0 result p f (map_extend_fits rules old.objects id more f h)
 
 pub returns-clause-map_cut : goal.returns-clause-map_cut
 returns-clause-map_cut c = map_cut_fits
