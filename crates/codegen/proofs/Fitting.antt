@@ -150,7 +150,7 @@ operator_takes o parts of x = subst (AllRepresented (code.operator_takes o)) (sy
 
 keeps_representation : (from to : Ty) → Keeps from to → representation_of to ≡ representation_of from
 keeps_representation from to (Same e) = sym (ap representation_of e)
-keeps_representation from to (References r s) = is_boxed to s ∙ sym (is_boxed from r)
+keeps_representation from to (References r s given) = is_boxed to s ∙ sym (is_boxed from r)
 
 run_time_layer : (l : Ty-F Ty) → listed_layer (map-Ty Ty Bool is_listed l) ≡ true → representation_of_layer l ≡ run_time_representation l
 run_time_layer Ty-F.Void h = absurd cc

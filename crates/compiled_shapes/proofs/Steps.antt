@@ -402,7 +402,7 @@ module _ (allow : AllowList) (functions : List FunCode) (f : FunCode) where
 
   keeps_straight : (from to : Ty) (s : List Slot) → Keeps from to → push from s ≡ push to s
   keeps_straight from to s (Same x) = ap (λ of. push of s) x
-  keeps_straight from to s (References x y) = push_reference from s x ∙ sym (push_reference to s y)
+  keeps_straight from to s (References x y given) = push_reference from s x ∙ sym (push_reference to s y)
 
   pub cast_straight : (c : Cast) (from to : Ty) (s : List Slot) → Casts c from to → Straight allow functions f (cast_code c to) (push from s) (push to s)
   cast_straight cast.Keep from to s h = keeps_straight from to s h

@@ -367,7 +367,7 @@ given_operated of o x = subst (λ o. OperatedHas of (gives_if o)) (sym x.is) x.h
 
 keeps_fit : (from to : Ty) (value : Value) → Keeps from to → Has from value → Has to value
 keeps_fit from to value (Same x) h = subst (λ of. Has of value) x h
-keeps_fit from to value (References x y) h = reference_has (out-Ty to) value y
+keeps_fit from to value (References x y given) h = reference_has (out-Ty to) value y
 
 converted_fits : (p q : Primitive) (of : Ty) (value : Value) → of ≡ t.Prim q → Converts p q → HasPrimitive p value → OperatedHas of (gives_if (number_cast p q value))
 converted_fits p q of value x c h =

@@ -25,7 +25,7 @@ use Rattle.object_values.specs.declared.object.Owner.{Owner}
 use Rattle.object_values.specs.declared.object.Owner.TheVariants.{Script, Prelude}
 use Rattle.run_state.specs.World.{Limits, allowed_in}
 use Rattle.source_meaning.specs.Tree.{Name, Expr, Literal, Quoted, Local, Apply, Guarded, Logic, Conditional, Elvis, Assign, Modify, Lambda, Reference, NewReference, Exprs, None', One, Maybe, Missing, Given, Stmt, Do, If, While, DoWhile, ForEach, Try, Block, Break, Continue, Return, Throw, Stmts, Finish, Then, Declare, Catches, NoCatch, Catch, Variable, Fun, Program, Programs, functions_in, type_of}
-use Rattle.program_typing.specs.Types.{HasValues, IsReference, IsNamed, string, IsOf, Takes, Casts}
+use Rattle.program_typing.specs.Types.{HasValues, IsReference, IsNamed, IsGiven, string, IsOf, Takes, Casts}
 
 -- the names in sight, the newest first
 abbrev pub Scope : Type 0
@@ -79,8 +79,13 @@ TakesTypes kind.Instance params [] = ⊥
 TakesTypes kind.Instance params (of ∷ ofs) = IsReference of × (ofs ≡ params)
 TakesTypes other params ofs = ofs ≡ params
 
--- A call names a member: it is the catalogue's of this number and kind, built and allowed, the text is its own, and it takes and gives these
--- types.
+-- the receiver's type is the class that has the member, or the table keeps its values at that class
+abbrev pub ReceiverIsOf : MemberKind → ℕ → List Ty → Type 0
+ReceiverIsOf kind.Instance owner (from ∷ ofs) = IsGiven cast.Keep from (t.Class owner)
+ReceiverIsOf other owner ofs = Unit {0}
+
+-- A call names a member: it is the catalogue's of this number and kind, built and allowed, the text is its own, it takes and gives these
+-- types, and its receiver is of the class that has it.
 pub record MemberAgrees (funs : Known) (kind : MemberKind) (m : Member) (ofs : List Ty) (of : Ty) : Type 0 where
   pub member : MemberType
   pub is : slice_get catalogue m.number ≡ Some member
@@ -89,6 +94,7 @@ pub record MemberAgrees (funs : Known) (kind : MemberKind) (m : Member) (ofs : L
   pub built : is_built m.number ≡ true
   pub allowed : flag funs.allowed.members m.number ≡ true
   pub takes : TakesTypes kind member.params ofs
+  pub receiver : ReceiverIsOf kind member.owner ofs
   pub gives : of ≡ member.result
 
 abbrev pub Applies : Known → Operation → List Ty → Ty → Type 0

@@ -9,6 +9,8 @@ use Rattle.pl_types.specs.declared.classes.TheConstants.{STRING, PRELUDE}
 use Rattle.pl_types.specs.declared.ty.Ty.TheFolds.{fold-Ty}
 use Rattle.pl_types.specs.declared.conversion.Cast.{Cast}
 use Rattle.pl_types.specs.declared.conversion.Cast.TheVariants as cast
+use Rattle.pl_types.specs.Casts.{cast_of}
+use Rattle.pl_types.specs.Classes.{class_is_below}
 use Rattle.object_values.specs.declared.value.Value.{Value}
 use Rattle.object_values.specs.declared.value.Value.TheVariants as v
 use Rattle.arithmetic.specs.declared.operator.Op.{Op}
@@ -166,16 +168,22 @@ is_listed = fold-Ty Bool listed_layer
 pub record IsNamed (of : Ty) : Type 0 where
   pub listed : is_listed of ≡ true
 
--- a value that a cast keeps: of one type, or a reference
+-- a cast between two types is the one that the table gives, written or added
+pub record IsGiven (c : Cast) (from to : Ty) : Type 0 where
+  pub written : Bool
+  pub is : cast_of class_is_below from to written ≡ Some c
+
+-- a value that a cast keeps: of one type, or a reference where the table keeps it
 pub data Keeps (from to : Ty) : Type 0 where
   Same : from ≡ to → Keeps from to
-  References : IsReference from → IsReference to → Keeps from to
+  References : IsReference from → IsReference to → IsGiven cast.Keep from to → Keeps from to
 
--- a cast goes from this type to that one
+-- A cast goes from this type to that one. What it keeps or puts in a box it does as the table says, so that the value is of the type that it
+-- goes to.
 abbrev pub Casts : Cast → Ty → Ty → Type 0
 Casts cast.Keep from to = Keeps from to
 Casts (cast.Number p q) from to = (from ≡ t.Prim p) × (to ≡ t.Prim q) × Converts p q
-Casts (cast.Wrap p q) from to = (from ≡ t.Prim p) × IsReference to × Converts p q
+Casts (cast.Wrap p q) from to = (from ≡ t.Prim p) × IsReference to × Converts p q × IsGiven (cast.Wrap p q) from to
 Casts (cast.Unwrap p q) from to = IsReference from × (to ≡ t.Prim q) × Converts p q
 Casts cast.Implicit from to = IsReference from × IsNamed to
 Casts cast.Explicit from to = IsReference from × IsNamed to

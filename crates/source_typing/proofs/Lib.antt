@@ -1,5 +1,4 @@
 pub mod Values
 pub mod Operations
 pub mod Members
-pub mod Receivers
 pub mod Meanings

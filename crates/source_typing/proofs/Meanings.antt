@@ -47,13 +47,12 @@ use Rattle.source_meaning.specs.Tree.{Name, Expr, Literal, Quoted, Local, Apply,
 use Rattle.source_meaning.specs.Operating.{Operated, Meaningless, Gives, Acts, operates, casts}
 use Rattle.source_meaning.specs.Members.{Sending, Unsent, OnNull, Sends, Reads, sent_by, sent}
 use Rattle.source_meaning.specs.Meaning.{State, Env, Place, Out, Done, Thrown, Over, More, Flow, Normal, Broke, Continued, Returned, bind, leave, lookup, entry, found, effect, operated, choose, goes_next, goes_again, is_of_class, returned, back, Meaning, entered, called, acted, paid, member_called, member_applied, of_member, applied, logic, modified, expr_of, exprs_of, value_if, turned, done_turn, caught, handled, stmt_of, value_or, stmts_of, layer, meaning}
-use Rattle.program_typing.specs.Agreeing.{Scope, IsVariable, boolean, types_of, Calls, TakesTypes, MemberAgrees, Applies, ExprAgrees, ExprsAgree, TestAgrees, UpdateAgrees, BeginAgrees, ReturnAgrees, StmtAgrees, StmtsAgree, CatchesAgree, scope_of, FunAgrees, WellFormed, AreWellFormed, known_in}
-use Rattle.source_typing.specs.Suiting.{OperationSuits, ChangeSuits, ExprSuits, ExprsSuit, MaybeSuits, StmtSuits, StmtsSuit, CatchesSuit, Suits, BothSuit}
+use Rattle.program_typing.specs.Agreeing.{Scope, IsVariable, boolean, types_of, Calls, TakesTypes, ReceiverIsOf, MemberAgrees, Applies, Changes, ExprAgrees, ExprsAgree, TestAgrees, UpdateAgrees, BeginAgrees, ReturnAgrees, StmtAgrees, StmtsAgree, CatchesAgree, scope_of, FunAgrees, WellFormed, AreWellFormed, known_in}
 use Rattle.source_typing.specs.Outs.{IsTyped, AreTyped, EnvTyped, StateTyped, FlowTyped, OutTyped}
 use Rattle.source_typing.specs.Laws.{MeaningTyped, MeaningsAreTyped, ResultsAreTyped}
 use Rattle.source_typing.proofs.Values.{typed_grows, env_grows, MadeTyped, object_typed, lookup_typed, assigned_typed, older_typed, EntryTyped, entry_typed, null_typed, constant_typed, text_typed, flag_typed, default_typed, nothing_typed, returned_typed, given_by_typed}
 use Rattle.source_typing.proofs.Operations.{OutcomeIs, OperatedIs, null_is, operates_is, casts_is, begins_is}
-use Rattle.source_typing.proofs.Members.{ReceiverSuits, Taken, SendingTyped, sent_typed, DoneIs, member_is}
+use Rattle.source_typing.proofs.Members.{Taken, SendingTyped, sent_typed, DoneIs, member_is}
 
 abbrev Any : List Object → Value → Type 0
 Any objects value = Unit {0}
@@ -178,27 +177,27 @@ module _ (rules : Rules) where
   moved : {A : Type 0} (good : List Object → A → Type 0) (g : Scope) (w after : World) (o : Out A) → after.store ≡ w.store → Keeps good after.store.objects g o → Keeps good w.store.objects g o
   moved good g w after o is x = subst (λ (y : Store). Keeps good y.objects g o) is x
 
-  module _ (funs : Programs) (limits : Limits) (formed : (text : Owner) → WellFormed (known_in funs limits text)) (suited : (text : Owner) → Suits (functions_in funs text)) (m : Meaning)
+  module _ (funs : Programs) (limits : Limits) (formed : (text : Owner) → WellFormed (known_in funs limits text)) (m : Meaning)
       (ih : MeaningTyped rules funs limits m) where
-    expr_ih : (x : Expr) (d : Place) (s : State) (e : Env) (g : Scope) → ExprAgrees (known_in funs limits d.text) g x → ExprSuits x → Here g s e → Keeps (Of (type_of x)) s.world.store.objects g (m.expr d s e x)
-    expr_ih x d s e g a b h = record { by = ih.expr x d s e g a b h }
+    expr_ih : (x : Expr) (d : Place) (s : State) (e : Env) (g : Scope) → ExprAgrees (known_in funs limits d.text) g x → Here g s e → Keeps (Of (type_of x)) s.world.store.objects g (m.expr d s e x)
+    expr_ih x d s e g a h = record { by = ih.expr x d s e g a h }
 
-    exprs_ih : (x : Exprs) (d : Place) (s : State) (e : Env) (g : Scope) → ExprsAgree (known_in funs limits d.text) g x → ExprsSuit x → Here g s e
+    exprs_ih : (x : Exprs) (d : Place) (s : State) (e : Env) (g : Scope) → ExprsAgree (known_in funs limits d.text) g x → Here g s e
         → Keeps (λ objects values. AreTyped objects (types_of x) values) s.world.store.objects g (m.exprs d s e x)
-    exprs_ih x d s e g a b h = record { by = ih.exprs x d s e g a b h }
+    exprs_ih x d s e g a h = record { by = ih.exprs x d s e g a h }
 
-    stmt_ih : (x : Stmt) (d : Place) (s : State) (e : Env) (g : Scope) (of : Ty) (looped : Bool) → StmtAgrees (known_in funs limits d.text) of looped g x → StmtSuits x → Here g s e
+    stmt_ih : (x : Stmt) (d : Place) (s : State) (e : Env) (g : Scope) (of : Ty) (looped : Bool) → StmtAgrees (known_in funs limits d.text) of looped g x → Here g s e
         → Keeps (FlowTyped of) s.world.store.objects g (m.stmt d s e x)
-    stmt_ih x d s e g of looped a b h = record { by = ih.stmt x d s e g of looped a b h }
+    stmt_ih x d s e g of looped a h = record { by = ih.stmt x d s e g of looped a h }
 
-    stmts_ih : (x : Stmts) (d : Place) (s : State) (e : Env) (g : Scope) (of : Ty) (looped : Bool) → StmtsAgree (known_in funs limits d.text) of looped g x → StmtsSuit x → Here g s e
+    stmts_ih : (x : Stmts) (d : Place) (s : State) (e : Env) (g : Scope) (of : Ty) (looped : Bool) → StmtsAgree (known_in funs limits d.text) of looped g x → Here g s e
         → Keeps (FlowTyped of) s.world.store.objects g (m.stmts d s e x)
-    stmts_ih x d s e g of looped a b h = record { by = ih.stmts x d s e g of looped a b h }
+    stmts_ih x d s e g of looped a h = record { by = ih.stmts x d s e g of looped a h }
 
     -- an expression whose type is this one
-    expr_of_type : (x : Expr) (of : Ty) (d : Place) (s : State) (e : Env) (g : Scope) → type_of x ≡ of → ExprAgrees (known_in funs limits d.text) g x → ExprSuits x → Here g s e
+    expr_of_type : (x : Expr) (of : Ty) (d : Place) (s : State) (e : Env) (g : Scope) → type_of x ≡ of → ExprAgrees (known_in funs limits d.text) g x → Here g s e
         → Keeps (Of of) s.world.store.objects g (m.expr d s e x)
-    expr_of_type x of d s e g same a b h = subst (λ (of : Ty). Keeps (Of of) s.world.store.objects g (m.expr d s e x)) same (expr_ih x d s e g a b h)
+    expr_of_type x of d s e g same a h = subst (λ (of : Ty). Keeps (Of of) s.world.store.objects g (m.expr d s e x)) same (expr_ih x d s e g a h)
 
     -- ---- calls of functions
 
@@ -210,15 +209,15 @@ module _ (rules : Rules) where
     backs of inner g start turns e (Over limit w) h x = x
     backs of inner g start turns e More h x = tt
 
-    enters : (c : Counted) (d : Place) (s : State) (e : Env) (g : Scope) (f : Fun) (o : Option Env) → FunAgrees (known_in funs limits d.text) f → StmtsSuit f.body → Here g s e
+    enters : (c : Counted) (d : Place) (s : State) (e : Env) (g : Scope) (f : Fun) (o : Option Env) → FunAgrees (known_in funs limits d.text) f → Here g s e
         → EntryTyped s.world.store.objects (scope_of f.params []) o → SameStore s.world c → Keeps (Of f.result) s.world.store.objects g (entered funs limits m c d s e f.result f.body o)
-    enters c d s e g f None a b h x p = record { by = tt }
-    enters (Passes limit w) d s e g f (Some args) a b h x p = record { by = passes_on s.world w p h.0 }
-    enters (Counts w) d s e g f (Some args) a b h x p =
+    enters c d s e g f None a h x p = record { by = tt }
+    enters (Passes limit w) d s e g f (Some args) a h x p = record { by = passes_on s.world w p h.0 }
+    enters (Counts w) d s e g f (Some args) a h x p =
         let inner = same_state s.world w s.turns 0 (scope_of f.params []) args p (h.0, x) in
         let outer = same_state s.world w s.turns 0 g e p h in
         moved (Of f.result) g s.world w _ p
-        (record { by = backs f.result (scope_of f.params []) g w.store.objects s.turns e _ outer.1 (ih.stmts f.body (record { text = d.text; depth = suc d.depth }) (record { world = w; turns = 0 }) args (scope_of f.params []) f.result false a.body b inner) })
+        (record { by = backs f.result (scope_of f.params []) g w.store.objects s.turns e _ outer.1 (ih.stmts f.body (record { text = d.text; depth = suc d.depth }) (record { world = w; turns = 0 }) args (scope_of f.params []) f.result false a.body inner) })
 
     calls : (number : ℕ) (ofs : List Ty) (of : Ty) (d : Place) (s : State) (e : Env) (g : Scope) (values : List Value) → Calls (known_in funs limits d.text) number ofs of → Here g s e
         → AreTyped s.world.store.objects ofs values → Keeps (Of of) s.world.store.objects g (called funs limits m (slice_get (functions_in funs d.text) number) d s e values)
@@ -226,7 +225,7 @@ module _ (rules : Rules) where
         let args = entry_typed s.world.store.objects c.fun.params values [] [] (subst (λ (ofs : List Ty). AreTyped s.world.store.objects ofs values) c.takes x) tt in
         subst (λ (found : Option Fun). Keeps (Of of) s.world.store.objects g (called funs limits m found d s e values)) (sym c.is)
         (subst (λ (of : Ty). Keeps (Of of) s.world.store.objects g (called funs limits m (Some c.fun) d s e values)) (sym c.gives)
-        (enters (enter limits d.depth s.world) d s e g c.fun (entry c.fun.params values []) ((formed d.text).each number c.fun c.is) ((suited d.text).each number c.fun c.is) h args (call_keeps limits d.depth s.world)))
+        (enters (enter limits d.depth s.world) d s e g c.fun (entry c.fun.params values []) ((formed d.text).each number c.fun c.is) h args (call_keeps limits d.depth s.world)))
 
     -- ---- members
 
@@ -258,117 +257,117 @@ module _ (rules : Rules) where
     allowed_members false number values d s e g h b x = record { by = tt }
     allowed_members true number values d s e g h b x = member_calls (sent (member_at number) values) number d s e g h b x
 
-    -- a member of a kind, on a receiver that suits it
+    -- a member of a kind
     members : (sort : MemberKind) (x : Member) (ofs : List Ty) (of : Ty) (values : List Value) (d : Place) (s : State) (e : Env) (g : Scope) → MemberAgrees (known_in funs limits d.text) sort x ofs of
-        → ReceiverSuits sort (member_at x.number).owner ofs → Here g s e → AreTyped s.world.store.objects ofs values → Keeps (Of of) s.world.store.objects g (of_member funs limits m x values d s e)
-    members sort x ofs of values d s e g a b h args =
+        → Here g s e → AreTyped s.world.store.objects ofs values → Keeps (Of of) s.world.store.objects g (of_member funs limits m x values d s e)
+    members sort x ofs of values d s e g a h args =
         let same : member_at x.number ≡ a.member = get_or_from_slice_get catalogue x.number a.member (constructor 0 []) a.is in
         let sorted : (member_at x.number).kind ≡ sort = ap (λ (y : MemberType). y.kind) same ∙ a.sort in
         let takes : TakesTypes sort (member_at x.number).params ofs = subst (λ (y : MemberType). TakesTypes sort y.params ofs) (sym same) a.takes in
         let gives : (member_at x.number).result ≡ of = ap (λ (y : MemberType). y.result) same ∙ sym a.gives in
-        let sending = sent_typed s.world.store.objects sort (member_at x.number).owner (member_at x.number).params ofs values takes b args in
+        let receiver : ReceiverIsOf sort (member_at x.number).owner ofs = subst (λ (y : MemberType). ReceiverIsOf sort y.owner ofs) (sym same) a.receiver in
+        let sending = sent_typed s.world.store.objects sort (member_at x.number).owner (member_at x.number).params ofs values takes receiver args in
         let sending' = subst (λ (k : MemberKind). SendingTyped s.world.store.objects k (member_at x.number).owner (member_at x.number).params (sent_by k (member_at x.number).params values)) (sym sorted) sending in
         subst (λ (of : Ty). Keeps (Of of) s.world.store.objects g (of_member funs limits m x values d s e)) gives
         (allowed_members (flag (allowed_in limits d.text).members x.number) x.number values d s e g h a.built sending')
 
     -- ---- expressions
 
-    applies : (o : Operation) (ofs : List Ty) (of : Ty) (values : List Value) (d : Place) (s : State) (e : Env) (g : Scope) → Applies (known_in funs limits d.text) o ofs of → OperationSuits o ofs of
+    applies : (o : Operation) (ofs : List Ty) (of : Ty) (values : List Value) (d : Place) (s : State) (e : Env) (g : Scope) → Applies (known_in funs limits d.text) o ofs of
         → Here g s e → AreTyped s.world.store.objects ofs values → Keeps (Of of) s.world.store.objects g (applied funs limits m o d s e of values)
-    applies (operation.Operator o) ofs of values d s e g a b h x = operated_typed of (operates o values s.world.store) s e g h (operates_is rules s.world h.0 o ofs of values a x)
-    applies (operation.Cast c) [] of values d s e g a b h x = absurd a
-    applies (operation.Cast c) (from ∷ []) of [] d s e g a b h x = absurd x
-    applies (operation.Cast c) (from ∷ []) of (value ∷ []) d s e g a b h x = operated_typed of (casts c of value s.world.store) s e g h (casts_is rules s.world h.0 c from of value a b x.0)
-    applies (operation.Cast c) (from ∷ []) of (value ∷ other ∷ values) d s e g a b h x = absurd x.1
-    applies (operation.Cast c) (from ∷ other ∷ ofs) of values d s e g a b h x = absurd a
-    applies (operation.InstanceOf is) [] of values d s e g a b h x = absurd a
-    applies (operation.InstanceOf is) (from ∷ []) of [] d s e g a b h x = absurd x
-    applies (operation.InstanceOf is) (from ∷ []) of (value ∷ []) d s e g a b h x = done h (flag_typed s.world.store.objects of (is_instance s.world.store.objects value is) a.2)
-    applies (operation.InstanceOf is) (from ∷ []) of (value ∷ other ∷ values) d s e g a b h x = absurd x.1
-    applies (operation.InstanceOf is) (from ∷ other ∷ ofs) of values d s e g a b h x = absurd a
-    applies (operation.Function number) ofs of values d s e g a b h x = calls number ofs of d s e g values a h x
-    applies (operation.Instance member) [] of values d s e g a b h x = absurd a.takes
-    applies (operation.Instance member) (from ∷ ofs) of values d s e g a b h x = members kind.Instance member (from ∷ ofs) of values d s e g a b h x
-    applies (operation.Static member) ofs of values d s e g a b h x = members kind.Static member ofs of values d s e g a tt h x
-    applies (operation.Constructor member) ofs of values d s e g a b h x = members kind.Constructor member ofs of values d s e g a tt h x
-    applies (operation.Field member) ofs of values d s e g a b h x = members kind.Field member ofs of values d s e g a tt h x
-    applies (operation.Host member) ofs of values d s e g a b h x = absurd a
-    applies (operation.DefCall name) ofs of values d s e g a b h x = absurd a
-    applies (operation.DefName name) ofs of values d s e g a b h x = absurd a
-    applies operation.DefIndex ofs of values d s e g a b h x = absurd a
+    applies (operation.Operator o) ofs of values d s e g a h x = operated_typed of (operates o values s.world.store) s e g h (operates_is rules s.world h.0 o ofs of values a x)
+    applies (operation.Cast c) [] of values d s e g a h x = absurd a
+    applies (operation.Cast c) (from ∷ []) of [] d s e g a h x = absurd x
+    applies (operation.Cast c) (from ∷ []) of (value ∷ []) d s e g a h x = operated_typed of (casts c of value s.world.store) s e g h (casts_is rules s.world h.0 c from of value a x.0)
+    applies (operation.Cast c) (from ∷ []) of (value ∷ other ∷ values) d s e g a h x = absurd x.1
+    applies (operation.Cast c) (from ∷ other ∷ ofs) of values d s e g a h x = absurd a
+    applies (operation.InstanceOf is) [] of values d s e g a h x = absurd a
+    applies (operation.InstanceOf is) (from ∷ []) of [] d s e g a h x = absurd x
+    applies (operation.InstanceOf is) (from ∷ []) of (value ∷ []) d s e g a h x = done h (flag_typed s.world.store.objects of (is_instance s.world.store.objects value is) a.2)
+    applies (operation.InstanceOf is) (from ∷ []) of (value ∷ other ∷ values) d s e g a h x = absurd x.1
+    applies (operation.InstanceOf is) (from ∷ other ∷ ofs) of values d s e g a h x = absurd a
+    applies (operation.Function number) ofs of values d s e g a h x = calls number ofs of d s e g values a h x
+    applies (operation.Instance member) [] of values d s e g a h x = absurd a.takes
+    applies (operation.Instance member) (from ∷ ofs) of values d s e g a h x = members kind.Instance member (from ∷ ofs) of values d s e g a h x
+    applies (operation.Static member) ofs of values d s e g a h x = members kind.Static member ofs of values d s e g a h x
+    applies (operation.Constructor member) ofs of values d s e g a h x = members kind.Constructor member ofs of values d s e g a h x
+    applies (operation.Field member) ofs of values d s e g a h x = members kind.Field member ofs of values d s e g a h x
+    applies (operation.Host member) ofs of values d s e g a h x = absurd a
+    applies (operation.DefCall name) ofs of values d s e g a h x = absurd a
+    applies (operation.DefName name) ofs of values d s e g a h x = absurd a
+    applies operation.DefIndex ofs of values d s e g a h x = absurd a
 
     logic_typed : (o : Logical) (of : Ty) (value : Value) (right : Expr) (d : Place) (s : State) (e : Env) (g : Scope) → of ≡ boolean → type_of right ≡ of → ExprAgrees (known_in funs limits d.text) g right
-        → ExprSuits right → Here g s e → Keeps (Of of) s.world.store.objects g (logic funs limits m o d s e value right)
-    logic_typed And of value right d s e g is same a b h = chosen value (expr_of_type right of d s e g same a b h) (done h (flag_typed s.world.store.objects of false is))
-    logic_typed Or of value right d s e g is same a b h = chosen value (done h (flag_typed s.world.store.objects of true is)) (expr_of_type right of d s e g same a b h)
+        → Here g s e → Keeps (Of of) s.world.store.objects g (logic funs limits m o d s e value right)
+    logic_typed And of value right d s e g is same a h = chosen value (expr_of_type right of d s e g same a h) (done h (flag_typed s.world.store.objects of false is))
+    logic_typed Or of value right d s e g is same a h = chosen value (done h (flag_typed s.world.store.objects of true is)) (expr_of_type right of d s e g same a h)
 
     modifies : (x : Name) (of : Ty) (change : Change) (right : Expr) (given : Given_by) (old : Value) (d : Place) (s : State) (e : Env) (g : Scope) → IsVariable g x of
-        → ExprAgrees (known_in funs limits d.text) g right → ExprSuits right → ChangeSuits change of (type_of right) → Here g s e → IsTyped s.world.store.objects of old
+        → ExprAgrees (known_in funs limits d.text) g right → Changes change of (type_of right) → Here g s e → IsTyped s.world.store.objects of old
         → Keeps (Of of) s.world.store.objects g (modified funs limits m x of change d s e right given old)
-    modifies x of change right given old d s e g v a b c h f =
-        let k = c.changes in
-        then' (operated_typed k.left (casts change.before of old s.world.store) s e g h (begins_is rules s.world h.0 change.before of k.left old k.known k.before c.before f)) (λ left s1 e1 h1 n1 f1.
-        then' (expr_ih right d s1 e1 g a b h1) (λ value s2 e2 h2 n2 f2.
+    modifies x of change right given old d s e g v a k h f =
+        then' (operated_typed k.left (casts change.before of old s.world.store) s e g h (begins_is rules s.world h.0 change.before of k.left old k.known k.before f)) (λ left s1 e1 h1 n1 f1.
+        then' (expr_ih right d s1 e1 g a h1) (λ value s2 e2 h2 n2 f2.
         let left2 = typed_grows s1.world.store.objects s2.world.store.objects n2 k.left left f1 in
         then' (operated_typed k.result (operates change.operator (left ∷ value ∷ []) s2.world.store) s2 e2 g h2
         (operates_is rules s2.world h2.0 change.operator (k.left ∷ type_of right ∷ []) k.result (left ∷ value ∷ []) k.does (left2, (f2, tt)))) (λ result s3 e3 h3 n3 f3.
-        then' (operated_typed of (casts change.after of result s3.world.store) s3 e3 g h3 (casts_is rules s3.world h3.0 change.after k.result of result k.after c.after f3)) (λ new s4 e4 h4 n4 f4.
+        then' (operated_typed of (casts change.after of result s3.world.store) s3 e3 g h3 (casts_is rules s3.world h3.0 change.after k.result of result k.after f3)) (λ new s4 e4 h4 n4 f4.
         let there = there_trans s.world.store.objects s1.world.store.objects s4.world.store.objects n1
         (there_trans s1.world.store.objects s2.world.store.objects s4.world.store.objects n2 (there_trans s2.world.store.objects s3.world.store.objects s4.world.store.objects n3 n4)) in
         done (h4.0, assigned_typed s4.world.store.objects g e4 x of new v f4 h4.1)
         (given_by_typed s4.world.store.objects given of old new (typed_grows s.world.store.objects s4.world.store.objects there of old f) f4)))))
 
     assigns : (at : ℕ) (of : Ty) (to : Target) (parts : Exprs) (value : Expr) (d : Place) (s : State) (e : Env) (g : Scope) → ExprAgrees (known_in funs limits d.text) g (Assign at of to parts value)
-        → ExprSuits (Assign at of to parts value) → Here g s e → Keeps (Of of) s.world.store.objects g (expr_of funs limits m d s e (Assign at of to parts value))
-    assigns at of (target.Local x) parts value d s e g a b h =
-        then' (expr_of_type value of d s e g a.2 a.0 b h) (λ value s e h n f. done (h.0, assigned_typed s.world.store.objects g e x of value a.1 f h.1) f)
-    assigns at of target.Element parts value d s e g a b h = absurd a
-    assigns at of (target.Members read write) parts value d s e g a b h = absurd a
-    assigns at of target.DefIndex parts value d s e g a b h = absurd a
-    assigns at of (target.DefName name) parts value d s e g a b h = absurd a
+        → Here g s e → Keeps (Of of) s.world.store.objects g (expr_of funs limits m d s e (Assign at of to parts value))
+    assigns at of (target.Local x) parts value d s e g a h =
+        then' (expr_of_type value of d s e g a.2 a.0 h) (λ value s e h n f. done (h.0, assigned_typed s.world.store.objects g e x of value a.1 f h.1) f)
+    assigns at of target.Element parts value d s e g a h = absurd a
+    assigns at of (target.Members read write) parts value d s e g a h = absurd a
+    assigns at of target.DefIndex parts value d s e g a h = absurd a
+    assigns at of (target.DefName name) parts value d s e g a h = absurd a
 
     changes : (at : ℕ) (of : Ty) (to : Target) (parts : Exprs) (change : Change) (right : Expr) (given : Given_by) (d : Place) (s : State) (e : Env) (g : Scope)
-        → ExprAgrees (known_in funs limits d.text) g (Modify at of to parts change right given) → ExprSuits (Modify at of to parts change right given) → Here g s e
+        → ExprAgrees (known_in funs limits d.text) g (Modify at of to parts change right given) → Here g s e
         → Keeps (Of of) s.world.store.objects g (expr_of funs limits m d s e (Modify at of to parts change right given))
-    changes at of (target.Local x) parts change right given d s e g a b h =
-        then' (found_typed of (lookup e x) s e g h (lookup_typed s.world.store.objects g e x of a.1 h.1)) (λ old s e h n f. modifies x of change right given old d s e g a.1 a.0 b.0 b.1 h f)
-    changes at of target.Element parts change right given d s e g a b h = absurd a
-    changes at of (target.Members read write) parts change right given d s e g a b h = absurd a
-    changes at of target.DefIndex parts change right given d s e g a b h = absurd a
-    changes at of (target.DefName name) parts change right given d s e g a b h = absurd a
+    changes at of (target.Local x) parts change right given d s e g a h =
+        then' (found_typed of (lookup e x) s e g h (lookup_typed s.world.store.objects g e x of a.1 h.1)) (λ old s e h n f. modifies x of change right given old d s e g a.1 a.0 a.2 h f)
+    changes at of target.Element parts change right given d s e g a h = absurd a
+    changes at of (target.Members read write) parts change right given d s e g a h = absurd a
+    changes at of target.DefIndex parts change right given d s e g a h = absurd a
+    changes at of (target.DefName name) parts change right given d s e g a h = absurd a
 
-    expr_keeps : (x : Expr) (d : Place) (s : State) (e : Env) (g : Scope) → ExprAgrees (known_in funs limits d.text) g x → ExprSuits x → Here g s e
+    expr_keeps : (x : Expr) (d : Place) (s : State) (e : Env) (g : Scope) → ExprAgrees (known_in funs limits d.text) g x → Here g s e
         → Keeps (Of (type_of x)) s.world.store.objects g (expr_of funs limits m d s e x)
-    expr_keeps (Literal at of c) d s e g a b h = done h (constant_typed s.world.store.objects c of a)
-    expr_keeps (Quoted at of text) d s e g a b h = done h (text_typed s.world.store.objects of _ a)
-    expr_keeps (Local at of x) d s e g a b h = found_typed of (lookup e x) s e g h (lookup_typed s.world.store.objects g e x of a h.1)
-    expr_keeps (Apply at of o parts) d s e g a b h = then' (exprs_ih parts d s e g a.0 b.0 h) (λ values s e h n f. applies o (types_of parts) of values d s e g a.1 b.1 h f)
-    expr_keeps (Guarded at of o None') d s e g a b h = absurd a
-    expr_keeps (Guarded at of o (One x others)) d s e g a b h =
-        then' (expr_ih x d s e g a.0 b.0.0 h) (λ value s1 e1 h1 n1 f1. either (is_null value)
-        (then' (exprs_ih others d s1 e1 g a.1 b.0.1 h1) (λ values s2 e2 h2 n2 f2.
+    expr_keeps (Literal at of c) d s e g a h = done h (constant_typed s.world.store.objects c of a)
+    expr_keeps (Quoted at of text) d s e g a h = done h (text_typed s.world.store.objects of _ a)
+    expr_keeps (Local at of x) d s e g a h = found_typed of (lookup e x) s e g h (lookup_typed s.world.store.objects g e x of a h.1)
+    expr_keeps (Apply at of o parts) d s e g a h = then' (exprs_ih parts d s e g a.0 h) (λ values s e h n f. applies o (types_of parts) of values d s e g a.1 h f)
+    expr_keeps (Guarded at of o None') d s e g a h = absurd a
+    expr_keeps (Guarded at of o (One x others)) d s e g a h =
+        then' (expr_ih x d s e g a.0 h) (λ value s1 e1 h1 n1 f1. either (is_null value)
+        (then' (exprs_ih others d s1 e1 g a.1 h1) (λ values s2 e2 h2 n2 f2.
         applies o (type_of x ∷ types_of others) of (value ∷ values) d s2 e2 g
-        (subst (λ (o : Operation). Applies (known_in funs limits d.text) o (type_of x ∷ types_of others) of) (sym a.2.is) a.2.agrees) b.1 h2
+        (subst (λ (o : Operation). Applies (known_in funs limits d.text) o (type_of x ∷ types_of others) of) (sym a.2.is) a.2.agrees) h2
         (typed_grows s1.world.store.objects s2.world.store.objects n2 (type_of x) value f1, f2)))
         (done h1 (null_typed s1.world.store.objects of a.2.whole)))
-    expr_keeps (Logic at of o left right) d s e g a b h =
-        then' (expr_ih left d s e g a.0 b.0 h) (λ value s e h n f. logic_typed o of value right d s e g a.4 (a.3 ∙ sym a.4) a.1 b.1 h)
-    expr_keeps (Conditional at of c x y) d s e g a b h =
-        then' (expr_ih c d s e g a.0 b.0 h) (λ value s e h n f. chosen value (expr_of_type x of d s e g a.4 a.1 b.1 h) (expr_of_type y of d s e g a.5 a.2 b.2 h))
-    expr_keeps (Elvis at of left right) d s e g a b h =
-        then' (expr_of_type left of d s e g a.2 a.0 b.0 h) (λ value s e h n f. either (is_null value) (done h f) (expr_of_type right of d s e g a.3 a.1 b.1 h))
-    expr_keeps (Assign at of to parts value) d s e g a b h = assigns at of to parts value d s e g a b h
-    expr_keeps (Modify at of to parts change right given) d s e g a b h = changes at of to parts change right given d s e g a b h
-    expr_keeps (Lambda at of interface function) d s e g a b h = absurd a
-    expr_keeps (Reference at of interface class name) d s e g a b h = absurd a
-    expr_keeps (NewReference at of interface made) d s e g a b h = absurd a
+    expr_keeps (Logic at of o left right) d s e g a h =
+        then' (expr_ih left d s e g a.0 h) (λ value s e h n f. logic_typed o of value right d s e g a.4 (a.3 ∙ sym a.4) a.1 h)
+    expr_keeps (Conditional at of c x y) d s e g a h =
+        then' (expr_ih c d s e g a.0 h) (λ value s e h n f. chosen value (expr_of_type x of d s e g a.4 a.1 h) (expr_of_type y of d s e g a.5 a.2 h))
+    expr_keeps (Elvis at of left right) d s e g a h =
+        then' (expr_of_type left of d s e g a.2 a.0 h) (λ value s e h n f. either (is_null value) (done h f) (expr_of_type right of d s e g a.3 a.1 h))
+    expr_keeps (Assign at of to parts value) d s e g a h = assigns at of to parts value d s e g a h
+    expr_keeps (Modify at of to parts change right given) d s e g a h = changes at of to parts change right given d s e g a h
+    expr_keeps (Lambda at of interface function) d s e g a h = absurd a
+    expr_keeps (Reference at of interface class name) d s e g a h = absurd a
+    expr_keeps (NewReference at of interface made) d s e g a h = absurd a
 
-    exprs_keep : (x : Exprs) (d : Place) (s : State) (e : Env) (g : Scope) → ExprsAgree (known_in funs limits d.text) g x → ExprsSuit x → Here g s e
+    exprs_keep : (x : Exprs) (d : Place) (s : State) (e : Env) (g : Scope) → ExprsAgree (known_in funs limits d.text) g x → Here g s e
         → Keeps (λ objects values. AreTyped objects (types_of x) values) s.world.store.objects g (exprs_of funs limits m d s e x)
-    exprs_keep None' d s e g a b h = done h tt
-    exprs_keep (One x others) d s e g a b h =
-        then' (expr_ih x d s e g a.0 b.0 h) (λ value s1 e1 h1 n1 f1.
-        then' (exprs_ih others d s1 e1 g a.1 b.1 h1) (λ values s2 e2 h2 n2 f2. done h2 (typed_grows s1.world.store.objects s2.world.store.objects n2 (type_of x) value f1, f2)))
+    exprs_keep None' d s e g a h = done h tt
+    exprs_keep (One x others) d s e g a h =
+        then' (expr_ih x d s e g a.0 h) (λ value s1 e1 h1 n1 f1.
+        then' (exprs_ih others d s1 e1 g a.1 h1) (λ values s2 e2 h2 n2 f2. done h2 (typed_grows s1.world.store.objects s2.world.store.objects n2 (type_of x) value f1, f2)))
 
     -- ---- statements
 
@@ -379,43 +378,43 @@ module _ (rules : Rules) where
     any_by of start g More x = tt
 
     -- an expression whose value is not looked at
-    any_expr : (x : Expr) (d : Place) (s : State) (e : Env) (g : Scope) → ExprAgrees (known_in funs limits d.text) g x → ExprSuits x → Here g s e → Keeps Any s.world.store.objects g (m.expr d s e x)
-    any_expr x d s e g a b h = record { by = any_by (type_of x) s.world.store.objects g (m.expr d s e x) (ih.expr x d s e g a b h) }
+    any_expr : (x : Expr) (d : Place) (s : State) (e : Env) (g : Scope) → ExprAgrees (known_in funs limits d.text) g x → Here g s e → Keeps Any s.world.store.objects g (m.expr d s e x)
+    any_expr x d s e g a h = record { by = any_by (type_of x) s.world.store.objects g (m.expr d s e x) (ih.expr x d s e g a h) }
 
-    test_keeps : (test : Maybe) (d : Place) (s : State) (e : Env) (g : Scope) → TestAgrees (known_in funs limits d.text) g test → MaybeSuits test → Here g s e
+    test_keeps : (test : Maybe) (d : Place) (s : State) (e : Env) (g : Scope) → TestAgrees (known_in funs limits d.text) g test → Here g s e
         → Keeps Any s.world.store.objects g (value_if funs limits m test (v.Bool true) d s e)
-    test_keeps Missing d s e g a b h = done h tt
-    test_keeps (Present x) d s e g a b h = any_expr x d s e g a.0 b h
+    test_keeps Missing d s e g a h = done h tt
+    test_keeps (Present x) d s e g a h = any_expr x d s e g a.0 h
 
-    update_keeps : (update : Maybe) (d : Place) (s : State) (e : Env) (g : Scope) → UpdateAgrees (known_in funs limits d.text) g update → MaybeSuits update → Here g s e
+    update_keeps : (update : Maybe) (d : Place) (s : State) (e : Env) (g : Scope) → UpdateAgrees (known_in funs limits d.text) g update → Here g s e
         → Keeps Any s.world.store.objects g (value_if funs limits m update v.Null d s e)
-    update_keeps Missing d s e g a b h = done h tt
-    update_keeps (Present x) d s e g a b h = any_expr x d s e g a b h
+    update_keeps Missing d s e g a h = done h tt
+    update_keeps (Present x) d s e g a h = any_expr x d s e g a h
 
     turns_keep : (c : Counted) (test update : Maybe) (body : Stmts) (d : Place) (s : State) (e : Env) (g : Scope) (of : Ty) (looped : Bool)
-        → StmtAgrees (known_in funs limits d.text) of looped g (While test update body) → StmtSuits (While test update body) → Here g s e → SameStore s.world c
+        → StmtAgrees (known_in funs limits d.text) of looped g (While test update body) → Here g s e → SameStore s.world c
         → Keeps (FlowTyped of) s.world.store.objects g (turned funs limits m c d s e test update body)
-    turns_keep (Passes limit w) test update body d s e g of looped a b h p = record { by = passes_on s.world w p h.0 }
-    turns_keep (Counts w) test update body d s e g of looped a b h p =
+    turns_keep (Passes limit w) test update body d s e g of looped a h p = record { by = passes_on s.world w p h.0 }
+    turns_keep (Counts w) test update body d s e g of looped a h p =
         moved (FlowTyped of) g s.world w _ p
-        (then' (stmts_ih body d (record { world = w; turns = suc s.turns }) e g of true a.2 b.2 (same_state s.world w s.turns (suc s.turns) g e p h)) (λ flow s e h n f.
-        again of flow s e h f (then' (update_keeps update d s e g a.1 b.1 h) (λ value s e h n f. stmt_ih (While test update body) d s e g of looped a b h))))
+        (then' (stmts_ih body d (record { world = w; turns = suc s.turns }) e g of true a.2 (same_state s.world w s.turns (suc s.turns) g e p h)) (λ flow s e h n f.
+        again of flow s e h f (then' (update_keeps update d s e g a.1 h) (λ value s e h n f. stmt_ih (While test update body) d s e g of looped a h))))
 
     done_turns_keep : (c : Counted) (body : Stmts) (test : Maybe) (d : Place) (s : State) (e : Env) (g : Scope) (of : Ty) (looped : Bool)
-        → StmtAgrees (known_in funs limits d.text) of looped g (DoWhile body test) → StmtSuits (DoWhile body test) → Here g s e → SameStore s.world c
+        → StmtAgrees (known_in funs limits d.text) of looped g (DoWhile body test) → Here g s e → SameStore s.world c
         → Keeps (FlowTyped of) s.world.store.objects g (done_turn funs limits m c d s e body test)
-    done_turns_keep (Passes limit w) body test d s e g of looped a b h p = record { by = passes_on s.world w p h.0 }
-    done_turns_keep (Counts w) body test d s e g of looped a b h p =
+    done_turns_keep (Passes limit w) body test d s e g of looped a h p = record { by = passes_on s.world w p h.0 }
+    done_turns_keep (Counts w) body test d s e g of looped a h p =
         moved (FlowTyped of) g s.world w _ p
-        (then' (stmts_ih body d (record { world = w; turns = suc s.turns }) e g of true a.0 b.0 (same_state s.world w s.turns (suc s.turns) g e p h)) (λ flow s e h n f.
-        again of flow s e h f (then' (test_keeps test d s e g a.1 b.1 h) (λ value s e h n f. chosen value (stmt_ih (DoWhile body test) d s e g of looped a b h) (done h tt)))))
+        (then' (stmts_ih body d (record { world = w; turns = suc s.turns }) e g of true a.0 (same_state s.world w s.turns (suc s.turns) g e p h)) (λ flow s e h n f.
+        again of flow s e h f (then' (test_keeps test d s e g a.1 h) (λ value s e h n f. chosen value (stmt_ih (DoWhile body test) d s e g of looped a h) (done h tt)))))
 
     -- the exception is the catch's variable, and of its class
-    catches_keep : (x : Catches) (id : ℕ) (d : Place) (s : State) (e : Env) (g : Scope) (of : Ty) (looped : Bool) → CatchesAgree (known_in funs limits d.text) of looped g x → CatchesSuit x → Here g s e
+    catches_keep : (x : Catches) (id : ℕ) (d : Place) (s : State) (e : Env) (g : Scope) (of : Ty) (looped : Bool) → CatchesAgree (known_in funs limits d.text) of looped g x → Here g s e
         → ThrownFits s.world.store.objects id → Keeps (FlowTyped of) s.world.store.objects g (caught funs limits m d x id s e)
-    catches_keep NoCatch id d s e g of looped a b h f = record { by = (begun s.world h.0, h.1, f) }
-    catches_keep (Catch class x body rest) id d s e g of looped a b h f =
-        takes (catches_keep rest id d s e g of looped a.2 b.1 h f) (is_of_class class (slice_get s.world.store.objects id)) refl
+    catches_keep NoCatch id d s e g of looped a h f = record { by = (begun s.world h.0, h.1, f) }
+    catches_keep (Catch class x body rest) id d s e g of looped a h f =
+        takes (catches_keep rest id d s e g of looped a.2 h f) (is_of_class class (slice_get s.world.store.objects id)) refl
       where
         takes : Keeps (FlowTyped of) s.world.store.objects g (caught funs limits m d rest id s e) → (c : Bool) → is_of_class class (slice_get s.world.store.objects id) ≡ c
             → Keeps (FlowTyped of) s.world.store.objects g (if c then leave (m.stmts d s (record { name = x; value = v.Ref id } ∷ e) body) else caught funs limits m d rest id s e)
@@ -423,91 +422,87 @@ module _ (rules : Rules) where
             let there = sym (kind_passes (kind_is_of class) s.world.store.objects id) ∙ class_passes class (slice_get s.world.store.objects id) is_so in
             let exception : IsTyped s.world.store.objects (t.Class class) (v.Ref id) = record { there = f.0; is = object_typed s.world.store.objects class id there } in
             leaving (record { name = x; of = t.Class class })
-            (stmts_ih body d s (record { name = x; value = v.Ref id } ∷ e) (record { name = x; of = t.Class class } ∷ g) of looped a.1 b.0 (h.0, (refl, exception, h.1)))
+            (stmts_ih body d s (record { name = x; value = v.Ref id } ∷ e) (record { name = x; of = t.Class class } ∷ g) of looped a.1 (h.0, (refl, exception, h.1)))
         takes others false not_so = others
 
-    handles : (x : Catches) (d : Place) (g : Scope) (of : Ty) (looped : Bool) (start : List Object) (o : Out Flow) → CatchesAgree (known_in funs limits d.text) of looped g x → CatchesSuit x
+    handles : (x : Catches) (d : Place) (g : Scope) (of : Ty) (looped : Bool) (start : List Object) (o : Out Flow) → CatchesAgree (known_in funs limits d.text) of looped g x
         → OutTyped (FlowTyped of) rules start g o → OutTyped (FlowTyped of) rules start g (handled funs limits m d x o)
-    handles x d g of looped start (Done flow s e) a b h = h
-    handles x d g of looped start (Thrown id s e) a b h =
-        lower_by (FlowTyped of) start s.world.store.objects g (caught funs limits m d x id s e) h.0.there (catches_keep x id d s e g of looped a b (h.0.fits, h.1) h.2).by
-    handles x d g of looped start (Over limit w) a b h = h
-    handles x d g of looped start More a b h = tt
+    handles x d g of looped start (Done flow s e) a h = h
+    handles x d g of looped start (Thrown id s e) a h =
+        lower_by (FlowTyped of) start s.world.store.objects g (caught funs limits m d x id s e) h.0.there (catches_keep x id d s e g of looped a (h.0.fits, h.1) h.2).by
+    handles x d g of looped start (Over limit w) a h = h
+    handles x d g of looped start More a h = tt
 
-    returns : (value : Maybe) (of : Ty) (d : Place) (s : State) (e : Env) (g : Scope) → ReturnAgrees (known_in funs limits d.text) g value of → MaybeSuits value → Here g s e
+    returns : (value : Maybe) (of : Ty) (d : Place) (s : State) (e : Env) (g : Scope) → ReturnAgrees (known_in funs limits d.text) g value of → Here g s e
         → Keeps (FlowTyped of) s.world.store.objects g (bind (value_if funs limits m value v.Null d s e) (λ value s e. Done (Returned value) s e))
-    returns Missing of d s e g a b h = done h (nothing_typed s.world.store.objects of a)
-    returns (Present x) of d s e g a b h = then' (expr_of_type x of d s e g a.1 a.0 b h) (λ value s e h n f. done h f)
+    returns Missing of d s e g a h = done h (nothing_typed s.world.store.objects of a)
+    returns (Present x) of d s e g a h = then' (expr_of_type x of d s e g a.1 a.0 h) (λ value s e h n f. done h f)
 
-    stmt_keeps : (x : Stmt) (d : Place) (s : State) (e : Env) (g : Scope) (of : Ty) (looped : Bool) → StmtAgrees (known_in funs limits d.text) of looped g x → StmtSuits x → Here g s e
+    stmt_keeps : (x : Stmt) (d : Place) (s : State) (e : Env) (g : Scope) (of : Ty) (looped : Bool) → StmtAgrees (known_in funs limits d.text) of looped g x → Here g s e
         → Keeps (FlowTyped of) s.world.store.objects g (stmt_of funs limits m d s e x)
-    stmt_keeps (Do x) d s e g of looped a b h = then' (any_expr x d s e g a b h) (λ value s e h n f. done h tt)
-    stmt_keeps (If c x y) d s e g of looped a b h =
-        then' (any_expr c d s e g a.0 b.0 h) (λ value s e h n f. chosen value (stmts_ih x d s e g of looped a.2 b.1 h) (stmts_ih y d s e g of looped a.3 b.2 h))
-    stmt_keeps (While test update body) d s e g of looped a b h =
-        then' (test_keeps test d s e g a.0 b.0 h) (λ value s e h n f.
-        chosen value (turns_keep (take_turn limits (has_loop_limit d.text) s.turns s.world) test update body d s e g of looped a b h (turn_keeps limits (has_loop_limit d.text) s.turns s.world)) (done h tt))
-    stmt_keeps (DoWhile body test) d s e g of looped a b h =
-        done_turns_keep (take_turn limits (has_loop_limit d.text) s.turns s.world) body test d s e g of looped a b h (turn_keeps limits (has_loop_limit d.text) s.turns s.world)
-    stmt_keeps (ForEach x to element over body) d s e g of looped a b h = absurd a
-    stmt_keeps (Try body catches) d s e g of looped a b h =
-        record { by = handles catches d g of looped s.world.store.objects (m.stmts d s e body) a.1 b.1 (ih.stmts body d s e g of looped a.0 b.0 h) }
-    stmt_keeps (Block body) d s e g of looped a b h = stmts_ih body d s e g of looped a b h
-    stmt_keeps Break d s e g of looped a b h = done h tt
-    stmt_keeps Continue d s e g of looped a b h = done h tt
-    stmt_keeps (Return value) d s e g of looped a b h = returns value of d s e g a b h
-    stmt_keeps (Throw x) d s e g of looped a b h =
-        then' (any_expr x d s e g a.0 b h) (λ value s e h n f.
+    stmt_keeps (Do x) d s e g of looped a h = then' (any_expr x d s e g a h) (λ value s e h n f. done h tt)
+    stmt_keeps (If c x y) d s e g of looped a h =
+        then' (any_expr c d s e g a.0 h) (λ value s e h n f. chosen value (stmts_ih x d s e g of looped a.2 h) (stmts_ih y d s e g of looped a.3 h))
+    stmt_keeps (While test update body) d s e g of looped a h =
+        then' (test_keeps test d s e g a.0 h) (λ value s e h n f.
+        chosen value (turns_keep (take_turn limits (has_loop_limit d.text) s.turns s.world) test update body d s e g of looped a h (turn_keeps limits (has_loop_limit d.text) s.turns s.world)) (done h tt))
+    stmt_keeps (DoWhile body test) d s e g of looped a h =
+        done_turns_keep (take_turn limits (has_loop_limit d.text) s.turns s.world) body test d s e g of looped a h (turn_keeps limits (has_loop_limit d.text) s.turns s.world)
+    stmt_keeps (ForEach x to element over body) d s e g of looped a h = absurd a
+    stmt_keeps (Try body catches) d s e g of looped a h =
+        record { by = handles catches d g of looped s.world.store.objects (m.stmts d s e body) a.1 (ih.stmts body d s e g of looped a.0 h) }
+    stmt_keeps (Block body) d s e g of looped a h = stmts_ih body d s e g of looped a h
+    stmt_keeps Break d s e g of looped a h = done h tt
+    stmt_keeps Continue d s e g of looped a h = done h tt
+    stmt_keeps (Return value) d s e g of looped a h = returns value of d s e g a h
+    stmt_keeps (Throw x) d s e g of looped a h =
+        then' (any_expr x d s e g a.0 h) (λ value s e h n f.
         then' (throws_keep value s e g h) (λ value s e h n f. done h tt))
       where
         throws_keep : (value : Value) (s : State) (e : Env) (g : Scope) → Here g s e → Keeps Any s.world.store.objects g (effect (acts_in s.world (thrown s.world.store value)) s e)
         throws_keep value s e g h = record { by = thrown_by _ s e g h (throwing_fits rules s.world.store.objects s.world value (begun s.world h.0)) }
 
-    begins : (value : Maybe) (of : Ty) (d : Place) (s : State) (e : Env) (g : Scope) → BeginAgrees (known_in funs limits d.text) g value of → MaybeSuits value → Here g s e
+    begins : (value : Maybe) (of : Ty) (d : Place) (s : State) (e : Env) (g : Scope) → BeginAgrees (known_in funs limits d.text) g value of → Here g s e
         → Keeps (Of of) s.world.store.objects g (value_or funs limits m value of d s e)
-    begins Missing of d s e g a b h = done h (default_typed s.world.store.objects of)
-    begins (Present x) of d s e g a b h = expr_of_type x of d s e g a.1 a.0 b h
+    begins Missing of d s e g a h = done h (default_typed s.world.store.objects of)
+    begins (Present x) of d s e g a h = expr_of_type x of d s e g a.1 a.0 h
 
-    stmts_keep : (x : Stmts) (d : Place) (s : State) (e : Env) (g : Scope) (of : Ty) (looped : Bool) → StmtsAgree (known_in funs limits d.text) of looped g x → StmtsSuit x → Here g s e
+    stmts_keep : (x : Stmts) (d : Place) (s : State) (e : Env) (g : Scope) (of : Ty) (looped : Bool) → StmtsAgree (known_in funs limits d.text) of looped g x → Here g s e
         → Keeps (FlowTyped of) s.world.store.objects g (stmts_of funs limits m d s e x)
-    stmts_keep Finish d s e g of looped a b h = done h tt
-    stmts_keep (Then x rest) d s e g of looped a b h =
-        then' (stmt_ih x d s e g of looped a.0 b.0 h) (λ flow s e h n f. next of flow s e h f (stmts_ih rest d s e g of looped a.1 b.1 h))
-    stmts_keep (Declare x to value rest) d s e g of looped a b h =
-        then' (begins value to d s e g a.0 b.0 h) (λ first s e h n f.
-        leaving (record { name = x; of = to }) (stmts_ih rest d s (record { name = x; value = first } ∷ e) (record { name = x; of = to } ∷ g) of looped a.2 b.1 (h.0, (refl, f, h.1))))
+    stmts_keep Finish d s e g of looped a h = done h tt
+    stmts_keep (Then x rest) d s e g of looped a h =
+        then' (stmt_ih x d s e g of looped a.0 h) (λ flow s e h n f. next of flow s e h f (stmts_ih rest d s e g of looped a.1 h))
+    stmts_keep (Declare x to value rest) d s e g of looped a h =
+        then' (begins value to d s e g a.0 h) (λ first s e h n f.
+        leaving (record { name = x; of = to }) (stmts_ih rest d s (record { name = x; value = first } ∷ e) (record { name = x; of = to } ∷ g) of looped a.2 (h.0, (refl, f, h.1))))
 
     deeper : MeaningTyped rules funs limits (layer funs limits m)
     deeper = record {
-      expr = λ x d s e g a b h. (expr_keeps x d s e g a b h).by;
-      exprs = λ x d s e g a b h. (exprs_keep x d s e g a b h).by;
-      stmt = λ x d s e g of looped a b h. (stmt_keeps x d s e g of looped a b h).by;
-      stmts = λ x d s e g of looped a b h. (stmts_keep x d s e g of looped a b h).by;
+      expr = λ x d s e g a h. (expr_keeps x d s e g a h).by;
+      exprs = λ x d s e g a h. (exprs_keep x d s e g a h).by;
+      stmt = λ x d s e g of looped a h. (stmt_keeps x d s e g of looped a h).by;
+      stmts = λ x d s e g of looped a h. (stmts_keep x d s e g of looped a h).by;
     }
 
 formed_in : (funs : Programs) (limits : Limits) → AreWellFormed funs limits → (text : Owner) → WellFormed (known_in funs limits text)
 formed_in funs limits h Script = h.script
 formed_in funs limits h Prelude = h.prelude
 
-suited_in : (funs : Programs) → BothSuit funs → (text : Owner) → Suits (functions_in funs text)
-suited_in funs h Script = h.script
-suited_in funs h Prelude = h.prelude
-
 pub meanings_are_typed : MeaningsAreTyped
-meanings_are_typed rules funs limits zero a b = record {
-  expr = λ x d s e g a b h. tt;
-  exprs = λ x d s e g a b h. tt;
-  stmt = λ x d s e g of looped a b h. tt;
-  stmts = λ x d s e g of looped a b h. tt;
+meanings_are_typed rules funs limits zero a = record {
+  expr = λ x d s e g a h. tt;
+  exprs = λ x d s e g a h. tt;
+  stmt = λ x d s e g of looped a h. tt;
+  stmts = λ x d s e g of looped a h. tt;
 }
-meanings_are_typed rules funs limits (suc n) a b =
-    deeper rules funs limits (formed_in funs limits a) (suited_in funs b) (meaning funs limits n) (meanings_are_typed rules funs limits n a b)
+meanings_are_typed rules funs limits (suc n) a =
+    deeper rules funs limits (formed_in funs limits a) (meaning funs limits n) (meanings_are_typed rules funs limits n a)
 
 entered_typed : (objects : List Object) (g : Scope) (o : Option Env) (e : Env) → o ≡ Some e → EntryTyped objects g o → EnvTyped objects g e
 entered_typed objects g o e is h = subst (EntryTyped objects g) is h
 
 pub results_are_typed : ResultsAreTyped
-results_are_typed rules funs limits bound a b main is w arguments f h e entered =
+results_are_typed rules funs limits bound a main is w arguments f h e entered =
     let fun = a.script.each 0 main is in
-    (meanings_are_typed rules funs limits bound a b).stmts main.body (record { text = Script; depth = 0 }) (record { world = w; turns = 0 }) e (scope_of main.params []) main.result false fun.body
-    (b.script.each 0 main is) (f, entered_typed w.store.objects (scope_of main.params []) _ e entered (entry_typed w.store.objects main.params arguments [] [] h tt))
+    (meanings_are_typed rules funs limits bound a).stmts main.body (record { text = Script; depth = 0 }) (record { world = w; turns = 0 }) e (scope_of main.params []) main.result false fun.body
+    (f, entered_typed w.store.objects (scope_of main.params []) _ e entered (entry_typed w.store.objects main.params arguments [] [] h tt))

@@ -2,7 +2,6 @@
 use Rattle.std.proofs.Common.{◌≡◌, ℕ, Bool, true, false, not, List, [], ◌∷◌, length, Option, Some, None, refl, sym, ap, subst, if◌then◌else◌}
 use Rattle.std.proofs.lemmas.Bool.{and_from}
 use Rattle.pl_types.specs.Host.{HostMeaning}
-use Rattle.pl_types.specs.declared.conversion.Cast.TheVariants as cast
 use Rattle.pl_types.specs.declared.primitive.Primitive.{Primitive}
 use Rattle.pl_types.specs.declared.primitive.Primitive.TheVariants as prim
 use Rattle.pl_types.specs.declared.ty.Ty.{Ty, out-Ty}
@@ -24,11 +23,10 @@ use Rattle.run_fit.specs.Worlds.{count_in}
 use Rattle.run_fit.proofs.Effects.{beginnings_fit, members_fit}
 use Rattle.source_meaning.specs.Operating.{in_box}
 use Rattle.source_meaning.specs.Members.{Sending, Unsent, OnNull, Sends, Reads, passed_layer, passed, before as joined, passed_all, sends, sends_to, sent_by}
-use Rattle.program_typing.specs.Agreeing.{TakesTypes}
+use Rattle.program_typing.specs.Agreeing.{TakesTypes, ReceiverIsOf}
 use Rattle.value_typing.specs.Typing.{is_typed_layer, is_typed, takes_typed_by, OutcomeTyped, EffectIsOf, ActIsOf}
 use Rattle.value_typing.proofs.Kept.{kept_is_typed}
 use Rattle.value_typing.proofs.Members.{members_keep_types}
-use Rattle.source_typing.specs.Suiting.{IsGiven}
 use Rattle.source_typing.specs.Outs.{IsTyped, AreTyped}
 use Rattle.source_typing.proofs.Values.{all_there, all_are, MadeTyped}
 use Rattle.source_typing.proofs.Operations.{MadeOf, box_made, OutcomeIs, outcome_is}
@@ -124,12 +122,7 @@ constructor_typed : (objects : List Object) (owner : ℕ) (params : List Ty) (o 
 constructor_typed objects owner params None h = tt
 constructor_typed objects owner params (Some arguments) h = record { there = all_there objects params arguments h; takes = all_are objects params arguments h }
 
--- the receiver's type goes to the class that has the member
-abbrev pub ReceiverSuits : MemberKind → ℕ → List Ty → Type 0
-ReceiverSuits kind.Instance owner (from ∷ ofs) = IsGiven cast.Keep from (t.Class owner)
-ReceiverSuits other owner ofs = Unit {0}
-
-pub sent_typed : (objects : List Object) (sort : MemberKind) (owner : ℕ) (params ofs : List Ty) (values : List Value) → TakesTypes sort params ofs → ReceiverSuits sort owner ofs
+pub sent_typed : (objects : List Object) (sort : MemberKind) (owner : ℕ) (params ofs : List Ty) (values : List Value) → TakesTypes sort params ofs → ReceiverIsOf sort owner ofs
     → AreTyped objects ofs values → SendingTyped objects sort owner params (sent_by sort params values)
 sent_typed objects kind.Instance owner params [] values x g h = absurd x
 sent_typed objects kind.Instance owner params (of ∷ ofs) [] x g h = absurd h

@@ -28,7 +28,7 @@ use Rattle.run_fit.proofs.Effects.{beginnings_fit, outcomes_fit}
 use Rattle.run_fit.proofs.Values.{by_primitive}
 use Rattle.source_meaning.specs.Operating.{Operated, Meaningless, Gives, Acts, operates, reference_operated, from_int_to, from_long_to, from_byte_to, from_short_to, from_char_to, from_flag_to, number_cast, in_box, box_if, gives_if, unwrapped, text_if, casts}
 use Rattle.source_fit.proofs.Values.{OperatedFits, operates_fit, cast_fits}
-use Rattle.program_typing.specs.Types.{HasPrimitive, HasLayer, HaveAll, Gives as GivesType, of_one, of_two, of_one_flag, of_two_flags, TakesNumbers, TakesFlags, Takes, Casts, string}
+use Rattle.program_typing.specs.Types.{HasPrimitive, HasLayer, HaveAll, Gives as GivesType, of_one, of_two, of_one_flag, of_two_flags, TakesNumbers, TakesFlags, Takes, IsGiven, Keeps, Same, References, Casts, string}
 use Rattle.program_typing.specs.Agreeing.{IsKnownBefore}
 use Rattle.program_typing.proofs.Effects.{EffectHas, OperatedHas}
 use Rattle.program_typing.proofs.Operations.{takes_fit, casts_fit}
@@ -37,7 +37,6 @@ use Rattle.value_typing.specs.Typing.{is_typed_layer, is_typed, are_typed, Outco
 use Rattle.value_typing.proofs.Casts.{casts_give_types, texts_give_types}
 use Rattle.value_typing.proofs.Effects.{in_world, settled}
 use Rattle.value_typing.proofs.Kept.{kept_is_typed, boxed_is_typed}
-use Rattle.source_typing.specs.Suiting.{IsGiven}
 use Rattle.source_typing.specs.Outs.{IsTyped, AreTyped, OperatedTyped}
 use Rattle.source_typing.specs.Laws.{OperatorsGiveTypes, CastsGiveStaticTypes}
 use Rattle.source_typing.proofs.Values.{all_are, primitive_typed, of_primitive}
@@ -87,7 +86,7 @@ layer_has ks (Ty-F.Prim p) value h = has_primitive p value h
 layer_has ks (Ty-F.Class class) value h = tt
 layer_has ks (Ty-F.Array elem) value h = tt
 
-all_have : (objects : List Object) (ofs : List Ty) (values : List Value) → are_typed objects ofs values ≡ true → HaveAll ofs values
+pub all_have : (objects : List Object) (ofs : List Ty) (values : List Value) → are_typed objects ofs values ≡ true → HaveAll ofs values
 all_have objects [] [] h = tt
 all_have objects [] (value ∷ values) h = cc
 all_have objects (of ∷ ofs) [] h = cc
@@ -228,27 +227,31 @@ module _ (w : World) where
   text_types None = tt
   text_types (Some value) = casts_give_types w value (t.Class STRING) true
 
-  cast_types : (c : Cast) (from to : Ty) (value : Value) → Casts c from to → IsGiven c from to → is_typed w.store.objects from value ≡ true → Types to (casts c to value w.store)
-  cast_types cast.Keep from to value x g h = kept_is_typed w.store.objects from to g.written value g.is h
-  cast_types (cast.Number p q) from to value x g h = number_types to q (number_cast p q value) x.1 (cast_made p q value)
-  cast_types (cast.Wrap p q) from to value x g h = box_types from to p q (box_if q (number_cast p q value)) g (boxed_made q (number_cast p q value))
-  cast_types (cast.Unwrap p q) from to value x g h = unwrapped_types to p q (cast_at_run_time w.store.objects value (t.Prim p) false) x.1
-  cast_types cast.Implicit from to value x g h = casts_give_types w value to false
-  cast_types cast.Explicit from to value x g h = casts_give_types w value to true
-  cast_types cast.CharToText from to value x g h = subst (λ of. Types of (text_if (in_box prim.Char value) w.store)) (sym x.1) (text_types (in_box prim.Char value))
-  cast_types cast.TextToChar from to value x g h =
+  kept_types : (from to : Ty) (value : Value) → Keeps from to → is_typed w.store.objects from value ≡ true → is_typed w.store.objects to value ≡ true
+  kept_types from to value (Same e) h = subst (λ of. is_typed w.store.objects of value ≡ true) e h
+  kept_types from to value (References r s given) h = kept_is_typed w.store.objects from to given.written value given.is h
+
+  cast_types : (c : Cast) (from to : Ty) (value : Value) → Casts c from to → is_typed w.store.objects from value ≡ true → Types to (casts c to value w.store)
+  cast_types cast.Keep from to value x h = kept_types from to value x h
+  cast_types (cast.Number p q) from to value x h = number_types to q (number_cast p q value) x.1 (cast_made p q value)
+  cast_types (cast.Wrap p q) from to value x h = box_types from to p q (box_if q (number_cast p q value)) x.3 (boxed_made q (number_cast p q value))
+  cast_types (cast.Unwrap p q) from to value x h = unwrapped_types to p q (cast_at_run_time w.store.objects value (t.Prim p) false) x.1
+  cast_types cast.Implicit from to value x h = casts_give_types w value to false
+  cast_types cast.Explicit from to value x h = casts_give_types w value to true
+  cast_types cast.CharToText from to value x h = subst (λ of. Types of (text_if (in_box prim.Char value) w.store)) (sym x.1) (text_types (in_box prim.Char value))
+  cast_types cast.TextToChar from to value x h =
       subst (λ of. Types of (casts cast.TextToChar to value w.store)) (sym x.1) (casts_give_types w value (t.Prim prim.Char) true)
 
   -- the first cast of a compound assignment asks for no type
-  begin_types : (c : Cast) (from to : Ty) (value : Value) → IsKnownBefore c → Casts c from to → IsGiven c from to → is_typed w.store.objects from value ≡ true → Types to (casts c from value w.store)
-  begin_types cast.Keep from to value k x g h = cast_types cast.Keep from to value x g h
-  begin_types (cast.Number p q) from to value k x g h = cast_types (cast.Number p q) from to value x g h
-  begin_types (cast.Wrap p q) from to value k x g h = cast_types (cast.Wrap p q) from to value x g h
-  begin_types (cast.Unwrap p q) from to value k x g h = cast_types (cast.Unwrap p q) from to value x g h
-  begin_types cast.Implicit from to value k x g h = absurd k
-  begin_types cast.Explicit from to value k x g h = absurd k
-  begin_types cast.CharToText from to value k x g h = cast_types cast.CharToText from to value x g h
-  begin_types cast.TextToChar from to value k x g h = cast_types cast.TextToChar from to value x g h
+  begin_types : (c : Cast) (from to : Ty) (value : Value) → IsKnownBefore c → Casts c from to → is_typed w.store.objects from value ≡ true → Types to (casts c from value w.store)
+  begin_types cast.Keep from to value k x h = cast_types cast.Keep from to value x h
+  begin_types (cast.Number p q) from to value k x h = cast_types (cast.Number p q) from to value x h
+  begin_types (cast.Wrap p q) from to value k x h = cast_types (cast.Wrap p q) from to value x h
+  begin_types (cast.Unwrap p q) from to value k x h = cast_types (cast.Unwrap p q) from to value x h
+  begin_types cast.Implicit from to value k x h = absurd k
+  begin_types cast.Explicit from to value k x h = absurd k
+  begin_types cast.CharToText from to value k x h = cast_types cast.CharToText from to value x h
+  begin_types cast.TextToChar from to value k x h = cast_types cast.TextToChar from to value x h
 
   -- ---- both, and that they come to something
 
@@ -262,8 +265,8 @@ operators_give_types w o ofs of values x h =
     comes_to w of (operates o values w.store) (takes_fit o ofs of values w.store x (all_have w.store.objects ofs values h)) (operator_types w o ofs of values x h)
 
 pub casts_give_static_types : CastsGiveStaticTypes
-casts_give_static_types w c from to value x g h =
-    comes_to w to (casts c to value w.store) (casts_fit c from to value w.store x (layer_has (kinds w.store.objects) (out-Ty from) value h)) (cast_types w c from to value x g h)
+casts_give_static_types w c from to value x h =
+    comes_to w to (casts c to value w.store) (casts_fit c from to value w.store x (layer_has (kinds w.store.objects) (out-Ty from) value h)) (cast_types w c from to value x h)
 
 -- ---- in a store that fits
 
@@ -291,8 +294,8 @@ module _ (rules : Rules) (w : World) (f : Fits rules w.store.objects) where
   pub operates_is : (o : Operator) (ofs : List Ty) (of : Ty) (values : List Value) → Takes o ofs of → AreTyped w.store.objects ofs values → OperatedIs of (operates o values w.store)
   operates_is o ofs of values x h = operated_is of (operates o values w.store) (operates_fit rules w.store.objects w here o values) (operator_types w o ofs of values x (all_are w.store.objects ofs values h))
 
-  pub casts_is : (c : Cast) (from to : Ty) (value : Value) → Casts c from to → IsGiven c from to → IsTyped w.store.objects from value → OperatedIs to (casts c to value w.store)
-  casts_is c from to value x g h = operated_is to (casts c to value w.store) (cast_fits rules w.store.objects w here c to value h.there) (cast_types w c from to value x g h.is)
+  pub casts_is : (c : Cast) (from to : Ty) (value : Value) → Casts c from to → IsTyped w.store.objects from value → OperatedIs to (casts c to value w.store)
+  casts_is c from to value x h = operated_is to (casts c to value w.store) (cast_fits rules w.store.objects w here c to value h.there) (cast_types w c from to value x h.is)
 
-  pub begins_is : (c : Cast) (from to : Ty) (value : Value) → IsKnownBefore c → Casts c from to → IsGiven c from to → IsTyped w.store.objects from value → OperatedIs to (casts c from value w.store)
-  begins_is c from to value k x g h = operated_is to (casts c from value w.store) (cast_fits rules w.store.objects w here c from value h.there) (begin_types w c from to value k x g h.is)
+  pub begins_is : (c : Cast) (from to : Ty) (value : Value) → IsKnownBefore c → Casts c from to → IsTyped w.store.objects from value → OperatedIs to (casts c from value w.store)
+  begins_is c from to value k x h = operated_is to (casts c from value w.store) (cast_fits rules w.store.objects w here c from value h.there) (begin_types w c from to value k x h.is)

@@ -1,12 +1,8 @@
--- In a well-formed program whose casts and receivers suit, each value is of its type: from a store that fits and names with values of
--- their types, an expression comes to a value of its type in the store that it leaves.
+-- In a well-formed program each value is of its type: from a store that fits and names with values of their types, an expression comes to
+-- a value of its type in the store that it leaves.
 use Rattle.std.specs.Prelude.{◌≡◌, true, ℕ, Bool, List, [], Some, slice_get}
 use Rattle.pl_types.specs.declared.ty.Ty.{Ty}
 use Rattle.pl_types.specs.declared.conversion.Cast.{Cast}
-use Rattle.pl_types.specs.declared.conversion.Cast.TheVariants as cast
-use Rattle.pl_types.specs.declared.ty.Ty.TheVariants as t
-use Rattle.allowlist.specs.Allow.{AllowList, member_of}
-use Rattle.allowlist.specs.Index.{member_at}
 use Rattle.typed_tree.specs.declared.operation.Operator.{Operator}
 use Rattle.object_values.specs.declared.object.Owner.TheVariants.{Script}
 use Rattle.object_values.specs.declared.value.Value.{Value}
@@ -18,10 +14,9 @@ use Rattle.source_meaning.specs.Meaning.{State, Env, Place, Meaning, entry, mean
 use Rattle.program_typing.specs.Types.{Takes, Casts}
 use Rattle.value_typing.specs.Typing.{is_typed, are_typed}
 use Rattle.program_typing.specs.Agreeing.{Scope, types_of, types_in, scope_of, ExprAgrees, ExprsAgree, StmtAgrees, StmtsAgree, AreWellFormed, known_in}
-use Rattle.source_typing.specs.Suiting.{IsGiven, ExprSuits, ExprsSuit, StmtSuits, StmtsSuit, BothSuit}
 use Rattle.source_typing.specs.Outs.{OperatedTyped, IsTyped, AreTyped, StateTyped, FlowTyped, OutTyped}
 
--- What an operator comes to whose operands' types are known, and what a cast of the table comes to.
+-- What an operator comes to whose operands' types are known, and what a cast comes to.
 abbrev pub OperatorsGiveTypes : Type 0
 OperatorsGiveTypes =
     (w : World) (o : Operator) (ofs : List Ty) (of : Ty) (values : List Value) → Takes o ofs of → are_typed w.store.objects ofs values ≡ true
@@ -29,34 +24,28 @@ OperatorsGiveTypes =
 
 abbrev pub CastsGiveStaticTypes : Type 0
 CastsGiveStaticTypes =
-    (w : World) (c : Cast) (from to : Ty) (value : Value) → Casts c from to → IsGiven c from to → is_typed w.store.objects from value ≡ true
+    (w : World) (c : Cast) (from to : Ty) (value : Value) → Casts c from to → is_typed w.store.objects from value ≡ true
     → OperatedTyped w to (casts c to value w.store)
 
--- The member that is found for a class is that class's own or of one above it, at which the table keeps a receiver.
-abbrev pub ReceiversAreGiven : Type 0
-ReceiversAreGiven =
-    (allow : AllowList) (class : ℕ) (name : List ℕ) (arity number : ℕ) → member_of allow class name arity ≡ Some number
-    → IsGiven cast.Keep (t.Class class) (t.Class (member_at number).owner)
-
 pub record MeaningTyped (rules : Rules) (funs : Programs) (limits : Limits) (m : Meaning) : Type 0 where
-  pub expr : (x : Expr) (d : Place) (s : State) (e : Env) (g : Scope) → ExprAgrees (known_in funs limits d.text) g x → ExprSuits x → StateTyped rules g s e
+  pub expr : (x : Expr) (d : Place) (s : State) (e : Env) (g : Scope) → ExprAgrees (known_in funs limits d.text) g x → StateTyped rules g s e
       → OutTyped (λ objects value. IsTyped objects (type_of x) value) rules s.world.store.objects g (m.expr d s e x)
-  pub exprs : (x : Exprs) (d : Place) (s : State) (e : Env) (g : Scope) → ExprsAgree (known_in funs limits d.text) g x → ExprsSuit x → StateTyped rules g s e
+  pub exprs : (x : Exprs) (d : Place) (s : State) (e : Env) (g : Scope) → ExprsAgree (known_in funs limits d.text) g x → StateTyped rules g s e
       → OutTyped (λ objects values. AreTyped objects (types_of x) values) rules s.world.store.objects g (m.exprs d s e x)
-  pub stmt : (x : Stmt) (d : Place) (s : State) (e : Env) (g : Scope) (of : Ty) (looped : Bool) → StmtAgrees (known_in funs limits d.text) of looped g x → StmtSuits x → StateTyped rules g s e
+  pub stmt : (x : Stmt) (d : Place) (s : State) (e : Env) (g : Scope) (of : Ty) (looped : Bool) → StmtAgrees (known_in funs limits d.text) of looped g x → StateTyped rules g s e
       → OutTyped (FlowTyped of) rules s.world.store.objects g (m.stmt d s e x)
-  pub stmts : (x : Stmts) (d : Place) (s : State) (e : Env) (g : Scope) (of : Ty) (looped : Bool) → StmtsAgree (known_in funs limits d.text) of looped g x → StmtsSuit x → StateTyped rules g s e
+  pub stmts : (x : Stmts) (d : Place) (s : State) (e : Env) (g : Scope) (of : Ty) (looped : Bool) → StmtsAgree (known_in funs limits d.text) of looped g x → StateTyped rules g s e
       → OutTyped (FlowTyped of) rules s.world.store.objects g (m.stmts d s e x)
 
 -- at every bound
 abbrev pub MeaningsAreTyped : Type 0
-MeaningsAreTyped = (rules : Rules) (funs : Programs) (limits : Limits) (bound : ℕ) → AreWellFormed funs limits → BothSuit funs → MeaningTyped rules funs limits (meaning funs limits bound)
+MeaningsAreTyped = (rules : Rules) (funs : Programs) (limits : Limits) (bound : ℕ) → AreWellFormed funs limits → MeaningTyped rules funs limits (meaning funs limits bound)
 
 -- A main script, on arguments of its parameters' types in a store that fits, returns a value of its result's type in the store that it
 -- leaves.
 abbrev pub ResultsAreTyped : Type 0
 ResultsAreTyped =
-    (rules : Rules) (funs : Programs) (limits : Limits) (bound : ℕ) → AreWellFormed funs limits → BothSuit funs → (main : Fun) → slice_get funs.script 0 ≡ Some main
+    (rules : Rules) (funs : Programs) (limits : Limits) (bound : ℕ) → AreWellFormed funs limits → (main : Fun) → slice_get funs.script 0 ≡ Some main
     → (w : World) (arguments : List Value) → Fits rules w.store.objects → AreTyped w.store.objects (types_in main.params) arguments
     → (e : Env) → entry main.params arguments [] ≡ Some e
     → OutTyped (FlowTyped main.result) rules w.store.objects (scope_of main.params [])

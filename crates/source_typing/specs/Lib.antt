@@ -1,3 +1,2 @@
-pub mod Suiting
 pub mod Outs
 pub mod Laws

@@ -15,7 +15,7 @@ use Rattle.pl_types.specs.Types.{same_primitives, same_types}
 use Rattle.pl_types.specs.Casts.{box_of, unboxed, is_number, widens, keeps, narrows, Row, only_if, to_itself, null_to, widening, narrowing, wrapped_as, boxing, boxing_narrowed, is_plain, reaches, boxing_to_parent, boxing_to_def, unwrapped_as, unboxing, unboxing_narrowed, to_parent, to_child, to_def, from_def, array_to_object, object_to_primitive, char_to_text, text_to_char, cast_rows, holds, given_by, first_of_two, cast_from, cast_between, cast_of}
 use Rattle.pl_types.proofs.Shapes.{unboxing_box}
 use Rattle.typing_rules.specs.Rules.Operators.{unboxed_layer, unboxed_of}
-use Rattle.program_typing.specs.Types.{is_reference_layer, IsNamed, Converts, Keeps, Same as SameTypes, References as BothReferences, Casts}
+use Rattle.program_typing.specs.Types.{is_reference_layer, IsNamed, IsGiven, Converts, Keeps, Same as SameTypes, References as BothReferences, Casts}
 use Rattle.program_typing.specs.Agreeing.{IsKnownBefore}
 use Rattle.typing_soundness.proofs.Types.{prim_by, class_by, def_layer, aim_layer, IsAim}
 
@@ -268,9 +268,9 @@ fitting from to written c e =
 
 -- ---- the same of types
 
-kept : (from to : Ty) → KeepsLayer (out-Ty from) (out-Ty to) → Keeps from to
-kept from to (Same p a b) = SameTypes (prim_by from p a ∙ sym (prim_by to p b))
-kept from to (References a b) = BothReferences a b
+kept : (from to : Ty) → KeepsLayer (out-Ty from) (out-Ty to) → IsGiven cast.Keep from to → Keeps from to
+kept from to (Same p a b) given = SameTypes (prim_by from p a ∙ sym (prim_by to p b))
+kept from to (References a b) given = BothReferences a b given
 
 named_by : (to : Ty) (l : Ty-F Ty) → IsSought l → aim_layer l to → IsNamed to
 named_by to Ty-F.Void s h = absurd s
@@ -280,20 +280,20 @@ named_by to (Ty-F.Prim p) s h = h
 named_by to (Ty-F.Class c) s h = h
 named_by to (Ty-F.Array u) s h = h
 
-fits_casts : (c : Cast) (from to : Ty) → IsAim to → Fits c (out-Ty from) (out-Ty to) → Casts c from to
-fits_casts cast.Keep from to h f = kept from to f
-fits_casts (cast.Number p q) from to h f = (prim_by from p f.0, prim_by to q f.1, f.2)
-fits_casts (cast.Wrap p q) from to h f = (prim_by from p f.0, f.1, f.2)
-fits_casts (cast.Unwrap p q) from to h f = (f.0, prim_by to q f.1, f.2)
-fits_casts cast.Implicit from to h f = (f.0, named_by to (out-Ty to) f.1 h.layer)
-fits_casts cast.Explicit from to h f = (f.0, named_by to (out-Ty to) f.1 h.layer)
-fits_casts cast.CharToText from to h f = (prim_by from prim.Char f.0, class_by to STRING f.1)
-fits_casts cast.TextToChar from to h f = (f.0, prim_by to prim.Char f.1)
+fits_casts : (c : Cast) (from to : Ty) → IsAim to → Fits c (out-Ty from) (out-Ty to) → IsGiven c from to → Casts c from to
+fits_casts cast.Keep from to h f given = kept from to f given
+fits_casts (cast.Number p q) from to h f given = (prim_by from p f.0, prim_by to q f.1, f.2)
+fits_casts (cast.Wrap p q) from to h f given = (prim_by from p f.0, f.1, f.2, given)
+fits_casts (cast.Unwrap p q) from to h f given = (f.0, prim_by to q f.1, f.2)
+fits_casts cast.Implicit from to h f given = (f.0, named_by to (out-Ty to) f.1 h.layer)
+fits_casts cast.Explicit from to h f given = (f.0, named_by to (out-Ty to) f.1 h.layer)
+fits_casts cast.CharToText from to h f given = (prim_by from prim.Char f.0, class_by to STRING f.1)
+fits_casts cast.TextToChar from to h f given = (f.0, prim_by to prim.Char f.1)
 
 -- a cast of a part, written or added
 pub part_casts : (from to : Ty) (written : Bool) (c : Cast) → IsAim to → cast_of class_is_below from to written ≡ Some c
     → Casts c from to
-part_casts from to written c aim e = fits_casts c from to aim (fitting from to written c e)
+part_casts from to written c aim e = fits_casts c from to aim (fitting from to written c e) (record { written = written; is = e })
 
 -- nothing goes to void
 to_void : (c : Cast) (from : Ty-F Ty) → Fits c from Ty-F.Void → ⊥

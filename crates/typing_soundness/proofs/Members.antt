@@ -5,8 +5,12 @@ use Rattle.std.specs.List.{list_all}
 use Rattle.std.specs.Str.{bytes_eq}
 use Rattle.std.proofs.lemmas.Bool.{and_parts}
 use Rattle.std.proofs.lemmas.Option.{get_or_from_slice_get}
+use Rattle.pl_types.specs.declared.conversion.Cast.TheVariants as cast
 use Rattle.pl_types.specs.declared.ty.Ty.{Ty, out-Ty}
+use Rattle.pl_types.specs.declared.ty.Ty.TheVariants as ty
 use Rattle.pl_types.specs.declared.ty.Ty.TheOpen.{Ty-F}
+use Rattle.pl_types.specs.Classes.{class_is_below}
+use Rattle.pl_types.proofs.Shapes.{class_up}
 use Rattle.pl_tree.specs.declared.operator.Access.{Access}
 use Rattle.pl_tree.specs.declared.operator.Access.TheVariants as through
 use Rattle.allowlist.specs.declared.member.MemberKind.{MemberKind}
@@ -15,7 +19,7 @@ use Rattle.allowlist.specs.declared.member.MemberType.{MemberType}
 use Rattle.allowlist.specs.Allow.{AllowList, flag, is_called, has_name, first_member, own_member, member_of}
 use Rattle.allowlist.specs.Catalogue.{catalogue, constructor}
 use Rattle.allowlist.specs.Index.{member_at}
-use Rattle.allowlist.proofs.Unique.{found_is_allowed}
+use Rattle.allowlist.proofs.Unique.{found_is_allowed, found_above}
 use Rattle.member_calls.specs.Members.{is_built}
 use Rattle.member_calls.proofs.Owners.{built_owners}
 use Rattle.typed_tree.specs.declared.operation.Operation.{Operation}
@@ -32,10 +36,10 @@ use Rattle.typing_rules.specs.Rules.Operators.{primitive_layer, primitive_of, is
 use Rattle.typing_rules.specs.Rules.Members.{is_open_layer, is_open, is_open_member, is_kind, wanted, member, cast_all, member_arguments, guards, gives_primitive, nullable, result, instance_node, instance_call, called_layer, method_of, static_node, static_call, static_layer, static_of, constructed, new_layer, new_of, or_else, capital, getter, plainly, read_layer, read_of, field_node, field_layer, field_of}
 use Rattle.source_meaning.specs.Tree.{type_of}
 use Rattle.source_meaning.specs.Programs.{exprs_of, expr_of}
-use Rattle.program_typing.specs.Types.{IsReference}
-use Rattle.program_typing.specs.Agreeing.{Known as Script, Scope, types_of, TakesTypes, Applies, is_primitive_layer, is_primitive as gives_number, MemberAgrees, ExprsAgree}
+use Rattle.program_typing.specs.Types.{IsReference, IsGiven}
+use Rattle.program_typing.specs.Agreeing.{Known as Script, Scope, types_of, TakesTypes, Applies, is_primitive_layer, is_primitive as gives_number, ReceiverIsOf, MemberAgrees, ExprsAgree}
 use Rattle.typing_soundness.proofs.Nodes.{applied_is, guarded_is}
-use Rattle.typing_soundness.proofs.Types.{part_layer, IsOfPart, part_aim, reference_by, members_built}
+use Rattle.typing_soundness.proofs.Types.{class_by, part_layer, IsOfPart, part_aim, reference_by, members_built}
 use Rattle.typing_soundness.proofs.Parts.{passed, accepted, settled, PartIs, node_is, part_of, cast_is}
 use Rattle.typing_soundness.proofs.Names.{AllParts}
 
@@ -169,6 +173,26 @@ getter_allowed allow class name number e = pick (either_found _ _ number e)
     pick (inl e) = found_allowed allow class (codes "get" ++ capital name) 0 number e
     pick (inr e) = found_allowed allow class (codes "is" ++ capital name) 0 number e
 
+-- ---- the class that has the member
+
+-- the table keeps a value of the class at which a member is found at the class that has it
+abbrev Receives : ℕ → ℕ → Type 0
+Receives class number = IsGiven cast.Keep (ty.Class class) (ty.Class (member_at number).owner)
+
+found_receives : (allow : AllowList) (class : ℕ) (name : List ℕ) (arity number : ℕ) → member_of allow class name arity ≡ Some number → Receives class number
+found_receives allow class name arity number e =
+    let found = found_above allow class name arity number e in
+    let same : member_at number ≡ found.0 = get_or_from_slice_get catalogue number found.0 (constructor 0 []) found.1 in
+    let above : class_is_below class (member_at number).owner ≡ true = subst (λ (m : MemberType). class_is_below class m.owner ≡ true) (sym same) found.2 in
+    record { written = false; is = sym (class_up class_is_below class (member_at number).owner false above) }
+
+getter_receives : (allow : AllowList) (class : ℕ) (name : List ℕ) (number : ℕ) → getter allow class name ≡ Some number → Receives class number
+getter_receives allow class name number e = pick (either_found _ _ number e)
+  where
+    pick : (member_of allow class (codes "get" ++ capital name) 0 ≡ Some number) ⊎ (member_of allow class (codes "is" ++ capital name) 0 ≡ Some number) → Receives class number
+    pick (inl e) = found_receives allow class (codes "get" ++ capital name) 0 number e
+    pick (inr e) = found_receives allow class (codes "is" ++ capital name) 0 number e
+
 -- ---- what is asked of what a guarded call gives
 
 number_layer : (l : Ty-F Ty) → is_primitive (primitive_layer l) ≡ is_primitive_layer l
@@ -238,8 +262,8 @@ module _ (funs : Script) (g : Scope) where
   given_to sort number xs ys c e h = cast_all_are (member_at number).params xs ys c.opens.params c.found.takes e h
 
   agrees_by : (sort : MemberKind) (arity number : ℕ) (ofs : List Ty) → Callable sort arity number → TakesTypes sort (member_at number).params ofs
-      → MemberAgrees funs sort (member number) ofs (result number)
-  agrees_by sort arity number ofs c takes = record {
+      → ReceiverIsOf sort (member_at number).owner ofs → MemberAgrees funs sort (member number) ofs (result number)
+  agrees_by sort arity number ofs c takes receiver = record {
     member = member_at number;
     is = c.found.is;
     sort = c.kind;
@@ -247,18 +271,24 @@ module _ (funs : Script) (g : Scope) where
     built = c.built;
     allowed = c.found.allowed;
     takes = takes;
+    receiver = receiver;
     gives = refl;
   }
 
+  class_is_reference : (x : Part) (c : ℕ) → out-Ty (type_of_part x) ≡ Ty-F.Class c → IsReference (type_of_part x)
+  class_is_reference x c is = reference_by (type_of_part x) (Ty-F.Class c) is tt
+
   -- a call on a value
-  instance_is : (access : Access) (at number : ℕ) (x y : Part) (xs : List Part) → Callable kind.Instance (length xs) number → IsReference (type_of_part x)
+  instance_is : (access : Access) (at class number : ℕ) (x y : Part) (xs : List Part) → Callable kind.Instance (length xs) number → out-Ty (type_of_part x) ≡ Ty-F.Class class → Receives class number
       → instance_call access at number x xs ≡ Ok y
       → PartIs funs g x → AllParts funs g xs → PartIs funs g y
-  instance_is access at number x y xs c r e hx h =
+  instance_is access at class number x y xs c is receives e hx h =
       let a = passed (member_arguments number xs) (λ ys. nullable access at number (instance_node access at number (x.typed ∷ ys))) y e in
       let given = given_to kind.Instance number xs a.given c a.first h in
       let whole = not_nullable (guards access && gives_primitive number) _ at (instance_node access at number (x.typed ∷ a.given)) y a.then' in
-      let agrees = agrees_by kind.Instance (length xs) number (type_of (expr_of x.typed) ∷ types_of (exprs_of (map expr_of a.given))) c (subst IsReference (sym hx.typed.is) r, given.types) in
+      let agrees = agrees_by kind.Instance (length xs) number (type_of (expr_of x.typed) ∷ types_of (exprs_of (map expr_of a.given))) c
+      (subst IsReference (sym hx.typed.is) (class_is_reference x class is), given.types)
+      (subst (λ of. IsGiven cast.Keep of (ty.Class (member_at number).owner)) (sym (class_by (type_of_part x) class is) ∙ sym hx.typed.is) receives) in
       subst (PartIs funs g) whole.same (pick access a.given whole.holds given agrees)
     where
       pick : (access : Access) (ys : List Typed) → (guards access && gives_primitive number) ≡ false → Given (member_at number).params ys
@@ -272,16 +302,14 @@ module _ (funs : Script) (g : Scope) where
           (node_is funs g at (result number) _ _ (guarded_is at (result number) (o.Instance (member number)) (x.typed ∷ ys)) refl
           (hx.typed.agrees, given.agree, record { member = member number; is = refl; agrees = agrees; whole = no_number (result number) whole }))
 
-  class_is_reference : (x : Part) (c : ℕ) → out-Ty (type_of_part x) ≡ Ty-F.Class c → IsReference (type_of_part x)
-  class_is_reference x c is = reference_by (type_of_part x) (Ty-F.Class c) is tt
-
   method_by : (l : Ty-F Ty) (access : Access) (at : ℕ) (name : List ℕ) (x y : Part) (xs : List Part) → out-Ty (type_of_part x) ≡ l
       → called_layer funs.allowed l access at name x xs ≡ Ok y
       → PartIs funs g x → AllParts funs g xs → PartIs funs g y
   method_by (Ty-F.Class c) access at name x y xs is e hx h =
       let a = passed (wanted kind.Instance at (member_of funs.allowed c name (length xs))) (λ number. instance_call access at number x xs) y e in
-      instance_is access at a.given x y xs (callable kind.Instance at (length xs) _ a.given a.first (found_allowed funs.allowed c name (length xs) a.given))
-      (class_is_reference x c is) a.then' hx h
+      let found = (wants kind.Instance at (member_of funs.allowed c name (length xs)) a.given a.first).is in
+      instance_is access at c a.given x y xs (callable kind.Instance at (length xs) _ a.given a.first (found_allowed funs.allowed c name (length xs) a.given)) is
+      (found_receives funs.allowed c name (length xs) a.given found) a.then' hx h
   method_by Ty-F.Def access at name x y xs is e hx h = cc
   method_by Ty-F.Void access at name x y xs is e hx h = cc
   method_by Ty-F.Null access at name x y xs is e hx h = cc
@@ -299,8 +327,9 @@ module _ (funs : Script) (g : Scope) where
   read_by (Ty-F.Class c) access at name x y is e hx =
       let a = passed (wanted kind.Instance at (getter funs.allowed c name)) (λ number. bind (instance_call access at number x []) (λ y. accepted (plainly y))) y e in
       let b = passed (instance_call access at a.given x []) (λ y. accepted (plainly y)) y a.then' in
-      let called = instance_is access at a.given x b.given [] (callable kind.Instance at 0 _ a.given a.first (getter_allowed funs.allowed c name a.given))
-      (class_is_reference x c is) b.first hx tt in
+      let found = (wants kind.Instance at (getter funs.allowed c name) a.given a.first).is in
+      let called = instance_is access at c a.given x b.given [] (callable kind.Instance at 0 _ a.given a.first (getter_allowed funs.allowed c name a.given)) is
+      (getter_receives funs.allowed c name a.given found) b.first hx tt in
       settled (PartIs funs g) (plainly b.given) y b.then' (record { typed = called.typed; built = called.built })
   read_by Ty-F.Def access at name x y is e hx = cc
   read_by Ty-F.Void access at name x y is e hx = cc
@@ -328,7 +357,7 @@ module _ (funs : Script) (g : Scope) where
       let b = passed (member_arguments a.given xs) (λ ys. nullable access at a.given (static_node at a.given ys)) y a.then' in
       let given = given_to kind.Static a.given xs b.given c b.first h in
       let whole = not_nullable (guards access && gives_primitive a.given) _ at (static_node at a.given b.given) y b.then' in
-      subst (PartIs funs g) whole.same (applied_part f.Deed (o.Static (member a.given)) at a.given b.given c.opens given (agrees_by kind.Static (length xs) a.given _ c given.types))
+      subst (PartIs funs g) whole.same (applied_part f.Deed (o.Static (member a.given)) at a.given b.given c.opens given (agrees_by kind.Static (length xs) a.given _ c given.types tt))
   static_by Ty-F.Def access at name y xs e h = cc
   static_by Ty-F.Void access at name y xs e h = cc
   static_by Ty-F.Null access at name y xs e h = cc
@@ -345,7 +374,7 @@ module _ (funs : Script) (g : Scope) where
       let c = callable kind.Constructor at (length xs) _ a.given a.first (own_allowed funs.allowed class [] (length xs) a.given) in
       let b = passed (member_arguments a.given xs) _ y a.then' in
       let given = given_to kind.Constructor a.given xs b.given c b.first h in
-      settled (PartIs funs g) _ y b.then' (applied_part f.Deed (o.Constructor (member a.given)) at a.given b.given c.opens given (agrees_by kind.Constructor (length xs) a.given _ c given.types))
+      settled (PartIs funs g) _ y b.then' (applied_part f.Deed (o.Constructor (member a.given)) at a.given b.given c.opens given (agrees_by kind.Constructor (length xs) a.given _ c given.types tt))
   new_by Ty-F.Def at y xs e h = cc
   new_by Ty-F.Void at y xs e h = cc
   new_by Ty-F.Null at y xs e h = cc
@@ -361,7 +390,7 @@ module _ (funs : Script) (g : Scope) where
       let c = callable kind.Field at 0 _ a.given a.first (found_allowed funs.allowed class name 0 a.given) in
       let given = given_to kind.Field a.given [] [] c (no_arguments (member_at a.given).params) tt in
       let whole = not_nullable (guards access && gives_primitive a.given) _ at (field_node at a.given) y a.then' in
-      subst (PartIs funs g) whole.same (applied_part f.Other (o.Field (member a.given)) at a.given [] c.opens given (agrees_by kind.Field 0 a.given _ c given.types))
+      subst (PartIs funs g) whole.same (applied_part f.Other (o.Field (member a.given)) at a.given [] c.opens given (agrees_by kind.Field 0 a.given _ c given.types tt))
     where
       no_arguments : (ts : List Ty) → cast_all ts [] ≡ Ok []
       no_arguments [] = refl

@@ -1,4 +1,3 @@
-use Rattle.source_typing.proofs.Receivers.{receivers_are_given}
 use Rattle.source_typing.proofs.Operations.{operators_give_types, casts_give_static_types}
 use Rattle.source_typing.proofs.Meanings.{meanings_are_typed, results_are_typed}
 use Rattle.source_typing.proofs.laws.source_keeps_types.Goals as goal
@@ -14,6 +13,3 @@ returns-clause-operators c = operators_give_types
 
 pub returns-clause-casts : goal.returns-clause-casts
 returns-clause-casts c = casts_give_static_types
-
-pub returns-clause-receivers : goal.returns-clause-receivers
-returns-clause-receivers c = receivers_are_given
