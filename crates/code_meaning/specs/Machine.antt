@@ -39,6 +39,7 @@ use Rattle.pl_code.specs.declared.code.Trap.{Trap}
 use Rattle.pl_code.specs.declared.code.FunCode.{FunCode}
 use Rattle.pl_code.specs.declared.code.Instruction.{Instruction}
 use Rattle.pl_code.specs.declared.code.Instruction.TheVariants as i
+use Rattle.run_state.specs.Calls.{suits_member, wrong_class}
 use Rattle.run_state.specs.World.{World, Limits, Room, End, Result, Uncaught, Limited, Outcome, Given, Raised, Full, acts_in, Counted, Counts, Passes, allowed_in, take_turn, enter, pay_member}
 use Rattle.code_meaning.specs.declared.word.Word.{Word}
 use Rattle.code_meaning.specs.declared.word.Word.TheVariants.{I, J, R}
@@ -338,11 +339,16 @@ module _ (codes : Codes) (limits : Limits) where
   on_paid (Passes limit w) number arguments t f below stack = Ends (Limited limit w)
   on_paid (Counts w) number arguments t f below stack = on_act (does limits.host number arguments w.store) t f below w stack
 
-  -- a receiver that is null throws before the call is paid; a field is read without a tick
+  -- a receiver or an argument of another class throws before the call is paid
+  abbrev pub on_tested : Bool → ℕ → List Value → MemberType → Frame → List Frame → World → List Word → Next
+  on_tested false number arguments t f below w stack = on_outcome (acts_in w (effect w.store wrong_class)) (given_as t.result) f below w stack
+  on_tested true number arguments t f below w stack = on_paid (pay_member f.text number w) number arguments t f below stack
+
+  -- a receiver that is null throws before that; a field is read without a tick
   abbrev pub on_received : Receiving → ℕ → MemberType → Frame → List Frame → World → List Word → Next
   on_received Unfit number t f below w stack = Stuck
   on_received OnNull number t f below w stack = on_outcome (acts_in w (effect w.store null_error)) (given_as t.result) f below w stack
-  on_received (Receives arguments) number t f below w stack = on_paid (pay_member f.text number w) number arguments t f below stack
+  on_received (Receives arguments) number t f below w stack = on_tested (suits_member w.store.objects t arguments) number arguments t f below w stack
   on_received Reads number t f below w stack = on_act (does limits.host number [] w.store) t f below w stack
 
   -- a call of the member of this number, if there is one

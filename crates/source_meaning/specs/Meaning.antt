@@ -22,6 +22,7 @@ use Rattle.typed_tree.specs.declared.operation.Target.TheVariants as target
 use Rattle.typed_tree.specs.declared.operation.Change.{Change}
 use Rattle.typed_tree.specs.declared.operation.Gives.{Gives as Given_by}
 use Rattle.typed_tree.specs.declared.operation.Gives.TheVariants as gives
+use Rattle.run_state.specs.Calls.{suits_member, wrong_class}
 use Rattle.run_state.specs.World.{World, Limits, Limit, Room, Outcome, Given, Raised, Full, acts_in, Counted, Counts, Passes, allowed_in, has_loop_limit, take_turn, enter, pay_member}
 use Rattle.source_meaning.specs.Tree.{Name, Expr, Literal, Quoted, Local, Apply, Guarded, Logic, Conditional, Elvis, Assign, Modify, Lambda, Reference, NewReference, Exprs, None', One, Maybe, Missing, Given as Present, Stmt, Do, If, While, DoWhile, ForEach, Try, Block, Break, Continue, Return, Throw, Stmts, Finish, Then, Declare, Catches, NoCatch, Catch, Variable, Fun, Programs, functions_in}
 use Rattle.number_ops.specs.Operators.{is_null}
@@ -29,6 +30,7 @@ use Rattle.number_ops.specs.Relations.{is_instance, thrown}
 use Rattle.pl_units.specs.Utf16.{units}
 use Rattle.number_ops.specs.Outcomes as outcomes
 use Rattle.allowlist.specs.Allow.{flag}
+use Rattle.allowlist.specs.declared.member.MemberType.{MemberType}
 use Rattle.allowlist.specs.Index.{member_at}
 use Rattle.object_heap.specs.Effects.{Effect}
 use Rattle.member_calls.specs.Members.{does}
@@ -204,17 +206,22 @@ module _ (funs : Programs) (limits : Limits) (m : Meaning) where
   paid (Passes limit w) number arguments s e = Over limit w
   paid (Counts w) number arguments s e = acted (does limits.host number arguments w.store) (record { world = w; turns = s.turns }) e
 
-  -- a receiver that is null throws before the call is paid; a field is read without a tick
-  abbrev pub member_called : Sending → ℕ → Place → State → Env → Out Value
-  member_called Unsent number d s e = More
-  member_called OnNull number d s e = effect (acts_in s.world (outcomes.effect s.world.store outcomes.null_error)) s e
-  member_called (Sends arguments) number d s e = paid (pay_member d.text number s.world) number arguments s e
-  member_called Reads number d s e = acted (does limits.host number [] s.world.store) s e
+  -- a receiver or an argument of another class throws before the call is paid
+  abbrev pub tested : Bool → ℕ → List Value → Place → State → Env → Out Value
+  tested false number arguments d s e = effect (acts_in s.world (outcomes.effect s.world.store wrong_class)) s e
+  tested true number arguments d s e = paid (pay_member d.text number s.world) number arguments s e
+
+  -- a receiver that is null throws before that; a field is read without a tick
+  abbrev pub member_called : Sending → ℕ → MemberType → Place → State → Env → Out Value
+  member_called Unsent number t d s e = More
+  member_called OnNull number t d s e = effect (acts_in s.world (outcomes.effect s.world.store outcomes.null_error)) s e
+  member_called (Sends arguments) number t d s e = tested (suits_member s.world.store.objects t arguments) number arguments d s e
+  member_called Reads number t d s e = acted (does limits.host number [] s.world.store) s e
 
   -- a call of a member, which is allowed
   abbrev pub member_applied : Bool → ℕ → List Value → Place → State → Env → Out Value
   member_applied false number values d s e = More
-  member_applied true number values d s e = member_called (sent (member_at number) values) number d s e
+  member_applied true number values d s e = member_called (sent (member_at number) values) number (member_at number) d s e
 
   abbrev pub of_member : Member → List Value → Place → State → Env → Out Value
   of_member m values d s e = member_applied (flag (allowed_in limits d.text).members m.number) m.number values d s e
