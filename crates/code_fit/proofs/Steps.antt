@@ -34,6 +34,7 @@ use Rattle.pl_code.specs.declared.kinds.Width.TheVariants as width
 use Rattle.pl_code.specs.declared.code.FunCode.{FunCode}
 use Rattle.pl_code.specs.declared.code.Instruction.{Instruction}
 use Rattle.pl_code.specs.declared.code.Instruction.TheVariants as i
+use Rattle.run_state.specs.Calls.{suits_member, wrong_class}
 use Rattle.run_state.specs.World.{World, Limits, Outcome, Given, Raised, Full, acts_in, Counted, Counts, Passes, allowed_in, take_turn, enter, pay_member}
 use Rattle.run_fit.specs.Laws.{DoneFits}
 use Rattle.run_fit.specs.Worlds.{WorldFits, count_in, OutcomeFits}
@@ -45,7 +46,7 @@ use Rattle.code_meaning.specs.declared.word.Word.TheVariants.{I, J, R}
 use Rattle.code_meaning.specs.Members.{Receiving, Unfit, OnNull, Receives, Reads, count_of, given_as, received}
 use Rattle.code_meaning.specs.Words.{Calculation, NoRow, Calculates, boxed, calculation, unboxed, word_of, start_of, takes_one, is_shift, one_int, two_ints, one_long, two_longs, long_and_int, op_of}
 use Rattle.arithmetic.specs.declared.operator.Op.{Op}
-use Rattle.code_meaning.specs.Machine.{Codes, code_in, function_of, Frame, Next, Goes, Ends, Stuck, Handlers, is_instance, lands, traps_of, unwind, on_top, on_int, on_reference, on_value, on_local, on_stack, on_words, to_line, take_words, copied, pushed, depth_of, is_written, on_outcome, on_thrown, on_calculation, gives_back, returns, returns_of, on_turn, on_enter, on_call, on_act, on_paid, on_received, plain_act, numbered_act, quoted_act, typed_act, member_act, act, acts, lines_of, step, start_at, after}
+use Rattle.code_meaning.specs.Machine.{Codes, code_in, function_of, Frame, Next, Goes, Ends, Stuck, Handlers, is_instance, lands, traps_of, unwind, on_top, on_int, on_reference, on_value, on_local, on_stack, on_words, to_line, take_words, copied, pushed, depth_of, is_written, on_outcome, on_thrown, on_calculation, gives_back, returns, returns_of, on_turn, on_enter, on_call, on_act, on_paid, on_tested, on_received, plain_act, numbered_act, quoted_act, typed_act, member_act, act, acts, lines_of, step, start_at, after}
 use Rattle.code_fit.specs.Laws.{StartsFit, StepsFit, RunsFit}
 use Rattle.code_fit.specs.Moments.{WordFits, WordsFit, FramesFit, ResultFits, NextFits}
 use Rattle.code_fit.proofs.Nexts.{int_holds, long_holds, type_holds, loops_hold, either_holds, null_holds}
@@ -197,13 +198,19 @@ module _ (rules : Rules) (before : List Object) where
         act_fits (does limits.host number arguments w'.store) t f below w' stack (same_frames w w' (f ∷ below) p h) (same_words w w' stack p s)
         (members_fit rules before w' limits.host number arguments (same_store w w' p h.0) (subst (λ (x : Store). AllFit (length x.objects) arguments) (sym p) g))
 
+    tested_fits : (suits : Bool) (number : ℕ) (arguments : List Value) (t : MemberType) (f : Frame) (below : List Frame) (w : World) (stack : List Word) → Here w (f ∷ below) → WordsFit (count_in w) stack
+        → AllFit (count_in w) arguments → N (on_tested codes limits suits number arguments t f below w stack)
+    tested_fits false number arguments t f below w stack h s g =
+        outcome_fits (acts_in w (effect w.store wrong_class)) (given_as t.result) (given_fits t.result) f below w stack h s (outcomes_fit rules before w wrong_class h.0 tt)
+    tested_fits true number arguments t f below w stack h s g =
+        paid_fits (pay_member f.text number w) number arguments t f below w stack h s g (member_keeps f.text number w)
+
     received_act_fits : (r : Receiving) (number : ℕ) (t : MemberType) (f : Frame) (below : List Frame) (w : World) (stack : List Word) → Here w (f ∷ below) → WordsFit (count_in w) stack
         → ReceivingFits (count_in w) r → N (on_received codes limits r number t f below w stack)
     received_act_fits Unfit number t f below w stack h s g = tt
     received_act_fits OnNull number t f below w stack h s g =
         outcome_fits (acts_in w (effect w.store null_error)) (given_as t.result) (given_fits t.result) f below w stack h s (outcomes_fit rules before w null_error h.0 tt)
-    received_act_fits (Receives arguments) number t f below w stack h s g =
-        paid_fits (pay_member f.text number w) number arguments t f below w stack h s g (member_keeps f.text number w)
+    received_act_fits (Receives arguments) number t f below w stack h s g = tested_fits (suits_member w.store.objects t arguments) number arguments t f below w stack h s g
     received_act_fits Reads number t f below w stack h s g =
         act_fits (does limits.host number [] w.store) t f below w stack h s (members_fit rules before w limits.host number [] h.0 tt)
 

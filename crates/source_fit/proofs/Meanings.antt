@@ -4,6 +4,7 @@ use Rattle.std.specs.Prelude.{slice_get, length, if◌then◌else◌}
 use Rattle.pl_types.specs.declared.ty.Ty.{Ty}
 use Rattle.allowlist.specs.Allow.{flag}
 use Rattle.allowlist.specs.Index.{member_at}
+use Rattle.allowlist.specs.declared.member.MemberType.{MemberType}
 use Rattle.object_values.specs.declared.object.Object.{Object}
 use Rattle.object_values.specs.declared.value.Value.{Value}
 use Rattle.object_values.specs.declared.value.Value.TheVariants as v
@@ -24,6 +25,7 @@ use Rattle.number_ops.specs.Outcomes as outcomes
 use Rattle.number_ops.specs.Relations.{thrown}
 use Rattle.member_calls.specs.Laws.{StillThere}
 use Rattle.member_calls.specs.Members.{does}
+use Rattle.run_state.specs.Calls.{suits_member, wrong_class}
 use Rattle.run_state.specs.World.{World, Limits, Outcome, Given, Raised, Full, acts_in, Counted, Counts, Passes, allowed_in, has_loop_limit, take_turn, enter, pay_member}
 use Rattle.run_fit.specs.Laws.{DoneFits}
 use Rattle.run_fit.specs.Worlds.{WorldFits, count_in, OutcomeFits}
@@ -33,7 +35,7 @@ use Rattle.run_fit.proofs.Values.{value_grows}
 use Rattle.source_meaning.specs.Tree.{Name, Expr, Literal, Quoted, Local, Apply, Guarded, Logic, Conditional, Elvis, Assign, Modify, Lambda, Reference, NewReference, Exprs, None', One, Maybe, Missing, Given as Present, Stmt, Do, If, While, DoWhile, ForEach, Try, Block, Break, Continue, Return, Throw, Stmts, Finish, Then, Declare, Catches, NoCatch, Catch, Fun, Programs, functions_in}
 use Rattle.source_meaning.specs.Operating.{Operated, Meaningless, Gives, Acts, operates, casts}
 use Rattle.source_meaning.specs.Members.{Sending, Unsent, OnNull, Sends, Reads, sent}
-use Rattle.source_meaning.specs.Meaning.{State, Env, Place, Out, Done, Thrown, Over, More, Flow, Normal, Broke, Continued, Returned, bind, leave, lookup, entry, found, effect, operated, choose, goes_next, goes_again, is_of_class, returned, back, Meaning, entered, called, acted, paid, member_called, member_applied, of_member, applied, logic, modified, expr_of, exprs_of, value_if, turned, done_turn, caught, handled, stmt_of, value_or, stmts_of, layer, meaning}
+use Rattle.source_meaning.specs.Meaning.{State, Env, Place, Out, Done, Thrown, Over, More, Flow, Normal, Broke, Continued, Returned, bind, leave, lookup, entry, found, effect, operated, choose, goes_next, goes_again, is_of_class, returned, back, Meaning, entered, called, acted, paid, tested, member_called, member_applied, of_member, applied, logic, modified, expr_of, exprs_of, value_if, turned, done_turn, caught, handled, stmt_of, value_or, stmts_of, layer, meaning}
 use Rattle.source_fit.specs.Laws.{MeaningFits, MeaningsFit}
 use Rattle.source_fit.specs.Outs.{EnvFits, StateFits, FlowFits, OutFits}
 use Rattle.run_fit.proofs.Values.{MadeFits}
@@ -191,16 +193,22 @@ module _ (rules : Rules) (before : List Object) where
         moved ValueFits s.world w _ p
         (acts (does limits.host number arguments w.store) (record { world = w; turns = s.turns }) e here (members_fit rules before w limits.host number arguments here.0 (same_values s.world w arguments p f)))
 
-    member_calls : (c : Sending) (number : ℕ) (d : Place) (s : State) (e : Env) → Here s e → SendingFits (count_in s.world) c → Keeps ValueFits (count_in s.world) (member_called funs limits m c number d s e)
-    member_calls Unsent number d s e h f = record { by = tt }
-    member_calls OnNull number d s e h f = effect_fits _ s e h (outcomes_fit rules before s.world outcomes.null_error h.0 tt)
-    member_calls (Sends arguments) number d s e h f = pays (pay_member d.text number s.world) number arguments s e h f (member_keeps d.text number s.world)
-    member_calls Reads number d s e h f = acts (does limits.host number [] s.world.store) s e h (members_fit rules before s.world limits.host number [] h.0 tt)
+    tests : (suits : Bool) (number : ℕ) (arguments : List Value) (d : Place) (s : State) (e : Env) → Here s e → AllFit (count_in s.world) arguments
+        → Keeps ValueFits (count_in s.world) (tested funs limits m suits number arguments d s e)
+    tests false number arguments d s e h f = effect_fits _ s e h (outcomes_fit rules before s.world wrong_class h.0 tt)
+    tests true number arguments d s e h f = pays (pay_member d.text number s.world) number arguments s e h f (member_keeps d.text number s.world)
+
+    member_calls : (c : Sending) (number : ℕ) (t : MemberType) (d : Place) (s : State) (e : Env) → Here s e → SendingFits (count_in s.world) c
+        → Keeps ValueFits (count_in s.world) (member_called funs limits m c number t d s e)
+    member_calls Unsent number t d s e h f = record { by = tt }
+    member_calls OnNull number t d s e h f = effect_fits _ s e h (outcomes_fit rules before s.world outcomes.null_error h.0 tt)
+    member_calls (Sends arguments) number t d s e h f = tests (suits_member s.world.store.objects t arguments) number arguments d s e h f
+    member_calls Reads number t d s e h f = acts (does limits.host number [] s.world.store) s e h (members_fit rules before s.world limits.host number [] h.0 tt)
 
     allowed_members : (allowed : Bool) (number : ℕ) (values : List Value) (d : Place) (s : State) (e : Env) → Here s e → AllFit (count_in s.world) values
         → Keeps ValueFits (count_in s.world) (member_applied funs limits m allowed number values d s e)
     allowed_members false number values d s e h f = record { by = tt }
-    allowed_members true number values d s e h f = member_calls (sent (member_at number) values) number d s e h (sent_fits (count_in s.world) (member_at number) values f)
+    allowed_members true number values d s e h f = member_calls (sent (member_at number) values) number (member_at number) d s e h (sent_fits (count_in s.world) (member_at number) values f)
 
     members : (x : Member) (values : List Value) (d : Place) (s : State) (e : Env) → Here s e → AllFit (count_in s.world) values → Keeps ValueFits (count_in s.world) (of_member funs limits m x values d s e)
     members x values d s e h f = allowed_members (flag (allowed_in limits d.text).members x.number) x.number values d s e h f
