@@ -2,7 +2,7 @@
 use Rattle.std.proofs.Common.{◌≡◌, ℕ, Bool, true, false, not, List, [], ◌∷◌, ◌++◌, length, Option, Some, None, refl, sym, subst}
 use Rattle.std.specs.Prelude.{codes, if◌then◌else◌}
 use Rattle.std.specs.Ordering.{int_eq}
-use Rattle.pl_types.specs.declared.classes.TheConstants.{NULL_POINTER_EXCEPTION}
+use Rattle.pl_types.specs.declared.classes.TheConstants.{CLASS_CAST_EXCEPTION, NULL_POINTER_EXCEPTION}
 use Rattle.pl_types.specs.declared.primitive.Primitive.{Primitive}
 use Rattle.pl_types.specs.declared.primitive.Primitive.TheVariants as prim
 use Rattle.pl_types.specs.declared.ty.Ty.{Ty, out-Ty}
@@ -32,6 +32,7 @@ use Rattle.number_ops.specs.Operators.{number_in, is_null}
 use Rattle.number_ops.specs.Order.{found_of}
 use Rattle.number_ops.specs.Outcomes.{effect, class_raised, says, null_error, zero_divisor}
 use Rattle.number_ops.specs.Relations.{equal, equal_if}
+use Rattle.run_state.specs.Calls.{wrong_class}
 use Rattle.source_meaning.specs.Operating.{Operated, Meaningless, Gives as Gives_it, Acts, negated}
 use Rattle.program_typing.specs.Types.{HasPrimitive, HasLayer, Has, string}
 use Rattle.program_typing.proofs.Values.{has_flag, text_has}
@@ -63,6 +64,9 @@ says_has l store raised message = thrown_has l store (class_raised raised) (Some
 
 pub null_throws : (of : Ty) (store : Store) → EffectHas of (effect store null_error)
 null_throws of store = thrown_has (out-Ty of) store NULL_POINTER_EXCEPTION None
+
+pub wrong_throws : (of : Ty) (store : Store) → EffectHas of (effect store wrong_class)
+wrong_throws of store = thrown_has (out-Ty of) store CLASS_CAST_EXCEPTION None
 
 pub divides : (of : Ty) (store : Store) → EffectHas of (effect store zero_divisor)
 divides of store = says_has (out-Ty of) store _ (codes "/ by zero")

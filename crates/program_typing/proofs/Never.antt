@@ -29,17 +29,18 @@ use Rattle.typed_tree.specs.declared.operation.Gives.{Gives}
 use Rattle.typed_tree.specs.declared.operation.Gives.TheVariants as gives
 use Rattle.number_ops.specs.Operators.{is_null}
 use Rattle.number_ops.specs.Relations.{thrown}
+use Rattle.run_state.specs.Calls.{suits_member}
 use Rattle.run_state.specs.World.{World, Limits, Loop, Depth, Ticks, acts_in, Counted, Counts, Passes, pay_tick, has_loop_limit, take_turn, goes_deeper, enter, reach, reaches, pay_member}
 use Rattle.member_calls.specs.Members.{is_built, does}
 use Rattle.source_meaning.specs.Tree.{Name, Expr, Literal, Quoted, Local, Apply, Guarded, Logic, Conditional, Elvis, Assign, Modify, Lambda, Reference, NewReference, Exprs, None', One, Maybe, Missing, Given as Present, Stmt, Do, If, While, DoWhile, ForEach, Try, Block, Break, Continue, Return, Throw, Stmts, Finish, Then, Declare, Catches, NoCatch, Catch, Variable, Fun, Programs, functions_in, type_of}
 use Rattle.source_meaning.specs.Operating.{Operated, Meaningless, Gives as Gives_it, Acts}
 use Rattle.source_meaning.specs.Members.{Sending, Unsent, OnNull, Sends, Reads, sent}
-use Rattle.source_meaning.specs.Meaning.{State, Env, Place, Out, Done, Thrown, Over, More, Flow, Normal, Broke, Continued, Returned, bind, leave, found, effect, operated, choose, given_by, goes_next, goes_again, is_of_class, back, Meaning, entered, called, acted, paid, member_called, member_applied, of_member, applied, logic, modified, expr_of, exprs_of, value_if, turned, done_turn, caught, handled, stmt_of, value_or, stmts_of, layer, meaning}
+use Rattle.source_meaning.specs.Meaning.{State, Env, Place, Out, Done, Thrown, Over, More, Flow, Normal, Broke, Continued, Returned, bind, leave, found, effect, operated, choose, given_by, goes_next, goes_again, is_of_class, back, Meaning, entered, called, acted, paid, tested, member_called, member_applied, of_member, applied, logic, modified, expr_of, exprs_of, value_if, turned, done_turn, caught, handled, stmt_of, value_or, stmts_of, layer, meaning}
 use Rattle.program_typing.specs.Types.{Has, HaveAll}
 use Rattle.program_typing.specs.Agreeing.{Scope, IsVariable, boolean, types_of, Calls, MemberAgrees, Applies, Changes, ExprAgrees, ExprsAgree, TestAgrees, UpdateAgrees, BeginAgrees, ReturnAgrees, StmtAgrees, StmtsAgree, CatchesAgree, scope_of, FunAgrees, WellFormed, known_in}
 use Rattle.program_typing.specs.Enough.{expr_size, exprs_size, maybe_size, stmt_size, stmts_size, catches_size}
 use Rattle.program_typing.proofs.Values.{has_flag, nothing_has, is_flag, text_has, class_has, constant_has, default_has}
-use Rattle.program_typing.proofs.Effects.{EffectHas, OperatedHas, null_throws}
+use Rattle.program_typing.proofs.Effects.{EffectHas, OperatedHas, null_throws, wrong_throws}
 use Rattle.program_typing.proofs.Members.{IsSent, is_sent, Comes, member_comes, null_has}
 use Rattle.program_typing.proofs.Operations.{takes_fit, casts_fit, begins_fit}
 use Rattle.program_typing.proofs.Scopes.{Bound, reads, writes, leaves, enters}
@@ -247,12 +248,17 @@ module _ (funs : Programs) (limits : Limits) (formed : (text : Owner) → WellFo
     paid_ends (Passes limit w') number arguments of s e g c x b = record { by = tt }
     paid_ends (Counts w) number arguments of s e g c x b = within (omega (arith, c)) (acted_ends of g (record { world = w; turns = s.turns }) e _ (x w.store) b)
 
+    tested_ends : (suits : Bool) (number : ℕ) (member : MemberType) (arguments : List Value) (d : Place) (s : State) (e : Env) (g : Scope) → slice_get catalogue number ≡ Some member → is_built number ≡ true
+        → Bound g e → Ends (Has member.result) g s.world.ticks (tested funs limits m suits number arguments d s e)
+    tested_ends false number member arguments d s e g is built b = acts_end member.result g s e _ (wrong_throws member.result s.world.store) b
+    tested_ends true number member arguments d s e g is built b =
+        paid_ends (pay_member d.text number s.world) number arguments member.result s e g (member_costs d.text number s.world) (λ store. member_comes limits.host number member arguments store is built) b
+
     sending_ends : (x : Sending) (number : ℕ) (member : MemberType) (d : Place) (s : State) (e : Env) (g : Scope) → slice_get catalogue number ≡ Some member → is_built number ≡ true
-        → IsSent x → Bound g e → Ends (Has member.result) g s.world.ticks (member_called funs limits m x number d s e)
+        → IsSent x → Bound g e → Ends (Has member.result) g s.world.ticks (member_called funs limits m x number member d s e)
     sending_ends Unsent number member d s e g is built x b = absurd x
     sending_ends OnNull number member d s e g is built x b = acts_end member.result g s e _ (null_throws member.result s.world.store) b
-    sending_ends (Sends arguments) number member d s e g is built x b =
-        paid_ends (pay_member d.text number s.world) number arguments member.result s e g (member_costs d.text number s.world) (λ store. member_comes limits.host number member arguments store is built) b
+    sending_ends (Sends arguments) number member d s e g is built x b = tested_ends (suits_member s.world.store.objects member arguments) number member arguments d s e g is built b
     sending_ends Reads number member d s e g is built x b = acted_ends member.result g s e _ (member_comes limits.host number member [] s.world.store is built) b
 
     member_ends : (sort : MemberKind) (c : Member) (ofs : List Ty) (of : Ty) (values : List Value) (d : Place) (s : State) (e : Env) (g : Scope) → MemberAgrees (known_in funs limits d.text) sort c ofs of → HaveAll ofs values
@@ -261,7 +267,7 @@ module _ (funs : Programs) (limits : Limits) (formed : (text : Owner) → WellFo
         let at : member_at c.number ≡ x.member = get_or_from_slice_get catalogue c.number x.member (constructor 0 []) x.is in
         subst (λ of. Ends (Has of) g s.world.ticks (of_member funs limits m c values d s e)) (sym x.gives)
         (subst (λ is. Ends (Has x.member.result) g s.world.ticks (member_applied funs limits m is c.number values d s e)) (sym x.allowed)
-        (subst (λ member. Ends (Has x.member.result) g s.world.ticks (member_called funs limits m (sent member values) c.number d s e)) (sym at)
+        (subst (λ member. Ends (Has x.member.result) g s.world.ticks (member_called funs limits m (sent member values) c.number member d s e)) (sym at)
         (sending_ends (sent x.member values) c.number x.member d s e g x.is x.built (is_sent c.number x.member sort ofs values x.is x.sort x.takes h) b)))
 
     -- ---- operations
