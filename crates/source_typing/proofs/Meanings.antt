@@ -46,8 +46,9 @@ use Rattle.run_fit.proofs.Leaving.{there_trans}
 use Rattle.source_meaning.specs.Tree.{Name, Expr, Literal, Quoted, Local, Apply, Guarded, Logic, Conditional, Elvis, Assign, Modify, Lambda, Reference, NewReference, Exprs, None', One, Maybe, Missing, Given as Present, Stmt, Do, If, While, DoWhile, ForEach, Try, Block, Break, Continue, Return, Throw, Stmts, Finish, Then, Declare, Catches, NoCatch, Catch, Variable, Fun, Programs, functions_in, type_of}
 use Rattle.source_meaning.specs.Operating.{Operated, Meaningless, Gives, Acts, operates, casts}
 use Rattle.source_meaning.specs.Members.{Sending, Unsent, OnNull, Sends, Reads, sent_by, sent}
-use Rattle.source_meaning.specs.Meaning.{State, Env, Place, Out, Done, Thrown, Over, More, Flow, Normal, Broke, Continued, Returned, bind, leave, lookup, entry, found, effect, operated, choose, goes_next, goes_again, is_of_class, returned, back, Meaning, entered, called, acted, paid, member_called, member_applied, of_member, applied, logic, modified, expr_of, exprs_of, value_if, turned, done_turn, caught, handled, stmt_of, value_or, stmts_of, layer, meaning}
+use Rattle.source_meaning.specs.Meaning.{State, Env, Place, Out, Done, Thrown, Over, More, Flow, Normal, Broke, Continued, Returned, bind, leave, lookup, entry, found, effect, operated, choose, goes_next, goes_again, is_of_class, returned, back, Meaning, entered, called, acted, paid, tested, member_called, member_applied, of_member, applied, logic, modified, expr_of, exprs_of, value_if, turned, done_turn, caught, handled, stmt_of, value_or, stmts_of, layer, meaning}
 use Rattle.program_typing.specs.Agreeing.{Scope, IsVariable, boolean, types_of, Calls, TakesTypes, ReceiverIsOf, MemberAgrees, Applies, Changes, ExprAgrees, ExprsAgree, TestAgrees, UpdateAgrees, BeginAgrees, ReturnAgrees, StmtAgrees, StmtsAgree, CatchesAgree, scope_of, FunAgrees, WellFormed, AreWellFormed, known_in}
+use Rattle.value_typing.proofs.Calls.{typed_calls_pass}
 use Rattle.source_typing.specs.Outs.{IsTyped, AreTyped, EnvTyped, StateTyped, FlowTyped, OutTyped}
 use Rattle.source_typing.specs.Laws.{MeaningTyped, MeaningsAreTyped, ResultsAreTyped}
 use Rattle.source_typing.proofs.Values.{typed_grows, env_grows, MadeTyped, object_typed, lookup_typed, assigned_typed, older_typed, EntryTyped, entry_typed, null_typed, constant_typed, text_typed, flag_typed, default_typed, nothing_typed, returned_typed, given_by_typed}
@@ -245,10 +246,13 @@ module _ (rules : Rules) where
 
     member_calls : (c : Sending) (number : ℕ) (d : Place) (s : State) (e : Env) (g : Scope) → Here g s e → is_built number ≡ true
         → SendingTyped s.world.store.objects (member_at number).kind (member_at number).owner (member_at number).params c
-        → Keeps (Of (member_at number).result) s.world.store.objects g (member_called funs limits m c number d s e)
+        → Keeps (Of (member_at number).result) s.world.store.objects g (member_called funs limits m c number (member_at number) d s e)
     member_calls Unsent number d s e g h b x = record { by = tt }
     member_calls OnNull number d s e g h b x = effect_typed (member_at number).result _ s e g h (null_is rules s.world h.0 (member_at number).result)
-    member_calls (Sends arguments) number d s e g h b x = pays number arguments (pay_member d.text number s.world) s e g h b x (member_keeps d.text number s.world)
+    member_calls (Sends arguments) number d s e g h b x =
+        subst (λ (suits : Bool). Keeps (Of (member_at number).result) s.world.store.objects g (tested funs limits m suits number arguments d s e))
+        (sym (typed_calls_pass s.world.store.objects (member_at number) arguments x.takes))
+        (pays number arguments (pay_member d.text number s.world) s e g h b x (member_keeps d.text number s.world))
     member_calls Reads number d s e g h b x = acts (member_at number).result (does limits.host number [] s.world.store) s e g h (member_is rules s.world limits.host number [] h.0 b x)
 
     allowed_members : (allowed : Bool) (number : ℕ) (values : List Value) (d : Place) (s : State) (e : Env) (g : Scope) → Here g s e → is_built number ≡ true

@@ -1,5 +1,6 @@
 pub mod Typing
 pub mod Effects
+pub mod Calls
 pub mod Casts
 pub mod MemberTables
 pub mod MemberNumbers

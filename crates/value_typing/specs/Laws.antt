@@ -11,6 +11,7 @@ use Rattle.pl_types.specs.Casts.{cast_of}
 use Rattle.pl_types.specs.Classes.{class_is_below}
 use Rattle.pl_types.specs.Host.{HostMeaning}
 use Rattle.allowlist.specs.Index.{member_at}
+use Rattle.allowlist.specs.declared.member.MemberType.{MemberType}
 use Rattle.object_values.specs.declared.object.Object.{Object}
 use Rattle.object_values.specs.declared.value.Value.{Value}
 use Rattle.object_values.specs.declared.value.Value.TheVariants as v
@@ -24,6 +25,7 @@ use Rattle.number_ops.specs.Casts.{cast_at_run_time}
 use Rattle.number_ops.specs.Operators.{compares, concatenated, operate}
 use Rattle.number_ops.specs.Outcomes.{effect}
 use Rattle.number_ops.specs.Relations.{equal}
+use Rattle.run_state.specs.Calls.{suits_member}
 use Rattle.run_state.specs.World.{World, acts_in}
 use Rattle.value_typing.specs.Typing.{is_typed, are_typed, takes_typed, OutcomeTyped, ActIsOf}
 
@@ -96,6 +98,10 @@ abbrev pub MembersKeepTypes : Type 0
 MembersKeepTypes =
     (rules : Rules) (host : HostMeaning) (number : ℕ) (values : List Value) (store : Store) → Fits rules store.objects → is_built number ≡ true
     → takes_typed store.objects (member_at number) values ≡ true → ActIsOf (member_at number).result (does host number values store)
+
+-- The test that a call makes of the classes of its values passes where they are of the types that the member takes.
+abbrev pub TypedCallsPass : Type 0
+TypedCallsPass = (objects : List Object) (m : MemberType) (values : List Value) → takes_typed objects m values ≡ true → suits_member objects m values ≡ true
 
 -- a function of the host gives a long, or throws
 abbrev pub HostKeepsTypes : Type 0

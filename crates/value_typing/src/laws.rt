@@ -14,6 +14,7 @@ ghost use Rattle.value_typing.specs.Laws.{
   StoresBegin,
   StoresGoOn,
   TextsGiveTypes,
+  TypedCallsPass,
   TypesStay,
 };
 
@@ -37,8 +38,10 @@ pub fn values_keep_types()
 {}
 
 /// Laws that callers may cite: in a store that fits, a member that is built and is called with values of its types gives a value of its
-/// result type in the store that it leaves, a function of the host gives a long, and what either throws is an exception.
+/// result type in the store that it leaves, a function of the host gives a long, and what either throws is an exception. The test that
+/// such a call makes of the classes of its values passes.
 pub fn members_keep_types()
     ensures members { MembersKeepTypes }
+    ensures tested { TypedCallsPass }
     ensures host { HostKeepsTypes }
 {}
