@@ -23,19 +23,20 @@ use Rattle.object_heap.specs.Effects.{Effect}
 use Rattle.number_ops.specs.Outcomes as outcomes
 use Rattle.pl_code.specs.declared.code.Instruction.{Instruction}
 use Rattle.typed_tree.specs.declared.operation.Member.{Member}
+use Rattle.run_state.specs.Calls.{suits_member, wrong_class}
 use Rattle.run_state.specs.World.{Limits, Outcome, Given, Raised, Full, acts_in, Counted, Counts, Passes, allowed_in, pay_member}
 use Rattle.source_meaning.specs.Tree.{Programs}
 use Rattle.source_meaning.specs.Operating.{in_box}
 use Rattle.source_meaning.specs.Members as source
 use Rattle.source_meaning.specs.Members.{Sending, passed_layer, passed, passed_all, sends, sends_to, sent_by, sent}
-use Rattle.source_meaning.specs.Meaning.{State, Env, Out, Meaning, acted, paid, member_called, member_applied, of_member}
+use Rattle.source_meaning.specs.Meaning.{State, Env, Out, Meaning, acted, paid, tested, member_called, member_applied, of_member}
 use Rattle.source_meaning.specs.Meaning as meaning
 use Rattle.code_meaning.specs.declared.word.Word.{Word}
 use Rattle.code_meaning.specs.declared.word.Word.TheVariants.{R}
 use Rattle.code_meaning.specs.Words.{unboxed, boxed}
 use Rattle.code_meaning.specs.Members as target
 use Rattle.code_meaning.specs.Members.{Receiving, taken_layer, taken, taken_all, receives, receives_on, received_by, received, count_by, count_of, given_layer}
-use Rattle.code_meaning.specs.Machine.{Codes, Handlers, Next, take_words, on_words, on_outcome, on_act, on_paid, on_received, member_act}
+use Rattle.code_meaning.specs.Machine.{Codes, Handlers, Next, take_words, on_words, on_outcome, on_act, on_paid, on_tested, on_received, member_act}
 use Rattle.compiler_relation.specs.Representation.{Representation, Unboxed, Boxed, Absent, representation_of, representation_of_layer}
 use Rattle.compiler_relation.specs.Parts.{without_null}
 use Rattle.compiler_relation.specs.Stands.{Scope, At, AllAt, end_all, with_receiver, MemberFits, ArePresent}
@@ -228,26 +229,38 @@ module _ (texts : TextsName) (funs : Programs) (codes : Codes) (limits : Limits)
   paid_runs t number arguments q i' s e l st st' a drops f (Counts w) =
       act_runs t q i' (record { world = w; turns = s.turns }) e l st st' a drops f (does limits.host number arguments w.store)
 
+  -- what is tested of the one is tested of the other
+  tested_runs : (t : MemberType) (suits : Bool) (number : ℕ) (arguments : List Value) (q : ℕ) (i' : Instruction) (s : State) (e : Env) (l st st' : List Word)
+      → At c.body h q i' → AllAt c.body h (suc q) (without_null (representation_of t.result)) → Fits c.body g e l
+      → Gives funs codes limits c h g (representation_of t.result) q st
+      (on_tested codes limits suits number arguments t (frame codes limits c q l st' s) c.below s.world st)
+      (tested funs limits m suits number arguments (place codes limits c) s e)
+  tested_runs t false number arguments q i' s e l st st' a drops f =
+      result_runs funs codes limits c h g (out-Ty t.result) q i' s e l st st' a drops f
+      (acts_in s.world (outcomes.effect s.world.store wrong_class))
+  tested_runs t true number arguments q i' s e l st st' a drops f =
+      paid_runs t number arguments q i' s e l st st' a drops f (pay_member c.text number s.world)
+
   -- what is received is what is sent
   received_runs : (t : MemberType) (number : ℕ) (q : ℕ) (i' : Instruction) (s : State) (e : Env) (l st st' : List Word)
       → At c.body h q i' → AllAt c.body h (suc q) (without_null (representation_of t.result)) → Fits c.body g e l → (y : Sending) (x : Receiving) → Alike y x
       → Gives funs codes limits c h g (representation_of t.result) q st (on_received codes limits x number t (frame codes limits c q l st' s) c.below s.world st)
-      (member_called funs limits m y number (place codes limits c) s e)
+      (member_called funs limits m y number t (place codes limits c) s e)
   received_runs t number q i' s e l st st' a drops f source.Unsent x is = record { by = tt }
   received_runs t number q i' s e l st st' a drops f source.OnNull x is =
       subst (λ x. Gives funs codes limits c h g (representation_of t.result) q st
-      (on_received codes limits x number t (frame codes limits c q l st' s) c.below s.world st) (member_called funs limits m source.OnNull number (place codes limits c) s e))
+      (on_received codes limits x number t (frame codes limits c q l st' s) c.below s.world st) (member_called funs limits m source.OnNull number t (place codes limits c) s e))
       (sym is)
       (result_runs funs codes limits c h g (out-Ty t.result) q i' s e l st st' a drops f
       (acts_in s.world (outcomes.effect s.world.store outcomes.null_error)))
   received_runs t number q i' s e l st st' a drops f (source.Sends arguments) x is =
       subst (λ x. Gives funs codes limits c h g (representation_of t.result) q st
       (on_received codes limits x number t (frame codes limits c q l st' s) c.below s.world st)
-      (member_called funs limits m (source.Sends arguments) number (place codes limits c) s e)) (sym is)
-      (paid_runs t number arguments q i' s e l st st' a drops f (pay_member c.text number s.world))
+      (member_called funs limits m (source.Sends arguments) number t (place codes limits c) s e)) (sym is)
+      (tested_runs t (suits_member s.world.store.objects t arguments) number arguments q i' s e l st st' a drops f)
   received_runs t number q i' s e l st st' a drops f source.Reads x is =
       subst (λ x. Gives funs codes limits c h g (representation_of t.result) q st
-      (on_received codes limits x number t (frame codes limits c q l st' s) c.below s.world st) (member_called funs limits m source.Reads number (place codes limits c) s e))
+      (on_received codes limits x number t (frame codes limits c q l st' s) c.below s.world st) (member_called funs limits m source.Reads number t (place codes limits c) s e))
       (sym is)
       (act_runs t q i' s e l st st' a drops f (does limits.host number [] s.world.store))
 
@@ -257,7 +270,7 @@ module _ (texts : TextsName) (funs : Programs) (codes : Codes) (limits : Limits)
       Gives funs codes limits c h g (representation_of t.result) q st
       (on_words (take_words (count_by sort params) (push ks values st) []) (λ words stack.
       on_received codes limits (received_by sort params words) number t (frame codes limits c q l (push ks values st) s) c.below s.world stack))
-      (member_called funs limits m (sent_by sort params values) number (place codes limits c) s e)
+      (member_called funs limits m (sent_by sort params values) number t (place codes limits c) s e)
 
   off_runs : (t : MemberType) (sort : MemberKind) (params : List Ty) (number : ℕ) (ks : List Representation) (values : List Value) (q : ℕ) (i' : Instruction)
       (s : State) (e : Env) (l st : List Word)
@@ -269,7 +282,7 @@ module _ (texts : TextsName) (funs : Programs) (codes : Codes) (limits : Limits)
       subst (λ o. Gives funs codes limits c h g (representation_of t.result) q st
       (on_words o (λ words stack. on_received codes limits (received_by sort params words) number t
       (frame codes limits c q l (push ks values st) s) c.below s.world stack))
-      (member_called funs limits m (sent_by sort params values) number (place codes limits c) s e)) (sym (off (count_by sort params) ks values st many present count))
+      (member_called funs limits m (sent_by sort params values) number t (place codes limits c) s e)) (sym (off (count_by sort params) ks values st many present count))
       (received_runs t number q i' s e l st (push ks values st) a drops f (sent_by sort params values)
       (received_by sort params (words_at ks values)) is)
 
@@ -329,12 +342,12 @@ module _ (texts : TextsName) (funs : Programs) (codes : Codes) (limits : Limits)
           (ap (λ sort. with_receiver sort (map representation_of t.params)) fits.sort ∙ sym fits.parts) (params_present member.number t fits.is) count
 
       numbered : Runs ks values q s l st (representation_of t.result) (Some member.number)
-          (member_called funs limits m (sent (member_at member.number) values) member.number (place codes limits c) s e)
+          (member_called funs limits m (sent (member_at member.number) values) member.number (member_at member.number) (place codes limits c) s e)
       numbered =
           subst (λ (t' : MemberType). Gives funs codes limits c h g (representation_of t.result) q st
           (on_words (take_words (count_of t') (push ks values st) []) (λ words stack.
           on_received codes limits (received t' words) member.number t' (frame codes limits c q l (push ks values st) s) c.below s.world stack))
-          (member_called funs limits m (sent t' values) member.number (place codes limits c) s e)) (sym (stands_at member.number t fits.is)) taken_off
+          (member_called funs limits m (sent t' values) member.number t' (place codes limits c) s e)) (sym (stands_at member.number t fits.is)) taken_off
 
       allowed : (x : Bool) → flag (allowed_in limits c.text).members member.number ≡ x
           → Runs ks values q s l st (representation_of of) (named_by sort (allowed_in limits c.text) member.text) (member_applied funs limits m x member.number values (place codes limits c) s e)
