@@ -1,5 +1,5 @@
 -- What is paid for an outcome that fits leaves a store that fits.
-use Rattle.std.proofs.Common.{◌≡◌, ℕ, zero, suc, ◌+◌, true, not, Option, Some, None, List, [], ◌∷◌, ◌++◌, length, refl, sym, subst, arith, length-append, slice_get}
+use Rattle.std.proofs.Common.{◌≡◌, ℕ, zero, suc, ◌+◌, nat_lt, true, not, Option, Some, None, List, [], ◌∷◌, ◌++◌, length, refl, sym, subst, arith, length-append, slice_get}
 use Rattle.std.proofs.Math.ListN.{length-set}
 use Rattle.std.proofs.lemmas.Bool.{cond_both}
 use Rattle.pl_types.specs.declared.classes.TheConstants.{EXCEPTION}
@@ -11,10 +11,10 @@ use Rattle.object_values.specs.declared.value.Value.TheVariants as v
 use Rattle.object_values.specs.Pairs.{value_of}
 use Rattle.object_heap.specs.Effects as e
 use Rattle.object_heap.specs.Fits.{Rules, Fits, ValueFits, AllFit, ObjectFits, ObjectsFit, EffectFits, kinds}
-use Rattle.object_heap.specs.Objects.{Kind, renewed_by, with_all_inserted, with_inserted, with_item, with_key_cut, with_put, with_removed}
-use Rattle.object_heap.specs.Parts.{items_of, list_items, list_items_of, pairs_of}
+use Rattle.object_heap.specs.Objects.{Kind, renewed_by, with_all_inserted, with_all_put, with_inserted, with_item, with_key_cut, with_put, with_removed}
+use Rattle.object_heap.specs.Parts.{items_of, list_items, list_items_of, pairs_of, size_of}
 use Rattle.object_heap.specs.Store.{Store, changed_at, with_change}
-use Rattle.object_heap.proofs.Fitting.{added_fits, cut_fits, extend_fits, grow_fits, items_fit, length-kinds, map_cut_at_fits, map_cut_fits, map_put_fits, put_fits, renew_fits, values_fit}
+use Rattle.object_heap.proofs.Fitting.{added_fits, cut_fits, extend_fits, grow_fits, items_fit, length-kinds, map_cut_at_fits, map_cut_fits, map_extend_fits, map_put_fits, put_fits, renew_fits, values_fit}
 use Rattle.object_heap.proofs.Keeping.{after_fits, throws_fits}
 use Rattle.value_walks.specs.Equality.{value_now, value_or}
 use Rattle.container_outcomes.specs.declared.outcome.Raised.{Raised}
@@ -26,6 +26,7 @@ use Rattle.container_outcomes.specs.Outcomes.{effect, gives_made, gives_new, giv
 
 class_is : (r : Raised) → class_is_below (number_of r) EXCEPTION ≡ true
 unfolding class_is_below lineage_of parents_of class_row class_table
+class_is raised.ArrayIndexOutOfBounds = refl
 class_is raised.ClassCast = refl
 class_is raised.ConcurrentModification = refl
 class_is raised.IllegalArgument = refl
@@ -52,7 +53,7 @@ pub still_fits : (objects : List Object) (id : ℕ) (change : Object → Object)
 still_fits objects id change value h = subst (λ (n : ℕ). ValueFits n value) (sym (length_changed objects id change (slice_get objects id))) h
 
 -- what stands at a place, or null, is there
-place_fits : (n : ℕ) (values : List Value) (at : ℕ) → AllFit n values → ValueFits n (value_or (slice_get values at) v.Null)
+pub place_fits : (n : ℕ) (values : List Value) (at : ℕ) → AllFit n values → ValueFits n (value_or (slice_get values at) v.Null)
 place_fits n [] at f = tt
 place_fits n (x ∷ values) zero f = f.0
 place_fits n (x ∷ values) (suc at) f = place_fits n values at f.1
@@ -107,6 +108,10 @@ settled rules store (outcome.Puts id key value) f h =
     (λ room. (map_put_fits rules store.objects id key value f h.0 h.1, still_fits store.objects id (with_put key value) (value_now store.objects id key) (now_fits rules store.objects id key f)))
 settled rules store (outcome.Adds id key) f h =
     after_fits rules store (with_change store.objects id (with_put key v.Null)) 0 (λ paid. e.Gives (v.Bool (not (has_key store.objects id key))) paid) (λ room. (map_put_fits rules store.objects id key v.Null f h tt, tt))
+settled rules store (outcome.PutsAll id pairs) f h =
+    after_fits rules store (with_change store.objects id (with_all_put pairs)) 0 (λ paid. e.Gives v.Null paid) (λ room. (map_extend_fits rules store.objects id pairs f h, tt))
+settled rules store (outcome.AddsAll id keys) f h =
+    after_fits rules store (with_change store.objects id (with_all_put keys)) 0 (λ paid. e.Gives (v.Bool (nat_lt (size_of store.objects id) (size_of paid.objects id))) paid) (λ room. (map_extend_fits rules store.objects id keys f h, tt))
 settled rules store (outcome.CutsKey id key) f h =
     (map_cut_fits rules store.objects id key f, still_fits store.objects id (with_key_cut key) (value_now store.objects id key) (now_fits rules store.objects id key f))
 settled rules store (outcome.DropsKey id key) f h = (map_cut_fits rules store.objects id key f, tt)

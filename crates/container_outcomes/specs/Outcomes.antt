@@ -1,8 +1,8 @@
 -- What members of containers come to, before it is paid, and what that does to the store.
-use Rattle.std.specs.Prelude.{◌≡◌, ℕ, ℤ, ◌+◌, Bool, true, false, not, ◌||◌, Some, None, List, [], ◌∷◌, ◌++◌, length, codes, is_some, slice_get, if◌then◌else◌}
+use Rattle.std.specs.Prelude.{◌≡◌, ℕ, ℤ, ◌+◌, nat_lt, Bool, true, false, not, ◌||◌, Some, None, List, [], ◌∷◌, ◌++◌, length, codes, is_some, slice_get, if◌then◌else◌}
 use Rattle.std.specs.Fmt.{decimal, signed_decimal}
 use Rattle.pl_units.specs.Utf16.{units}
-use Rattle.pl_types.specs.declared.classes.TheConstants.{CLASS_CAST_EXCEPTION, CONCURRENT_MODIFICATION_EXCEPTION, ILLEGAL_ARGUMENT_EXCEPTION, ILLEGAL_STATE_EXCEPTION, INDEX_OUT_OF_BOUNDS_EXCEPTION, NO_SUCH_ELEMENT_EXCEPTION, NULL_POINTER_EXCEPTION, UNSUPPORTED_OPERATION_EXCEPTION}
+use Rattle.pl_types.specs.declared.classes.TheConstants.{ARRAY_INDEX_OUT_OF_BOUNDS_EXCEPTION, CLASS_CAST_EXCEPTION, CONCURRENT_MODIFICATION_EXCEPTION, ILLEGAL_ARGUMENT_EXCEPTION, ILLEGAL_STATE_EXCEPTION, INDEX_OUT_OF_BOUNDS_EXCEPTION, NO_SUCH_ELEMENT_EXCEPTION, NULL_POINTER_EXCEPTION, UNSUPPORTED_OPERATION_EXCEPTION}
 use Rattle.object_values.specs.declared.object.Object.{Object}
 use Rattle.object_values.specs.declared.object.Object.TheVariants as o
 use Rattle.object_values.specs.declared.value.Value.{Value}
@@ -11,8 +11,8 @@ use Rattle.object_values.specs.Pairs.{value_of}
 use Rattle.object_heap.specs.declared.answer.Answer.{Answer}
 use Rattle.object_heap.specs.declared.answer.Answer.TheVariants as a
 use Rattle.object_heap.specs.Effects.{Effect, Gives, after_paying, gives_paid, gives_text, throws}
-use Rattle.object_heap.specs.Objects.{renewed_by, with_all_inserted, with_inserted, with_item, with_key_cut, with_pair_cut, with_put, with_removed}
-use Rattle.object_heap.specs.Parts.{items_of, list_items_of, pairs_of}
+use Rattle.object_heap.specs.Objects.{renewed_by, with_all_inserted, with_all_put, with_inserted, with_item, with_key_cut, with_pair_cut, with_put, with_removed}
+use Rattle.object_heap.specs.Parts.{items_of, list_items_of, pairs_of, size_of}
 use Rattle.object_heap.specs.Store.{Store, paid, with_change}
 use Rattle.value_walks.specs.Equality.{value_now, value_or}
 use Rattle.container_outcomes.specs.declared.outcome.Raised.{Raised}
@@ -22,6 +22,7 @@ use Rattle.container_outcomes.specs.declared.outcome.Outcome.TheVariants as outc
 
 -- the number of a class of exceptions
 abbrev pub number_of : Raised → ℕ
+number_of raised.ArrayIndexOutOfBounds = ARRAY_INDEX_OUT_OF_BOUNDS_EXCEPTION
 number_of raised.ClassCast = CLASS_CAST_EXCEPTION
 number_of raised.ConcurrentModification = CONCURRENT_MODIFICATION_EXCEPTION
 number_of raised.IllegalArgument = ILLEGAL_ARGUMENT_EXCEPTION
@@ -64,6 +65,11 @@ abbrev pub gives_renewed : Store → ℕ → Object → Value → Effect
 gives_renewed store id object value =
     if is_collection object then gives_paid store (with_change store.objects id (renewed_by object)) value else Gives value store
 
+-- a set with further keys, which costs what it grows by; and whether it grew
+abbrev pub gives_grown : Store → ℕ → List (Value × Value) → Effect
+gives_grown store id keys =
+    after_paying (paid store (with_change store.objects id (with_all_put keys)) 0) (λ paid. Gives (v.Bool (nat_lt (size_of store.objects id) (size_of paid.objects id))) paid)
+
 -- The effect of an outcome. A value is free. A text costs its units and one, and a new object its weight. What is inserted or put
 -- costs what the list, the set or the map grows by, and so does an object that takes the place of another. What is written or taken
 -- out is free. An exception is a new object. (That there is no memory is what a call says of an outcome, and no member comes to it.)
@@ -80,6 +86,8 @@ effect store (outcome.Cuts id at) = Gives (list_item_now store.objects id at) (c
 effect store (outcome.Drops id at) = Gives (v.Bool true) (changed_freely store id (with_removed at))
 effect store (outcome.Puts id key value) = gives_paid store (with_change store.objects id (with_put key value)) (value_now store.objects id key)
 effect store (outcome.Adds id key) = gives_paid store (with_change store.objects id (with_put key v.Null)) (v.Bool (not (has_key store.objects id key)))
+effect store (outcome.PutsAll id pairs) = gives_paid store (with_change store.objects id (with_all_put pairs)) v.Null
+effect store (outcome.AddsAll id keys) = gives_grown store id keys
 effect store (outcome.CutsKey id key) = Gives (value_now store.objects id key) (changed_freely store id (with_key_cut key))
 effect store (outcome.DropsKey id key) = Gives (v.Bool (has_key store.objects id key)) (changed_freely store id (with_key_cut key))
 effect store (outcome.DropsEntry id key) = Gives (v.Bool (has_key store.objects id key)) (changed_freely store id (with_key_cut key))
@@ -153,6 +161,9 @@ index_message at count = codes "Index " ++ signed_decimal at ++ codes " out of b
 
 abbrev pub index_error : ℤ → ℕ → Outcome
 index_error at count = says raised.IndexOutOfBounds (index_message at count)
+
+abbrev pub array_index_error : ℤ → ℕ → Outcome
+array_index_error at count = says raised.ArrayIndexOutOfBounds (index_message at count)
 
 -- Whatever is answered, it is no want of memory
 abbrev pub MakesNothing : Answer → Type 0

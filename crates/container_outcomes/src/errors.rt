@@ -75,7 +75,8 @@ fn push_count(text: &mut String, count: usize) -> Result<(), AllocError>
     write!(text, "{count}")
 }
 
-fn index_message(alloc: Global, at: i32, count: usize) -> Result<String, AllocError>
+/// The message of a place that is out of range.
+pub fn index_message(alloc: Global, at: i32, count: usize) -> Result<String, AllocError>
     ensures { IfOk result (λ text. string_bytes text ≡ spec.index_message at count) }
 {
     let mut text = String::from_str(alloc, "Index ")?;
@@ -85,13 +86,24 @@ fn index_message(alloc: Global, at: i32, count: usize) -> Result<String, AllocEr
     Ok(text)
 }
 
-/// A place that is out of range.
+/// A place of a list that is out of range.
 #[tactic(auto, unfolding(crate::specs::Outcomes::says))]
 pub fn index_error(heap: &Heap, at: i32, count: usize) -> Outcome
     ensures { Tells (spec.index_error at count) result }
 {
     match index_message(heap.alloc(), at, count) {
         Ok(text) => says(heap, Raised::IndexOutOfBounds, text.as_str()),
+        Err(_) => Outcome::NoMemory,
+    }
+}
+
+/// A place of an array that is out of range.
+#[tactic(auto, unfolding(crate::specs::Outcomes::says))]
+pub fn array_index_error(heap: &Heap, at: i32, count: usize) -> Outcome
+    ensures { Tells (spec.array_index_error at count) result }
+{
+    match index_message(heap.alloc(), at, count) {
+        Ok(text) => says(heap, Raised::ArrayIndexOutOfBounds, text.as_str()),
         Err(_) => Outcome::NoMemory,
     }
 }

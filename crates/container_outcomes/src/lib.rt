@@ -11,7 +11,8 @@ mod values;
 
 pub use comparing::{Compared, Found, compare};
 pub use errors::{
-    fails, index_error, not_simple, null_error, says, too_deep, too_large, unsupported,
+    array_index_error, fails, index_error, not_simple, null_error, says, too_deep, too_large,
+    unsupported,
 };
 pub use guards::is_open;
 pub use laws::outcomes_keep_fit;

@@ -6,22 +6,23 @@ ghost use Rattle.container_outcomes.specs.Outcomes as spec;
 ghost use Rattle.container_outcomes.specs.Outcomes.{effect, Tells, WantsMemory};
 
 use crate::paying::{
-    add_key, add_made, add_object, cut, cut_key, cut_pair, drop_at, drop_key, empty, extend,
-    insert, put, renew, set, set_two,
+    add_all_keys, add_key, add_made, add_object, cut, cut_key, cut_pair, drop_at, drop_key, empty,
+    extend, insert, put, put_all, renew, set, set_two,
 };
 use member_arguments::pay_text;
 use object_heap::{Answer, Heap, throw};
-use object_values::{Elements, Object, Value};
+use object_values::{Elements, Object, Pairs, Value};
 use pl_types::classes::{
-    CLASS_CAST_EXCEPTION, CONCURRENT_MODIFICATION_EXCEPTION, ILLEGAL_ARGUMENT_EXCEPTION,
-    ILLEGAL_STATE_EXCEPTION, INDEX_OUT_OF_BOUNDS_EXCEPTION, NO_SUCH_ELEMENT_EXCEPTION,
-    NULL_POINTER_EXCEPTION, UNSUPPORTED_OPERATION_EXCEPTION,
+    ARRAY_INDEX_OUT_OF_BOUNDS_EXCEPTION, CLASS_CAST_EXCEPTION, CONCURRENT_MODIFICATION_EXCEPTION,
+    ILLEGAL_ARGUMENT_EXCEPTION, ILLEGAL_STATE_EXCEPTION, INDEX_OUT_OF_BOUNDS_EXCEPTION,
+    NO_SUCH_ELEMENT_EXCEPTION, NULL_POINTER_EXCEPTION, UNSUPPORTED_OPERATION_EXCEPTION,
 };
 use pl_units::UText;
 
 /// The class of an exception that a member of a container throws.
 #[derive(Clone, Copy)]
 pub enum Raised {
+    ArrayIndexOutOfBounds,
     ClassCast,
     ConcurrentModification,
     IllegalArgument,
@@ -38,6 +39,7 @@ impl Raised {
         ensures { result ≡ spec.number_of self }
     {
         match self {
+            Raised::ArrayIndexOutOfBounds => ARRAY_INDEX_OUT_OF_BOUNDS_EXCEPTION,
             Raised::ClassCast => CLASS_CAST_EXCEPTION,
             Raised::ConcurrentModification => CONCURRENT_MODIFICATION_EXCEPTION,
             Raised::IllegalArgument => ILLEGAL_ARGUMENT_EXCEPTION,
@@ -76,6 +78,10 @@ pub enum Outcome {
     Puts(u32, Value, Value),
     /// A key goes into a set; the value is whether it was not there.
     Adds(u32, Value),
+    /// Pairs go into a map, in their order; the value is null.
+    PutsAll(u32, Pairs),
+    /// Keys, which have null, go into a set, in their order; the value is whether any was not there.
+    AddsAll(u32, Pairs),
     /// A key is taken out; what it had, or null, is the value.
     CutsKey(u32, Value),
     /// A key is taken out; the value is whether it was there.
@@ -109,6 +115,8 @@ impl Drop for Outcome {
             Outcome::Drops(_list, _at) => {}
             Outcome::Puts(_map, _key, _value) => {}
             Outcome::Adds(_set, _key) => {}
+            Outcome::PutsAll(_map, _pairs) => {}
+            Outcome::AddsAll(_set, _keys) => {}
             Outcome::CutsKey(_map, _key) => {}
             Outcome::DropsKey(_map, _key) => {}
             Outcome::DropsEntry(_map, _key) => {}
@@ -142,6 +150,8 @@ impl Outcome {
             Outcome::Drops(list, at) => drop_at(heap, list, at),
             Outcome::Puts(map, key, value) => put(heap, map, key, value),
             Outcome::Adds(set, key) => add_key(heap, set, key),
+            Outcome::PutsAll(map, pairs) => put_all(heap, map, pairs),
+            Outcome::AddsAll(set, keys) => add_all_keys(heap, set, keys),
             Outcome::CutsKey(map, key) => cut_key(heap, map, &key),
             Outcome::DropsKey(map, key) => drop_key(heap, map, &key),
             Outcome::DropsEntry(map, key) => drop_key(heap, map, &key),

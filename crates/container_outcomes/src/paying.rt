@@ -1,14 +1,14 @@
 //! How what members come to is paid, and what it changes.
 ghost use Rattle.std.specs.Prelude.{◌≡◌, ◌+◌, ◌++◌, IfSome, length, not, true};
 ghost use Rattle.object_heap.specs.Effects.{Answers, Gives, after_paying, gives_paid};
-ghost use Rattle.object_heap.specs.Objects.{with_all_inserted, with_inserted, with_item, with_key_cut, with_pair_cut, with_put, with_removed};
+ghost use Rattle.object_heap.specs.Objects.{with_all_inserted, with_all_put, with_inserted, with_item, with_key_cut, with_pair_cut, with_put, with_removed};
 ghost use Rattle.object_heap.specs.Store.{paid, with_change};
 ghost use Rattle.object_values.specs.declared.value.Value.TheVariants as v;
 ghost use Rattle.value_walks.specs.Equality.{value_now};
-ghost use Rattle.container_outcomes.specs.Outcomes.{changed_freely, gives_made, gives_new, gives_renewed, has_key, is_collection, item_now, list_item_now, IsGiven, MakesNothing};
+ghost use Rattle.container_outcomes.specs.Outcomes.{changed_freely, gives_grown, gives_made, gives_new, gives_renewed, has_key, is_collection, item_now, list_item_now, IsGiven, MakesNothing};
 
 use object_heap::{Answer, Heap, HeapErr};
-use object_values::{Elements, Object, Value};
+use object_values::{Elements, Object, Pairs, Value};
 
 /// Adds an object, which costs its weight.
 pub fn add_object(heap: &mut Heap, object: Object) -> Answer
@@ -178,6 +178,29 @@ pub fn add_key(heap: &mut Heap, set: u32, key: Value) -> Answer
             Answer::Value(Value::Bool(false))
         }
         Ok(None) => Answer::Value(Value::Bool(true)),
+        Err(HeapErr::Room) => Answer::Room,
+        Err(HeapErr::NoMemory) => Answer::NoMemory,
+    }
+}
+
+/// Puts pairs into a map, which costs what it grows by, and gives null.
+pub fn put_all(heap: &mut Heap, map: u32, pairs: Pairs) -> Answer
+    ensures { Answers (gives_paid heap.old (with_change heap.old.objects map (with_all_put pairs)) v.Null) heap.old heap.new result }
+{
+    match heap.map_extend(map, pairs) {
+        Ok(()) => Answer::Value(Value::Null),
+        Err(HeapErr::Room) => Answer::Room,
+        Err(HeapErr::NoMemory) => Answer::NoMemory,
+    }
+}
+
+/// Puts keys into a set, which costs what it grows by, and gives whether it grew.
+pub fn add_all_keys(heap: &mut Heap, set: u32, keys: Pairs) -> Answer
+    ensures { Answers (gives_grown heap.old set keys) heap.old heap.new result }
+{
+    let before = heap.size(set);
+    match heap.map_extend(set, keys) {
+        Ok(()) => Answer::Value(Value::Bool(before < heap.size(set))),
         Err(HeapErr::Room) => Answer::Room,
         Err(HeapErr::NoMemory) => Answer::NoMemory,
     }
