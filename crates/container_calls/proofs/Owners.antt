@@ -12,33 +12,33 @@ use Rattle.container_calls.proofs.Ranges.{no_container, of_containers}
 
 -- ---- what holds of each row of the catalogue, by one test of them all
 
-abbrev on_row : (MemberType → Bool) → Option MemberType → Bool
+abbrev pub on_row : (MemberType → Bool) → Option MemberType → Bool
 on_row holds None = true
 on_row holds (Some member) = holds member
 
-abbrev holds_of_all : (ℕ → MemberType → Bool) → Bool
+abbrev pub holds_of_all : (ℕ → MemberType → Bool) → Bool
 holds_of_all holds = agree_below (λ n. on_row (holds n) (slice_get catalogue n)) (λ n. true) 228
 
-holds_at : (holds : ℕ → MemberType → Bool) (number : ℕ) (member : MemberType) → holds_of_all holds ≡ true → slice_get catalogue number ≡ Some member → holds number member ≡ true
+pub holds_at : (holds : ℕ → MemberType → Bool) (number : ℕ) (member : MemberType) → holds_of_all holds ≡ true → slice_get catalogue number ≡ Some member → holds number member ≡ true
 holds_at holds number member all h =
     let within : number < length catalogue = slice_get_within catalogue number member h in
     let small : number < 228 = omega (arith, length-catalogue, within) in
     sym (ap (on_row (holds number)) h) ∙ agree_below_at (λ n. on_row (holds n) (slice_get catalogue n)) (λ n. true) 228 number all small
 
 -- where a test holds, another does
-abbrev if_then : Bool → Bool → Bool
+abbrev pub if_then : Bool → Bool → Bool
 if_then a b = if a then b else true
 
-then_holds : (a b : Bool) → if_then a b ≡ true → a ≡ true → b ≡ true
+pub then_holds : (a b : Bool) → if_then a b ≡ true → a ≡ true → b ≡ true
 then_holds a b h e = sym (cond-true a b true e) ∙ h
 
 -- ---- the classes
 
-abbrev same : Bool → Bool → Bool
+abbrev pub same : Bool → Bool → Bool
 same true b = b
 same false b = not b
 
-same_is : (a b : Bool) → same a b ≡ true → a ≡ b
+pub same_is : (a b : Bool) → same a b ≡ true → a ≡ b
 same_is true b h = sym h
 same_is false b h = sym (not-true b h)
 

@@ -15,7 +15,7 @@ use Rattle.container_calls.specs.Laws.{StillThere, EffectLeaves}
 pub there_refl : (objects : List Object) → StillThere objects objects
 there_refl objects = ([], sym (append-nil (kinds objects)))
 
-kinds-added : (objects more : List Object) → kinds (objects ++ more) ≡ kinds objects ++ kinds more
+pub kinds-added : (objects more : List Object) → kinds (objects ++ more) ≡ kinds objects ++ kinds more
 kinds-added [] more = refl
 kinds-added (x ∷ objects) more = ap (λ ks. kind_of x ∷ ks) (kinds-added objects more)
 

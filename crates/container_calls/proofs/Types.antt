@@ -511,7 +511,7 @@ family_gives Maps store number member arguments is h =
     map_found_gives store (maps.numbered number) arguments (given_in member) (row_at (λ n. row_of map_given (maps.numbered n)) has_map map_rows number member is h)
 
 -- each family to which the member of a container may go has it
-family_has : (on_list : Bool) (number : ℕ) → is_of_containers number ≡ true → has (family_of on_list number) number ≡ true
+pub family_has : (on_list : Bool) (number : ℕ) → is_of_containers number ≡ true → has (family_of on_list number) number ≡ true
 unfolding is_of_containers
 family_has true number h = (and_parts (has (family_of true number) number) (has (family_of false number) number) h).0
 family_has false number h = (and_parts (has (family_of true number) number) (has (family_of false number) number) h).1

@@ -4,6 +4,8 @@ use Rattle.std.proofs.lemmas.Bool.{cond-false, agree_below, agree_below_at, both
 use Rattle.std.proofs.lemmas.Option.{slice_get_past}
 use Rattle.number_ops.specs.Members as numbers
 use Rattle.api_text.specs.Members as texts
+use Rattle.container_calls.specs.Members.{container_ranges, in_ranges, is_of_containers}
+use Rattle.container_calls.proofs.Ranges.{no_container, of_containers}
 use Rattle.member_calls.specs.Members.{is_of_numbers, is_of_texts, is_built}
 
 abbrev pub within : ℕ → ℕ → ℕ → Bool
@@ -69,12 +71,15 @@ pub second_of_two : (a b found : Bool) → found ≡ (a || b) → (x y : Bool) �
 second_of_two a b found whole x y e f g = g ∙ sym (whole ∙ ap (λ z. z || b) (sym e ∙ f))
 
 abbrev pub built_range : ℕ → Bool
-built_range n = number_range n || text_range n
+built_range n = (number_range n || text_range n) || in_ranges container_ranges n
 
 pub of_built : (n : ℕ) → is_built n ≡ built_range n
 unfolding is_built
-of_built n = ap (λ a. a || is_of_texts n) (of_numbers n) ∙ ap (λ b. number_range n || b) (of_texts n)
+of_built n =
+    ap (λ a. (a || is_of_texts n) || is_of_containers n) (of_numbers n) ∙ ap (λ b. (number_range n || b) || is_of_containers n) (of_texts n)
+    ∙ ap (λ c. (number_range n || text_range n) || c) (of_containers n)
 
-pub past_all : (n : ℕ) → 225 ≤ n → is_built n ≡ false
+pub past_all : (n : ℕ) → 226 ≤ n → is_built n ≡ false
 unfolding is_built
-past_all n h = or_from (is_of_numbers n) (is_of_texts n) (no_number n (omega arith)) (no_text n h)
+past_all n h =
+    or_from (is_of_numbers n || is_of_texts n) (is_of_containers n) (or_from (is_of_numbers n) (is_of_texts n) (no_number n (omega arith)) (no_text n (omega arith))) (no_container n h)

@@ -12,6 +12,8 @@ use Rattle.api_text.specs.Members as texts
 use Rattle.api_text.specs.Outcomes as text_outcomes
 use Rattle.api_text.proofs.Keeping as text_keeping
 use Rattle.api_text.proofs.KeepingMembers as text_members
+use Rattle.container_calls.specs.Members.{is_of_containers}
+use Rattle.container_calls.proofs.Keeping.{container_fits}
 use Rattle.member_calls.specs.Laws.{ActFits}
 use Rattle.member_calls.specs.Members.{is_of_numbers, is_of_texts, is_of_host, first_of_host, longs_in, given_by_host, does}
 
@@ -42,4 +44,5 @@ unfolding does
 act_fits host rules store number arguments f h =
     cond_both (is_of_numbers number) _ _ (ActFits rules) (λ _. number_fits rules store number arguments f)
     (λ _. cond_both (is_of_texts number) _ _ (ActFits rules) (λ _. text_fits rules store number arguments f h)
-    (λ _. cond_both (is_of_host number) _ _ (ActFits rules) (λ _. host_fits rules store (host (number - first_of_host) (longs_in arguments)) f) (λ _. tt)))
+    (λ _. cond_both (is_of_containers number) _ _ (ActFits rules) (λ _. container_fits rules store number arguments f h)
+    (λ _. cond_both (is_of_host number) _ _ (ActFits rules) (λ _. host_fits rules store (host (number - first_of_host) (longs_in arguments)) f) (λ _. tt))))

@@ -8,6 +8,8 @@ use Rattle.number_ops.specs.Members as numbers
 use Rattle.number_ops.specs.Outcomes as number_outcomes
 use Rattle.api_text.specs.Members as texts
 use Rattle.api_text.specs.Outcomes as text_outcomes
+use Rattle.container_calls.specs.Answers as containers
+use Rattle.container_calls.specs.Members.{is_of_containers}
 use Rattle.member_calls.specs.Answers.{WantsMemory}
 use Rattle.member_calls.specs.Members.{is_of_numbers, is_of_texts, is_of_host}
 
@@ -25,9 +27,16 @@ texts_want objects number arguments (a.Thrown id) h w = tt
 texts_want objects number arguments a.Room h w = tt
 texts_want objects number arguments a.NoMemory h w = inr (inl (h, w))
 
+pub containers_want : (objects : List Object) (number : ℕ) (arguments : List Value) (answer : Answer) → is_of_containers number ≡ true
+    → containers.WantsMemory objects number arguments answer → WantsMemory objects number arguments (Some answer)
+containers_want objects number arguments (a.Value value) h w = tt
+containers_want objects number arguments (a.Thrown id) h w = tt
+containers_want objects number arguments a.Room h w = tt
+containers_want objects number arguments a.NoMemory h w = inr (inr (inl (h, w)))
+
 pub host_wants : (objects : List Object) (number : ℕ) (arguments : List Value) (answer : Answer) → is_of_host number ≡ true → WantsMemory objects number arguments (Some answer)
 unfolding text_outcomes.says
 host_wants objects number arguments (a.Value value) h = tt
 host_wants objects number arguments (a.Thrown id) h = tt
 host_wants objects number arguments a.Room h = tt
-host_wants objects number arguments a.NoMemory h = inr (inr (h, tt))
+host_wants objects number arguments a.NoMemory h = inr (inr (inr (h, tt)))

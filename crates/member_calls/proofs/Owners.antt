@@ -1,30 +1,38 @@
--- Members that are built stand in the catalogue, and are those of the classes that are built.
-use Rattle.std.proofs.Common.{arith, inl, inr, ◌≡◌, ◌<◌, ℕ, true, false, Some, length, get_or, map, refl, sym, ap, ◌∙◌, slice_get, is_some}
-use Rattle.std.specs.List.{range_with_len}
-use Rattle.std.proofs.lemmas.Bool.{both_ways}
-use Rattle.std.proofs.lemmas.List.{get_or-map}
-use Rattle.std.proofs.lemmas.List.FromFn.{get_or-map-range_with_len}
-use Rattle.std.proofs.lemmas.Option.{get_or_from_slice_get, slice_get_within, slice_get_cases}
+-- Members that are built stand in the catalogue, and of the classes of which none is missing they are those that the prelude does not have.
+use Rattle.std.proofs.Common.{arith, inl, inr, ◌≡◌, ℕ, Bool, true, false, not, Some, length, refl, sym, ap, ◌∙◌, slice_get, is_some}
+use Rattle.std.proofs.lemmas.Bool.{both_ways, not-true}
+use Rattle.std.proofs.lemmas.Option.{slice_get_cases}
 use Rattle.allowlist.specs.declared.member.MemberType.{MemberType}
+use Rattle.allowlist.specs.Allow.{is_in_prelude}
 use Rattle.allowlist.specs.Catalogue.{catalogue}
 use Rattle.allowlist.proofs.Tables.{length-catalogue}
-use Rattle.member_calls.specs.Laws.{is_built_class}
+use Rattle.container_calls.specs.Members.{container_ranges}
+use Rattle.container_calls.proofs.Owners.{holds_of_all, holds_at, if_then, then_holds, same, same_is}
+use Rattle.member_calls.specs.Laws.{is_whole_class}
 use Rattle.member_calls.specs.Members.{is_built}
 use Rattle.member_calls.proofs.Built.{built_range, of_built, past_all}
 
-owners : map (λ m. is_built_class m.owner) catalogue ≡ map built_range (range_with_len 0 228)
-unfolding catalogue
+abbrev owned : ℕ → MemberType → Bool
+owned n member = if_then (is_whole_class member.owner) (same (built_range n) (not (is_in_prelude member.origin)))
+
+owners : holds_of_all owned ≡ true
+unfolding catalogue container_ranges
 owners = refl
 
-pub built_owners : (number : ℕ) (member : MemberType) → slice_get catalogue number ≡ Some member → is_built number ≡ is_built_class member.owner
-built_owners number member h =
-    let within : number < length catalogue = slice_get_within catalogue number member h in
-    let small : number < 228 = omega (arith, length-catalogue, within) in
-    of_built number
-    ∙ sym (get_or-map-range_with_len built_range 0 228 number number false small (omega arith))
-    ∙ ap (λ flags. get_or flags number false) (sym owners)
-    ∙ get_or-map (λ m. is_built_class m.owner) catalogue number member false within
-    ∙ ap (λ (m : MemberType). is_built_class m.owner) (get_or_from_slice_get catalogue number member member h)
+pub built_owners : (number : ℕ) (member : MemberType) → slice_get catalogue number ≡ Some member → is_whole_class member.owner ≡ true → is_built number ≡ not (is_in_prelude member.origin)
+built_owners number member h b =
+    of_built number ∙ same_is (built_range number) (not (is_in_prelude member.origin)) (then_holds (is_whole_class member.owner) _ (holds_at owned number member owners h) b)
+
+abbrev alone : ℕ → MemberType → Bool
+alone n member = if_then (built_range n) (not (is_in_prelude member.origin))
+
+all_alone : holds_of_all alone ≡ true
+unfolding catalogue container_ranges
+all_alone = refl
+
+pub built_alone : (number : ℕ) (member : MemberType) → slice_get catalogue number ≡ Some member → is_built number ≡ true → is_in_prelude member.origin ≡ false
+built_alone number member h b =
+    not-true (is_in_prelude member.origin) (then_holds (built_range number) _ (holds_at alone number member all_alone h) (sym (of_built number) ∙ b))
 
 pub built_stand : (number : ℕ) → is_built number ≡ true → is_some (slice_get catalogue number) ≡ true
 built_stand number h = elim (slice_get_cases catalogue number).1 [

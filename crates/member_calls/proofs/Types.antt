@@ -6,6 +6,7 @@ use Rattle.std.proofs.lemmas.Bool.{cond_both, cond-true, cases_lt, both_ways, lt
 use Rattle.std.proofs.lemmas.Option.{slice_get_within}
 use Rattle.pl_types.specs.Host.{HostMeaning}
 use Rattle.std.proofs.lemmas.List.FromFn.{get_or-map-range_with_len}
+use Rattle.pl_types.specs.declared.primitive.Primitive.{Primitive}
 use Rattle.pl_types.specs.declared.primitive.Primitive.TheVariants as prim
 use Rattle.pl_types.specs.declared.ty.Ty.{out-Ty}
 use Rattle.allowlist.specs.declared.member.MemberType.{MemberType}
@@ -33,145 +34,131 @@ use Rattle.api_text.specs.Members as texts
 use Rattle.api_text.specs.Outcomes as text_outcomes
 use Rattle.api_text.specs.Sequences as sequences
 use Rattle.api_text.specs.Texts as parts
+use Rattle.container_calls.specs.Members.{is_of_containers}
+use Rattle.container_calls.specs.Types.{primitive_of, suits, EffectGives}
+use Rattle.container_calls.proofs.Giving.{anything, given_in, paid_gives, throw_gives}
+use Rattle.container_calls.proofs.Types.{container_gives}
 use Rattle.member_calls.specs.Members.{is_of_numbers, is_of_texts, first_of_host, is_of_host, does}
-use Rattle.member_calls.specs.Types.{Asked, Anything, Of, suits, given_by, EffectGives, ActGives}
+use Rattle.member_calls.specs.Types.{ActGives}
 use Rattle.member_calls.proofs.Built.{number_range, text_range, of_numbers, of_texts, no_number, no_text}
 use Rattle.member_calls.proofs.NumberTypes.{NumberGives, given_of, does_gives}
 
-paid_gives : (asked : Asked) (store : Store) (objects : List Object) (made : ℕ) (next : Store → Effect)
-    → ((room : ℕ) → EffectGives asked (next (record { objects = objects; room = room }))) → EffectGives asked (after_paying (paid store objects made) next)
-unfolding paid
-paid_gives asked store objects made next h =
-    elim (nat_le (charge store objects made) store.room) as (λ b. EffectGives asked (after_paying (if b then Some (record { objects = objects; room = store.room - charge store objects made }) else None) next))
-    [ true ↦ h (store.room - charge store objects made) | false ↦ tt ]
-
-throw_gives : (asked : Asked) (store : Store) (class : ℕ) (message : Option (List ℕ)) → EffectGives asked (e.throws store class message)
-throw_gives asked store class message = paid_gives asked store (store.objects ++ o.Exc class message ∷ []) 0 (λ paid. e.Throws (length store.objects) paid) (λ room. tt)
-
-number_settled : (asked : Asked) (store : Store) (told : NumberOutcome) → NumberGives asked told → EffectGives asked (number_outcomes.effect store told)
-number_settled asked store (outcome.Gives value) h = h
-number_settled asked store (outcome.Makes units) h = paid_gives asked store store.objects (length units + 1) (λ paid. e.Gives (v.Str units) paid) (λ room. h)
-number_settled asked store (outcome.Throws raised message) h = throw_gives asked store (number_outcomes.class_raised raised) message
-number_settled asked store outcome.NoMemory h = h
+number_settled : (wanted : Option Primitive) (store : Store) (told : NumberOutcome) → NumberGives wanted told → EffectGives wanted (number_outcomes.effect store told)
+number_settled wanted store (outcome.Gives value) h = h
+number_settled wanted store (outcome.Makes units) h = paid_gives wanted store store.objects (length units + 1) (λ paid. e.Gives (v.Str units) paid) (λ room. h)
+number_settled wanted store (outcome.Throws raised message) h = throw_gives wanted store (number_outcomes.class_raised raised) message
+number_settled wanted store outcome.NoMemory h = h
 
 -- ---- texts
 
-anything : (effect : Effect) → EffectGives Anything effect
-anything (e.Gives value store) = refl
-anything (e.Throws id store) = tt
-anything e.NoRoom = tt
-
 -- of members that give a primitive: a value, or an exception
-abbrev pub TextGives : Asked → TextOutcome → Type 0
-TextGives asked (text.Gives value) = suits asked value ≡ true
-TextGives asked (text.Throws class message) = Unit {0}
-TextGives asked told = ⊥
+abbrev pub TextGives : Option Primitive → TextOutcome → Type 0
+TextGives wanted (text.Gives value) = suits wanted value ≡ true
+TextGives wanted (text.Throws class message) = Unit {0}
+TextGives wanted told = ⊥
 
-text_settled : (asked : Asked) (store : Store) (told : TextOutcome) → TextGives asked told → EffectGives asked (text_outcomes.effect store told)
-text_settled asked store (text.Gives value) h = h
-text_settled asked store (text.Throws class message) h = throw_gives asked store (text_outcomes.number_of class) message
-text_settled asked store told h = absurd h
+text_settled : (wanted : Option Primitive) (store : Store) (told : TextOutcome) → TextGives wanted told → EffectGives wanted (text_outcomes.effect store told)
+text_settled wanted store (text.Gives value) h = h
+text_settled wanted store (text.Throws class message) h = throw_gives wanted store (text_outcomes.number_of class) message
+text_settled wanted store told h = absurd h
 
-one_gives : {A : Type 0} → (asked : Asked) (f : A → TextOutcome) (a : Option A) → ((a : A) → TextGives asked (f a)) → TextGives asked (with_one f a)
-one_gives asked f None h = tt
-one_gives asked f (Some a) h = h a
+one_gives : {A : Type 0} → (wanted : Option Primitive) (f : A → TextOutcome) (a : Option A) → ((a : A) → TextGives wanted (f a)) → TextGives wanted (with_one f a)
+one_gives wanted f None h = tt
+one_gives wanted f (Some a) h = h a
 
-two_give : {A B : Type 0} → (asked : Asked) (f : A → B → TextOutcome) (a : Option A) (b : Option B) → ((a : A) (b : B) → TextGives asked (f a b)) → TextGives asked (with_two f a b)
-two_give asked f None b h = tt
-two_give asked f (Some a) None h = tt
-two_give asked f (Some a) (Some b) h = h a b
+two_give : {A B : Type 0} → (wanted : Option Primitive) (f : A → B → TextOutcome) (a : Option A) (b : Option B) → ((a : A) (b : B) → TextGives wanted (f a b)) → TextGives wanted (with_two f a b)
+two_give wanted f None b h = tt
+two_give wanted f (Some a) None h = tt
+two_give wanted f (Some a) (Some b) h = h a b
 
-three_give : {A B C : Type 0} → (asked : Asked) (f : A → B → C → TextOutcome) (a : Option A) (b : Option B) (c : Option C)
-    → ((a : A) (b : B) (c : C) → TextGives asked (f a b c)) → TextGives asked (with_three f a b c)
-three_give asked f None b c h = tt
-three_give asked f (Some a) None c h = tt
-three_give asked f (Some a) (Some b) None h = tt
-three_give asked f (Some a) (Some b) (Some c) h = h a b c
+three_give : {A B C : Type 0} → (wanted : Option Primitive) (f : A → B → C → TextOutcome) (a : Option A) (b : Option B) (c : Option C)
+    → ((a : A) (b : B) (c : C) → TextGives wanted (f a b c)) → TextGives wanted (with_three f a b c)
+three_give wanted f None b c h = tt
+three_give wanted f (Some a) None c h = tt
+three_give wanted f (Some a) (Some b) None h = tt
+three_give wanted f (Some a) (Some b) (Some c) h = h a b c
 
-unit_gives : (units : List ℕ) (at : ℤ) (found : Option ℕ) → TextGives (Of prim.Char) (sequences.unit_given units at found)
+unit_gives : (units : List ℕ) (at : ℤ) (found : Option ℕ) → TextGives (Some prim.Char) (sequences.unit_given units at found)
 unfolding text_outcomes.says
 unit_gives units at None = tt
 unit_gives units at (Some unit) = refl
 
-same_gives : (units : List ℕ) (other : Option (List ℕ)) → TextGives (Of prim.Boolean) (parts.same_text units other)
+same_gives : (units : List ℕ) (other : Option (List ℕ)) → TextGives (Some prim.Boolean) (parts.same_text units other)
 same_gives units None = refl
 same_gives units (Some other) = refl
 
-abbrev pub text_given : TextMember → Asked
-text_given m.CharAt = Of prim.Char
-text_given m.Length = Of prim.Int
-text_given m.Contains = Of prim.Boolean
-text_given m.EndsWith = Of prim.Boolean
-text_given m.EqualsIgnoreCase = Of prim.Boolean
-text_given m.IndexOf = Of prim.Int
-text_given m.IndexOfFrom = Of prim.Int
-text_given m.IsEmpty = Of prim.Boolean
-text_given m.LastIndexOf = Of prim.Int
-text_given m.StartsWith = Of prim.Boolean
-text_given m.StartsWithAt = Of prim.Boolean
-text_given m.BuilderIndexOf = Of prim.Int
-text_given other = Anything
+abbrev pub text_given : TextMember → Option Primitive
+text_given m.CharAt = Some prim.Char
+text_given m.Length = Some prim.Int
+text_given m.Contains = Some prim.Boolean
+text_given m.EndsWith = Some prim.Boolean
+text_given m.EqualsIgnoreCase = Some prim.Boolean
+text_given m.IndexOf = Some prim.Int
+text_given m.IndexOfFrom = Some prim.Int
+text_given m.IsEmpty = Some prim.Boolean
+text_given m.LastIndexOf = Some prim.Int
+text_given m.StartsWith = Some prim.Boolean
+text_given m.StartsWithAt = Some prim.Boolean
+text_given m.BuilderIndexOf = Some prim.Int
+text_given other = None
 
 text_does_gives : (store : Store) (member : TextMember) (arguments : List Value) → EffectGives (text_given member) (text_outcomes.effect store (texts.does store.objects member arguments))
 text_does_gives store m.CharAt arguments =
-    text_settled (Of prim.Char) store (texts.does store.objects m.CharAt arguments)
-    (two_give {A = List ℕ} {B = ℤ} (Of prim.Char) sequences.char_of (sequence_at store.objects arguments 0) (int_at arguments 1) (λ units at. unit_gives units at (sequences.unit_in units at)))
+    text_settled (Some prim.Char) store (texts.does store.objects m.CharAt arguments)
+    (two_give {A = List ℕ} {B = ℤ} (Some prim.Char) sequences.char_of (sequence_at store.objects arguments 0) (int_at arguments 1) (λ units at. unit_gives units at (sequences.unit_in units at)))
 text_does_gives store m.Length arguments =
-    text_settled (Of prim.Int) store (texts.does store.objects m.Length arguments)
-    (one_gives {A = List ℕ} (Of prim.Int) sequences.length_of (sequence_at store.objects arguments 0) (λ units. refl))
+    text_settled (Some prim.Int) store (texts.does store.objects m.Length arguments)
+    (one_gives {A = List ℕ} (Some prim.Int) sequences.length_of (sequence_at store.objects arguments 0) (λ units. refl))
 text_does_gives store m.Contains arguments =
-    text_settled (Of prim.Boolean) store (texts.does store.objects m.Contains arguments)
-    (two_give {A = List ℕ} {B = List ℕ} (Of prim.Boolean) parts.contains_of (text_at arguments 0) (sequence_at store.objects arguments 1) (λ units part. refl))
+    text_settled (Some prim.Boolean) store (texts.does store.objects m.Contains arguments)
+    (two_give {A = List ℕ} {B = List ℕ} (Some prim.Boolean) parts.contains_of (text_at arguments 0) (sequence_at store.objects arguments 1) (λ units part. refl))
 text_does_gives store m.EndsWith arguments =
-    text_settled (Of prim.Boolean) store (texts.does store.objects m.EndsWith arguments)
-    (two_give {A = List ℕ} {B = List ℕ} (Of prim.Boolean) parts.ends_of (text_at arguments 0) (text_at arguments 1) (λ units part. refl))
+    text_settled (Some prim.Boolean) store (texts.does store.objects m.EndsWith arguments)
+    (two_give {A = List ℕ} {B = List ℕ} (Some prim.Boolean) parts.ends_of (text_at arguments 0) (text_at arguments 1) (λ units part. refl))
 text_does_gives store m.EqualsIgnoreCase arguments =
-    text_settled (Of prim.Boolean) store (texts.does store.objects m.EqualsIgnoreCase arguments)
-    (one_gives {A = List ℕ} (Of prim.Boolean) (λ units. parts.same_text units (text_at arguments 1)) (text_at arguments 0) (λ units. same_gives units (text_at arguments 1)))
+    text_settled (Some prim.Boolean) store (texts.does store.objects m.EqualsIgnoreCase arguments)
+    (one_gives {A = List ℕ} (Some prim.Boolean) (λ units. parts.same_text units (text_at arguments 1)) (text_at arguments 0) (λ units. same_gives units (text_at arguments 1)))
 text_does_gives store m.IndexOf arguments =
-    text_settled (Of prim.Int) store (texts.does store.objects m.IndexOf arguments)
-    (two_give {A = List ℕ} {B = List ℕ} (Of prim.Int) parts.place_of (text_at arguments 0) (text_at arguments 1) (λ units part. refl))
+    text_settled (Some prim.Int) store (texts.does store.objects m.IndexOf arguments)
+    (two_give {A = List ℕ} {B = List ℕ} (Some prim.Int) parts.place_of (text_at arguments 0) (text_at arguments 1) (λ units part. refl))
 text_does_gives store m.IndexOfFrom arguments =
-    text_settled (Of prim.Int) store (texts.does store.objects m.IndexOfFrom arguments)
-    (three_give {A = List ℕ} {B = List ℕ} {C = ℤ} (Of prim.Int) parts.place_from (text_at arguments 0) (text_at arguments 1) (int_at arguments 2) (λ units part at. refl))
+    text_settled (Some prim.Int) store (texts.does store.objects m.IndexOfFrom arguments)
+    (three_give {A = List ℕ} {B = List ℕ} {C = ℤ} (Some prim.Int) parts.place_from (text_at arguments 0) (text_at arguments 1) (int_at arguments 2) (λ units part at. refl))
 text_does_gives store m.IsEmpty arguments =
-    text_settled (Of prim.Boolean) store (texts.does store.objects m.IsEmpty arguments)
-    (one_gives {A = List ℕ} (Of prim.Boolean) parts.empty_of (text_at arguments 0) (λ units. refl))
+    text_settled (Some prim.Boolean) store (texts.does store.objects m.IsEmpty arguments)
+    (one_gives {A = List ℕ} (Some prim.Boolean) parts.empty_of (text_at arguments 0) (λ units. refl))
 text_does_gives store m.LastIndexOf arguments =
-    text_settled (Of prim.Int) store (texts.does store.objects m.LastIndexOf arguments)
-    (two_give {A = List ℕ} {B = List ℕ} (Of prim.Int) parts.last_place_of (text_at arguments 0) (text_at arguments 1) (λ units part. refl))
+    text_settled (Some prim.Int) store (texts.does store.objects m.LastIndexOf arguments)
+    (two_give {A = List ℕ} {B = List ℕ} (Some prim.Int) parts.last_place_of (text_at arguments 0) (text_at arguments 1) (λ units part. refl))
 text_does_gives store m.StartsWith arguments =
-    text_settled (Of prim.Boolean) store (texts.does store.objects m.StartsWith arguments)
-    (two_give {A = List ℕ} {B = List ℕ} (Of prim.Boolean) parts.starts_of (text_at arguments 0) (text_at arguments 1) (λ units part. refl))
+    text_settled (Some prim.Boolean) store (texts.does store.objects m.StartsWith arguments)
+    (two_give {A = List ℕ} {B = List ℕ} (Some prim.Boolean) parts.starts_of (text_at arguments 0) (text_at arguments 1) (λ units part. refl))
 text_does_gives store m.StartsWithAt arguments =
-    text_settled (Of prim.Boolean) store (texts.does store.objects m.StartsWithAt arguments)
-    (three_give {A = List ℕ} {B = List ℕ} {C = ℤ} (Of prim.Boolean) parts.starts_at_of (text_at arguments 0) (text_at arguments 1) (int_at arguments 2) (λ units part at. refl))
+    text_settled (Some prim.Boolean) store (texts.does store.objects m.StartsWithAt arguments)
+    (three_give {A = List ℕ} {B = List ℕ} {C = ℤ} (Some prim.Boolean) parts.starts_at_of (text_at arguments 0) (text_at arguments 1) (int_at arguments 2) (λ units part at. refl))
 text_does_gives store m.BuilderIndexOf arguments =
-    text_settled (Of prim.Int) store (texts.does store.objects m.BuilderIndexOf arguments)
-    (two_give {A = List ℕ} {B = List ℕ} (Of prim.Int) parts.place_of (sequence_at store.objects arguments 0) (text_at arguments 1) (λ units part. refl))
+    text_settled (Some prim.Int) store (texts.does store.objects m.BuilderIndexOf arguments)
+    (two_give {A = List ℕ} {B = List ℕ} (Some prim.Int) parts.place_of (sequence_at store.objects arguments 0) (text_at arguments 1) (λ units part. refl))
 text_does_gives store other arguments = anything (text_outcomes.effect store (texts.does store.objects other arguments))
 
 -- ---- rows of the catalogue
 
-abbrev pub given_in : MemberType → Asked
-given_in member = given_by member.result
-
-abbrev pub number_row : Option NumberMember → Option Asked
+abbrev pub number_row : Option NumberMember → Option (Option Primitive)
 number_row None = None
 number_row (Some member) = Some (given_of member)
 
-abbrev pub catalogue_number_row : ℕ → Option Asked
+abbrev pub catalogue_number_row : ℕ → Option (Option Primitive)
 catalogue_number_row n = if number_range n then option_map given_in (slice_get catalogue n) else None
 
 number_rows : map (λ n. number_row (numbers.numbered n)) (range_with_len 0 58) ≡ map catalogue_number_row (range_with_len 0 58)
 unfolding numbers.numbered numbers.members catalogue out-Ty denote.Hole.Carrier.out
 number_rows = refl
 
-abbrev pub text_row : Option TextMember → Option Asked
+abbrev pub text_row : Option TextMember → Option (Option Primitive)
 text_row None = None
 text_row (Some member) = Some (text_given member)
 
-abbrev pub catalogue_text_row : ℕ → Option Asked
+abbrev pub catalogue_text_row : ℕ → Option (Option Primitive)
 catalogue_text_row n = if text_range n then option_map given_in (slice_get catalogue n) else None
 
 text_rows : map (λ n. text_row (texts.numbered n)) (range_with_len 0 225) ≡ map catalogue_text_row (range_with_len 0 225)
@@ -200,20 +187,20 @@ text_row_at n member is h = elim (cases_lt n 225) [
   | inr past ↦ absurd (both_ways (is_of_texts n) (no_text n past) is)
 ]
 
-number_found_gives : (store : Store) (found : Option NumberMember) (arguments : List Value) (given : Asked) → number_row found ≡ Some given
+number_found_gives : (store : Store) (found : Option NumberMember) (arguments : List Value) (given : Option Primitive) → number_row found ≡ Some given
     → EffectGives given (number_outcomes.effect store (numbers.does_found store.objects found arguments))
 number_found_gives store None arguments given is = cc
 number_found_gives store (Some member) arguments given is =
     let same : given_of member ≡ given = cc in
-    subst (λ (a : Asked). EffectGives a (number_outcomes.effect store (numbers.does store.objects member arguments))) same
+    subst (λ (a : Option Primitive). EffectGives a (number_outcomes.effect store (numbers.does store.objects member arguments))) same
     (number_settled (given_of member) store (numbers.does store.objects member arguments) (does_gives store.objects member arguments))
 
-text_found_gives : (store : Store) (found : Option TextMember) (arguments : List Value) (given : Asked) → text_row found ≡ Some given
+text_found_gives : (store : Store) (found : Option TextMember) (arguments : List Value) (given : Option Primitive) → text_row found ≡ Some given
     → EffectGives given (text_outcomes.effect store (texts.does_found store.objects found arguments))
 text_found_gives store None arguments given is = cc
 text_found_gives store (Some member) arguments given is =
     let same : text_given member ≡ given = cc in
-    subst (λ (a : Asked). EffectGives a (text_outcomes.effect store (texts.does store.objects member arguments))) same (text_does_gives store member arguments)
+    subst (λ (a : Option Primitive). EffectGives a (text_outcomes.effect store (texts.does store.objects member arguments))) same (text_does_gives store member arguments)
 
 -- a member of the catalogue is no function of the host
 not_of_host : (number : ℕ) (member : MemberType) → slice_get catalogue number ≡ Some member → is_of_host number ≡ false
@@ -221,11 +208,12 @@ unfolding is_of_host
 not_of_host number member h = lt-leb first_of_host number (omega (arith, length-catalogue, slice_get_within catalogue number member h))
 
 pub act_gives : (host : HostMeaning) (number : ℕ) (member : MemberType) (arguments : List Value) (store : Store) → slice_get catalogue number ≡ Some member
-    → ActGives (given_by member.result) (does host number arguments store)
+    → ActGives (primitive_of member.result) (does host number arguments store)
 unfolding does
 act_gives host number member arguments store h =
-    cond_both (is_of_numbers number) _ _ (ActGives (given_by member.result))
+    cond_both (is_of_numbers number) _ _ (ActGives (primitive_of member.result))
     (λ is. number_found_gives store (numbers.numbered number) arguments (given_in member) (number_row_at number member is h))
-    (λ _. cond_both (is_of_texts number) _ _ (ActGives (given_by member.result))
+    (λ _. cond_both (is_of_texts number) _ _ (ActGives (primitive_of member.result))
     (λ is. text_found_gives store (texts.numbered number) arguments (given_in member) (text_row_at number member is h))
-    (λ _. cond_both (is_of_host number) _ _ (ActGives (given_by member.result)) (λ is. absurd (both_ways (is_of_host number) (not_of_host number member h) is)) (λ _. tt)))
+    (λ _. cond_both (is_of_containers number) _ _ (ActGives (primitive_of member.result)) (λ is. container_gives store number member arguments is h)
+    (λ _. cond_both (is_of_host number) _ _ (ActGives (primitive_of member.result)) (λ is. absurd (both_ways (is_of_host number) (not_of_host number member h) is)) (λ _. tt))))

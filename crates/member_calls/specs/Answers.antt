@@ -12,6 +12,8 @@ use Rattle.number_ops.specs.Members as numbers
 use Rattle.number_ops.specs.Outcomes as number_outcomes
 use Rattle.api_text.specs.Members as texts
 use Rattle.api_text.specs.Outcomes as text_outcomes
+use Rattle.container_calls.specs.Answers as containers
+use Rattle.container_calls.specs.Members.{is_of_containers}
 use Rattle.member_calls.specs.Members.{is_of_numbers, is_of_texts, is_of_host, asked_of_host}
 
 -- a call answers where the member is built, and then its effect; else the heap is as before
@@ -21,12 +23,14 @@ AnswersIfBuilt (Some effect) old new None = ⊥
 AnswersIfBuilt None old new (Some answer) = ⊥
 AnswersIfBuilt None old new None = new ≡ old
 
--- a member of numbers, of texts or of a host that gives none takes memory where something is made
+-- a member of numbers, of texts or of a host that gives none takes memory where something is made, and one of containers where its
+-- function does
 abbrev pub NeedsMemory : List Object → ℕ → List Value → Type 0
 NeedsMemory objects number arguments =
     ((is_of_numbers number ≡ true) × number_outcomes.NeedsMemory (numbers.does_numbered objects number arguments))
     ⊎ (((is_of_texts number ≡ true) × text_outcomes.NeedsMemory (texts.does_numbered objects number arguments))
-    ⊎ ((is_of_host number ≡ true) × text_outcomes.NeedsMemory (asked_of_host no_host number arguments)))
+    ⊎ (((is_of_containers number ≡ true) × containers.NeedsMemory objects number arguments)
+    ⊎ ((is_of_host number ≡ true) × text_outcomes.NeedsMemory (asked_of_host no_host number arguments))))
 
 -- a call answers want of memory only there
 abbrev pub WantsMemory : List Object → ℕ → List Value → Option Answer → Type 0

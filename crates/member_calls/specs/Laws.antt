@@ -1,15 +1,16 @@
 -- Laws over the definitions.
-use Rattle.std.specs.Prelude.{◌≡◌, ℕ, Bool, true, Option, Some, None, List, ◌++◌, length, slice_get, is_some, nat_le, ◌&&◌, ◌||◌}
+use Rattle.std.specs.Prelude.{◌≡◌, ℕ, Bool, true, false, not, Option, Some, None, List, length, slice_get, is_some, nat_le, ◌&&◌, ◌||◌}
 use Rattle.pl_types.specs.Host.{HostMeaning}
 use Rattle.pl_types.specs.declared.classes.TheConstants.{STRING_BUILDER, EXCEPTION, STRING_INDEX_OUT_OF_BOUNDS_EXCEPTION}
 use Rattle.allowlist.specs.declared.member.MemberType.{MemberType}
+use Rattle.allowlist.specs.Allow.{is_in_prelude}
 use Rattle.allowlist.specs.Catalogue.{catalogue}
 use Rattle.object_values.specs.declared.object.Object.{Object}
 use Rattle.object_values.specs.declared.value.Value.{Value}
-use Rattle.object_heap.specs.Effects.{Effect, Gives, Throws, NoRoom}
-use Rattle.object_heap.specs.Fits.{kinds, Rules, Fits, AllFit, EffectFits}
-use Rattle.object_heap.specs.Objects.{Kind}
+use Rattle.object_heap.specs.Effects.{Effect}
+use Rattle.object_heap.specs.Fits.{Rules, Fits, AllFit, EffectFits}
 use Rattle.object_heap.specs.Store.{Store}
+use Rattle.container_calls.specs.Laws.{EffectLeaves, is_container_class}
 use Rattle.member_calls.specs.Members.{is_built, first_of_host, is_of_host, does}
 
 -- what members do is said of those that are built and of the functions of the host, and of no others
@@ -27,14 +28,6 @@ MembersKeepFit = (host : HostMeaning) (rules : Rules) (store : Store) (number : 
     → ActFits rules (does host number arguments store)
 
 -- the objects are still there, each of its kind, and there may be more
-abbrev pub StillThere : List Object → List Object → Type 0
-StillThere before after = (more : List Kind) × (kinds after ≡ kinds before ++ more)
-
-abbrev pub EffectLeaves : List Object → Effect → Type 0
-EffectLeaves objects (Gives value store) = StillThere objects store.objects
-EffectLeaves objects (Throws id store) = StillThere objects store.objects
-EffectLeaves objects NoRoom = Unit {0}
-
 abbrev pub ActLeaves : List Object → Option Effect → Type 0
 ActLeaves objects None = Unit {0}
 ActLeaves objects (Some effect) = EffectLeaves objects effect
@@ -43,13 +36,18 @@ ActLeaves objects (Some effect) = EffectLeaves objects effect
 abbrev pub MembersLeaveObjects : Type 0
 MembersLeaveObjects = (host : HostMeaning) (number : ℕ) (arguments : List Value) (store : Store) → ActLeaves store.objects (does host number arguments store)
 
--- the classes up to StringBuilder, and exceptions
-abbrev pub is_built_class : ℕ → Bool
-is_built_class class = nat_le class STRING_BUILDER || (nat_le EXCEPTION class && nat_le class STRING_INDEX_OUT_OF_BOUNDS_EXCEPTION)
+-- the classes of which no member is missing but the prelude's: those up to StringBuilder, exceptions, and those of containers of which
+-- that is so
+abbrev pub is_whole_class : ℕ → Bool
+is_whole_class class = (nat_le class STRING_BUILDER || (nat_le EXCEPTION class && nat_le class STRING_INDEX_OUT_OF_BOUNDS_EXCEPTION)) || is_container_class class
 
--- a member of the catalogue is built where its class is one of these
+-- a member of the catalogue whose class is one of these is built where the prelude does not have it
 abbrev pub BuiltOwners : Type 0
-BuiltOwners = (number : ℕ) (member : MemberType) → slice_get catalogue number ≡ Some member → is_built number ≡ is_built_class member.owner
+BuiltOwners = (number : ℕ) (member : MemberType) → slice_get catalogue number ≡ Some member → is_whole_class member.owner ≡ true → is_built number ≡ not (is_in_prelude member.origin)
+
+-- no member of the prelude is built, of whatever class
+abbrev pub BuiltAlone : Type 0
+BuiltAlone = (number : ℕ) (member : MemberType) → slice_get catalogue number ≡ Some member → is_built number ≡ true → is_in_prelude member.origin ≡ false
 
 -- a member that is built stands in the catalogue
 abbrev pub BuiltStand : Type 0

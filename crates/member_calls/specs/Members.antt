@@ -11,6 +11,7 @@ use Rattle.api_text.specs.Outcomes as text_outcomes
 use Rattle.api_text.specs.declared.outcome.ExceptionClass.TheVariants.{IllegalArgument}
 use Rattle.api_text.specs.declared.outcome.Outcome.{Outcome}
 use Rattle.api_text.specs.declared.outcome.Outcome.TheVariants as outcome
+use Rattle.container_calls.specs.Members.{is_of_containers, does_container}
 use Rattle.number_ops.specs.Members as numbers
 use Rattle.number_ops.specs.Outcomes as number_outcomes
 
@@ -22,9 +23,9 @@ is_of_numbers number = is_some (numbers.numbered number)
 unfoldable pub is_of_texts : ℕ → Bool
 is_of_texts number = is_some (texts.numbered number)
 
--- whether a member is built: those of lists and maps, those of the prelude, and hidden ones are not
+-- whether a member is built: of those of containers not all are, and those of the prelude, of functions and hidden ones are not
 unfoldable pub is_built : ℕ → Bool
-is_built number = is_of_numbers number || is_of_texts number
+is_built number = (is_of_numbers number || is_of_texts number) || is_of_containers number
 
 -- ---- functions of the host
 
@@ -57,5 +58,6 @@ unfoldable pub does : HostMeaning → ℕ → List Value → Store → Option Ef
 does host number arguments store =
     if is_of_numbers number then Some (number_outcomes.effect store (numbers.does_numbered store.objects number arguments))
     else (if is_of_texts number then Some (text_outcomes.effect store (texts.does_numbered store.objects number arguments))
+    else (if is_of_containers number then Some (does_container store number arguments)
     else (if is_of_host number then Some (text_outcomes.effect store (asked_of_host host number arguments))
-    else None))
+    else None)))

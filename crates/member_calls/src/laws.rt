@@ -1,5 +1,5 @@
 //! What holds of all members.
-ghost use Rattle.member_calls.specs.Laws.{BuiltAct, BuiltOwners, BuiltStand, HostStands, MembersKeepFit, MembersLeaveObjects};
+ghost use Rattle.member_calls.specs.Laws.{BuiltAct, BuiltAlone, BuiltOwners, BuiltStand, HostStands, MembersKeepFit, MembersLeaveObjects};
 ghost use Rattle.member_calls.specs.Types.{MembersGiveTypes};
 
 /// Laws that callers may cite: where the heap and the arguments fit a program or a code, what comes of a member fits it too; and
@@ -9,11 +9,13 @@ pub fn members_keep_fit()
     ensures objects { MembersLeaveObjects }
 {}
 
-/// Laws of the members that are built: what they do is said of them and of the functions of the host alone, they are the members of
-/// the catalogue's classes up to StringBuilder and of its exceptions, and behind the catalogue's members stand the host's functions.
+/// Laws of the members that are built: what they do is said of them and of the functions of the host alone; of the classes up to
+/// StringBuilder, of exceptions and of most containers they are those that the prelude does not have, and of no class is one of the
+/// prelude's; and behind the catalogue's members stand the host's functions.
 pub fn built_laws()
     ensures act { BuiltAct }
     ensures owners { BuiltOwners }
+    ensures alone { BuiltAlone }
     ensures stand { BuiltStand }
     ensures host { HostStands }
 {}

@@ -8,6 +8,7 @@ ghost use Rattle.member_calls.specs.Answers.{AnswersIfBuilt, WantsMemory, CallFi
 ghost use Rattle.member_calls.specs.Members.{does, given_by_host, is_built, is_of_host, is_of_numbers, is_of_texts};
 
 use allowlist::MEMBER_COUNT;
+use container_calls::is_of_containers;
 use object_heap::{Answer, Heap, throw};
 use object_values::Value;
 use pl_types::classes::ILLEGAL_ARGUMENT_EXCEPTION;
@@ -49,13 +50,14 @@ fn refuse(heap: &mut Heap) -> Answer
     }
 }
 
-/// Whether the member of this number in the catalogue is built: those of the classes up to StringBuilder and of exceptions are,
-/// and those of lists and maps, of the prelude and hidden ones are not.
+/// Whether the member of this number in the catalogue is built: those of the classes up to StringBuilder, of exceptions and of
+/// containers are, but for those of the prelude and those that [`container_calls::is_of_containers`] leaves out; those of functions
+/// and hidden ones are not.
 #[tactic(auto, unfolding(crate::specs::Members::is_built))]
 pub fn is_built(member: u32) -> bool
     ensures { result ≡ is_built member }
 {
-    is_of_numbers(member) || is_of_texts(member)
+    (is_of_numbers(member) || is_of_texts(member)) || is_of_containers(member)
 }
 
 /// The call of a member by its number in the catalogue, `None` where it is not built. The receiver is the first argument; a
@@ -63,7 +65,7 @@ pub fn is_built(member: u32) -> bool
 /// another kind counts as null. The numbers behind the catalogue's are those of functions of a host, and the host gives none.
 ///
 /// `Thrown`: by `docs/CATALOGUE.md`, as the member says. `Room`: the charge is above the room left; it is for a text its units
-/// and 1, for a new builder, array or exception its weight, and for a builder that changes what it grows by. `NoMemory`: there
+/// and 1, for a new object its weight, and for an object that changes what it grows by. `NoMemory`: there
 /// was none for what is made; a member that gives what is there already takes none.
 pub fn call(member: u32, heap: &mut Heap, args: &[Value]) -> Option<Answer>
     ensures does { AnswersIfBuilt (does no_host member args.now heap.old) heap.old heap.new result }
@@ -74,6 +76,8 @@ pub fn call(member: u32, heap: &mut Heap, args: &[Value]) -> Option<Answer>
         Some(number_ops::call(member, heap, args))
     } else if is_of_texts(member) {
         Some(api_text::call(member, heap, args))
+    } else if is_of_containers(member) {
+        Some(container_calls::call(member, heap, args))
     } else if is_of_host(member) {
         Some(refuse(heap))
     } else {

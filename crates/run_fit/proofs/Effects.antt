@@ -21,7 +21,9 @@ use Rattle.number_ops.specs.Order.{found_of}
 use Rattle.number_ops.specs.Outcomes.{effect, says}
 use Rattle.number_ops.specs.Relations.{equal, equal_if, thrown, thrown_if}
 use Rattle.number_ops.proofs.Keeping as numbers
-use Rattle.member_calls.specs.Laws.{ActFits, ActLeaves, EffectLeaves}
+use Rattle.container_calls.specs.Laws.{EffectLeaves}
+use Rattle.container_calls.proofs.There.{there_refl}
+use Rattle.member_calls.specs.Laws.{ActFits, ActLeaves}
 use Rattle.member_calls.specs.Members.{does}
 use Rattle.member_calls.proofs.Keeping as members
 use Rattle.member_calls.proofs.Leaving as leaving
@@ -31,7 +33,7 @@ use Rattle.run_fit.specs.Worlds.{WorldFits, count_in, OutcomeFits}
 use Rattle.run_fit.proofs.Leaving.{there_trans, there_count}
 
 pub beginnings_fit : BeginningsFit
-beginnings_fit rules w f = record { fits = f; there = leaving.there_refl w.store.objects }
+beginnings_fit rules w f = record { fits = f; there = there_refl w.store.objects }
 
 world_on : (rules : Rules) (before : List Object) (w after : World) → WorldFits rules before w → Fits rules after.store.objects → EffectLeaves w.store.objects (Gives v.Null after.store)
     → WorldFits rules before after
@@ -127,7 +129,7 @@ thrown_if_fits rules before w id (Some (o.Iter over cursor seen last)) e h = no_
 thrown_if_fits rules before w id (Some (o.Builder units)) e h = no_exception_fits rules before w h
 thrown_if_fits rules before w id (Some (o.Fun iface target captures)) e h = no_exception_fits rules before w h
 thrown_if_fits rules before w id (Some (o.Exc class message)) e h =
-    effect_fits rules before w (Throws id w.store) h (h.fits, exception_there rules (kinds w.store.objects) w.store.objects h.fits.each id class message e) (leaving.there_refl w.store.objects)
+    effect_fits rules before w (Throws id w.store) h (h.fits, exception_there rules (kinds w.store.objects) w.store.objects h.fits.each id class message e) (there_refl w.store.objects)
 
 pub throwing_fits : ThrowingFits
 unfolding thrown

@@ -7,9 +7,9 @@ use Rattle.number_ops.specs.Outcomes.{effect}
 use Rattle.api_text.specs.Outcomes as text_outcomes
 use Rattle.member_calls.specs.Members.{given_by_host}
 use Rattle.member_calls.specs.Answers.{AnswersIfBuilt}
-use Rattle.member_calls.proofs.Doing.{does_of_numbers, does_of_texts, does_of_host, does_of_others}
+use Rattle.member_calls.proofs.Doing.{does_of_numbers, does_of_texts, does_of_containers, does_of_host, does_of_others}
 use Rattle.member_calls.proofs.Keeping.{number_fits, host_fits}
-use Rattle.member_calls.proofs.Needing.{numbers_want, texts_want, host_wants}
+use Rattle.member_calls.proofs.Needing.{numbers_want, texts_want, containers_want, host_wants}
 use Rattle.member_calls.proofs.member.call.Goals as goal
 
 pub returns-then-is_of_numbers-clause-does : goal.returns-then-is_of_numbers-clause-does
@@ -37,11 +37,22 @@ returns-then-is_of_texts-clause-memory c =
     texts_want c.args.heap.now.objects c.args.member c.args.args.now c.call-then-is_of_texts.result (sym c.is_of_texts.ensures ∙ c.if-is_of_texts.true)
     c.call-then-is_of_texts.ensures.memory
 
+pub returns-then-is_of_containers-clause-does : goal.returns-then-is_of_containers-clause-does
+returns-then-is_of_containers-clause-does c =
+    subst (λ (e : Option Effect). AnswersIfBuilt e c.args.heap.now c.call-then-is_of_containers.new.heap (Some c.call-then-is_of_containers.result))
+    (sym (does_of_containers no_host c.args.member c.args.args.now c.args.heap.now (sym c.is_of_numbers.ensures ∙ c.if-is_of_numbers.false)
+    (sym c.is_of_texts.ensures ∙ c.if-is_of_texts.false) (sym c.is_of_containers.ensures ∙ c.if-is_of_containers.true))) c.call-then-is_of_containers.ensures.does
+
+pub returns-then-is_of_containers-clause-memory : goal.returns-then-is_of_containers-clause-memory
+returns-then-is_of_containers-clause-memory c =
+    containers_want c.args.heap.now.objects c.args.member c.args.args.now c.call-then-is_of_containers.result (sym c.is_of_containers.ensures ∙ c.if-is_of_containers.true)
+    c.call-then-is_of_containers.ensures.memory
+
 pub returns-then-is_of_host-clause-does : goal.returns-then-is_of_host-clause-does
 returns-then-is_of_host-clause-does c =
     subst (λ (e : Option Effect). AnswersIfBuilt e c.args.heap.now c.refuse.new.heap (Some c.refuse.result))
     (sym (does_of_host no_host c.args.member c.args.args.now c.args.heap.now (sym c.is_of_numbers.ensures ∙ c.if-is_of_numbers.false)
-    (sym c.is_of_texts.ensures ∙ c.if-is_of_texts.false) (sym c.is_of_host.ensures ∙ c.if-is_of_host.true))) c.refuse.ensures
+    (sym c.is_of_texts.ensures ∙ c.if-is_of_texts.false) (sym c.is_of_containers.ensures ∙ c.if-is_of_containers.false) (sym c.is_of_host.ensures ∙ c.if-is_of_host.true))) c.refuse.ensures
 
 pub returns-then-is_of_host-clause-memory : goal.returns-then-is_of_host-clause-memory
 returns-then-is_of_host-clause-memory c =
@@ -56,4 +67,4 @@ pub returns-else-is_of_host-clause-does : goal.returns-else-is_of_host-clause-do
 returns-else-is_of_host-clause-does c =
     subst (λ (e : Option Effect). AnswersIfBuilt e c.args.heap.now c.args.heap.now None)
     (sym (does_of_others no_host c.args.member c.args.args.now c.args.heap.now (sym c.is_of_numbers.ensures ∙ c.if-is_of_numbers.false)
-    (sym c.is_of_texts.ensures ∙ c.if-is_of_texts.false) (sym c.is_of_host.ensures ∙ c.if-is_of_host.false))) refl
+    (sym c.is_of_texts.ensures ∙ c.if-is_of_texts.false) (sym c.is_of_containers.ensures ∙ c.if-is_of_containers.false) (sym c.is_of_host.ensures ∙ c.if-is_of_host.false))) refl
