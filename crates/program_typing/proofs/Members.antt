@@ -18,7 +18,8 @@ use Rattle.object_heap.specs.Fits.{is_primitive}
 use Rattle.object_heap.specs.Store.{Store}
 use Rattle.number_ops.specs.Operators.{is_null}
 use Rattle.member_calls.specs.Members.{is_built, does}
-use Rattle.member_calls.specs.Types.{given_by_layer, given_by, EffectGives, ActGives}
+use Rattle.container_calls.specs.Types.{primitive_in, primitive_of, EffectGives}
+use Rattle.member_calls.specs.Types.{ActGives}
 use Rattle.member_calls.proofs.Doing.{built_act}
 use Rattle.member_calls.proofs.Types.{act_gives}
 use Rattle.source_meaning.specs.Operating.{in_box}
@@ -169,7 +170,7 @@ of_primitive prim.Long (v.Long a) h = (a, refl)
 of_primitive prim.Long (v.Str a) h = cc
 of_primitive prim.Long (v.Ref a) h = cc
 
-layer_given : (l : Ty-F Ty) (x : Effect) → EffectGives (given_by_layer l) x → LayerHas l x
+layer_given : (l : Ty-F Ty) (x : Effect) → EffectGives (primitive_in l) x → LayerHas l x
 layer_given Ty-F.Void x h = made Ty-F.Void x (λ value. tt)
 layer_given Ty-F.Null x h = made Ty-F.Null x (λ value. tt)
 layer_given Ty-F.Def x h = made Ty-F.Def x (λ value. tt)
@@ -185,7 +186,7 @@ pub record Comes (of : Ty) (o : Option Effect) : Type 0 where
   pub is : o ≡ Some effect
   pub has : EffectHas of effect
 
-comes : (of : Ty) (o : Option Effect) → is_some o ≡ true → ActGives (given_by of) o → Comes of o
+comes : (of : Ty) (o : Option Effect) → is_some o ≡ true → ActGives (primitive_of of) o → Comes of o
 comes of None is x = cc
 comes of (Some effect) is x = record { effect = effect; is = refl; has = layer_given (out-Ty of) effect x }
 

@@ -23,7 +23,7 @@ use Rattle.typed_tree.specs.declared.operation.Gives.{Gives as Given_by}
 use Rattle.number_ops.specs.Operators.{is_null}
 use Rattle.number_ops.specs.Outcomes as outcomes
 use Rattle.number_ops.specs.Relations.{thrown}
-use Rattle.member_calls.specs.Laws.{StillThere}
+use Rattle.container_calls.specs.Laws.{StillThere}
 use Rattle.member_calls.specs.Members.{does}
 use Rattle.run_state.specs.Calls.{suits_member, wrong_class}
 use Rattle.run_state.specs.World.{World, Limits, Outcome, Given, Raised, Full, acts_in, Counted, Counts, Passes, allowed_in, has_loop_limit, take_turn, enter, pay_member}

@@ -5,6 +5,8 @@ pub mod Casts
 pub mod MemberTables
 pub mod MemberNumbers
 pub mod MemberTexts
+pub mod ContainerThrows
+pub mod MemberContainers
 pub mod Members
 pub mod Elements
 pub mod Kept

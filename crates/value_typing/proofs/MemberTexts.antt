@@ -36,8 +36,8 @@ use Rattle.api_text.specs.Members as texts
 use Rattle.api_text.specs.Outcomes.{effect, gives_new, number_of, says, followed_by}
 use Rattle.api_text.specs.Sequences.{place_before, place_within}
 use Rattle.api_text.proofs.Keeping.{settled as settled_fits}
-use Rattle.member_calls.specs.Laws.{EffectLeaves}
-use Rattle.member_calls.proofs.Leaving.{kinds-added}
+use Rattle.container_calls.specs.Laws.{EffectLeaves}
+use Rattle.container_calls.proofs.There.{kinds-added}
 use Rattle.value_typing.specs.Typing.{is_typed_layer, is_typed}
 use Rattle.value_typing.proofs.Typing.{types_stay, below_itself}
 use Rattle.value_typing.proofs.Casts.{string_layer}
@@ -50,11 +50,11 @@ use Rattle.value_typing.proofs.MemberTables.{string, builder, text_reference, gi
 abbrev pub NewIsOf : Ty-F Ty → Kind → Type 0
 NewIsOf l kind = (others : List Kind) → is_typed_layer (others ++ kind ∷ []) l (v.Ref (length others)) ≡ true
 
-at_end : (ks : List Kind) (kind : Kind) → slice_get (ks ++ kind ∷ []) (length ks) ≡ Some kind
+pub at_end : (ks : List Kind) (kind : Kind) → slice_get (ks ++ kind ∷ []) (length ks) ≡ Some kind
 at_end [] kind = refl
 at_end (x ∷ ks) kind = at_end ks kind
 
-new_of_class : (class : ℕ) (kind : Kind) → class_of_kind kind ≡ Some class → NewIsOf (Ty-F.Class class) kind
+pub new_of_class : (class : ℕ) (kind : Kind) → class_of_kind kind ≡ Some class → NewIsOf (Ty-F.Class class) kind
 new_of_class class kind e others =
     subst (λ (found : Option Kind). passes (kind_is_of class) found ≡ true) (sym (at_end others kind))
     (or_right (class == OBJECT) (class_is_of class (class_of_kind kind)) (ap (class_is_of class) e ∙ below_itself class))
@@ -70,7 +70,7 @@ new_exception : (class : ExceptionClass) → NewIsOf (out-Ty (ty.Class (number_o
 unfolding out-Ty denote.Hole.Carrier.out
 new_exception class = new_of_class (number_of class) (AnException (number_of class)) refl
 
-new_array_of : (elem : Ty) → NewIsOf (out-Ty (ty.Array elem)) (AnArray elem)
+pub new_array_of : (elem : Ty) → NewIsOf (out-Ty (ty.Array elem)) (AnArray elem)
 new_array_of elem = subst (λ (l : Ty-F Ty). NewIsOf l (AnArray elem)) (sym (outs-Array elem)) (new_array elem)
 
 new_chars : NewIsOf (out-Ty (ty.Array (ty.Prim prim.Char))) (AnArray (ty.Prim prim.Char))
@@ -95,17 +95,17 @@ TextTyped objects of outcome.NoRoom = Unit {0}
 TextTyped objects of outcome.NoMemory = ⊥
 
 -- what is paid is typed where it is for any room
-paid_typed : (l : Ty-F Ty) (store : Store) (objects : List Object) (made : ℕ) (next : Store → Effect)
+pub paid_typed : (l : Ty-F Ty) (store : Store) (objects : List Object) (made : ℕ) (next : Store → Effect)
     → ((room : ℕ) → EffectTyped l (next (record { objects = objects; room = room }))) → EffectTyped l (after_paying (paid store objects made) next)
 unfolding paid
 paid_typed l store objects made next h =
     elim (nat_le (charge store objects made) store.room) as (λ b. EffectTyped l (after_paying (if b then Some (record { objects = objects; room = store.room - charge store objects made }) else None) next))
     [ true ↦ h (store.room - charge store objects made) | false ↦ tt ]
 
-new_typed : (l : Ty-F Ty) (store : Store) (object : Object) (made : ℕ) → NewIsOf l (kind_of object) → EffectTyped l (gives_new store object made)
+pub new_typed : (l : Ty-F Ty) (store : Store) (object : Object) (made : ℕ) → NewIsOf l (kind_of object) → EffectTyped l (gives_new store object made)
 new_typed l store object made h =
     paid_typed l store (store.objects ++ object ∷ []) made (λ paid. Gives (v.Ref (length store.objects)) paid) (λ room.
-    subst (λ (ks : List Kind). is_typed_layer ks l (v.Ref (length store.objects)) ≡ true) (sym (kinds-added store.objects object))
+    subst (λ (ks : List Kind). is_typed_layer ks l (v.Ref (length store.objects)) ≡ true) (sym (kinds-added store.objects (object ∷ [])))
     (subst (λ (n : ℕ). is_typed_layer (kinds store.objects ++ kind_of object ∷ []) l (v.Ref n) ≡ true) (length-kinds store.objects) (h (kinds store.objects))))
 
 -- a value that is there already stays of its type

@@ -4,6 +4,7 @@ use Rattle.std.proofs.lemmas.Bool.{and_parts, cond_both, eqb-true, leb-true}
 use Rattle.std.proofs.lemmas.Option.{get_or_from_slice_get}
 use Rattle.pl_types.specs.Host.{HostMeaning}
 use Rattle.pl_types.specs.declared.classes.TheConstants.{STRING_BUILDER}
+use Rattle.pl_types.specs.declared.primitive.Primitive.{Primitive}
 use Rattle.pl_types.specs.declared.primitive.Primitive.TheVariants as prim
 use Rattle.pl_types.specs.declared.ty.Ty.{Ty, out-Ty}
 use Rattle.pl_types.specs.declared.ty.Ty.TheVariants as ty
@@ -22,17 +23,22 @@ use Rattle.number_ops.specs.Members as numbers
 use Rattle.number_ops.specs.Operators.{is_null}
 use Rattle.api_text.specs.Members as texts
 use Rattle.api_text.specs.Outcomes as text_outcomes
+use Rattle.container_calls.specs.Members.{is_of_containers}
+use Rattle.container_calls.specs.Types.{primitive_in}
+use Rattle.container_calls.proofs.Ranges.{no_container}
 use Rattle.member_calls.specs.Laws.{ActLeaves}
 use Rattle.member_calls.specs.Members.{is_of_numbers, is_of_texts, is_built, is_of_host, first_of_host, given_by_host, asked_of_host, longs_in, does}
-use Rattle.member_calls.specs.Types.{Of, given_by_layer, ActGives}
+use Rattle.member_calls.specs.Types.{ActGives}
 use Rattle.member_calls.proofs.Built.{no_number, no_text}
-use Rattle.member_calls.proofs.Doing.{does_of_numbers, does_of_texts, does_of_host}
+use Rattle.member_calls.proofs.Doing.{does_of_numbers, does_of_texts, does_of_containers, does_of_host}
 use Rattle.member_calls.proofs.Leaving.{act_leaves}
 use Rattle.member_calls.proofs.Owners.{built_stand}
 use Rattle.member_calls.proofs.Types.{act_gives}
 use Rattle.value_typing.specs.Typing.{is_typed, are_typed, takes_typed_by, takes_typed}
 use Rattle.value_typing.specs.Laws.{MembersKeepTypes, HostKeepsTypes}
 use Rattle.value_typing.proofs.Effects.{EffectTyped, ActTyped, ActThrows, act_is}
+use Rattle.value_typing.proofs.ContainerThrows.{container_throws}
+use Rattle.value_typing.proofs.MemberContainers.{container_typed}
 use Rattle.value_typing.proofs.MemberNumbers.{number_found_typed, number_throws}
 use Rattle.value_typing.proofs.MemberTables.{builder, reference_in, reference_layer, is_builder, is_changer_by, number_row_at, text_row_at, receiver_row_at}
 use Rattle.value_typing.proofs.MemberTexts.{TextTyped, FirstIsBuilder, object_is, text_found_typed, text_settled, text_throws}
@@ -44,7 +50,8 @@ unfolding does
 act_throws rules host number values store f =
     cond_both (is_of_numbers number) _ _ ActThrows (λ _. number_throws rules store (numbers.does_numbered store.objects number values) f)
     (λ _. cond_both (is_of_texts number) _ _ ActThrows (λ _. text_throws rules store (texts.does_numbered store.objects number values) f)
-    (λ _. cond_both (is_of_host number) _ _ ActThrows (λ _. text_throws rules store (asked_of_host host number values) f) (λ _. tt)))
+    (λ _. cond_both (is_of_containers number) _ _ ActThrows (λ _. container_throws rules store number values f)
+    (λ _. cond_both (is_of_host number) _ _ ActThrows (λ _. text_throws rules store (asked_of_host host number values) f) (λ _. tt))))
 
 -- ---- references
 
@@ -71,8 +78,8 @@ first_is_builder objects kind.Instance member (receiver ∷ values) c h = λ id 
     either true x = eqb-true member.owner STRING_BUILDER x
     either false x = cc
 
-module _ (host : HostMeaning) (number : ℕ) (member : MemberType) (values : List Value) (store : Store) (is : slice_get catalogue number ≡ Some member)
-    (takes : takes_typed store.objects member values ≡ true) where
+module _ (rules : Rules) (host : HostMeaning) (number : ℕ) (member : MemberType) (values : List Value) (store : Store) (f : Fits rules store.objects)
+    (is : slice_get catalogue number ≡ Some member) (takes : takes_typed store.objects member values ≡ true) where
   of_texts : (reference_in member.result ≡ Some member.result) → is_of_numbers number ≡ false → is_of_texts number ≡ true → ActTyped (out-Ty member.result) (does host number values store)
   of_texts reference not_so is_so =
       let same = does_of_texts host number values store not_so is_so in
@@ -87,16 +94,23 @@ module _ (host : HostMeaning) (number : ℕ) (member : MemberType) (values : Lis
       subst (ActTyped (out-Ty member.result)) (sym (does_of_numbers host number values store is_so))
       (number_found_typed store (numbers.numbered number) member.result values (number_row_at number member is_so is ∙ reference))
 
-  built_either : is_built number ≡ true → is_of_numbers number ≡ false → is_of_texts number ≡ true
+  of_containers : (reference_in member.result ≡ Some member.result) → is_of_numbers number ≡ false → is_of_texts number ≡ false → is_of_containers number ≡ true
+      → ActTyped (out-Ty member.result) (does host number values store)
+  of_containers reference e g is_so =
+      subst (ActTyped (out-Ty member.result)) (sym (does_of_containers host number values store e g is_so))
+      (container_typed rules store number member values f is_so is reference)
+
+  built_else : is_built number ≡ true → is_of_numbers number ≡ false → is_of_texts number ≡ false → is_of_containers number ≡ true
   unfolding is_built
-  built_either b not_so = ap (λ first. first || is_of_texts number) (sym not_so) ∙ b
+  built_else b e g = ap (λ second. second || is_of_containers number) (sym g) ∙ ap (λ first. (first || is_of_texts number) || is_of_containers number) (sym e) ∙ b
 
   reference_typed : (reference_in member.result ≡ Some member.result) → is_built number ≡ true → ActTyped (out-Ty member.result) (does host number values store)
-  reference_typed reference built = either (is_of_numbers number) refl
+  reference_typed reference built = either (is_of_numbers number) (is_of_texts number) refl refl
     where
-      either : (b : Bool) → is_of_numbers number ≡ b → ActTyped (out-Ty member.result) (does host number values store)
-      either true is_so = of_numbers reference is_so
-      either false not_so = of_texts reference not_so (built_either built not_so)
+      either : (a b : Bool) → is_of_numbers number ≡ a → is_of_texts number ≡ b → ActTyped (out-Ty member.result) (does host number values store)
+      either true b is_so e = of_numbers reference is_so
+      either false true e is_so = of_texts reference e is_so
+      either false false e g = of_containers reference e g (built_else built e g)
 
 -- ---- all types
 
@@ -107,23 +121,23 @@ every l (Some (Gives value store)) h = h store value
 every l (Some (Throws id store)) h = tt
 every l (Some NoRoom) h = tt
 
-primitive_act : (p : _) (o : Option Effect) → ActGives (Of p) o → ActTyped (Ty-F.Prim p) o
+primitive_act : (p : Primitive) (o : Option Effect) → ActGives (Some p) o → ActTyped (Ty-F.Prim p) o
 primitive_act p None h = tt
 primitive_act p (Some (Gives value store)) h = h
 primitive_act p (Some (Throws id store)) h = tt
 primitive_act p (Some NoRoom) h = tt
 
-typed_act : (host : HostMeaning) (number : ℕ) (member : MemberType) (values : List Value) (store : Store) → is_built number ≡ true
+typed_act : (rules : Rules) (host : HostMeaning) (number : ℕ) (member : MemberType) (values : List Value) (store : Store) → Fits rules store.objects → is_built number ≡ true
     → slice_get catalogue number ≡ Some member → takes_typed store.objects member values ≡ true → (l : Ty-F Ty) → out-Ty member.result ≡ l → ActTyped l (does host number values store)
-typed_act host number member values store built is takes Ty-F.Void e = every Ty-F.Void (does host number values store) (λ store value. refl)
-typed_act host number member values store built is takes Ty-F.Def e = every Ty-F.Def (does host number values store) (λ store value. refl)
-typed_act host number member values store built is takes (Ty-F.Prim p) e =
+typed_act rules host number member values store f built is takes Ty-F.Void e = every Ty-F.Void (does host number values store) (λ store value. refl)
+typed_act rules host number member values store f built is takes Ty-F.Def e = every Ty-F.Def (does host number values store) (λ store value. refl)
+typed_act rules host number member values store f built is takes (Ty-F.Prim p) e =
     primitive_act p (does host number values store)
-    (subst (λ (l : Ty-F Ty). ActGives (given_by_layer l) (does host number values store)) e
+    (subst (λ (l : Ty-F Ty). ActGives (primitive_in l) (does host number values store)) e
     (act_gives host number member values store is))
-typed_act host number member values store built is takes l e =
+typed_act rules host number member values store f built is takes l e =
     subst (λ (l : Ty-F Ty). ActTyped l (does host number values store)) e
-    (reference_typed host number member values store is takes (ap (reference_layer member.result) e) built)
+    (reference_typed rules host number member values store f is takes (ap (reference_layer member.result) e) built)
 
 -- the member of a number that is built
 stands : (number : ℕ) → is_built number ≡ true → slice_get catalogue number ≡ Some (member_at number)
@@ -136,7 +150,7 @@ stands number built = by (slice_get catalogue number) refl (built_stand number b
 pub members_keep_types : MembersKeepTypes
 members_keep_types rules host number values store f built takes =
     act_is (member_at number).result (does host number values store)
-    (typed_act host number (member_at number) values store built (stands number built) takes (out-Ty (member_at number).result) refl)
+    (typed_act rules host number (member_at number) values store f built (stands number built) takes (out-Ty (member_at number).result) refl)
     (act_throws rules host number values store f)
 
 -- ---- functions of the host
@@ -150,7 +164,7 @@ host_typed : (host : HostMeaning) (number : ℕ) (values : List Value) (store : 
 unfolding is_of_host
 host_typed host number values store is_so =
     let past : first_of_host ≤ number = leb-true first_of_host number is_so in
-    let same = does_of_host host number values store (no_number number (omega (arith, past))) (no_text number (omega (arith, past))) is_so in
+    let same = does_of_host host number values store (no_number number (omega (arith, past))) (no_text number (omega (arith, past))) (no_container number (omega (arith, past))) is_so in
     let leaves : ActLeaves store.objects (Some (text_outcomes.effect store (asked_of_host host number values))) = subst (ActLeaves store.objects) same (act_leaves host number values store) in
     subst (ActTyped (out-Ty (ty.Prim prim.Long))) (sym same)
     (text_settled (ty.Prim prim.Long) store (asked_of_host host number values) (long_given store.objects (host (number - first_of_host) (longs_in values))) leaves)

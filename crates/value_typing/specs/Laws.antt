@@ -18,7 +18,7 @@ use Rattle.object_values.specs.declared.value.Value.TheVariants as v
 use Rattle.object_heap.specs.Fits.{Rules, Fits, is_primitive, layer_asked}
 use Rattle.object_heap.specs.Parts.{items_of}
 use Rattle.object_heap.specs.Store.{Store}
-use Rattle.member_calls.specs.Laws.{StillThere}
+use Rattle.container_calls.specs.Laws.{StillThere}
 use Rattle.member_calls.specs.Members.{is_built, is_of_host, does}
 use Rattle.arithmetic.specs.declared.operator.Op.{Op}
 use Rattle.number_ops.specs.Casts.{cast_at_run_time}

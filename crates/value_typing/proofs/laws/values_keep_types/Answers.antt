@@ -1,6 +1,6 @@
 use Rattle.value_typing.proofs.Typing.{types_stay, all_types_stay, classes_widen, null_is_typed}
 use Rattle.value_typing.proofs.Casts.{casts_give_types, texts_give_types}
-use Rattle.member_calls.proofs.Leaving.{there_refl}
+use Rattle.container_calls.proofs.There.{there_refl}
 use Rattle.run_fit.proofs.Leaving.{there_trans}
 use Rattle.value_typing.proofs.Elements.{elements_are_typed}
 use Rattle.value_typing.proofs.Kept.{kept_is_typed, boxed_is_typed}
