@@ -6,7 +6,7 @@ use Rattle.std.proofs.lemmas.Bool.{false≢true, and_parts}
 use Rattle.object_values.specs.declared.value.Value.{Value}
 use Rattle.object_heap.specs.Effects.{Effect}
 use Rattle.number_ops.specs.Outcomes.{effect, null_error}
-use Rattle.pl_types.specs.declared.classes.TheConstants.{NULL_POINTER_EXCEPTION}
+use Rattle.pl_types.specs.declared.classes.TheConstants.{CLASS_CAST_EXCEPTION, NULL_POINTER_EXCEPTION}
 use Rattle.pl_code.specs.declared.code.FunCode.{FunCode}
 use Rattle.pl_code.specs.declared.code.Instruction.{Instruction}
 use Rattle.allowlist.specs.declared.member.MemberType.{MemberType}
@@ -25,10 +25,11 @@ use Rattle.member_calls.proofs.Owners.{built_stand}
 use Rattle.member_calls.proofs.Types.{act_gives}
 use Rattle.verifier.specs.Shaped.{IsWellShapedCode}
 use Rattle.verifier.specs.Meets.{left_in}
+use Rattle.run_state.specs.Calls.{suits_member, wrong_class}
 use Rattle.run_state.specs.World.{World, Limits, Counted, Counts, Passes, pay_tick, reach, reaches, pay_member}
 use Rattle.code_meaning.specs.declared.word.Word.{Word}
 use Rattle.code_meaning.specs.Members.{Receiving, Unfit, OnNull, Receives, Reads, received, count_of, given_as}
-use Rattle.code_meaning.specs.Machine.{Frame, Next, Goes, Ends, Stuck, on_words, on_act, on_paid, on_received, member_act, take_words, codes_of}
+use Rattle.code_meaning.specs.Machine.{Frame, Next, Goes, Ends, Stuck, on_words, on_act, on_paid, on_tested, on_received, member_act, take_words, codes_of}
 use Rattle.verifier_soundness.specs.Fits.{kinds_of, frame_kinds, ReachesAllowed}
 use Rattle.verifier_soundness.specs.Rows.{member_has_row}
 use Rattle.verifier_soundness.proofs.Words.{exchanged, exchange_of, take_kinds}
@@ -137,6 +138,15 @@ module _ (allow : AllowList) (code prelude : List FunCode) (limits : Limits) (we
       (fewer_ticks allow code limits f below w w' paid.0)
       (does_move w' (record { fits = here.fits; due = here.due; text = here.text; belows = here.belows; within = here.within; reached = paid.1 }) number stack arguments r kinds)
 
+  tested_moves : (w : World) → Here allow code limits function f below w → (number : ℕ) (stack : List Word) (arguments : List Value) → Rowed number → flag allow.members number ≡ true
+      → kind_of_type (member_at number).result ∷ kinds_of stack ≡ s.left → (suits : Bool)
+      → Moves allow code limits (left_at code limits f below w) (on_tested (codes_of code prelude) limits suits number arguments (member_at number) f below w stack)
+  tested_moves w here number stack arguments r allowed kinds false =
+      effect_moves allow code prelude limits well function f below w i s here (given_as (member_at number).result) (kind_of_type (member_at number).result) stack (effect w.store wrong_class) goes kinds
+      (throws_is (given_as (member_at number).result) (kind_of_type (member_at number).result) w.store CLASS_CAST_EXCEPTION None)
+  tested_moves w here number stack arguments r allowed kinds true =
+      paid_moves w here number stack arguments r kinds (pay_member f.text number w) (member_is_paid allow code limits f.text number w allowed here.reached)
+
   received_moves : (w : World) → Here allow code limits function f below w → (number : ℕ) (stack : List Word) → Rowed number → flag allow.members number ≡ true
       → kind_of_type (member_at number).result ∷ kinds_of stack ≡ s.left → (received : Receiving) → IsReceived received
       → Moves allow code limits (left_at code limits f below w) (on_received (codes_of code prelude) limits received number (member_at number) f below w stack)
@@ -145,7 +155,7 @@ module _ (allow : AllowList) (code prelude : List FunCode) (limits : Limits) (we
       effect_moves allow code prelude limits well function f below w i s here (given_as (member_at number).result) (kind_of_type (member_at number).result) stack (effect w.store null_error) goes kinds
       (throws_is (given_as (member_at number).result) (kind_of_type (member_at number).result) w.store NULL_POINTER_EXCEPTION None)
   received_moves w here number stack r allowed kinds (Receives arguments) so =
-      paid_moves w here number stack arguments r kinds (pay_member f.text number w) (member_is_paid allow code limits f.text number w allowed here.reached)
+      tested_moves w here number stack arguments r allowed kinds (suits_member w.store.objects (member_at number) arguments)
   received_moves w here number stack r allowed kinds Reads so = does_move w here number stack [] r kinds
 
   -- the call of a member of the list
