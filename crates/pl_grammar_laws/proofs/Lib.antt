@@ -3,8 +3,8 @@ mod Fitting
 mod LookAhead
 mod Ranks
 mod Cuts
-mod Walks
-mod Told
+pub mod Walks
+pub mod Told
 mod Spine
 mod Settled
 mod Sound
