@@ -11,7 +11,8 @@ use Rattle.pl_grammar.specs.Firsts.{first, scan, allowed, begins_expr, is_declar
 use Rattle.pl_grammar.specs.Derives.{DerivesSymbols, Derives}
 use Rattle.pl_grammar.proofs.Scan.{seen_append, seen_final}
 use Rattle.pl_grammar_plain.proofs.Leads.{heads, led, leads, first_symbol}
-use Rattle.pl_grammar_plain.proofs.Walks.{walk, token_walk, last_symbol, cast_type_walk, type_from_start}
+use Rattle.pl_grammar_laws.proofs.Walks.{walk, token_walk, last_symbol}
+use Rattle.pl_grammar_laws.proofs.Told.{cast_type_walk, type_from_start}
 use Rattle.pl_grammar_plain.proofs.Follows.{follows, after_closing, after_expr, after_param, before_semicolon}
 use Rattle.pl_grammar_plain.proofs.Rows.{comes}
 use Rattle.pl_grammar_plain.proofs.Tests.{tested}

@@ -14,7 +14,8 @@ use Rattle.pl_grammar.specs.Firsts.{first, begins_expr}
 use Rattle.pl_grammar.specs.Derives.{Sequence, DerivesSymbol, DerivesSymbols, Derives}
 use Rattle.pl_grammar.proofs.Scan.{seen_final}
 use Rattle.pl_grammar_plain.proofs.Leads.{Leads, leads}
-use Rattle.pl_grammar_plain.proofs.Walks.{walk, token_walk, last_symbol, cast_type_walk}
+use Rattle.pl_grammar_laws.proofs.Walks.{walk, token_walk, last_symbol}
+use Rattle.pl_grammar_laws.proofs.Told.{cast_type_walk}
 use Rattle.pl_grammar_plain.proofs.Tests.{clash, tested}
 
 -- forms whose phrases may begin with an operand

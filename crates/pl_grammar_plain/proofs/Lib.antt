@@ -3,7 +3,6 @@ mod Follows
 mod Rows
 mod Leads
 mod Next
-mod Walks
 mod Calm
 mod Allowed
 mod Into
