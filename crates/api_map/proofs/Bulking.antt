@@ -2,7 +2,7 @@
 use Rattle.std.proofs.Common.{◌≡◌, ℕ, ◌+◌, Bool, true, false, Some, None, List, [], ◌∷◌, Err, drop, slice_get, refl, ap, sym, ◌∙◌, subst, if◌then◌else◌}
 use Rattle.object_values.specs.declared.value.Value.{Value}
 use Rattle.object_values.specs.declared.value.Value.TheVariants as v
-use Rattle.object_values.specs.Pairs.{HasDistinctKeys, value_of}
+use Rattle.object_values.specs.Pairs.{HasDistinctKeys, value_of, with_pairs}
 use Rattle.object_values.specs.Values.{is_simple, same_value}
 use Rattle.object_heap.specs.Fits.{KeysFit, PairsFit, ValueFits}
 use Rattle.value_walks.proofs.Stepping.{got}
@@ -16,7 +16,6 @@ use Rattle.container_outcomes.specs.declared.comparing.Compared.{Compared}
 use Rattle.api_map.specs.Bulk.{Put, Sifted, Left, TooDeep, TooLarge, Sifts, Stops, chosen, each_found, found_and, is_true, sift}
 use Rattle.api_map.specs.Holding.{among, or_else}
 use Rattle.container_outcomes.specs.Outcomes.{NeedsMemory, Tells, flag}
-use Rattle.api_map.specs.Sources.{with_pairs}
 use Rattle.api_map.proofs.Copying.{absent_one, absent_rest, all_copied}
 
 -- ---- searches
@@ -58,6 +57,8 @@ stops asked (outcome.Cuts id at) rest h e = same_stops asked (outcome.Cuts id at
 stops asked (outcome.Drops id at) rest h e = same_stops asked (outcome.Drops id at) rest h refl
 stops asked (outcome.Puts id key value) rest h e = same_stops asked (outcome.Puts id key value) rest h refl
 stops asked (outcome.Adds id key) rest h e = same_stops asked (outcome.Adds id key) rest h refl
+stops asked (outcome.PutsAll id pairs) rest h e = same_stops asked (outcome.PutsAll id pairs) rest h refl
+stops asked (outcome.AddsAll id keys) rest h e = same_stops asked (outcome.AddsAll id keys) rest h refl
 stops asked (outcome.CutsKey id key) rest h e = same_stops asked (outcome.CutsKey id key) rest h refl
 stops asked (outcome.DropsKey id key) rest h e = same_stops asked (outcome.DropsKey id key) rest h refl
 stops asked (outcome.DropsEntry id key) rest h e = same_stops asked (outcome.DropsEntry id key) rest h refl

@@ -1,32 +1,14 @@
--- Elements by their places, and pairs that are put one after the other into none.
-use Rattle.std.proofs.Common.{◌≡◌, ℕ, zero, suc, ◌+◌, Bool, true, false, Option, Some, None, List, [], ◌∷◌, ◌++◌, length, drop, slice_get, refl, ap, sym, ◌∙◌, subst, if◌then◌else◌, append_assoc, append-nil}
+-- Pairs that are put one after the other into none.
+use Rattle.std.proofs.Common.{◌≡◌, ℕ, ◌+◌, Bool, true, false, Option, Some, None, List, [], ◌∷◌, ◌++◌, drop, slice_get, refl, ap, sym, ◌∙◌, subst, if◌then◌else◌, append_assoc, append-nil}
 use Rattle.object_values.specs.declared.value.Value.{Value}
 use Rattle.object_values.specs.declared.value.Value.TheVariants as v
-use Rattle.object_values.specs.Pairs.{HasDistinctKeys, key_at, pair_value_at, value_of, with_pair}
+use Rattle.object_values.specs.Pairs.{HasDistinctKeys, value_of, with_pair, with_pairs}
 use Rattle.object_values.specs.Keys.{values_symm}
 use Rattle.object_values.specs.Values.{is_simple, same_value}
 use Rattle.object_values.specs.declared.object.Guard.{Guard}
 use Rattle.value_walks.proofs.Stepping.{got}
 use Rattle.api_map.specs.Guards.{may_put, may_put_all}
-use Rattle.api_map.specs.Sources.{all_simple, keys_of, values_of, with_keys, with_pairs}
-
-pub length_keys : (pairs : List (Value × Value)) → length (keys_of pairs) ≡ length pairs
-length_keys [] = refl
-length_keys (pair ∷ pairs) = ap suc (length_keys pairs)
-
-pub length_values : (pairs : List (Value × Value)) → length (values_of pairs) ≡ length pairs
-length_values [] = refl
-length_values (pair ∷ pairs) = ap suc (length_values pairs)
-
-pub shown_key : (pairs : List (Value × Value)) (at : ℕ) → key_at pairs at ≡ slice_get (keys_of pairs) at
-shown_key [] at = refl
-shown_key (pair ∷ pairs) zero = refl
-shown_key (pair ∷ pairs) (suc at) = shown_key pairs at
-
-pub shown_value : (pairs : List (Value × Value)) (at : ℕ) → pair_value_at pairs at ≡ slice_get (values_of pairs) at
-shown_value [] at = refl
-shown_value (pair ∷ pairs) zero = refl
-shown_value (pair ∷ pairs) (suc at) = shown_value pairs at
+use Rattle.api_map.specs.Sources.{all_simple, with_keys}
 
 -- a new key goes last
 put_if : (pair : Value × Value) (pairs : List (Value × Value)) (key value : Value) (test : Bool) → same_value key pair.0 ≡ test → (if test then Some pair.1 else value_of pairs key) ≡ None

@@ -222,7 +222,7 @@ tells_fits rules objects t.ContainsAll arguments f a =
     one_fits rules objects (bulk.contains_all_of objects (source_at objects arguments 1)) (keyed_at objects arguments 0) (λ of e. contains_all_fits rules objects (source_at objects arguments 1) of (λ value. found_in_fits rules objects of value))
 tells_fits rules objects (t.Sift by) arguments f a = one_fits rules objects (bulk.sifted_of by objects (source_at objects arguments 1)) (keyed_at objects arguments 0) (λ of e. sifted_fits rules objects by (source_at objects arguments 1) of f)
 tells_fits rules objects t.PutAll arguments f a =
-    one_fits rules objects (whole.put_all_of objects (map_at objects arguments 1)) (map_at objects arguments 0) (λ id e. put_all_fits rules objects (object_at arguments 1) id f)
+    one_fits rules objects (whole.put_all_of objects (map_at objects arguments 1)) (map_at objects arguments 0) (λ id e. put_all_fits rules objects (object_at arguments 0) (object_at arguments 1) id f e)
 tells_fits rules objects (t.NewSetOf class) arguments f a = one_fits rules objects (whole.set_of class objects) (source_at objects arguments 0) (λ source e. set_of_fits rules objects class source)
 tells_fits rules objects (t.NewMapOf class) arguments f a =
     one_fits rules objects (whole.map_of class objects) (map_at objects arguments 0) (λ from e. map_of_fits rules objects class (object_at arguments 0) from f e)

@@ -8,6 +8,7 @@ use Rattle.object_values.specs.declared.object.Part.TheVariants as part
 use Rattle.object_values.specs.declared.value.Value.{Value}
 use Rattle.object_values.specs.declared.value.Value.TheVariants as v
 use Rattle.object_values.specs.Pairs.{with_pair}
+use Rattle.object_heap.specs.Objects.{changed_by}
 use Rattle.object_heap.specs.Parts.{guard_of}
 use Rattle.api_map.specs.declared.arguments.Keyed.{Keyed}
 use Rattle.api_map.specs.declared.arguments.Keyed.TheVariants.{Set, View}
@@ -32,7 +33,6 @@ use Rattle.api_map.specs.Holding.{entry_in, value_in}
 use Rattle.container_outcomes.specs.Outcomes.{flag, not_simple, too_deep, too_large, unsupported}
 use Rattle.container_outcomes.specs.Comparing.{where_equal}
 use Rattle.api_map.specs.Sources.{elements, source_at}
-use Rattle.api_map.specs.Whole.{changed_by}
 
 -- ---- containsAll
 

@@ -9,6 +9,7 @@ use Rattle.object_values.specs.Pairs.{value_of}
 use Rattle.object_values.specs.Values.{same_value}
 use Rattle.object_heap.specs.Parts.{items_of, pairs_of}
 use Rattle.value_walks.specs.Equality.{value_now}
+use Rattle.container_values.specs.Elements.{values_in}
 use Rattle.container_outcomes.specs.declared.comparing.Compared.{Compared}
 use Rattle.container_outcomes.specs.declared.comparing.Compared.TheVariants.{Same, Other}
 use Rattle.api_map.specs.declared.sources.Source.{Source}
@@ -17,7 +18,6 @@ use Rattle.api_map.specs.Arguments.{entry_of}
 use Rattle.api_map.specs.Collections.{entry_shown}
 use Rattle.container_outcomes.specs.Comparing.{comparison}
 use Rattle.api_map.specs.Searching.{compared_with}
-use Rattle.api_map.specs.Sources.{values_of}
 
 -- the first of the values that is the same, or why the search stopped
 abbrev pub or_else : Compared → Compared → Compared
@@ -34,7 +34,7 @@ key_in pairs key = if is_some (value_of pairs key) then Same else Other
 
 abbrev pub value_shown : List Object → ℕ → Part → Value → Compared
 value_shown objects map part.Keys value = key_in (pairs_of objects map) value
-value_shown objects map part.Values value = among (comparison objects value) (values_of (pairs_of objects map))
+value_shown objects map part.Values value = among (comparison objects value) (values_in (pairs_of objects map))
 value_shown objects map part.Entries value = entry_shown objects map value
 
 abbrev pub value_in : List Object → Source → Value → Compared
@@ -51,7 +51,7 @@ is_entry objects from key value = same_entry objects from key (entry_of objects 
 
 abbrev pub entry_shown_too : List Object → ℕ → Part → ℕ → Value → Compared
 entry_shown_too objects map part.Keys from key = Other
-entry_shown_too objects map part.Values from key = among (is_entry objects from key) (values_of (pairs_of objects map))
+entry_shown_too objects map part.Values from key = among (is_entry objects from key) (values_in (pairs_of objects map))
 entry_shown_too objects map part.Entries from key = compared_with objects (value_now objects from key) (value_of (pairs_of objects map) key)
 
 abbrev pub entry_in : List Object → Source → ℕ → Value → Compared

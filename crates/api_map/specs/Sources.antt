@@ -2,7 +2,6 @@
 use Rattle.std.specs.Prelude.{ℕ, Bool, true, false, Option, Some, None, List, [], ◌∷◌, slice_get, if◌then◌else◌}
 use Rattle.object_values.specs.declared.object.Object.{Object}
 use Rattle.object_values.specs.declared.object.Object.TheVariants as o
-use Rattle.object_values.specs.declared.object.Part.{Part}
 use Rattle.object_values.specs.declared.object.Part.TheVariants as part
 use Rattle.object_values.specs.declared.value.Value.{Value}
 use Rattle.object_values.specs.declared.value.Value.TheVariants as v
@@ -10,6 +9,7 @@ use Rattle.object_values.specs.Pairs.{with_pair}
 use Rattle.object_values.specs.Values.{is_simple}
 use Rattle.object_heap.specs.Parts.{items_of, pairs_of}
 use Rattle.member_arguments.specs.Arguments.{object_at}
+use Rattle.container_values.specs.Elements.{shown_values}
 use Rattle.api_map.specs.declared.sources.Source.{Source}
 use Rattle.api_map.specs.declared.sources.Source.TheVariants.{Items, Pairs}
 
@@ -26,20 +26,7 @@ source_named objects (Some id) = if_source id (slice_get objects id)
 abbrev pub source_at : List Object → List Value → ℕ → Option Source
 source_at objects arguments at = source_named objects (object_at arguments at)
 
-abbrev pub keys_of : List (Value × Value) → List Value
-keys_of [] = []
-keys_of (pair ∷ pairs) = pair.0 ∷ keys_of pairs
-
-abbrev pub values_of : List (Value × Value) → List Value
-values_of [] = []
-values_of (pair ∷ pairs) = pair.1 ∷ values_of pairs
-
 -- the elements that are values of their own; an entry of a view is none
-abbrev pub shown_values : Part → List (Value × Value) → List Value
-shown_values part.Keys pairs = keys_of pairs
-shown_values part.Values pairs = values_of pairs
-shown_values part.Entries pairs = []
-
 abbrev pub elements : List Object → Source → List Value
 elements objects (Items id) = items_of objects id
 elements objects (Pairs id part) = shown_values part (pairs_of objects id)
@@ -62,11 +49,7 @@ all_simple (value ∷ values) = if is_simple value then all_simple values else f
 abbrev pub are_keys : List Object → Source → Bool
 are_keys objects source = if has_entries objects source then false else all_simple (elements objects source)
 
--- pairs with further keys, whose values are null, and with further pairs
+-- pairs with further keys, whose values are null
 abbrev pub with_keys : List (Value × Value) → List Value → List (Value × Value)
 with_keys pairs [] = pairs
 with_keys pairs (key ∷ keys) = with_keys (with_pair pairs key v.Null) keys
-
-abbrev pub with_pairs : List (Value × Value) → List (Value × Value) → List (Value × Value)
-with_pairs pairs [] = pairs
-with_pairs pairs (pair ∷ more) = with_pairs (with_pair pairs pair.0 pair.1) more

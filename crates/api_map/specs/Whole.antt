@@ -1,56 +1,37 @@
--- The members that take all that a collection or a map holds, which is several changes: each new key raises the change count by 1.
-use Rattle.std.specs.Prelude.{ℕ, ◌+◌, ◌-◌, ◌%◌, ◌^◌, nat_lt, false, Option, Some, List, [], length, slice_get, if◌then◌else◌}
-use Rattle.object_values.specs.declared.object.Guard.{Guard}
+-- The members that take all that a collection or a map holds. What goes into a set or a map that is there is several changes: each new
+-- key raises the change count by 1.
+use Rattle.std.specs.Prelude.{ℕ, Option, List, [], if◌then◌else◌}
 use Rattle.object_values.specs.declared.object.Guard.TheVariants as g
 use Rattle.object_values.specs.declared.object.Object.{Object}
 use Rattle.object_values.specs.declared.object.Object.TheVariants as o
 use Rattle.object_values.specs.declared.value.Value.{Value}
-use Rattle.object_values.specs.declared.value.Value.TheVariants as v
 use Rattle.object_heap.specs.Parts.{guard_of, pairs_of}
 use Rattle.api_map.specs.declared.arguments.Keyed.{Keyed}
 use Rattle.api_map.specs.declared.arguments.Keyed.TheVariants.{Set, View}
 use Rattle.api_map.specs.declared.making.MapClass.{MapClass}
 use Rattle.api_map.specs.declared.making.SetClass.{SetClass}
 use Rattle.container_outcomes.specs.declared.outcome.Outcome.{Outcome}
-use Rattle.container_outcomes.specs.declared.outcome.Outcome.TheVariants.{Becomes, Gives, New}
+use Rattle.container_outcomes.specs.declared.outcome.Outcome.TheVariants.{AddsAll, New, PutsAll}
 use Rattle.api_map.specs.declared.sources.Source.{Source}
 use Rattle.api_map.specs.Arguments.{keyed_at, map_at}
 use Rattle.container_outcomes.specs.Choices.{with_one}
 use Rattle.container_outcomes.specs.Guards.{is_open}
 use Rattle.api_map.specs.Guards.{may_put_all, takes_puts}
 use Rattle.api_map.specs.Making.{number_of_map, number_of_set}
-use Rattle.container_outcomes.specs.Outcomes.{flag, not_simple, unsupported}
-use Rattle.api_map.specs.Sources.{are_keys, elements, source_at, with_keys, with_pairs}
+use Rattle.container_outcomes.specs.Outcomes.{not_simple, unsupported}
+use Rattle.api_map.specs.Sources.{are_keys, elements, source_at, with_keys}
 
--- a change count after so many changes
-abbrev pub changed_by : ℕ → ℕ → ℕ
-changed_by changes count = (changes + count) % 2 ^ 64
-
--- A set that is open, with these keys, of which the new ones go last in their order; and whether there were any
-abbrev pub set_becomes : ℕ → ℕ → ℕ → ℕ → List (Value × Value) → Outcome
-set_becomes id class changes before after = Becomes id (o.Set class after g.Open (changed_by changes (length after - before))) (v.Bool (nat_lt before (length after)))
-
-abbrev pub set_grown : ℕ → List Value → Option Object → Outcome
-set_grown id keys (Some (o.Set class items guard changes)) = set_becomes id class changes (length items) (with_keys items keys)
-set_grown id keys found = flag false
-
+-- the elements go into a set as keys, each once; the new ones go last in their order
 abbrev pub added_from : List Object → ℕ → Source → Outcome
-added_from objects id source = if are_keys objects source then set_grown id (elements objects source) (slice_get objects id) else not_simple
+added_from objects id source = if are_keys objects source then AddsAll id (with_keys [] (elements objects source)) else not_simple
 
 abbrev pub added_all : List Object → Option Source → Keyed → Outcome
 added_all objects source (Set id) = if is_open (guard_of objects id) then with_one (added_from objects id) source else unsupported
 added_all objects source (View map part) = unsupported
 
--- a map with these pairs
-abbrev pub map_becomes : ℕ → ℕ → Guard → ℕ → ℕ → List (Value × Value) → Outcome
-map_becomes id class guard changes before after = Becomes id (o.Map class after guard (changed_by changes (length after - before))) v.Null
-
-abbrev pub map_grown : ℕ → List (Value × Value) → Option Object → Outcome
-map_grown id more (Some (o.Map class pairs guard changes)) = map_becomes id class guard changes (length pairs) (with_pairs pairs more)
-map_grown id more found = Gives v.Null
-
+-- the pairs of a map go into another
 abbrev pub put_from : List Object → ℕ → ℕ → Outcome
-put_from objects id from = if may_put_all (guard_of objects id) (pairs_of objects from) then map_grown id (pairs_of objects from) (slice_get objects id) else unsupported
+put_from objects id from = if may_put_all (guard_of objects id) (pairs_of objects from) then PutsAll id (pairs_of objects from) else unsupported
 
 abbrev pub put_all_of : List Object → Option ℕ → ℕ → Outcome
 put_all_of objects from id = if takes_puts (guard_of objects id) then with_one (put_from objects id) from else unsupported

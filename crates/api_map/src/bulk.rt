@@ -8,7 +8,7 @@ ghost use Rattle.api_map.specs.Collections.{found_in};
 ghost use Rattle.container_outcomes.specs.Outcomes.{Tells, flag};
 ghost use Rattle.container_outcomes.specs.Comparing.{where_equal};
 ghost use Rattle.api_map.specs.Sources.{elements};
-ghost use Rattle.api_map.specs.Whole.{changed_by};
+ghost use Rattle.object_heap.specs.Objects.{changed_by};
 ghost use Rattle.api_map.specs.Bulk as spec;
 ghost use Rattle.api_map.specs.declared.bulk.Choice.TheVariants as choice;
 
@@ -169,7 +169,8 @@ fn contains_all_of(heap: &Heap, source: Option<Source>, keyed: Keyed) -> Outcome
     }
 }
 
-fn choice_of(bulk: Bulk, is: Compared) -> Choice
+/// What becomes of an element of which this comes where it is sought in the other collection.
+pub fn choice_of(bulk: Bulk, is: Compared) -> Choice
     ensures { result ≡ spec.choice_of bulk is }
 {
     match (bulk, is) {

@@ -1,14 +1,12 @@
 //! What may be changed.
-ghost use Rattle.std.specs.Prelude.{◌≡◌, IfOk, OnOk, Some, [], ◌∷◌, ◌++◌};
+ghost use Rattle.std.specs.Prelude.{◌≡◌, Some};
 ghost use Rattle.object_heap.specs.Parts.{guard_of, pairs_of};
 ghost use Rattle.api_map.specs.Guards as spec;
 
 use crate::searching::pair_at;
 use object_heap::Heap;
-use object_values::{Elements, Guard, Pairs, Value};
+use object_values::{Guard, Pairs, Value};
 use pl_units::UText;
-use plain_data::Boxed;
-use std::alloc::{AllocError, Global};
 
 // Whether a text is one of these.
 fn is_listed(keys: &[UText], text: &UText) -> bool
@@ -115,38 +113,5 @@ pub fn may_put_all(heap: &Heap, id: u32, from: u32) -> bool
     match heap.pairs(from) {
         Some(pairs) => may_put_pairs(heap, id, pairs),
         None => true,
-    }
-}
-
-// A text at the end.
-fn push_text(texts: &mut Elements<UText>, text: &UText) -> Result<(), AllocError>
-    ensures { OnOk result (texts.new ≡ texts.old ++ text.now ∷ []) }
-{
-    let text = text.share()?;
-    texts.push(text)
-}
-
-fn keys_shared(alloc: Global, keys: &[UText]) -> Result<Elements<UText>, AllocError>
-    ensures { IfOk result (λ copy. copy ≡ keys.now) }
-{
-    let mut copy = Elements::new(alloc);
-    for at in 0..keys.len() {
-        push_text(&mut copy, &keys[at])?;
-    }
-    Ok(copy)
-}
-
-/// The same guard once more.
-pub fn shared(alloc: Global, guard: &Guard) -> Result<Guard, AllocError>
-    ensures { IfOk result (λ copy. copy ≡ guard.now) }
-{
-    match guard {
-        Guard::Open => Ok(Guard::Open),
-        Guard::Frozen => Ok(Guard::Frozen),
-        Guard::Keys(keys) => {
-            let copy = keys_shared(alloc, keys.get().as_slice())?;
-            Ok(Guard::Keys(Boxed::new(alloc, copy)?))
-        }
-        Guard::Mapped => Ok(Guard::Mapped),
     }
 }

@@ -17,5 +17,8 @@ mod searching;
 mod sources;
 mod whole;
 
+pub use bulk::{Bulk, Choice, SiftErr, choice_of};
+pub use holding::{entry_in, value_in};
 pub use laws::members_keep_fit;
 pub use member::call;
+pub use sources::{Source, source_at};

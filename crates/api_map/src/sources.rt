@@ -2,13 +2,15 @@
 ghost use Rattle.std.specs.Prelude.{◌≡◌, ◌≤◌, IfNone, IfSome, IfOk, OnOk, Some, length, slice_get};
 ghost use Rattle.std.specs.Option.{option_copied};
 ghost use Rattle.object_heap.specs.Parts.{pairs_of};
-ghost use Rattle.object_values.specs.Pairs.{with_pair};
+ghost use Rattle.object_values.specs.Pairs.{with_pair, with_pairs};
 ghost use Rattle.object_values.specs.declared.value.Value.TheVariants as v;
 ghost use Rattle.api_map.specs.declared.sources.Source.TheVariants as source_is;
 ghost use Rattle.api_map.specs.Sources as spec;
 
 use crate::searching::pair_at;
-use member_arguments::{object_at, value_at};
+use container_parts::Container;
+use container_values::{value_at, value_count};
+use member_arguments::object_at;
 use object_heap::Heap;
 use object_values::{Object, Pairs, Part, Value};
 use std::alloc::{AllocError, Global};
@@ -52,44 +54,13 @@ pub fn source_at(heap: &Heap, args: &[Value], at: usize) -> Option<Source>
     }
 }
 
-fn count_of(heap: &Heap, id: u32) -> usize
-    ensures { result ≡ length (pairs_of heap.now.objects id) }
-{
-    match heap.pairs(id) {
-        Some(pairs) => pairs.len(),
-        None => 0,
-    }
-}
-
-#[tactic(auto, using(crate::proofs::Copying::length_keys, crate::proofs::Copying::length_values))]
-fn count_shown(heap: &Heap, id: u32, part: Part) -> usize
-    ensures { result ≡ length (spec.shown_values part (pairs_of heap.now.objects id)) }
-{
-    match part {
-        Part::Keys => count_of(heap, id),
-        Part::Values => count_of(heap, id),
-        Part::Entries => 0,
-    }
-}
-
 /// How many elements there are, without entries.
 pub fn count(heap: &Heap, source: Source) -> usize
     ensures { result ≡ length (spec.elements heap.now.objects source) }
 {
     match source {
         Source::Items(id) => heap.items(id).len(),
-        Source::Pairs(id, part) => count_shown(heap, id, part),
-    }
-}
-
-#[tactic(auto, using(crate::proofs::Copying::shown_key, crate::proofs::Copying::shown_value))]
-fn shown_at(heap: &Heap, id: u32, part: Part, at: usize) -> Option<&Value>
-    ensures { option_copied result ≡ slice_get (spec.shown_values part (pairs_of heap.now.objects id)) at }
-{
-    match part {
-        Part::Keys => heap.key_at(id, at),
-        Part::Values => heap.value_at(id, at),
-        Part::Entries => None,
+        Source::Pairs(id, part) => value_count(heap, Container::Shown(id, part)),
     }
 }
 
@@ -98,8 +69,8 @@ pub fn element_at(heap: &Heap, source: Source, at: usize) -> Option<&Value>
     ensures { option_copied result ≡ slice_get (spec.elements heap.now.objects source) at }
 {
     match source {
-        Source::Items(id) => value_at(heap.items(id), at),
-        Source::Pairs(id, part) => shown_at(heap, id, part, at),
+        Source::Items(id) => heap.items(id).get(at),
+        Source::Pairs(id, part) => value_at(heap, Container::Shown(id, part), at),
     }
 }
 
@@ -195,7 +166,7 @@ pub fn put_pair(into: &mut Pairs, key: &Value, value: &Value) -> Result<(), Allo
 
 /// Puts all pairs.
 pub fn put_pairs(from: &Pairs, into: &mut Pairs) -> Result<(), AllocError>
-    ensures { OnOk result (into.new ≡ spec.with_pairs into.old from.now) }
+    ensures { OnOk result (into.new ≡ with_pairs into.old from.now) }
 {
     for at in 0..from.len() {
         let Some((key, value)) = pair_at(from, at) else {

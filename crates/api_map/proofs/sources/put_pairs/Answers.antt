@@ -1,6 +1,6 @@
 use Rattle.std.proofs.Common.{List, ◌+◌, ◌∙◌, ap, drop, sym}
 use Rattle.object_values.specs.declared.value.Value.{Value}
-use Rattle.api_map.specs.Sources.{with_pairs}
+use Rattle.object_values.specs.Pairs.{with_pairs}
 use Rattle.api_map.proofs.Copying.{pair_step}
 use Rattle.api_map.proofs.sources.put_pairs.Goals as goal
 

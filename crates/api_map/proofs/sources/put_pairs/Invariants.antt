@@ -1,5 +1,5 @@
 use Rattle.std.proofs.Common.{◌≡◌, drop}
-use Rattle.api_map.specs.Sources as spec
+use Rattle.object_values.specs.Pairs as spec
 use Rattle.api_map.proofs.sources.put_pairs.Given as goal
 
 -- with those that are left it comes to what it comes to with all
