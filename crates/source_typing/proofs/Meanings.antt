@@ -36,7 +36,7 @@ use Rattle.typed_tree.specs.declared.operation.Gives.{Gives as Given_by}
 use Rattle.number_ops.specs.Operators.{is_null}
 use Rattle.number_ops.specs.Relations.{is_instance, thrown}
 use Rattle.number_ops.proofs.KindsOf.{kind_passes}
-use Rattle.member_calls.specs.Laws.{StillThere}
+use Rattle.container_calls.specs.Laws.{StillThere}
 use Rattle.member_calls.specs.Members.{is_built, does}
 use Rattle.run_state.specs.World.{World, Limits, Outcome, Given, Raised, Full, acts_in, Counted, Counts, Passes, allowed_in, has_loop_limit, take_turn, enter, pay_member}
 use Rattle.run_fit.specs.Worlds.{WorldFits, count_in, OutcomeFits}

@@ -16,7 +16,7 @@ use Rattle.typed_tree.specs.declared.operation.Constant.{Constant}
 use Rattle.typed_tree.specs.declared.operation.Constant.TheVariants as constant
 use Rattle.typed_tree.specs.declared.operation.Gives.{Gives as Given_by}
 use Rattle.typed_tree.specs.declared.operation.Gives.TheVariants as gives
-use Rattle.member_calls.specs.Laws.{StillThere}
+use Rattle.container_calls.specs.Laws.{StillThere}
 use Rattle.run_fit.proofs.Leaving.{there_count}
 use Rattle.run_fit.proofs.Values.{value_grows}
 use Rattle.source_meaning.specs.Tree.{Name, Variable}
