@@ -1,5 +1,5 @@
 -- Calls of members that rules give agree, where their parts do.
-use Rattle.std.proofs.Common.{◌≡◌, ℕ, suc, ◌+◌, Bool, true, false, ◌&&◌, List, [], ◌∷◌, ◌++◌, map, length, Option, Some, None, Ok, refl, sym, ap, ◌∙◌, subst, arith, eqb-true, ◌⊎◌, inl, inr, codes}
+use Rattle.std.proofs.Common.{◌≡◌, ℕ, suc, ◌+◌, Bool, true, false, not, ◌&&◌, List, [], ◌∷◌, ◌++◌, map, length, Option, Some, None, Ok, refl, sym, ap, ◌∙◌, subst, arith, eqb-true, ◌⊎◌, inl, inr, codes}
 use Rattle.std.specs.Prelude.{slice_get, ◌==◌, if◌then◌else◌}
 use Rattle.std.specs.List.{list_all}
 use Rattle.std.specs.Str.{bytes_eq}
@@ -9,6 +9,7 @@ use Rattle.pl_types.specs.declared.conversion.Cast.TheVariants as cast
 use Rattle.pl_types.specs.declared.ty.Ty.{Ty, out-Ty}
 use Rattle.pl_types.specs.declared.ty.Ty.TheVariants as ty
 use Rattle.pl_types.specs.declared.ty.Ty.TheOpen.{Ty-F}
+use Rattle.pl_types.specs.declared.rules.TheConstants.{OUT_OF_PROFILE}
 use Rattle.pl_types.specs.Classes.{class_is_below}
 use Rattle.pl_types.proofs.Shapes.{class_up}
 use Rattle.pl_tree.specs.declared.operator.Access.{Access}
@@ -20,8 +21,10 @@ use Rattle.allowlist.specs.Allow.{AllowList, flag, is_called, has_name, first_me
 use Rattle.allowlist.specs.Catalogue.{catalogue, constructor}
 use Rattle.allowlist.specs.Index.{member_at}
 use Rattle.allowlist.proofs.Unique.{found_is_allowed, found_above}
+use Rattle.container_calls.specs.Members.{container_ranges}
+use Rattle.container_calls.proofs.Owners.{holds_of_all, holds_at, if_then, then_holds}
 use Rattle.member_calls.specs.Members.{is_built}
-use Rattle.member_calls.proofs.Owners.{built_owners}
+use Rattle.member_calls.proofs.Built.{built_range, of_built}
 use Rattle.typed_tree.specs.declared.operation.Operation.{Operation}
 use Rattle.typed_tree.specs.declared.operation.Operation.TheVariants as o
 use Rattle.typed_tree.specs.declared.typed.Typed.{Typed}
@@ -33,13 +36,13 @@ use Rattle.typing_rules.specs.Rules.Nodes.{applied, part, type_of_part}
 use Rattle.typing_rules.specs.Rules.Types.{is_built_class}
 use Rattle.typing_rules.specs.Rules.Casts.{cast_to}
 use Rattle.typing_rules.specs.Rules.Operators.{primitive_layer, primitive_of, is_primitive}
-use Rattle.typing_rules.specs.Rules.Members.{is_open_layer, is_open, is_open_member, is_kind, wanted, member, cast_all, member_arguments, guards, gives_primitive, nullable, result, instance_node, instance_call, called_layer, method_of, static_node, static_call, static_layer, static_of, constructed, new_layer, new_of, or_else, capital, getter, plainly, read_layer, read_of, field_node, field_layer, field_of}
+use Rattle.typing_rules.specs.Rules.Members.{is_open_layer, is_open, is_waiting, is_open_member, is_open_at, is_kind, wanted, member, cast_all, member_arguments, guards, gives_primitive, nullable, result, instance_node, instance_call, called_layer, method_of, static_node, static_call, static_layer, static_of, constructed, new_layer, new_of, or_else, capital, getter, plainly, is_map, read_named, read_layer, read_of, field_node, field_layer, field_of}
 use Rattle.source_meaning.specs.Tree.{type_of}
 use Rattle.source_meaning.specs.Programs.{exprs_of, expr_of}
 use Rattle.program_typing.specs.Types.{IsReference, IsGiven}
 use Rattle.program_typing.specs.Agreeing.{Known as Script, Scope, types_of, TakesTypes, Applies, is_primitive_layer, is_primitive as gives_number, ReceiverIsOf, MemberAgrees, ExprsAgree}
 use Rattle.typing_soundness.proofs.Nodes.{applied_is, guarded_is}
-use Rattle.typing_soundness.proofs.Types.{class_by, part_layer, IsOfPart, part_aim, reference_by, members_built}
+use Rattle.typing_soundness.proofs.Types.{class_by, part_layer, IsOfPart, part_aim, reference_by}
 use Rattle.typing_soundness.proofs.Parts.{passed, accepted, settled, PartIs, node_is, part_of, cast_is}
 use Rattle.typing_soundness.proofs.Names.{AllParts}
 
@@ -56,20 +59,21 @@ open_part of e = record { layer = by_layer (out-Ty of) e }
     by_layer (Ty-F.Class c) e = e
     by_layer (Ty-F.Array u) e = cc
 
--- what is open in a member
-record Opens (m : MemberType) : Type 0 where
-  owner : is_built_class m.owner ≡ true
-  params : list_all is_open m.params ≡ true
-  result : IsOfPart m.result
+-- what is open in the member of a number
+record Opens (number : ℕ) : Type 0 where
+  is : is_open_at number ≡ true
+  params : list_all is_open (member_at number).params ≡ true
+  result : IsOfPart (member_at number).result
 
-opens : (m : MemberType) → is_open_member m ≡ true → Opens m
-opens m e =
-    let first = and_parts (is_built_class m.owner) (list_all is_open m.params && is_open m.result) e in
-    let second = and_parts (list_all is_open m.params) (is_open m.result) first.1 in
+opens : (number : ℕ) → is_open_at number ≡ true → Opens number
+opens number e =
+    let member = and_parts (not (is_waiting number)) (is_open_member (member_at number)) e in
+    let first = and_parts (is_built_class (member_at number).owner) (list_all is_open (member_at number).params && is_open (member_at number).result) member.1 in
+    let second = and_parts (list_all is_open (member_at number).params) (is_open (member_at number).result) first.1 in
     record {
-      owner = first.0;
+      is = e;
       params = second.0;
-      result = open_part m.result second.1;
+      result = open_part (member_at number).result second.1;
     }
 
 -- ---- the member that is wanted
@@ -85,7 +89,7 @@ kind_is a b e = cc
 record Wants (sort : MemberKind) (found : Option ℕ) (number : ℕ) : Type 0 where
   is : found ≡ Some number
   kind : (member_at number).kind ≡ sort
-  opens : Opens (member_at number)
+  opens : Opens number
 
 record BothHold (c d : Bool) (m n : ℕ) : Type 0 where
   first : c ≡ true
@@ -100,8 +104,8 @@ both_hold false d a b at m n e = cc
 wants : (sort : MemberKind) (at : ℕ) (found : Option ℕ) (number : ℕ) → wanted sort at found ≡ Ok number → Wants sort found number
 wants sort at None number e = cc
 wants sort at (Some m) number e =
-    let h = both_hold (is_kind sort (member_at m).kind) (is_open_member (member_at m)) _ _ at m number e in
-    subst (Wants sort (Some m)) h.same (record { is = refl; kind = kind_is sort (member_at m).kind h.first; opens = opens (member_at m) h.second })
+    let h = both_hold (is_kind sort (member_at m).kind) (is_open_at m) _ _ at m number e in
+    subst (Wants sort (Some m)) h.same (record { is = refl; kind = kind_is sort (member_at m).kind h.first; opens = opens m h.second })
 
 -- ---- the member that is found
 
@@ -110,9 +114,16 @@ record Allowed (allow : AllowList) (arity number : ℕ) : Type 0 where
   is : slice_get catalogue number ≡ Some (member_at number)
   takes : length (member_at number).params ≡ arity
 
--- a member that is open is built
-open_built : (number : ℕ) → slice_get catalogue number ≡ Some (member_at number) → Opens (member_at number) → is_built number ≡ true
-open_built number is x = built_owners number (member_at number) is ∙ members_built (member_at number).owner x.owner
+-- a member that is open is built: each row of the catalogue is tested
+abbrev open_and_built : ℕ → MemberType → Bool
+open_and_built n m = if_then (not (is_waiting n) && is_open_member m) (built_range n)
+
+all_built : holds_of_all open_and_built ≡ true
+unfolding catalogue container_ranges out-Ty denote.Hole.Carrier.out
+all_built = refl
+
+open_built : (number : ℕ) → slice_get catalogue number ≡ Some (member_at number) → Opens number → is_built number ≡ true
+open_built number is x = of_built number ∙ then_holds (is_open_at number) (built_range number) (holds_at open_and_built number (member_at number) all_built is) x.is
 
 allowed_by : (allow : AllowList) (arity number : ℕ) (m : MemberType) → flag allow.members number ≡ true → slice_get catalogue number ≡ Some m
     → length m.params ≡ arity
@@ -245,7 +256,7 @@ module _ (funs : Script) (g : Scope) where
   record Callable (sort : MemberKind) (arity number : ℕ) : Type 0 where
     kind : (member_at number).kind ≡ sort
     built : is_built number ≡ true
-    opens : Opens (member_at number)
+    opens : Opens number
     found : Allowed funs.allowed arity number
 
   callable : (sort : MemberKind) (at arity : ℕ) (found : Option ℕ) (number : ℕ) → wanted sort at found ≡ Ok number
@@ -321,16 +332,28 @@ module _ (funs : Script) (g : Scope) where
   method_part access at name x y xs e hx h = method_by (out-Ty (type_of_part x)) access at name x y xs refl e hx h
 
   -- a name of a value
-  read_by : (l : Ty-F Ty) (access : Access) (at : ℕ) (name : List ℕ) (x y : Part) → out-Ty (type_of_part x) ≡ l
-      → read_layer funs.allowed l access at name x ≡ Ok y
+  named_read : (c : ℕ) (access : Access) (at : ℕ) (name : List ℕ) (x y : Part) → out-Ty (type_of_part x) ≡ Ty-F.Class c
+      → read_named funs.allowed access at name c x ≡ Ok y
       → PartIs funs g x → PartIs funs g y
-  read_by (Ty-F.Class c) access at name x y is e hx =
+  named_read c access at name x y is e hx =
       let a = passed (wanted kind.Instance at (getter funs.allowed c name)) (λ number. bind (instance_call access at number x []) (λ y. accepted (plainly y))) y e in
       let b = passed (instance_call access at a.given x []) (λ y. accepted (plainly y)) y a.then' in
       let found = (wants kind.Instance at (getter funs.allowed c name) a.given a.first).is in
       let called = instance_is access at c a.given x b.given [] (callable kind.Instance at 0 _ a.given a.first (getter_allowed funs.allowed c name a.given)) is
       (getter_receives funs.allowed c name a.given found) b.first hx tt in
       settled (PartIs funs g) (plainly b.given) y b.then' (record { typed = called.typed; built = called.built })
+
+  -- a name of a map is no getter
+  class_read : (keys : Bool) (c : ℕ) (access : Access) (at : ℕ) (name : List ℕ) (x y : Part) → out-Ty (type_of_part x) ≡ Ty-F.Class c
+      → (if keys then refuse OUT_OF_PROFILE at else read_named funs.allowed access at name c x) ≡ Ok y
+      → PartIs funs g x → PartIs funs g y
+  class_read true c access at name x y is e hx = cc
+  class_read false c access at name x y is e hx = named_read c access at name x y is e hx
+
+  read_by : (l : Ty-F Ty) (access : Access) (at : ℕ) (name : List ℕ) (x y : Part) → out-Ty (type_of_part x) ≡ l
+      → read_layer funs.allowed l access at name x ≡ Ok y
+      → PartIs funs g x → PartIs funs g y
+  read_by (Ty-F.Class c) access at name x y is e hx = class_read (is_map c) c access at name x y is e hx
   read_by Ty-F.Def access at name x y is e hx = cc
   read_by Ty-F.Void access at name x y is e hx = cc
   read_by Ty-F.Null access at name x y is e hx = cc
@@ -341,7 +364,7 @@ module _ (funs : Script) (g : Scope) where
   read_part access at name x y e hx = read_by (out-Ty (type_of_part x)) access at name x y refl e hx
 
   -- a call on a class, `new` and a field
-  applied_part : (form : Form) (operation : Operation) (at number : ℕ) (ys : List Typed) → Opens (member_at number)
+  applied_part : (form : Form) (operation : Operation) (at number : ℕ) (ys : List Typed) → Opens number
       → Given (member_at number).params ys
       → Applies funs operation (types_of (exprs_of (map expr_of ys))) (result number)
       → PartIs funs g (part at form (applied at (result number) operation ys))

@@ -2,13 +2,12 @@
 use Rattle.std.proofs.Common.{◌≡◌, ℕ, Bool, true, ◌&&◌, refl, sym, ap, ◌∙◌, subst, arith, nat_lt, ◌⊎◌, inl, inr}
 use Rattle.std.specs.Prelude.{nat_le}
 use Rattle.std.proofs.lemmas.Bool.{and_parts, or_cases, leb-true, lt-ltb}
-use Rattle.pl_types.specs.declared.classes.TheConstants.{STRING_BUILDER, EXCEPTION, STRING_INDEX_OUT_OF_BOUNDS_EXCEPTION, PRELUDE}
+use Rattle.pl_types.specs.declared.classes.TheConstants.{COLLECTIONS, EXCEPTION, SCRIPT_DOC_VALUES, PRELUDE}
 use Rattle.pl_types.specs.declared.primitive.Primitive.{Primitive}
 use Rattle.pl_types.specs.declared.ty.Ty.{Ty, out-Ty, roll-Ty, roll-out-Ty}
 use Rattle.pl_types.specs.declared.ty.Ty.TheVariants as t
 use Rattle.pl_types.specs.declared.ty.Ty.TheOpen.{Ty-F}
 use Rattle.pl_types.specs.declared.ty.Ty.TheFolds.{fold-roll-Ty, map-Ty}
-use Rattle.member_calls.specs.Laws.{is_built_class as has_members}
 use Rattle.typing_rules.specs.Rules.Types.{is_built_class, is_built_layer, is_built}
 use Rattle.program_typing.specs.Types.{is_reference_layer, IsReference, has_values_layer, HasValues, listed_layer, is_listed, IsNamed}
 use Rattle.typing_soundness.specs.Laws.{may_be_result, MayBeResult}
@@ -17,17 +16,13 @@ use Rattle.typing_soundness.specs.Laws.{may_be_result, MayBeResult}
 
 -- scripts may have them
 built_listed : (c : ℕ) → is_built_class c ≡ true → nat_lt c PRELUDE ≡ true
-built_listed c e = pick (or_cases (nat_le c STRING_BUILDER) _ e)
+built_listed c e = pick (or_cases (nat_le c COLLECTIONS) _ e)
   where
-    pick : (nat_le c STRING_BUILDER ≡ true) ⊎ ((nat_le EXCEPTION c && nat_le c STRING_INDEX_OUT_OF_BOUNDS_EXCEPTION) ≡ true) → nat_lt c PRELUDE ≡ true
-    pick (inl low) = let most = leb-true c STRING_BUILDER low in lt-ltb c PRELUDE (omega (arith, most))
+    pick : (nat_le c COLLECTIONS ≡ true) ⊎ ((nat_le EXCEPTION c && nat_le c SCRIPT_DOC_VALUES) ≡ true) → nat_lt c PRELUDE ≡ true
+    pick (inl low) = let most = leb-true c COLLECTIONS low in lt-ltb c PRELUDE (omega (arith, most))
     pick (inr high) =
-        let most = leb-true c STRING_INDEX_OUT_OF_BOUNDS_EXCEPTION (and_parts (nat_le EXCEPTION c) (nat_le c STRING_INDEX_OUT_OF_BOUNDS_EXCEPTION) high).1 in
+        let most = leb-true c SCRIPT_DOC_VALUES (and_parts (nat_le EXCEPTION c) (nat_le c SCRIPT_DOC_VALUES) high).1 in
         lt-ltb c PRELUDE (omega (arith, most))
-
--- the members of a class that is built are built
-pub members_built : (c : ℕ) → is_built_class c ≡ true → has_members c ≡ true
-members_built c e = e
 
 -- ---- types by their layers
 

@@ -1,8 +1,9 @@
 -- Members: which one a name means, and its call.
-use Rattle.std.specs.Prelude.{ℕ, ◌-◌, ◌&&◌, nat_le, Bool, true, false, List, [], ◌∷◌, ◌++◌, codes, length, Option, Some, None, Ok, if◌then◌else◌}
+use Rattle.std.specs.Prelude.{ℕ, ◌-◌, ◌==◌, ◌&&◌, ◌||◌, nat_le, not, Bool, true, false, List, [], ◌∷◌, ◌++◌, codes, length, Option, Some, None, Ok, if◌then◌else◌}
 use Rattle.std.specs.List.{list_all}
 use Rattle.pl_types.specs.declared.ty.Ty.{Ty, out-Ty}
 use Rattle.pl_types.specs.declared.ty.Ty.TheOpen.{Ty-F}
+use Rattle.pl_types.specs.declared.classes.TheConstants.{MAP, LINKED_HASH_MAP}
 use Rattle.pl_types.specs.declared.rules.TheConstants.{UNKNOWN_MEMBER, BAD_NULLABLE, OUT_OF_PROFILE}
 use Rattle.pl_tree.specs.declared.operator.Access.{Access}
 use Rattle.pl_tree.specs.declared.operator.Access.TheVariants as access
@@ -34,9 +35,17 @@ is_open_layer layer = is_built_layer layer
 abbrev pub is_open : Ty → Bool
 is_open of = is_open_layer (out-Ty of)
 
--- Built are the members of the classes that are built, but for those that name another class or an array.
+-- the members of Collection that lists do not have yet: containsAll, removeAll and retainAll
+abbrev pub is_waiting : ℕ → Bool
+is_waiting number = number == 101 || (number == 104 || number == 105)
+
+-- Built are the members of the classes that are built, but for those that name another class or an array, and those that wait. (The
+-- members that the prelude has take functions.)
 abbrev pub is_open_member : MemberType → Bool
 is_open_member m = is_built_class m.owner && (list_all is_open m.params && is_open m.result)
+
+abbrev pub is_open_at : ℕ → Bool
+is_open_at number = not (is_waiting number) && is_open_member (member_at number)
 
 -- a member of the kind that is wanted
 abbrev pub is_kind : MemberKind → MemberKind → Bool
@@ -49,7 +58,7 @@ is_kind _ _ = false
 abbrev pub wanted_as : MemberKind → ℕ → ℕ → Out ℕ
 wanted_as kind at number =
     if is_kind kind (member_at number).kind
-    then (if is_open_member (member_at number) then Ok number else refuse OUT_OF_PROFILE at)
+    then (if is_open_at number then Ok number else refuse OUT_OF_PROFILE at)
     else refuse UNKNOWN_MEMBER at
 
 -- what is found counts where it is of the kind that is wanted; a member that is farther above is not looked at
@@ -159,8 +168,15 @@ abbrev pub read_named : AllowList → Access → ℕ → List ℕ → ℕ → Pa
 read_named allow access at name class x =
     bind (wanted kind.Instance at (getter allow class name)) (λ number. bind (instance_call access at number x []) (λ y. Ok (plainly y)))
 
+-- a name of a map is a key of it, which is not built
+abbrev pub is_map : ℕ → Bool
+is_map c = nat_le MAP c && nat_le c LINKED_HASH_MAP
+
+abbrev pub read_of_class : AllowList → ℕ → Access → ℕ → List ℕ → Part → Out Part
+read_of_class allow c access at name x = if is_map c then refuse OUT_OF_PROFILE at else read_named allow access at name c x
+
 abbrev pub read_layer : AllowList → Ty-F Ty → Access → ℕ → List ℕ → Part → Out Part
-read_layer allow (Ty-F.Class c) access at name x = read_named allow access at name c x
+read_layer allow (Ty-F.Class c) access at name x = read_of_class allow c access at name x
 read_layer allow Ty-F.Def access at name x = refuse OUT_OF_PROFILE at
 read_layer allow _ access at name x = refuse UNKNOWN_MEMBER at
 

@@ -1,7 +1,7 @@
--- Types as they are written. Built are the primitive types, def, and the classes from Object to StringBuilder, the boxes among them, and
--- those of exceptions.
+-- Types as they are written. Built are the primitive types, def, and the classes but those of functions: those from Object to
+-- Collections, the boxes and the containers among them, those of exceptions, and ScriptDocValues.
 use Rattle.std.specs.Prelude.{ℕ, nat_le, nat_lt, Bool, true, false, ◌&&◌, ◌||◌, List, [], ◌∷◌, codes, bytes_eq, if◌then◌else◌, Ok}
-use Rattle.pl_types.specs.declared.classes.TheConstants.{STRING_BUILDER, EXCEPTION, STRING_INDEX_OUT_OF_BOUNDS_EXCEPTION, PRELUDE}
+use Rattle.pl_types.specs.declared.classes.TheConstants.{COLLECTIONS, EXCEPTION, SCRIPT_DOC_VALUES, PRELUDE}
 use Rattle.pl_types.specs.declared.ty.Ty.{Ty, out-Ty}
 use Rattle.pl_types.specs.declared.ty.Ty.TheOpen.{Ty-F}
 use Rattle.pl_types.specs.declared.ty.Ty.TheVariants as t
@@ -11,9 +11,9 @@ use Rattle.pl_tree.specs.declared.tree.TypeBase.{TypeBase}
 use Rattle.pl_tree.specs.declared.tree.TypeBase.TheVariants as b
 use Rattle.typing_rules.specs.Outcomes.{Out, refuse, bind}
 
--- the classes that are built: those up to StringBuilder, and those of exceptions
+-- the classes that are built: those up to Collections, and those from Exception to ScriptDocValues
 abbrev pub is_built_class : ℕ → Bool
-is_built_class c = nat_le c STRING_BUILDER || (nat_le EXCEPTION c && nat_le c STRING_INDEX_OUT_OF_BOUNDS_EXCEPTION)
+is_built_class c = nat_le c COLLECTIONS || (nat_le EXCEPTION c && nat_le c SCRIPT_DOC_VALUES)
 
 abbrev pub is_built_layer : Ty-F Ty → Bool
 is_built_layer (Ty-F.Prim p) = true

@@ -68,11 +68,26 @@ fn all_open(types: &[Ty]) -> bool
     types.iter().all(|of| is_open(of))
 }
 
+/// Whether a member is one of those of Collection that lists do not have yet: containsAll, removeAll and retainAll.
+fn is_waiting(number: u32) -> bool
+    ensures { result ≡ spec.is_waiting number }
+{
+    number == 101 || (number == 104 || number == 105)
+}
+
 /// Whether all types that a member names are built.
 fn is_open_member(member: &MemberType) -> bool
     ensures { result ≡ spec.is_open_member member.now }
 {
     is_built_class(member.owner) && (all_open(member.params.as_slice()) && is_open(&member.result))
+}
+
+/// Whether the member of a number is built.
+fn is_open_at(allow: &Allow, number: u32) -> bool
+    requires { number < length allow.now.members }
+    ensures { result ≡ spec.is_open_at number }
+{
+    !is_waiting(number) && is_open_member(member_at(allow, number))
 }
 
 fn is_kind(wanted: MemberKind, kind: MemberKind) -> bool
@@ -96,7 +111,7 @@ fn wanted_as(allow: &Allow, kind: MemberKind, at: u32, number: u32) -> Result<u3
     if !is_kind(kind, member.kind) {
         return Err(refuse(rules::UNKNOWN_MEMBER, at));
     }
-    if !is_open_member(member) {
+    if !is_open_at(allow, number) {
         return Err(refuse(rules::OUT_OF_PROFILE, at));
     }
     Ok(number)

@@ -16,7 +16,7 @@ use crate::rules::references::is_primitive;
 use allowlist::{Allow, MemberKind};
 use member_names::member_text;
 use pl_tree::Access;
-use pl_types::{Fail, Ty, rules};
+use pl_types::{Fail, Ty, classes, rules};
 use plain_data::{Items, Subtree, Text};
 use std::alloc::{AllocError, Global};
 use typed_tree::{Member, Node, Operation, Typed};
@@ -313,10 +313,34 @@ fn read_named(
     Ok(plainly(y))
 }
 
+/// Whether a class is one of maps, whose names are keys.
+fn is_map(class: u32) -> bool
+    ensures { result ≡ spec.is_map class }
+{
+    classes::MAP <= class && class <= classes::LINKED_HASH_MAP
+}
+
+fn read_of_class(
+    alloc: Global,
+    allow: &Allow,
+    access: Access,
+    at: u32,
+    name: &Text,
+    class: u32,
+    x: Part,
+) -> Result<Part, Fail>
+    ensures { Keeps (spec.read_of_class allow.now class access at name.now x) result }
+{
+    if is_map(class) {
+        return Err(refuse(rules::OUT_OF_PROFILE, at));
+    }
+    read_named(alloc, allow, access, at, name, class, x)
+}
+
 /// What a name of a value means, at its `.` or `?.`: its getter.
 ///
 /// UnknownMember (7): the value's type has no such getter. BadNullable (17): `?.` before what gives a primitive. OutOfProfile (19):
-/// the getter is not built, or the value is a def.
+/// the getter is not built, or the value is a map or a def.
 pub fn read_of(
     alloc: Global,
     allow: &Allow,
@@ -332,7 +356,7 @@ pub fn read_of(
         Ty::Def => return Err(refuse(rules::OUT_OF_PROFILE, at)),
         _ => return Err(refuse(rules::UNKNOWN_MEMBER, at)),
     };
-    read_named(alloc, allow, access, at, name, class, x)
+    read_of_class(alloc, allow, access, at, name, class, x)
 }
 
 fn field_node(

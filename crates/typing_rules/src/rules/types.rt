@@ -8,12 +8,13 @@ use crate::refuse::refuse;
 use pl_tree::{TypeBase, TypeName};
 use pl_types::{Fail, Ty, classes, rules};
 
-/// Whether a class is built: those from Object to StringBuilder, the boxes among them, and those of exceptions.
+/// Whether a class is built: those from Object to Collections, the boxes and the containers among them, those of exceptions, and
+/// ScriptDocValues.
 pub(crate) fn is_built_class(class: u32) -> bool
     ensures { result ≡ spec.is_built_class class }
 {
-    class <= classes::STRING_BUILDER
-        || (classes::EXCEPTION <= class && class <= classes::STRING_INDEX_OUT_OF_BOUNDS_EXCEPTION)
+    class <= classes::COLLECTIONS
+        || (classes::EXCEPTION <= class && class <= classes::SCRIPT_DOC_VALUES)
 }
 
 /// Whether variables of a type are built.
