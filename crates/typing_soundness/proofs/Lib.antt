@@ -12,3 +12,4 @@ pub mod Steps
 pub mod Compounds
 pub mod Tree
 pub mod Functions
+pub mod Kept

@@ -1,17 +1,22 @@
 -- What typing gives is well formed, and each of its statements is reached.
 use Rattle.std.specs.Prelude.{◌≡◌, ◌≢◌, ℕ, List, [], ◌∷◌, Ok}
+use Rattle.object_heap.specs.Fits.{Rules}
+use Rattle.run_state.specs.World.{Limits}
 use Rattle.pl_tree.specs.declared.tree.Tree.{Tree}
 use Rattle.typed_tree.specs.declared.program.Named.{Named}
 use Rattle.typed_tree.specs.declared.program.Program.{Program}
 use Rattle.typing_rules.specs.declared.header.ContextTypes.{ContextTypes}
 use Rattle.allowlist.specs.Allow.{AllowList}
 use Rattle.typing_rules.specs.Typing.{typing_of}
+use Rattle.source_meaning.specs.Meaning.{meaning}
 use Rattle.source_meaning.specs.Programs.{program_of}
+use Rattle.source_meaning.specs.Tree as source
 use Rattle.pl_types.specs.declared.ty.Ty.{Ty, out-Ty}
 use Rattle.pl_types.specs.declared.ty.Ty.TheOpen.{Ty-F}
 use Rattle.program_typing.specs.Types.{HasValues, IsNamed}
 use Rattle.program_typing.specs.Agreeing.{known, WellFormed}
 use Rattle.program_typing.specs.Reached.{Reached}
+use Rattle.source_typing.specs.Laws.{MeaningTyped}
 
 -- the names are distinct
 abbrev pub IsNew : List ℕ → List Named → Type 0
@@ -47,3 +52,14 @@ TypingIsSound =
 
 abbrev pub TypingReaches : Type 0
 TypingReaches = (allow : AllowList) (context : ContextTypes) (tree : Tree) (p : Program) → IsContext context → typing_of allow context tree ≡ Ok p → Reached (program_of p)
+
+-- a program that typing gives, beside one of the prelude's text
+abbrev pub beside : Program → source.Program → source.Programs
+beside p prelude = record { script = program_of p; prelude = prelude }
+
+-- In a program that typing gives, beside a well-formed prelude, each value is of its type, at every bound.
+abbrev pub TypingKeepsTypes : Type 0
+TypingKeepsTypes =
+    (allow : AllowList) (context : ContextTypes) (tree : Tree) (p : Program) → IsContext context → typing_of allow context tree ≡ Ok p
+    → (prelude : source.Program) (limits : Limits) → limits.allowed ≡ allow → WellFormed (known limits.prelude_allowed prelude) → (rules : Rules) (bound : ℕ)
+    → MeaningTyped rules (beside p prelude) limits (meaning (beside p prelude) limits bound)

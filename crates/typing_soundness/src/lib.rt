@@ -3,4 +3,4 @@
 
 mod laws;
 
-pub use laws::typed_programs_are_well_formed;
+pub use laws::{typed_programs_are_well_formed, typed_programs_keep_types};
