@@ -30,12 +30,13 @@ use Rattle.pl_code.specs.declared.kinds.Slot.{Slot}
 use Rattle.pl_code.specs.declared.code.FunCode.{FunCode}
 use Rattle.pl_code.specs.declared.code.Instruction.{Instruction}
 use Rattle.pl_code.specs.declared.code.Instruction.TheVariants as i
+use Rattle.run_state.specs.Calls.{suits_member, wrong_class}
 use Rattle.run_state.specs.World.{World, Limits, Outcome, Given, Raised, Full, acts_in, Counted, Counts, Passes, Ticks, Loop, Depth, allowed_in, pay_tick, take_turn, goes_deeper, enter, reach, reaches, pay_member}
 use Rattle.code_meaning.specs.declared.word.Word.{Word}
 use Rattle.code_meaning.specs.declared.word.Word.TheVariants.{I, J, R}
 use Rattle.code_meaning.specs.Members.{Receiving, Unfit, OnNull, Receives, Reads, count_of, given_as, received}
 use Rattle.code_meaning.specs.Words.{Calculation, NoRow, Calculates, boxed, calculation, unboxed}
-use Rattle.code_meaning.specs.Machine.{Codes, code_in, function_of, Frame, Config, Next, Goes, Ends, Stuck, Handlers, is_instance, lands, traps_of, unwind, on_top, on_int, on_reference, on_value, on_local, on_stack, on_words, to_line, take_words, copied, depth_of, is_written, on_outcome, on_thrown, on_calculation, gives_back, returns, returns_of, on_turn, on_enter, on_call, on_act, on_paid, on_received, plain_act, numbered_act, quoted_act, typed_act, member_act, act, acts, lines_of, step}
+use Rattle.code_meaning.specs.Machine.{Codes, code_in, function_of, Frame, Config, Next, Goes, Ends, Stuck, Handlers, is_instance, lands, traps_of, unwind, on_top, on_int, on_reference, on_value, on_local, on_stack, on_words, to_line, take_words, copied, depth_of, is_written, on_outcome, on_thrown, on_calculation, gives_back, returns, returns_of, on_turn, on_enter, on_call, on_act, on_paid, on_tested, on_received, plain_act, numbered_act, quoted_act, typed_act, member_act, act, acts, lines_of, step}
 use Rattle.code_fit.proofs.Nexts.{int_holds, long_holds, type_holds, loops_hold, either_holds, null_holds}
 use Rattle.machine.specs.Runs.{TurnsFit, CountsFit}
 
@@ -189,11 +190,16 @@ module _ (codes : Codes) (limits : Limits) where
   paid_fits (Counts w') number arguments t f below w stack h p =
       act_fits (does limits.host number arguments w'.store) t f below w' stack (lower w.ticks w'.ticks p (f ∷ below) h)
 
+  tested_fits : (suits : Bool) (number : ℕ) (arguments : List Value) (t : MemberType) (f : Frame) (below : List Frame) (w : World) (stack : List Word) → TurnsFit w.ticks (f ∷ below)
+      → NextFits (on_tested codes limits suits number arguments t f below w stack)
+  tested_fits false number arguments t f below w stack h = effect_fits (effect w.store wrong_class) (given_as t.result) f below w stack h
+  tested_fits true number arguments t f below w stack h = paid_fits (pay_member f.text number w) number arguments t f below w stack h (member_pays f.text number w)
+
   received_fits : (r : Receiving) (number : ℕ) (t : MemberType) (f : Frame) (below : List Frame) (w : World) (stack : List Word) → TurnsFit w.ticks (f ∷ below)
       → NextFits (on_received codes limits r number t f below w stack)
   received_fits Unfit number t f below w stack h = tt
   received_fits OnNull number t f below w stack h = effect_fits (effect w.store null_error) (given_as t.result) f below w stack h
-  received_fits (Receives arguments) number t f below w stack h = paid_fits (pay_member f.text number w) number arguments t f below w stack h (member_pays f.text number w)
+  received_fits (Receives arguments) number t f below w stack h = tested_fits (suits_member w.store.objects t arguments) number arguments t f below w stack h
   received_fits Reads number t f below w stack h = act_fits (does limits.host number [] w.store) t f below w stack h
 
   -- ---- in a frame

@@ -21,6 +21,7 @@ use Rattle.pl_code.specs.declared.kinds.Plain.{Plain}
 use Rattle.pl_code.specs.declared.kinds.Plain.TheVariants as plain
 use Rattle.pl_code.specs.declared.kinds.Numbered.{Numbered}
 use Rattle.pl_code.specs.declared.kinds.Numbered.TheVariants as numbered
+use Rattle.run_state.specs.Calls.{suits_member}
 use Rattle.code_meaning.specs.declared.word.Word.{Word}
 use Rattle.code_meaning.specs.declared.word.Word.TheVariants.{R}
 use Rattle.code_meaning.specs.Words.{Calculation, NoRow, Calculates, calculation}
@@ -81,17 +82,17 @@ abbrev pub OnType : Option Ty → (Ty → Type 0) → Type 0
 OnType None holds = Unit {0}
 OnType (Some of) holds = holds of
 
--- ---- calls of members: the receiver is not null, and what the member gives is there already
+-- ---- calls of members: the receiver is not null, all are of the classes that are asked for, and what the member gives is there already
 
-abbrev pub ReceivingSpares : Receiving → ℕ → List Object → Type 0
-ReceivingSpares Unfit number objects = Unit {0}
-ReceivingSpares OnNull number objects = ⊥
-ReceivingSpares (Receives arguments) number objects = members.NeedsMemory objects number arguments → ⊥
-ReceivingSpares Reads number objects = members.NeedsMemory objects number [] → ⊥
+abbrev pub ReceivingSpares : MemberType → Receiving → ℕ → List Object → Type 0
+ReceivingSpares called Unfit number objects = Unit {0}
+ReceivingSpares called OnNull number objects = ⊥
+ReceivingSpares called (Receives arguments) number objects = (suits_member objects called arguments ≡ true) × (members.NeedsMemory objects number arguments → ⊥)
+ReceivingSpares called Reads number objects = members.NeedsMemory objects number [] → ⊥
 
 abbrev pub CallSpares : Option (List Word × List Word) → MemberType → ℕ → List Object → Type 0
 CallSpares None called number objects = Unit {0}
-CallSpares (Some p) called number objects = ReceivingSpares (received called p.0) number objects
+CallSpares (Some p) called number objects = ReceivingSpares called (received called p.0) number objects
 
 abbrev pub MemberSpares : Option ℕ → List Word → List Object → Type 0
 MemberSpares None stack objects = Unit {0}

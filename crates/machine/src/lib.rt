@@ -24,6 +24,7 @@ mod reserve;
 mod rules;
 mod running;
 mod step;
+mod suiting;
 mod throwing;
 mod typed;
 mod values;

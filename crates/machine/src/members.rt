@@ -6,6 +6,7 @@ ghost use Rattle.machine.specs.Sparing.{CallSpares, MemberSpares, ReceivingSpare
 ghost use Rattle.machine.specs.Links.{link_at, member_in};
 ghost use Rattle.code_meaning.specs.declared.word.Word.{Word};
 ghost use Rattle.number_ops.specs.Outcomes.{effect, null_error};
+ghost use Rattle.run_state.specs.Calls.{suits_member, wrong_class};
 ghost use Rattle.run_state.specs.World.{acts_in, pay_member};
 ghost use Rattle.code_meaning.specs.Members.{Receives, count_of, given_as, received};
 ghost use Rattle.allowlist.specs.Index.{member_at};
@@ -23,12 +24,13 @@ use crate::linked_code::LinkedCode;
 use crate::paying::pay_member;
 use crate::receiving::{Receiving, received};
 use crate::rules::Rules;
+use crate::suiting::suits_member;
 use crate::throwing::answered_as;
 use crate::words::Words;
 use allowlist::{MemberKind, MemberType};
 use code_meaning::Word;
 use object_heap::throw;
-use pl_types::classes::NULL_POINTER_EXCEPTION;
+use pl_types::classes::{CLASS_CAST_EXCEPTION, NULL_POINTER_EXCEPTION};
 use std::alloc::AllocError;
 
 /// What the member does that the instruction names: a method is called, a value made by a constructor, or a field read.
@@ -134,7 +136,7 @@ fn call_with(
 ) -> Step
     requires { number < run.old.world.reached.room }
     ensures exact { (stack : List Word) → Comes (spec.on_received (codes_alone code.now.functions) (limits_in limits.now) (received called.now run.old.words.items) number called.now (with_stack run.old.frames.top stack) run.old.frames.below (world_of run.old.world) run.old.frames.top.stack) result run.new }
-    ensures memory { ReceivingSpares (received called.now run.old.words.items) number run.old.world.heap.objects → length run.old.words.items ≤ run.old.values.room → run.old.frames.count < run.old.frames.words → suc run.old.frames.top.line < 2 ^ 64 → HasMemory result }
+    ensures memory { ReceivingSpares called.now (received called.now run.old.words.items) number run.old.world.heap.objects → length run.old.words.items ≤ run.old.values.room → run.old.frames.count < run.old.frames.words → suc run.old.frames.top.line < 2 ^ 64 → HasMemory result }
     ensures room { room_of run.new ≡ room_of run.old }
 {
     match received(called, &mut run.words, &mut run.values) {
@@ -154,13 +156,13 @@ fn call_on(
 ) -> Step
     requires { number < run.old.world.reached.room }
     ensures exact { (stack : List Word) → Comes (spec.on_received (codes_alone code.now.functions) (limits_in limits.now) (receiving_of receiving run.old.values.items) number called.now (with_stack run.old.frames.top stack) run.old.frames.below (world_of run.old.world) run.old.frames.top.stack) result run.new }
-    ensures memory { ReceivingSpares (receiving_of receiving run.old.values.items) number run.old.world.heap.objects → run.old.frames.count < run.old.frames.words → suc run.old.frames.top.line < 2 ^ 64 → HasMemory result }
+    ensures memory { ReceivingSpares called.now (receiving_of receiving run.old.values.items) number run.old.world.heap.objects → run.old.frames.count < run.old.frames.words → suc run.old.frames.top.line < 2 ^ 64 → HasMemory result }
     ensures room { room_of run.new ≡ room_of run.old }
 {
     match receiving {
         Receiving::Unfit => Step::Stuck,
         Receiving::OnNull => on_null(run, code, limits, called),
-        Receiving::Receives => pay_and_act(run, code, limits, number, called),
+        Receiving::Receives => test_and_pay(run, code, limits, number, called),
         Receiving::Reads => {
             run.values.clear();
             act(run, code, limits, number, called)
@@ -181,6 +183,42 @@ fn on_null(
     ensures room { room_of run.new ≡ room_of run.old }
 {
     let thrown = throw(&mut run.world.heap, NULL_POINTER_EXCEPTION, None);
+    answered_as(run, code, limits, &called.result, thrown)
+}
+
+// A receiver or an argument of another class throws before the call is paid.
+fn test_and_pay(
+    run: &mut Configuration,
+    code: &LinkedCode,
+    limits: &Rules<'_>,
+    number: u32,
+    called: &MemberType,
+) -> Step
+    requires { number < run.old.world.reached.room }
+    ensures exact { (stack : List Word) → Comes (spec.on_tested (codes_alone code.now.functions) (limits_in limits.now) (suits_member run.old.world.heap.objects called.now run.old.values.items) number run.old.values.items called.now (with_stack run.old.frames.top stack) run.old.frames.below (world_of run.old.world) run.old.frames.top.stack) result run.new }
+    ensures memory { suits_member run.old.world.heap.objects called.now run.old.values.items ≡ true → (NeedsMemory run.old.world.heap.objects number run.old.values.items → ⊥) → run.old.frames.count < run.old.frames.words → suc run.old.frames.top.line < 2 ^ 64 → HasMemory result }
+    ensures room { room_of run.new ≡ room_of run.old }
+{
+    if suits_member(&run.world.heap, called, run.values.as_slice()) {
+        pay_and_act(run, code, limits, number, called)
+    } else {
+        on_wrong_class(run, code, limits, called)
+    }
+}
+
+// Throws the exception of a receiver or an argument of another class. It wants memory for the exception alone.
+#[tactic(auto, using(crate::proofs::Spared::only_to_make))]
+fn on_wrong_class(
+    run: &mut Configuration,
+    code: &LinkedCode,
+    limits: &Rules<'_>,
+    called: &MemberType,
+) -> Step
+    ensures exact { (stack : List Word) → Comes (spec.on_outcome (codes_alone code.now.functions) (limits_in limits.now) (acts_in (world_of run.old.world) (effect run.old.world.heap wrong_class)) (given_as called.now.result) (with_stack run.old.frames.top stack) run.old.frames.below (world_of run.old.world) run.old.frames.top.stack) result run.new }
+    ensures memory { run.old.frames.count < run.old.frames.words → suc run.old.frames.top.line < 2 ^ 64 → OnlyToMake run.old.world.heap run.new.world.heap result }
+    ensures room { room_of run.new ≡ room_of run.old }
+{
+    let thrown = throw(&mut run.world.heap, CLASS_CAST_EXCEPTION, None);
     answered_as(run, code, limits, &called.result, thrown)
 }
 

@@ -15,10 +15,11 @@ returns-in-OnNull-clause-exact c = λ stack.
 
 pub returns-in-Receives-clause-memory : goal.returns-in-Receives-clause-memory
 returns-in-Receives-clause-memory c = λ spares.
-    c.pay_and_act.ensures.memory (subst (λ r. ReceivingSpares (receiving_of r c.args.run.now.values.items) c.args.number c.args.run.now.world.heap.objects) c.in-Receives.is spares)
+    let spares' = subst (λ r. ReceivingSpares c.args.called.now (receiving_of r c.args.run.now.values.items) c.args.number c.args.run.now.world.heap.objects) c.in-Receives.is spares in
+    c.test_and_pay.ensures.memory spares'.0 spares'.1
 
 pub returns-in-Reads-clause-memory : goal.returns-in-Reads-clause-memory
 returns-in-Reads-clause-memory c = λ spares.
     c.act.ensures.memory
     (subst (λ vs. NeedsMemory c.args.run.now.world.heap.objects c.args.number vs → ⊥) (sym c.clear.ensures.items)
-    (subst (λ r. ReceivingSpares (receiving_of r c.args.run.now.values.items) c.args.number c.args.run.now.world.heap.objects) c.in-Reads.is spares))
+    (subst (λ r. ReceivingSpares c.args.called.now (receiving_of r c.args.run.now.values.items) c.args.number c.args.run.now.world.heap.objects) c.in-Reads.is spares))
