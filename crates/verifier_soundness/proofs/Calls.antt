@@ -19,7 +19,8 @@ use Rattle.instruction_types.specs.Members.{method_of, constructor_of, field_of,
 use Rattle.instruction_types.specs.Types.{kind_of_type}
 use Rattle.instruction_types.proofs.Named.{at_number}
 use Rattle.member_calls.specs.Members.{does, is_built, is_of_host}
-use Rattle.member_calls.specs.Types.{given_by, ActGives}
+use Rattle.container_calls.specs.Types.{primitive_of}
+use Rattle.member_calls.specs.Types.{ActGives}
 use Rattle.member_calls.proofs.Doing.{built_act}
 use Rattle.member_calls.proofs.Owners.{built_stand}
 use Rattle.member_calls.proofs.Types.{act_gives}
@@ -116,7 +117,7 @@ module _ (allow : AllowList) (code : List FunCode) (limits : Limits) where
 
 module _ (allow : AllowList) (code prelude : List FunCode) (limits : Limits) (well : IsWellShapedCode allow code) (function : FunCode) (f : Frame) (below : List Frame) (i : Instruction) (s : StandsIn allow code function (frame_kinds f) i) (goes : flow_of i ≡ flow.GoesOn) where
   -- what a member does
-  acts_move : (w : World) → Here allow code limits function f below w → (m : MemberType) (stack : List Word) (o : Option Effect) → is_some o ≡ true → ActGives (given_by m.result) o
+  acts_move : (w : World) → Here allow code limits function f below w → (m : MemberType) (stack : List Word) (o : Option Effect) → is_some o ≡ true → ActGives (primitive_of m.result) o
       → kind_of_type m.result ∷ kinds_of stack ≡ s.left → Moves allow code limits (left_at code limits f below w) (on_act (codes_of code prelude) limits o m f below w stack)
   acts_move w here m stack None some gives kinds = absurd (false≢true some)
   acts_move w here m stack (Some e) some gives kinds =

@@ -24,7 +24,7 @@ use Rattle.pl_code.specs.declared.kinds.Slot.{Slot}
 use Rattle.pl_code.specs.declared.kinds.Slot.TheVariants as slot
 use Rattle.instruction_types.specs.Members.{owner_part, name_part, called_part, arity_part, is_sought, own_sought, own_named, member_named, method_of, constructor_of, field_of, has_receiver, argument_kinds}
 use Rattle.instruction_types.specs.Types.{kind_of_primitive, kind_of_layer, kind_of_type}
-use Rattle.member_calls.specs.Types.{suits, given_by_layer, given_by, EffectGives}
+use Rattle.container_calls.specs.Types.{suits, primitive_in, primitive_of, EffectGives}
 use Rattle.code_meaning.specs.declared.word.Word.{Word}
 use Rattle.code_meaning.specs.declared.word.Word.TheVariants.{I, J, R}
 use Rattle.code_meaning.specs.Words.{boxed, unboxed}
@@ -361,7 +361,7 @@ unboxed_is prim.Long (v.Long a) h = refl
 unboxed_is prim.Long (v.Str text) h = absurd (false≢true h)
 unboxed_is prim.Long (v.Ref id) h = absurd (false≢true h)
 
-layer_gives : (layer : Ty-F Ty) (value : Value) → suits (given_by_layer layer) value ≡ true → kind_of (given_layer layer value) ≡ kind_of_layer layer
+layer_gives : (layer : Ty-F Ty) (value : Value) → suits (primitive_in layer) value ≡ true → kind_of (given_layer layer value) ≡ kind_of_layer layer
 layer_gives Ty-F.Void value h = refl
 layer_gives Ty-F.Null value h = refl
 layer_gives Ty-F.Def value h = refl
@@ -370,7 +370,7 @@ layer_gives (Ty-F.Class class) value h = refl
 layer_gives (Ty-F.Array elem) value h = refl
 
 -- what a member gives stands in a word of its result's kind
-pub gives_so : (result : Ty) (e : Effect) → EffectGives (given_by result) e → EffectIs (given_as result) (kind_of_type result) e
+pub gives_so : (result : Ty) (e : Effect) → EffectGives (primitive_of result) e → EffectIs (given_as result) (kind_of_type result) e
 unfolding kind_of_type
 gives_so result (Gives value store) h = layer_gives (out-Ty result) value h
 gives_so result (Throws id store) h = tt
