@@ -6,9 +6,9 @@ use Rattle.object_values.specs.declared.object.Object.{Object}
 use Rattle.object_values.specs.declared.object.Object.TheVariants as o
 use Rattle.object_values.specs.declared.value.Value.{Value}
 use Rattle.object_heap.specs.Effects.{Gives, NoRoom, after_paying, gives_paid}
-use Rattle.object_heap.specs.Objects.{AList, changed_by, kind_of, may_become, renewed_by, weight_of}
+use Rattle.object_heap.specs.Objects.{AList, changed_by, may_become, renewed_by, weight_of}
 use Rattle.object_heap.specs.Paying.{PaysSurely}
-use Rattle.object_heap.specs.Store.{Store, changed_at, paid, weight, with_change}
+use Rattle.object_heap.specs.Store.{Store, paid, weight, with_change}
 use Rattle.object_heap.proofs.Growth.{cons_changed}
 use Rattle.object_heap.proofs.KindLemmas.{becomes_refl}
 use Rattle.object_heap.proofs.Paying.{paid_if, paid_not}

@@ -1,19 +1,13 @@
 -- What each member comes to fits the store.
-use Rattle.std.proofs.Common.{◌≡◌, ℕ, zero, suc, ◌==◌, ℤ, Bool, true, false, Option, Some, None, List, [], ◌∷◌, ◌++◌, ◌<◌, length, reverse, refl, ap, sym, ◌∙◌, subst, slice_get, if◌then◌else◌}
+use Rattle.std.proofs.Common.{◌≡◌, ℕ, zero, suc, ◌==◌, ℤ, Bool, true, false, Option, Some, None, List, [], ◌∷◌, ◌++◌, length, reverse, refl, sym, subst, slice_get, if◌then◌else◌}
 use Rattle.pl_types.specs.declared.classes.TheConstants.{LIST}
 use Rattle.std.specs.Prelude.{pos, negsuc}
 use Rattle.std.proofs.lemmas.List.{reverse-append}
-use Rattle.std.proofs.lemmas.Option.{slice_get_within}
-use Rattle.pl_types.specs.declared.ty.Ty.TheFolds.{fold-roll-Ty}
-use Rattle.pl_types.specs.declared.ty.Ty.TheOpen.{Ty-F}
-use Rattle.pl_types.specs.declared.ty.Ty.{Ty, out-Ty}
-use Rattle.pl_types.specs.declared.ty.Ty.TheVariants.{Def, outs-Def, rolls-Def}
 use Rattle.pl_types.specs.Classes.{class_is_below, lineage_of, parents_of, class_row, class_table}
 use Rattle.object_values.specs.declared.object.Object.{Object}
 use Rattle.object_values.specs.declared.object.Object.TheVariants as o
 use Rattle.object_values.specs.declared.value.Value.{Value}
-use Rattle.object_values.specs.declared.value.Value.TheVariants as v
-use Rattle.object_heap.specs.Fits.{Rules, Typed, Every, Primitives, Fits, ValueFits, AllFit, AreElements, ItemFits, ObjectFits, ObjectsFit, has_layer, is_element, is_type, kinds, layer_asked, layer_is_type}
+use Rattle.object_heap.specs.Fits.{Rules, Typed, Fits, ValueFits, AllFit, ItemFits, ObjectFits, ObjectsFit, kinds}
 use Rattle.object_heap.specs.Objects.{Kind, with_item}
 use Rattle.object_heap.specs.Parts.{items_of}
 use Rattle.object_heap.specs.Store.{with_change}
@@ -24,10 +18,16 @@ use Rattle.api_list.specs.declared.member.Member.{Member}
 use Rattle.api_list.specs.declared.member.Member.TheVariants as m
 use Rattle.container_outcomes.specs.declared.outcome.Raised.TheVariants as raised
 use Rattle.container_outcomes.specs.declared.outcome.Outcome.{Outcome}
-use Rattle.container_outcomes.specs.declared.outcome.Outcome.TheVariants as outcome
 use Rattle.container_outcomes.specs.Laws.{OutcomeFits}
-use Rattle.container_outcomes.proofs.Fitting.{all_counted, counted, object_there, one_fits, open_fits, says_fits, search_fits, three_fit, two_fit, value_there}
+use Rattle.container_outcomes.specs.Choices.{with_one}
+use Rattle.container_outcomes.specs.Outcomes.{flag}
+use Rattle.container_outcomes.proofs.Fitting.{counted, equal_fits, object_there, one_fits, open_fits, says_fits, search_fits, three_fit, two_fit, value_there}
+use Rattle.api_map.specs.declared.bulk.Bulk.{Bulk}
+use Rattle.api_map.specs.declared.bulk.Bulk.TheVariants.{Remove, Retain}
+use Rattle.api_map.specs.declared.sources.Source.{Source}
+use Rattle.api_map.specs.Sources.{source_at}
 use Rattle.api_list.specs.Arguments.{if_list, list_at, list_named}
+use Rattle.api_list.specs.Bulk as bulk
 use Rattle.api_list.specs.Lists as lists
 use Rattle.api_list.specs.Making as making
 use Rattle.api_list.specs.Members as members
@@ -39,6 +39,7 @@ use Rattle.container_values.specs.Elements.{collection_at}
 use Rattle.api_sort.specs.declared.choosing.Extreme.TheVariants.{Greatest, Least}
 use Rattle.api_sort.specs.Choosing.{extreme_of}
 use Rattle.api_sort.specs.Sorting.{sorted}
+use Rattle.api_list.proofs.Sifting.{LeftFit, sift_fit}
 use Rattle.api_list.proofs.KeepingOrder.{extreme_fits, sorted_fits}
 use Rattle.api_list.proofs.KeepingTaken.{ToldFits, add_all_at_fits, add_all_fits, array_taken_fits, as_list_fits, collection_fits, list_taken_fits}
 use Rattle.api_list.specs.Searching.{first_from, last_before}
@@ -152,6 +153,30 @@ places_fit rules objects named list at other_at f e =
     (λ value is. value_there (length objects) (items_of objects list) at value (items_fit rules objects list f) is)
     (λ value is. value_there (length objects) (items_of objects list) other_at value (items_fit rules objects list f) is)
 
+-- items that stay
+left_fits : (rules : Rules) (objects : List Object) (id class changes before : ℕ) (sifted : bulk.Sifted) → class_is_below class LIST ≡ true → LeftFit (length (kinds objects)) sifted
+    → OutcomeFits rules objects (bulk.list_left id class changes before sifted)
+left_fits rules objects id class changes before (bulk.Left left) h f = ((h, f), tt)
+left_fits rules objects id class changes before bulk.TooDeep h f = says_fits rules objects raised.IllegalState _
+left_fits rules objects id class changes before bulk.TooLarge h f = says_fits rules objects raised.IllegalState _
+
+sifted_in_fits : (rules : Rules) (objects : List Object) (by : Bulk) (source : Source) (id : ℕ) (found : Option Object) → ObjectsFit rules (kinds objects) objects → slice_get objects id ≡ found
+    → OutcomeFits rules objects (bulk.sifted_in objects by source id found)
+sifted_in_fits rules objects by source id None f e = tt
+sifted_in_fits rules objects by source id (Some (o.List class items guard changes)) f e =
+    let there : ObjectFits rules (kinds objects) (o.List class items guard changes) = object_there rules (kinds objects) objects id (o.List class items guard changes) f e in
+    left_fits rules objects id class changes (length items) (bulk.sift (bulk.choose objects by source) items) there.0 (sift_fit (length (kinds objects)) (bulk.choose objects by source) items there.1)
+sifted_in_fits rules objects by source id (Some object) f e = tt
+
+sifted_of_fits : (rules : Rules) (objects : List Object) (by : Bulk) (source : Option Source) (list : ℕ) → Fits rules objects → OutcomeFits rules objects (bulk.sifted_of by objects source list)
+sifted_of_fits rules objects by source list f =
+    open_fits rules objects list (with_one (bulk.sifted_by objects by list) source)
+    (one_fits rules objects (bulk.sifted_by objects by list) source (λ from e. sifted_in_fits rules objects by from list (slice_get objects list) f.each refl))
+
+held_fits : (rules : Rules) (objects : List Object) (source : Option Container) (list : ℕ) → OutcomeFits rules objects (bulk.contains_all_of objects source list)
+held_fits rules objects source list =
+    one_fits rules objects (bulk.all_held objects list) source (λ container e. equal_fits rules objects (bulk.all_in objects list container) (flag true) (flag false) tt tt)
+
 does_fits : (rules : Rules) (objects : List Object) (member : Member) (arguments : List Value) → Fits rules objects → AllFit (length objects) arguments → OutcomeFits rules objects (members.does objects member arguments)
 does_fits rules objects m.Add arguments f a =
     two_fit {B = Value} rules objects (lists.added objects) (list_at objects arguments 0) (slice_get arguments 1)
@@ -205,6 +230,12 @@ does_fits rules objects m.Max arguments f a =
 does_fits rules objects m.Min arguments f a =
     one_fits {A = Container} rules objects (extreme_of Least objects) (collection_at objects arguments 0) (λ container e. extreme_fits rules objects Least container f (collection_fits rules objects arguments 0 container f e))
 does_fits rules objects m.Sort arguments f a = one_fits rules objects (sorted objects) (list_at objects arguments 0) (λ list e. sorted_fits rules objects list f)
+does_fits rules objects m.ContainsAll arguments f a =
+    one_fits rules objects (bulk.contains_all_of objects (collection_at objects arguments 1)) (list_at objects arguments 0) (λ list e. held_fits rules objects (collection_at objects arguments 1) list)
+does_fits rules objects m.RemoveAll arguments f a =
+    one_fits rules objects (bulk.sifted_of Remove objects (source_at objects arguments 1)) (list_at objects arguments 0) (λ list e. sifted_of_fits rules objects Remove (source_at objects arguments 1) list f)
+does_fits rules objects m.RetainAll arguments f a =
+    one_fits rules objects (bulk.sifted_of Retain objects (source_at objects arguments 1)) (list_at objects arguments 0) (λ list e. sifted_of_fits rules objects Retain (source_at objects arguments 1) list f)
 does_fits rules objects m.SingletonList arguments f a =
     one_fits {A = Value} rules objects making.list_of_one (slice_get arguments 0) (λ item e. one_list_fits rules objects item (value_there (length objects) arguments 0 item a e))
 

@@ -1,12 +1,11 @@
 -- What the members that need natural order come to fits the store.
-use Rattle.std.proofs.Common.{◌≡◌, ℕ, zero, suc, ◌==◌, Bool, true, false, Option, Some, None, List, [], ◌∷◌, length, drop, refl, subst, slice_get, if◌then◌else◌}
+use Rattle.std.proofs.Common.{◌≡◌, ℕ, ◌==◌, Bool, true, false, Option, Some, None, List, [], ◌∷◌, length, drop, refl, subst, slice_get, if◌then◌else◌}
 use Rattle.std.specs.Prelude.{nat_lt}
 use Rattle.object_values.specs.declared.object.Object.{Object}
 use Rattle.object_values.specs.declared.object.Object.TheVariants as o
 use Rattle.object_values.specs.declared.object.Part.TheVariants as part
 use Rattle.object_values.specs.declared.value.Value.{Value}
-use Rattle.object_values.specs.declared.value.Value.TheVariants as v
-use Rattle.object_heap.specs.Fits.{Rules, Fits, ValueFits, AllFit, ObjectFits, ObjectsFit, kinds}
+use Rattle.object_heap.specs.Fits.{Rules, Fits, AllFit, ObjectFits, ObjectsFit, kinds}
 use Rattle.object_heap.specs.Parts.{items_of, pairs_of}
 use Rattle.container_parts.specs.Containers.{entry_under}
 use Rattle.container_parts.specs.declared.containers.Container.{Container}

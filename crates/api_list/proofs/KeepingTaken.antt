@@ -2,7 +2,7 @@
 use Rattle.std.proofs.Common.{◌≡◌, ℕ, zero, suc, ◌==◌, ◌≤◌, ◌<◌, ℤ, Bool, true, false, Option, Some, None, List, [], ◌∷◌, ◌++◌, length, take, drop, refl, ap, sym, ◌∙◌, subst, arith, slice_get, if◌then◌else◌, length-append}
 use Rattle.std.proofs.lemmas.Bool.{eqb-true}
 use Rattle.std.proofs.lemmas.Option.{slice_get_within}
-use Rattle.pl_types.specs.declared.classes.TheConstants.{ARRAY_LIST, LIST}
+use Rattle.pl_types.specs.declared.classes.TheConstants.{ARRAY_LIST}
 use Rattle.pl_types.specs.declared.ty.Ty.TheFolds.{fold-roll-Ty}
 use Rattle.pl_types.specs.declared.ty.Ty.TheOpen.{Ty-F}
 use Rattle.pl_types.specs.declared.ty.Ty.{Ty, out-Ty}
@@ -11,24 +11,22 @@ use Rattle.pl_types.specs.Classes.{class_is_below, lineage_of, parents_of, class
 use Rattle.object_values.specs.declared.object.Guard.TheVariants as g
 use Rattle.object_values.specs.declared.object.Object.{Object}
 use Rattle.object_values.specs.declared.object.Object.TheVariants as o
-use Rattle.object_values.specs.declared.object.Part.{Part}
 use Rattle.object_values.specs.declared.value.Value.{Value}
 use Rattle.object_values.specs.declared.value.Value.TheVariants as v
 use Rattle.object_heap.specs.Effects as effects
-use Rattle.object_heap.specs.Fits.{Rules, Typed, Every, Primitives, Fits, ValueFits, AllFit, AreElements, EffectFits, ObjectFits, has_layer, is_element, is_type, kinds, layer_asked, layer_is_type}
+use Rattle.object_heap.specs.Fits.{Rules, Typed, Every, Primitives, Fits, AllFit, AreElements, EffectFits, ObjectFits, has_layer, is_element, is_type, kinds, layer_asked, layer_is_type}
 use Rattle.object_heap.specs.Objects.{Kind, changed_by, renewed_by}
 use Rattle.object_heap.specs.Parts.{guard_of, items_of}
 use Rattle.object_heap.specs.Store.{Store, with_change}
 use Rattle.object_heap.proofs.Fitting.{length-kinds, renew_fits}
 use Rattle.object_heap.proofs.Keeping.{after_fits}
 use Rattle.member_arguments.specs.Arguments.{int_at, object_at}
-use Rattle.container_parts.specs.Containers.{container_at, container_named, container_of, if_container}
+use Rattle.container_parts.specs.Containers.{container_at, container_named, if_container}
 use Rattle.container_parts.specs.declared.containers.Container.{Container}
 use Rattle.container_parts.specs.declared.containers.Container.TheVariants as c
 use Rattle.container_parts.proofs.Standing.{ContainerFits, container_fits}
 use Rattle.container_values.specs.Elements.{collection_at, entries_of, entry_keys_of, entry_references, if_collection, references, taken, values_of}
 use Rattle.container_values.proofs.Fitting.{entries_fit, entry_references_fit, joined_fit, taken_fit, values_fit, values_more}
-use Rattle.container_outcomes.specs.declared.outcome.Outcome.{Outcome}
 use Rattle.container_outcomes.specs.declared.outcome.Outcome.TheVariants as outcome
 use Rattle.container_outcomes.specs.declared.outcome.Raised.TheVariants as raised
 use Rattle.container_outcomes.specs.Guards.{is_open}

@@ -1,4 +1,6 @@
 pub mod Arguments
+pub mod Bulk
+pub mod Indexing
 pub mod Laws
 pub mod Lists
 pub mod Making

@@ -5,6 +5,8 @@ use Rattle.object_values.specs.declared.value.Value.{Value}
 use Rattle.api_list.specs.declared.member.Member.{Member}
 use Rattle.api_list.specs.declared.member.Member.TheVariants as m
 use Rattle.container_outcomes.specs.declared.outcome.Outcome.{Outcome}
+use Rattle.api_map.specs.declared.bulk.Bulk.TheVariants.{Remove, Retain}
+use Rattle.api_list.specs.Bulk as bulk
 use Rattle.api_list.specs.Lists as lists
 use Rattle.api_list.specs.Making as making
 use Rattle.api_list.specs.Ordered as ordered
@@ -35,6 +37,9 @@ does objects m.NewListOf arguments = taking.new_list_of objects arguments
 does objects m.EmptyList arguments = making.empty_list
 does objects m.EmptyMap arguments = making.empty_map
 does objects m.Reverse arguments = lists.reverse_all objects arguments
+does objects m.ContainsAll arguments = bulk.contains_all objects arguments
+does objects m.RemoveAll arguments = bulk.sift_all Remove objects arguments
+does objects m.RetainAll arguments = bulk.sift_all Retain objects arguments
 does objects m.SingletonList arguments = making.singleton_list arguments
 does objects m.Swap arguments = lists.swap objects arguments
 does objects m.Max arguments = ordered.extreme Greatest objects arguments
@@ -45,7 +50,7 @@ does objects m.Sort arguments = ordered.sort objects arguments
 -- ArrayList from 97, and those of Collections from 169. Of Iterable's only asList is one, which is 89
 unfoldable pub of_lists : List (Option Member)
 of_lists =
-    Some m.Add ∷ None ∷ Some m.Clear ∷ Some m.Contains ∷ None ∷ Some m.IsEmpty ∷ Some m.Remove ∷ None ∷ None ∷ Some m.Size
+    Some m.Add ∷ None ∷ Some m.Clear ∷ Some m.Contains ∷ Some m.ContainsAll ∷ Some m.IsEmpty ∷ Some m.Remove ∷ Some m.RemoveAll ∷ Some m.RetainAll ∷ Some m.Size
     ∷ Some m.ToArray ∷ None ∷ None ∷ None ∷ None ∷ None
     ∷ Some m.AddAt ∷ None ∷ Some m.Get ∷ Some m.Size ∷ Some m.IndexOf ∷ Some m.LastIndexOf ∷ Some m.RemoveAt ∷ None ∷ Some m.Set ∷ None
     ∷ Some m.NewList ∷ Some m.NewListOf

@@ -2,7 +2,9 @@
 #![tactic(auto)]
 
 mod arguments;
+mod bulk;
 mod entering;
+mod indexing;
 mod laws;
 mod lists;
 mod making;
@@ -12,5 +14,6 @@ mod searching;
 mod taking;
 mod told;
 
+pub use indexing::{read_index, write_index};
 pub use laws::members_keep_fit;
 pub use member::call;

@@ -8,7 +8,8 @@ ghost use Rattle.api_list.specs.Members.{does, does_found, numbered};
 ghost use Rattle.api_list.specs.Taking.{Comes, ToldWants, told_effect};
 
 use crate::told::Told;
-use crate::{lists, making, orders, taking};
+use crate::{bulk, lists, making, orders, taking};
+use api_map::Bulk;
 use api_sort::Extreme;
 use container_outcomes::Outcome;
 use object_heap::{Answer, Heap};
@@ -20,6 +21,9 @@ pub enum Member {
     Add,
     Clear,
     Contains,
+    ContainsAll,
+    RemoveAll,
+    RetainAll,
     IsEmpty,
     Remove,
     Size,
@@ -61,6 +65,9 @@ fn tells(heap: &Heap, member: Member, args: &[Value]) -> Outcome
         Member::ToArray => taking::to_array(heap, args),
         Member::LastIndexOf => lists::last_index_of(heap, args),
         Member::AsList => taking::as_list(heap, args),
+        Member::ContainsAll => bulk::contains_all(heap, args),
+        Member::RemoveAll => bulk::sift_all(Bulk::Remove, heap, args),
+        Member::RetainAll => bulk::sift_all(Bulk::Retain, heap, args),
         Member::NewList => making::new_list(heap),
         Member::NewListOf => taking::new_list_of(heap, args),
         Member::EmptyList => making::empty_list(heap),
@@ -80,11 +87,11 @@ static OF_LISTS: [Option<Member>; 28] = [
     None,
     Some(Member::Clear),
     Some(Member::Contains),
-    None,
+    Some(Member::ContainsAll),
     Some(Member::IsEmpty),
     Some(Member::Remove),
-    None,
-    None,
+    Some(Member::RemoveAll),
+    Some(Member::RetainAll),
     Some(Member::Size),
     Some(Member::ToArray),
     None,

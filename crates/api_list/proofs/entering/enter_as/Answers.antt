@@ -4,7 +4,7 @@ use Rattle.object_values.specs.declared.value.Value.TheVariants as v
 use Rattle.object_heap.specs.Effects.{Answers, gives_paid}
 use Rattle.object_heap.specs.Objects.{renewed_by}
 use Rattle.object_heap.specs.Store.{with_change}
-use Rattle.container_values.specs.Elements.{entries_of, entry_keys_of, entry_references, map_shown}
+use Rattle.container_values.specs.Elements.{entry_keys_of, entry_references, map_shown}
 use Rattle.container_values.proofs.Places.{length_references}
 use Rattle.api_list.proofs.Entries.{entries_made, list_made}
 use Rattle.api_list.proofs.entering.enter_as.Goals as goal
