@@ -12,8 +12,8 @@ use Rattle.object_values.specs.declared.value.Value.TheVariants as v
 use Rattle.object_heap.specs.Effects.{Effect}
 use Rattle.object_heap.specs.Effects as e
 use Rattle.object_heap.specs.Fits.{kinds}
-use Rattle.object_heap.specs.Objects.{changed_by, AList, AMap, ASet, kind_of, renewed_by, with_all_inserted, with_inserted, with_item, with_key_cut, with_pair_cut, with_put, with_removed}
-use Rattle.object_heap.specs.Parts.{items_of}
+use Rattle.object_heap.specs.Objects.{changed_by, AList, AMap, ASet, kind_of, renewed_by, with_all_inserted, with_all_put, with_inserted, with_item, with_key_cut, with_pair_cut, with_put, with_removed}
+use Rattle.object_heap.specs.Parts.{items_of, size_of}
 use Rattle.object_heap.specs.Store.{Store, with_change}
 use Rattle.member_arguments.specs.Arguments.{object_at}
 use Rattle.value_walks.specs.Equality.{value_now}
@@ -70,6 +70,11 @@ put_kind key value (o.Map class pairs guard changes) = refl
 put_kind key value (o.Set class items guard changes) = refl
 put_kind key value object = refl
 
+all_put_kind : (more : List (Value × Value)) (object : Object) → kind_of (with_all_put more object) ≡ kind_of object
+all_put_kind more (o.Map class pairs guard changes) = refl
+all_put_kind more (o.Set class items guard changes) = refl
+all_put_kind more object = refl
+
 key_cut_kind : (key : Value) (object : Object) → kind_of (with_key_cut key object) ≡ kind_of object
 key_cut_kind key (o.Map class pairs guard changes) = refl
 key_cut_kind key (o.Set class items guard changes) = refl
@@ -124,6 +129,10 @@ outcome_leaves store (outcome.Cuts id at) = there_changed store.objects id (with
 outcome_leaves store (outcome.Drops id at) = there_changed store.objects id (with_removed at) (removed_kind at)
 outcome_leaves store (outcome.Puts id key value) = paid_change store id (with_put key value) (value_now store.objects id key) (put_kind key value)
 outcome_leaves store (outcome.Adds id key) = paid_change store id (with_put key v.Null) (v.Bool (not (outcomes.has_key store.objects id key))) (put_kind key v.Null)
+outcome_leaves store (outcome.PutsAll id pairs) = paid_change store id (with_all_put pairs) v.Null (all_put_kind pairs)
+outcome_leaves store (outcome.AddsAll id keys) =
+    paid_leaves store (with_change store.objects id (with_all_put keys)) 0 (λ paid. e.Gives (v.Bool (nat_lt (size_of store.objects id) (size_of paid.objects id))) paid)
+    (λ room. there_changed store.objects id (with_all_put keys) (all_put_kind keys))
 outcome_leaves store (outcome.CutsKey id key) = there_changed store.objects id (with_key_cut key) (key_cut_kind key)
 outcome_leaves store (outcome.DropsKey id key) = there_changed store.objects id (with_key_cut key) (key_cut_kind key)
 outcome_leaves store (outcome.DropsEntry id key) = there_changed store.objects id (with_key_cut key) (key_cut_kind key)

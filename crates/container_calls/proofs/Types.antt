@@ -1,6 +1,6 @@
 -- What members of containers give is of their types.
 use Rattle.std.proofs.Common.{◌≡◌, ◌<◌, ◌==◌, ℕ, ℤ, Bool, true, false, Option, Some, None, List, [], ◌∷◌, ◌++◌, length, get_or, map, arith, refl, sym, ap, subst, ◌∙◌, slice_get, is_some, if◌then◌else◌}
-use Rattle.std.specs.Prelude.{option_map}
+use Rattle.std.specs.Prelude.{nat_lt, option_map}
 use Rattle.std.specs.List.{range_with_len}
 use Rattle.std.proofs.lemmas.Bool.{and_parts, cond_both, cond-true}
 use Rattle.std.proofs.lemmas.List.FromFn.{get_or-map-range_with_len}
@@ -18,8 +18,8 @@ use Rattle.object_values.specs.declared.value.Value.{Value}
 use Rattle.object_values.specs.declared.value.Value.TheVariants as v
 use Rattle.object_values.specs.Pairs.{value_of}
 use Rattle.object_heap.specs.Effects as e
-use Rattle.object_heap.specs.Objects.{renewed_by, with_all_inserted, with_inserted, with_put}
-use Rattle.object_heap.specs.Parts.{guard_of, items_of, pairs_of}
+use Rattle.object_heap.specs.Objects.{renewed_by, with_all_inserted, with_all_put, with_inserted, with_put}
+use Rattle.object_heap.specs.Parts.{guard_of, items_of, pairs_of, size_of}
 use Rattle.object_heap.specs.Store.{Store, with_change}
 use Rattle.member_arguments.specs.Arguments.{int_at, object_at}
 use Rattle.container_parts.specs.Iterators as iterators
@@ -45,6 +45,7 @@ use Rattle.api_iter.specs.Members as iterables
 use Rattle.api_list.specs.declared.member.Member.{Member as ListMember}
 use Rattle.api_list.specs.declared.member.Member.TheVariants as l
 use Rattle.api_list.specs.Arguments.{list_at}
+use Rattle.api_list.specs.Bulk as list_bulk
 use Rattle.api_list.specs.Lists as listing
 use Rattle.api_list.specs.Members as lists
 use Rattle.api_list.specs.Lists.{place_into}
@@ -55,6 +56,7 @@ use Rattle.api_list.specs.declared.told.Told.TheVariants.{Says, Enters}
 use Rattle.api_map.specs.declared.arguments.Keyed.{Keyed}
 use Rattle.api_map.specs.declared.arguments.Keyed.TheVariants as keyed
 use Rattle.api_map.specs.declared.bulk.Bulk.{Bulk}
+use Rattle.api_map.specs.declared.bulk.Bulk.TheVariants.{Remove, Retain}
 use Rattle.api_map.specs.declared.bulk.Choice.{Choice}
 use Rattle.api_map.specs.declared.member.Member.{Member as MapMember}
 use Rattle.api_map.specs.declared.member.Member.TheVariants as m
@@ -69,7 +71,7 @@ use Rattle.api_map.specs.Holding.{entry_in}
 use Rattle.api_map.specs.Maps as mapping
 use Rattle.api_map.specs.Members as maps
 use Rattle.api_map.specs.Searching as map_searching
-use Rattle.api_map.specs.Sources.{are_keys, elements, source_at}
+use Rattle.api_map.specs.Sources.{are_keys, elements, source_at, with_keys}
 use Rattle.api_map.specs.Whole as whole
 use Rattle.container_calls.specs.declared.family.Family.{Family}
 use Rattle.container_calls.specs.declared.family.Family.TheVariants.{Iterables, Lists, Maps}
@@ -89,6 +91,7 @@ OutcomeGives wanted (outcome.Inserts id at item value) = suits wanted value ≡ 
 OutcomeGives wanted (outcome.Extends id at items value) = suits wanted value ≡ true
 OutcomeGives wanted (outcome.Drops id at) = GivesFlags wanted
 OutcomeGives wanted (outcome.Adds id key) = GivesFlags wanted
+OutcomeGives wanted (outcome.AddsAll id keys) = GivesFlags wanted
 OutcomeGives wanted (outcome.DropsKey id key) = GivesFlags wanted
 OutcomeGives wanted (outcome.DropsEntry id key) = GivesFlags wanted
 OutcomeGives wanted (outcome.CutsPair id at) = GivesFlags wanted
@@ -105,6 +108,8 @@ settled wanted store (outcome.Inserts id at item value) h = paid_change wanted s
 settled wanted store (outcome.Extends id at items value) h = paid_change wanted store id (with_all_inserted at items) value h
 settled wanted store (outcome.Drops id at) h = h true
 settled wanted store (outcome.Adds id key) h = paid_change wanted store id (with_put key v.Null) _ (h _)
+settled wanted store (outcome.AddsAll id keys) h =
+    paid_gives wanted store (with_change store.objects id (with_all_put keys)) 0 (λ paid. e.Gives (v.Bool (nat_lt (size_of store.objects id) (size_of paid.objects id))) paid) (λ room. h _)
 settled wanted store (outcome.DropsKey id key) h = h _
 settled wanted store (outcome.DropsEntry id key) h = h _
 settled wanted store (outcome.CutsPair id at) h = h true
@@ -162,7 +167,26 @@ list_given l.Remove = Some prim.Boolean
 list_given l.Size = Some prim.Int
 list_given l.IndexOf = Some prim.Int
 list_given l.LastIndexOf = Some prim.Int
+list_given l.ContainsAll = Some prim.Boolean
+list_given l.RemoveAll = Some prim.Boolean
+list_given l.RetainAll = Some prim.Boolean
 list_given member = None
+
+left_gives : (id class changes before : ℕ) (sifted : list_bulk.Sifted) → OutcomeGives (Some prim.Boolean) (list_bulk.list_left id class changes before sifted)
+left_gives id class changes before (list_bulk.Left left) = refl
+left_gives id class changes before list_bulk.TooDeep = says_gives (Some prim.Boolean) raised.IllegalState _
+left_gives id class changes before list_bulk.TooLarge = says_gives (Some prim.Boolean) raised.IllegalState _
+
+list_sifted_gives : (objects : List Object) (by : Bulk) (source : Source) (id : ℕ) (found : Option Object) → OutcomeGives (Some prim.Boolean) (list_bulk.sifted_in objects by source id found)
+list_sifted_gives objects by source id None = refl
+list_sifted_gives objects by source id (Some (o.List class items guard changes)) = left_gives id class changes (length items) (list_bulk.sift (list_bulk.choose objects by source) items)
+list_sifted_gives objects by source id (Some object) = refl
+
+list_sift_gives : (store : Store) (by : Bulk) (arguments : List Value) → OutcomeGives (Some prim.Boolean) (list_bulk.sift_all by store.objects arguments)
+list_sift_gives store by arguments =
+    one_gives {A = ℕ} (Some prim.Boolean) (list_bulk.sifted_of by store.objects (source_at store.objects arguments 1)) (list_at store.objects arguments 0)
+    (λ list. open_gives (Some prim.Boolean) store.objects list (with_one (list_bulk.sifted_by store.objects by list) (source_at store.objects arguments 1))
+    (one_gives (Some prim.Boolean) (list_bulk.sifted_by store.objects by list) (source_at store.objects arguments 1) (λ from. list_sifted_gives store.objects by from list (slice_get store.objects list))))
 
 list_gives : (store : Store) (member : ListMember) (arguments : List Value) → EffectGives (list_given member) (outcomes.effect store (lists.does store.objects member arguments))
 list_gives store l.Add arguments =
@@ -190,6 +214,13 @@ list_gives store l.LastIndexOf arguments =
     settled (Some prim.Int) store (lists.does store.objects l.LastIndexOf arguments)
     (two_give {A = ℕ} {B = Value} (Some prim.Int) (listing.last_place_found store.objects) (list_at store.objects arguments 0) (slice_get arguments 1)
     (λ list value. search_gives (Some prim.Int) (list_searching.last_before store.objects value (items_of store.objects list) (length (items_of store.objects list))) _ _ (λ at. refl) refl))
+list_gives store l.ContainsAll arguments =
+    settled (Some prim.Boolean) store (lists.does store.objects l.ContainsAll arguments)
+    (one_gives {A = ℕ} (Some prim.Boolean) (list_bulk.contains_all_of store.objects (collection_at store.objects arguments 1)) (list_at store.objects arguments 0)
+    (λ list. one_gives {A = Container} (Some prim.Boolean) (list_bulk.all_held store.objects list) (collection_at store.objects arguments 1)
+    (λ container. equal_gives (Some prim.Boolean) (list_bulk.all_in store.objects list container) _ _ refl refl)))
+list_gives store l.RemoveAll arguments = settled (Some prim.Boolean) store (lists.does store.objects l.RemoveAll arguments) (list_sift_gives store Remove arguments)
+list_gives store l.RetainAll arguments = settled (Some prim.Boolean) store (lists.does store.objects l.RetainAll arguments) (list_sift_gives store Retain arguments)
 list_gives store member arguments = anything (outcomes.effect store (lists.does store.objects member arguments))
 
 -- what a member comes to that may make entries: whether there were any
@@ -277,15 +308,9 @@ cut_gives objects (keyed.View map part.Entries) value = equal_gives (Some prim.B
 removed_gives : (objects : List Object) (of : Keyed) (value : Value) → FlagGiven (collections.removed objects of value)
 removed_gives objects of value = if_gives (Some prim.Boolean) (is_open (guard_of objects (holder_of of))) (collections.cut_from objects of value) outcomes.unsupported (cut_gives objects of value) tt
 
-set_grown_gives : (id : ℕ) (keys : List Value) (found : Option Object) → FlagGiven (whole.set_grown id keys found)
-set_grown_gives id keys None = refl
-set_grown_gives id keys (Some (o.Set class items guard changes)) = refl
-set_grown_gives id keys (Some object) = refl
-
 added_from_gives : (objects : List Object) (id : ℕ) (source : Source) → FlagGiven (whole.added_from objects id source)
 added_from_gives objects id source =
-    if_gives (Some prim.Boolean) (are_keys objects source) (whole.set_grown id (elements objects source) (slice_get objects id)) outcomes.not_simple (set_grown_gives id (elements objects source) (slice_get objects id))
-    (says_gives (Some prim.Boolean) raised.IllegalArgument _)
+    if_gives (Some prim.Boolean) (are_keys objects source) (outcome.AddsAll id (with_keys [] (elements objects source))) outcomes.not_simple (λ flag. refl) (says_gives (Some prim.Boolean) raised.IllegalArgument _)
 
 added_all_gives : (objects : List Object) (source : Option Source) (of : Keyed) → FlagGiven (whole.added_all objects source of)
 added_all_gives objects source (keyed.Set id) =

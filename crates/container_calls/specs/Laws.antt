@@ -1,6 +1,6 @@
 -- Laws over the definitions.
 use Rattle.std.specs.Prelude.{◌≡◌, ℕ, Bool, true, false, Some, List, ◌++◌, length, slice_get, is_some, nat_le, not, ◌==◌, ◌&&◌, ◌||◌}
-use Rattle.pl_types.specs.declared.classes.TheConstants.{ITERABLE, LIST, ITERATOR, SCRIPT_DOC_VALUES}
+use Rattle.pl_types.specs.declared.classes.TheConstants.{ITERABLE, COLLECTIONS, SCRIPT_DOC_VALUES}
 use Rattle.allowlist.specs.declared.member.MemberType.{MemberType}
 use Rattle.allowlist.specs.Allow.{is_in_prelude}
 use Rattle.allowlist.specs.Catalogue.{catalogue}
@@ -30,10 +30,9 @@ EffectLeaves objects NoRoom = Unit {0}
 abbrev pub MembersLeaveObjects : Type 0
 MembersLeaveObjects = (number : ℕ) (arguments : List Value) (store : Store) → EffectLeaves store.objects (does_container store number arguments)
 
--- the classes of which no member is missing but the prelude's: Iterable, those of lists, sets, maps, entries and iterators, and
--- ScriptDocValues
+-- the classes of containers: Iterable, Collection, those of lists, sets, maps, entries and iterators, Collections, and ScriptDocValues
 abbrev pub is_container_class : ℕ → Bool
-is_container_class class = ((class == ITERABLE) || (nat_le LIST class && nat_le class ITERATOR)) || (class == SCRIPT_DOC_VALUES)
+is_container_class class = (nat_le ITERABLE class && nat_le class COLLECTIONS) || (class == SCRIPT_DOC_VALUES)
 
 -- a member of the catalogue whose class is one of these is built where the prelude does not have it
 abbrev pub BuiltOwners : Type 0

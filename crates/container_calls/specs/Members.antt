@@ -66,7 +66,7 @@ within from to number = nat_le from number && nat_lt number to
 
 unfoldable pub container_ranges : List (ℕ × ℕ)
 container_ranges =
-    (86, 87) ∷ (89, 90) ∷ (96, 101) ∷ (102, 104) ∷ (106, 108) ∷ (113, 120) ∷ (121, 122) ∷ (123, 145) ∷ (159, 176)
+    (86, 87) ∷ (89, 90) ∷ (96, 108) ∷ (113, 120) ∷ (121, 122) ∷ (123, 145) ∷ (159, 176)
     ∷ (177, 178) ∷ (225, 226) ∷ []
 
 abbrev pub in_ranges : List (ℕ × ℕ) → ℕ → Bool

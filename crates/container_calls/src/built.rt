@@ -10,12 +10,10 @@ fn is_within(number: u32, from: u32, to: u32) -> bool
 }
 
 /// The numbers of the members that are built: from the first of each pair to before the second.
-static CONTAINER_RANGES: [(u32, u32); 11] = [
+static CONTAINER_RANGES: [(u32, u32); 9] = [
     (86, 87),
     (89, 90),
-    (96, 101),
-    (102, 104),
-    (106, 108),
+    (96, 108),
     (113, 120),
     (121, 122),
     (123, 145),
@@ -43,8 +41,7 @@ fn is_in(ranges: &[(u32, u32)], number: u32) -> bool
     false
 }
 
-/// Whether the member of this number in the catalogue is one of containers that is built: all of them are but those of the prelude,
-/// `containsAll`, `removeAll` and `retainAll` of Collection, and `max`, `min` and sorting of Collections.
+/// Whether the member of this number in the catalogue is one of containers that is built: all of them are but those of the prelude.
 pub fn is_of_containers(number: u32) -> bool
     ensures { result ≡ is_of_containers number }
 {
