@@ -34,14 +34,39 @@ fn context_of(alloc: Global, wanted: Ty) -> Result<ContextTypes, AllocError> {
     })
 }
 
-/// The program of a script, or why there is none.
-pub fn program_of(rt: &impl Abort, alloc: Global, wanted: Ty, text: &str) -> Result<Program, Fail> {
-    assert!(rt; text.len() <= MOST_BYTES as usize);
-    let allow = Catalogue::full(alloc)?;
-    let tokens = tokens_of(alloc, &allow, text)?;
-    let tree = parse(alloc, text, tokens.as_slice())?;
-    let context = context_of(alloc, wanted)?;
-    elaborate(alloc, &allow, &context, &tree)
+/// What scripts are read by: every class, and a context.
+#[derive(Drop)]
+pub struct Reader {
+    alloc: Global,
+    allow: Allow,
+    context: ContextTypes,
+}
+
+impl Reader {
+    /// Every class of the catalogue is allowed.
+    pub fn new(alloc: Global, wanted: Wanted) -> Result<Reader, AllocError> {
+        let allow = Catalogue::full(alloc)?;
+        let context = context_of(alloc, type_of(wanted))?;
+        Ok(Reader {
+            alloc,
+            allow,
+            context,
+        })
+    }
+
+    /// The allocator.
+    pub fn alloc(&self) -> Global {
+        self.alloc
+    }
+
+    /// The program of a script, or why there is none.
+    pub fn program(&self, rt: &impl Abort, text: &str) -> Result<Program, Fail> {
+        assert!(rt; text.len() <= MOST_BYTES as usize);
+        let alloc = self.alloc;
+        let tokens = tokens_of(alloc, &self.allow, text)?;
+        let tree = parse(alloc, text, tokens.as_slice())?;
+        elaborate(alloc, &self.allow, &self.context, &tree)
+    }
 }
 
 /// What a context wants.
@@ -59,23 +84,16 @@ fn type_of(wanted: Wanted) -> Ty {
 }
 
 /// Whether a script breaks no rule.
-fn is_typed(rt: &impl Abort, alloc: Global, wanted: Wanted, text: &str) -> bool {
-    match program_of(rt, alloc, type_of(wanted), text) {
+fn is_typed(rt: &impl Abort, reader: &Reader, text: &str) -> bool {
+    match reader.program(rt, text) {
         Ok(_) => true,
         Err(_) => false,
     }
 }
 
 /// Whether a script is refused by this rule at this place.
-fn is_refused(
-    rt: &impl Abort,
-    alloc: Global,
-    wanted: Wanted,
-    text: &str,
-    number: u8,
-    place: u32,
-) -> bool {
-    match program_of(rt, alloc, type_of(wanted), text) {
+fn is_refused(rt: &impl Abort, reader: &Reader, text: &str, number: u8, place: u32) -> bool {
+    match reader.program(rt, text) {
         Ok(_) => false,
         Err(Fail::Refused(refusal)) => refusal.number == number && refusal.offset == place,
         Err(Fail::NoMemory) => false,
@@ -83,17 +101,17 @@ fn is_refused(
 }
 
 /// Each script is refused so.
-pub fn are_refused(rt: &impl Abort, alloc: Global, wanted: Wanted, rows: &[(&str, u8, u32)]) {
+pub fn are_refused(rt: &impl Abort, reader: &Reader, rows: &[(&str, u8, u32)]) {
     for (text, number, place) in rows {
-        let holds = is_refused(rt, alloc, wanted, text, *number, *place);
+        let holds = is_refused(rt, reader, text, *number, *place);
         assert!(rt; holds, "in {text:?}");
     }
 }
 
 /// Each script breaks no rule.
-pub fn are_typed(rt: &impl Abort, alloc: Global, wanted: Wanted, rows: &[&str]) {
+pub fn are_typed(rt: &impl Abort, reader: &Reader, rows: &[&str]) {
     for text in rows {
-        let holds = is_typed(rt, alloc, wanted, text);
+        let holds = is_typed(rt, reader, text);
         assert!(rt; holds, "in {text:?}");
     }
 }
