@@ -13,7 +13,7 @@ use Rattle.object_heap.specs.Store.{Store}
 use Rattle.allowlist.specs.declared.member.MemberType.{MemberType}
 use Rattle.allowlist.specs.Index.{member_at}
 use Rattle.instruction_types.specs.Members.{method_of, constructor_of, field_of}
-use Rattle.member_calls.specs.Laws.{StillThere}
+use Rattle.container_calls.specs.Laws.{StillThere}
 use Rattle.member_calls.specs.Members.{does}
 use Rattle.number_ops.specs.Outcomes.{effect, zero_divisor, null_error, says}
 use Rattle.number_ops.specs.Casts.{cast_at_run_time}
