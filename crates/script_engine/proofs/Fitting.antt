@@ -14,7 +14,7 @@ use Rattle.object_heap.specs.declared.outcome.End.TheVariants as l
 use Rattle.object_heap.specs.declared.outcome.Outcome.{Outcome}
 use Rattle.pl_code.specs.declared.kinds.Slot.{Slot}
 use Rattle.pl_code.specs.declared.kinds.Slot.TheVariants as slot
-use Rattle.member_calls.specs.Laws.{StillThere}
+use Rattle.container_calls.specs.Laws.{StillThere}
 use Rattle.run_state.specs.World.{World, Limits as run_limits, End, Result}
 use Rattle.run_fit.specs.Worlds.{EndFits, WorldFits, count_in}
 use Rattle.run_fit.proofs.Effects.{beginnings_fit}
