@@ -1,16 +1,16 @@
 -- What members of containers throw is an exception that is there.
 use Rattle.std.proofs.Common.{◌≡◌, ℕ, true, Bool, Option, Some, None, List, ◌∷◌, [], ◌++◌, length, refl, slice_get, not}
-use Rattle.std.specs.Prelude.{◌+◌}
+use Rattle.std.specs.Prelude.{◌+◌, nat_lt}
 use Rattle.std.proofs.lemmas.Bool.{cond_both}
 use Rattle.pl_types.specs.declared.classes.TheConstants.{EXCEPTION, ILLEGAL_STATE_EXCEPTION, NULL_POINTER_EXCEPTION}
 use Rattle.pl_types.specs.Classes.{class_is_below, lineage_of, parents_of, class_row, class_table}
 use Rattle.object_values.specs.declared.object.Object.{Object}
 use Rattle.object_values.specs.declared.value.Value.{Value}
 use Rattle.object_values.specs.declared.value.Value.TheVariants as v
-use Rattle.object_heap.specs.Effects.{Effect, gives_paid, throws}
+use Rattle.object_heap.specs.Effects.{Effect, Gives, after_paying, gives_paid, throws}
 use Rattle.object_heap.specs.Fits.{Rules, Fits}
-use Rattle.object_heap.specs.Objects.{renewed_by, with_all_inserted, with_inserted, with_put}
-use Rattle.object_heap.specs.Parts.{items_of}
+use Rattle.object_heap.specs.Objects.{renewed_by, with_all_inserted, with_all_put, with_inserted, with_put}
+use Rattle.object_heap.specs.Parts.{items_of, size_of}
 use Rattle.object_heap.specs.Store.{Store, paid, with_change}
 use Rattle.object_heap.proofs.Keeping.{throws_fits}
 use Rattle.member_arguments.specs.Arguments.{object_at}
@@ -49,6 +49,11 @@ changed_there store id change value = paid_there (paid store (with_change store.
 renewed_there : (store : Store) (id : ℕ) (object : Object) (value : Value) → ThrowsThere (gives_renewed store id object value)
 renewed_there store id object value = cond_both (is_collection object) _ _ ThrowsThere (λ _. changed_there store id (renewed_by object) value) (λ _. tt)
 
+-- what is paid and gives a value of the store that is left throws nothing
+grown_there : (o : Option Store) (value : Store → Value) → ThrowsThere (after_paying o (λ paid. Gives (value paid) paid))
+grown_there None value = tt
+grown_there (Some store) value = tt
+
 outcome_there : (rules : Rules) (store : Store) (told : Outcome) → Fits rules store.objects → ThrowsThere (effect store told)
 outcome_there rules store (outcome.Gives value) f = tt
 outcome_there rules store (outcome.Writes text) f = paid_there (paid store store.objects (length text + 1)) (v.Str text)
@@ -63,6 +68,9 @@ outcome_there rules store (outcome.Cuts id at) f = tt
 outcome_there rules store (outcome.Drops id at) f = tt
 outcome_there rules store (outcome.Puts id key value) f = changed_there store id (with_put key value) (value_now store.objects id key)
 outcome_there rules store (outcome.Adds id key) f = changed_there store id (with_put key v.Null) (v.Bool (not (has_key store.objects id key)))
+outcome_there rules store (outcome.PutsAll id pairs) f = changed_there store id (with_all_put pairs) v.Null
+outcome_there rules store (outcome.AddsAll id keys) f =
+    grown_there (paid store (with_change store.objects id (with_all_put keys)) 0) (λ paid. v.Bool (nat_lt (size_of store.objects id) (size_of paid.objects id)))
 outcome_there rules store (outcome.CutsKey id key) f = tt
 outcome_there rules store (outcome.DropsKey id key) f = tt
 outcome_there rules store (outcome.DropsEntry id key) f = tt
