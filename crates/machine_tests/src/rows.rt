@@ -598,9 +598,9 @@ pub const ROWS: [Row; 68] = [
         room: 100,
         left: "stuck; steps 2; ticks 0",
     },
-    // a member of lists, which is not built
+    // a member of the prelude, which is not built
     Row {
-        listing: "painless 1\nfun 0 loop R - -\nnew java.util.ArrayList/0\nret\nend\n",
+        listing: "painless 1\nfun 0 loop R - -\ninvoke java.util.Comparator.naturalOrder/0\nret\nend\n",
         loops: 100,
         depth: 100,
         ticks: 100,

@@ -2,6 +2,7 @@
 
 mod boxes;
 mod catches;
+mod containers;
 mod operands;
 mod operators;
 mod references;
@@ -111,6 +112,30 @@ fn catches_end(rt: HostRuntime) -> Result<(), Fail> {
 fn catches_end_within_bounds(rt: HostRuntime) -> Result<(), Fail> {
     let compiler = Compiler::new(rt.alloc())?;
     for (bounds, table) in catches::BOUNDED {
+        all_end(&rt, &compiler, bounds, table)?;
+    }
+    Ok(())
+}
+
+#[test]
+fn containers_end(rt: HostRuntime) -> Result<(), Fail> {
+    let compiler = Compiler::new(rt.alloc())?;
+    for table in [
+        containers::LISTS,
+        containers::MAPS,
+        containers::ITERATORS,
+        containers::CLASSES,
+        containers::THROWN,
+    ] {
+        all_end(&rt, &compiler, USUAL, table)?;
+    }
+    Ok(())
+}
+
+#[test]
+fn containers_end_within_bounds(rt: HostRuntime) -> Result<(), Fail> {
+    let compiler = Compiler::new(rt.alloc())?;
+    for (bounds, table) in containers::BOUNDED {
         all_end(&rt, &compiler, bounds, table)?;
     }
     Ok(())

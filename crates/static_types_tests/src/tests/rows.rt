@@ -333,14 +333,14 @@ pub const RANGES: [(&str, u8, u32); 12] = [
 ];
 
 /// What is not built.
-pub const NOT_BUILT: [(&str, u8, u32); 25] = [
+pub const NOT_BUILT: [(&str, u8, u32); 30] = [
     ("[1]", 19, 0),
     ("[1:2]", 19, 0),
     ("int[] x; 1", 19, 0),
-    ("List l; 1", 19, 0),
+    ("Function f; 1", 19, 0),
     ("int[] f() { return 1 } 1", 19, 0),
     ("(1)[0]", 19, 3),
-    ("1 instanceof List", 19, 13),
+    ("1 instanceof Function", 19, 13),
     ("int f(int a) { return a } f(x -> x)", 19, 28),
     ("int f(int a) { return a } f(() -> 1)", 19, 28),
     ("int x = y -> 1; x", 19, 8),
@@ -351,7 +351,7 @@ pub const NOT_BUILT: [(&str, u8, u32); 25] = [
     ),
     ("for (int x : 1) { }", 19, 0),
     ("for (x in 1) { }", 19, 0),
-    ("new List()", 19, 4),
+    ("new Function()", 19, 4),
     ("new int[1]", 19, 0),
     ("new int[] {1}", 19, 0),
     ("1 instanceof int[]", 19, 13),
@@ -362,7 +362,12 @@ pub const NOT_BUILT: [(&str, u8, u32); 25] = [
     ("def d = 1; d++; 1", 19, 11),
     ("def d = 1; d -= 1; 1", 19, 13),
     ("def d = 1; d << 1", 19, 13),
-    ("Iterable i; 1", 19, 0),
+    ("Iterable i; i.forEach(null)", 19, 14),
+    ("List l; l.toArray()", 19, 10),
+    ("List l; l.containsAll(l)", 19, 10),
+    ("Map m; m.size", 19, 9),
+    ("List l; l.0", 19, 10),
+    ("Map m; m.k = 1", 19, 9),
 ];
 
 /// A left side of `?:` that is never null.
@@ -681,7 +686,7 @@ pub const WORKED_REFUSED: [(&str, u8, u32); 10] = [
 ];
 
 /// Members: none of that name, of another kind, or with arguments that are not cast.
-pub const MEMBERS: [(&str, u8, u32); 26] = [
+pub const MEMBERS: [(&str, u8, u32); 28] = [
     ("(1).x", 7, 4),
     ("(1).x()", 7, 4),
     ("null.toString()", 7, 5),
@@ -692,6 +697,8 @@ pub const MEMBERS: [(&str, u8, u32); 26] = [
     ("Exception.x", 7, 10),
     ("new String()", 7, 0),
     ("new int()", 7, 0),
+    ("new List()", 7, 0),
+    ("List l; l.remove('a')", 9, 17),
     ("new Foo()", 6, 4),
     ("'a'.nope(x)", 4, 9),
     ("'a'.substring('b')", 9, 14),
