@@ -2,6 +2,10 @@
 #![tactic(auto)]
 
 #[cfg(test)]
+mod bulk;
+#[cfg(test)]
+mod indexing;
+#[cfg(test)]
 mod lists;
 #[cfg(test)]
 mod making;

@@ -27,6 +27,8 @@ pub enum Wanted {
     /// A ClassCastException with this message.
     ClassCast(&'static str),
     Unsupported,
+    /// An ArrayIndexOutOfBoundsException with this message.
+    ArrayIndex(&'static str),
     /// An IndexOutOfBoundsException with this message.
     Index(&'static str),
 }

@@ -1,12 +1,12 @@
 //! Calls of rows on the sample heap.
 use crate::rows::{Arg, Row, Wanted};
 use crate::sample::{NEXT, sample, word};
-use api_list::call;
+use api_list::{call, read_index, write_index};
 use object_heap::{Answer, Heap};
 use object_values::Value;
 use pl_types::classes::{
-    CLASS_CAST_EXCEPTION, INDEX_OUT_OF_BOUNDS_EXCEPTION, NO_SUCH_ELEMENT_EXCEPTION,
-    NULL_POINTER_EXCEPTION, UNSUPPORTED_OPERATION_EXCEPTION,
+    ARRAY_INDEX_OUT_OF_BOUNDS_EXCEPTION, CLASS_CAST_EXCEPTION, INDEX_OUT_OF_BOUNDS_EXCEPTION,
+    NO_SUCH_ELEMENT_EXCEPTION, NULL_POINTER_EXCEPTION, UNSUPPORTED_OPERATION_EXCEPTION,
 };
 use pl_units::UText;
 use std::alloc::{AllocError, Global};
@@ -81,6 +81,9 @@ fn thrown(heap: &Heap, id: u32, wanted: Wanted) -> Result<bool, AllocError> {
         Wanted::NoSuchElement => is_exception(heap, id, NO_SUCH_ELEMENT_EXCEPTION, None),
         Wanted::ClassCast(message) => is_exception(heap, id, CLASS_CAST_EXCEPTION, Some(message)),
         Wanted::Unsupported => is_exception(heap, id, UNSUPPORTED_OPERATION_EXCEPTION, None),
+        Wanted::ArrayIndex(message) => {
+            is_exception(heap, id, ARRAY_INDEX_OUT_OF_BOUNDS_EXCEPTION, Some(message))
+        }
         Wanted::Index(message) => {
             is_exception(heap, id, INDEX_OUT_OF_BOUNDS_EXCEPTION, Some(message))
         }
@@ -108,11 +111,24 @@ fn reads(heap: &Heap, id: u32, wanted: &str) -> Result<bool, AllocError> {
     }
 }
 
+/// The numbers by which rows name an index in brackets that is read, and one that is written.
+pub const READ: u32 = 1000;
+
+pub const WRITE: u32 = 1001;
+
+fn called(number: u32, heap: &mut Heap, args: &[Value]) -> Answer {
+    match number {
+        READ => read_index(heap, args),
+        WRITE => write_index(heap, args),
+        _ => call(number, heap, args),
+    }
+}
+
 // With just the room for it a row comes to what it says.
 fn comes_to(alloc: Global, row: Row) -> Result<bool, AllocError> {
     let mut heap = sample(alloc, row.3)?;
     let args = arguments(alloc, row.1)?;
-    let answer = call(row.0, &mut heap, args.as_slice());
+    let answer = called(row.0, &mut heap, args.as_slice());
     let told = answered(&heap, &answer, row.2)?;
     let left = reads(&heap, row.4, row.5)?;
     Ok(told && left && heap.changes(row.4) == row.6 && heap.room_left() == 0)
@@ -133,7 +149,7 @@ fn is_refused(alloc: Global, row: Row) -> Result<bool, AllocError> {
     let room = row.3.saturating_sub(1);
     let mut heap = sample(alloc, room)?;
     let args = arguments(alloc, row.1)?;
-    let answer = call(row.0, &mut heap, args.as_slice());
+    let answer = called(row.0, &mut heap, args.as_slice());
     Ok(is_room(&answer) && heap.room_left() == room && heap.len() == NEXT as usize)
 }
 
