@@ -1,5 +1,5 @@
 -- Replies and refusals as JSON, and their lines.
-use Rattle.std.specs.Prelude.{ℕ, ◌++◌, ◌&&◌, Bool, List, [], ◌∷◌, Option, Some, None, Result, Ok, Err, codes, is_some, nat_le, nat_lt, if◌then◌else◌, slice_get}
+use Rattle.std.specs.Prelude.{ℕ, ◌++◌, ◌&&◌, Bool, List, [], ◌∷◌, Option, Some, None, Result, Ok, Err, codes, is_some, nat_le, nat_lt, if◌then◌else◌}
 use Rattle.serde_json.specs.Data.{Data, null, number, string, object, unsigned, member, no_members}
 use Rattle.serde_json.specs.Find.{get}
 use Rattle.serde_json.specs.Written.{compact_text}
@@ -8,7 +8,7 @@ use Rattle.pl_types.specs.Classes.{short_name}
 use Rattle.pl_types.specs.Refusals.{rule_name}
 use Rattle.pl_types.specs.declared.refusal.Refusal.{Refusal}
 use Rattle.object_values.specs.declared.object.Object.{Object}
-use Rattle.object_values.specs.declared.object.Object.TheVariants as o
+use Rattle.object_heap.specs.Parts.{class_of, message_of}
 use Rattle.object_heap.specs.declared.outcome.Which.{Which}
 use Rattle.object_heap.specs.declared.outcome.Which.TheVariants as which
 use Rattle.object_heap.specs.declared.outcome.End.{End}
@@ -44,17 +44,17 @@ message_json None = null
 message_json (Some text) = string (bytes text)
 
 -- the short name of a class; what is no class's number has none
-abbrev pub class_name : ℕ → List ℕ
-class_name class = if nat_lt class 57 then short_name class else []
+abbrev pub class_name : Option ℕ → List ℕ
+class_name None = []
+class_name (Some class) = if nat_lt class 57 then short_name class else []
 
-abbrev pub thrown_reply : ℕ → Option (List ℕ) → Data
-thrown_reply class message =
+abbrev pub thrown_as : Option ℕ → Option (List ℕ) → Data
+thrown_as class message =
     only (codes "error") (object (member (codes "class") (string (class_name class)) (member (codes "kind") (string (codes "thrown")) (member (codes "message") (message_json message) no_members))))
 
--- What was thrown is an exception. Another object would be told by its kind.
-abbrev pub thrown_by : Option Object → Data
-thrown_by (Some (o.Exc class message)) = thrown_reply class message
-thrown_by other = kind_reply (codes "result-kind")
+-- what was thrown, which is an exception, is told by its class and its message
+abbrev pub thrown_reply : List Object → ℕ → Data
+thrown_reply objects id = thrown_as (class_of objects id) (message_of objects id)
 
 abbrev pub limit_kind : Which → List ℕ
 limit_kind which.Loop = codes "limit-loop"
@@ -65,7 +65,7 @@ limit_kind which.Room = codes "limit-room"
 -- the reply to a run that ended so and left these objects
 abbrev pub reply_of : End → List Object → Data
 reply_of (e.Value value) objects = result_reply (given_of objects value)
-reply_of (e.Thrown id) objects = thrown_by (slice_get objects id)
+reply_of (e.Thrown id) objects = thrown_reply objects id
 reply_of (e.Limit which) objects = kind_reply (limit_kind which)
 
 -- whether a reply is an error

@@ -4,7 +4,7 @@ ghost use Rattle.std.specs.Prelude.{◌≡◌, IfOk};
 ghost use Rattle.serde_json.specs.View.{view};
 ghost use Rattle.json_replies.specs.Replies.{reply_of};
 
-use crate::errors::{limit_kind, thrown_by};
+use crate::errors::{limit_kind, thrown_reply};
 use crate::results::{kind_reply, result_reply};
 use object_heap::{End, Heap};
 use serde_json::Value as Json;
@@ -16,7 +16,7 @@ pub fn reply_of(alloc: Global, end: &End, heap: &Heap) -> Result<Json, AllocErro
 {
     match end {
         End::Value(value) => result_reply(alloc, heap, value),
-        End::Thrown(id) => thrown_by(alloc, heap.get(*id)),
+        End::Thrown(id) => thrown_reply(alloc, heap, *id),
         End::Limit(which) => kind_reply(alloc, limit_kind(*which)),
     }
 }
