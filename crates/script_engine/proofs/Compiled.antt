@@ -69,6 +69,10 @@ pub variables_from : (allow : AllowList) (context : ContextTypes) (text : List �
     → (fun_of p.main).params ≡ map variable_of context.variables
 variables_from allow context text p h = let tree = typed_from allow context text p h in (has_context allow context tree.0 p tree.1).variables
 
+-- .. and its result is the context's
+pub result_from : (allow : AllowList) (context : ContextTypes) (text : List ℕ) (p : Program) → IsProgramOf allow context text (Ok p) → (fun_of p.main).result ≡ context.result
+result_from allow context text p h = let tree = typed_from allow context text p h in (has_context allow context tree.0 p tree.1).result
+
 -- each statement of a text's program is reached
 pub reached_from : (allow : AllowList) (context : ContextTypes) (text : List ℕ) (p : Program) → IsContext context → IsProgramOf allow context text (Ok p) → Reached (program_of p)
 reached_from allow context text p good h = let tree = typed_from allow context text p h in typing_reaches allow context tree.0 p good tree.1

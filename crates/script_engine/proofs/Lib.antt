@@ -4,6 +4,7 @@ pub mod Placed
 pub mod Compiled
 pub mod Ends
 pub mod Fitting
+pub mod Typed
 pub mod Left
 pub mod Runs
 pub mod Words

@@ -14,6 +14,7 @@ use Rattle.program_typing.specs.Agreeing.{types_in}
 use Rattle.typing_soundness.specs.Laws.{IsContext}
 use Rattle.script_engine.specs.Programs.{IsProgramOf}
 use Rattle.script_engine.specs.Ends.{RunsTo}
+use Rattle.script_engine.specs.Typed.{HasVariables, EndIsOf}
 
 -- A text is a program or is refused,
 abbrev pub TextsAreAnswered : Type 0
@@ -39,3 +40,11 @@ ProgramsEndOnce = (p : Program) (limits : Limits) (args : List Value) (w : World
 abbrev pub ProgramsFit : Type 0
 ProgramsFit = (rules : Rules) (p : Program) (limits : Limits) (args : List Value) (w : World) (end : End Value) → Fits rules w.store.objects → AllFit (count_in w) args → RunsTo p limits args w end
     → EndFits ValueFits rules w.store.objects end
+
+-- .. And where the arguments are of the types of the context's variables, what is given is of the context's result type in the store that is
+-- left.
+abbrev pub ProgramsAreTyped : Type 0
+ProgramsAreTyped =
+    (rules : Rules) (allow : AllowList) (context : ContextTypes) (text : List ℕ) (p : Program) → IsContext context → IsProgramOf allow context text (Ok p)
+    → (limits : Limits) → limits.allowed ≡ allow → (args : List Value) (w : World) (end : End Value) → Fits rules w.store.objects → HasVariables w.store.objects context args
+    → RunsTo p limits args w end → EndIsOf context.result end

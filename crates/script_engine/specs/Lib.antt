@@ -4,4 +4,5 @@ pub mod Compiling
 pub mod Ends
 pub mod Fitting
 pub mod Running
+pub mod Typed
 pub mod Laws

@@ -5,6 +5,7 @@ ghost use Rattle.object_heap.specs.Fits.{AllFit, Fits, Rules};
 ghost use Rattle.object_values.specs.declared.object.Object.{Object};
 ghost use Rattle.machine.specs.Fitting.{NowFits};
 ghost use Rattle.script_engine.specs.Fitting.{LeavesFit};
+ghost use Rattle.script_engine.specs.Typed.{GivesTyped};
 ghost use Rattle.verifier_soundness.specs.Rows.{HaveRows};
 ghost use Rattle.verified_machine.specs.Tasks.{ending, SparesMemory};
 ghost use Rattle.script_engine.specs.Running.{RunsAsItsProgram, LeftOf, Comes, IsEnd, TakesArguments, begun, value_of, word_in, words_in, end_left, params_of};
@@ -159,6 +160,9 @@ impl Script {
         // Where the heap and the arguments fit, so do the heap and the end that are left, by the same rules: those of the code, and those of
         // the program. A number that is thrown is an exception's, and each object is still there, of its kind and of its class.
         ensures heap { (rules : Rules) → Fits rules heap.objects → AllFit (length heap.objects) args.items → IfOk result (LeavesFit rules heap.objects) }
+        // Where the heap fits and each argument is of its variable's type in it, the value that is given is of the result's type in what is
+        // left.
+        ensures typed { (rules : Rules) → Fits rules heap.objects → IfOk result (GivesTyped self.now heap args.items) }
     {
         programs_end();
         let activation = self.start(heap, args, limits)?;

@@ -6,6 +6,7 @@ use Rattle.script_engine.proofs.Compiled.{formed_from, variables_from}
 use Rattle.script_engine.proofs.Ends.{ends_some, ends_once}
 use Rattle.script_engine.proofs.Fitting.{programs_fit}
 use Rattle.script_engine.proofs.Texts.{text_once, text_some}
+use Rattle.script_engine.proofs.Typed.{programs_are_typed}
 use Rattle.script_engine.proofs.laws.script_laws.Goals as goal
 
 pub returns-clause-answered : goal.returns-clause-answered
@@ -23,3 +24,6 @@ returns-clause-ends_once c = ends_once
 
 pub returns-clause-fit : goal.returns-clause-fit
 returns-clause-fit c = programs_fit
+
+pub returns-clause-typed : goal.returns-clause-typed
+returns-clause-typed c = programs_are_typed
