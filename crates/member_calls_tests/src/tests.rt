@@ -54,7 +54,7 @@ fn members_act_by_their_numbers(rt: HostRuntime) -> Result<(), Fail> {
 }
 
 // The first and the last member of each part of the catalogue, and whether it is built.
-const BUILT: [(u32, bool); 17] = [
+const BUILT: [(u32, bool); 18] = [
     (0, true),
     (3, true),
     (57, true),
