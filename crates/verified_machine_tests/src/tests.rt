@@ -6,8 +6,9 @@ use allowlist::{Allow, Catalogue};
 use code_meaning::Word;
 use machine::{Limits, RunEnd, RunOutcome};
 use object_heap::{Heap, Which};
-use object_values::{Elements, Value};
+use object_values::{Elements, Object, Value};
 use pl_code::read_listing;
+use pl_types::classes::{CLASS_CAST_EXCEPTION, NULL_POINTER_EXCEPTION};
 use std::alloc::{AllocError, Global};
 use std::test::Fail;
 use task_core::run_order;
@@ -38,6 +39,51 @@ const HEADERS: [(&str, Which); 2] = [
     ),
 ];
 
+/// Calls of members with receivers and arguments of other classes, of null, and of the classes that are asked for, and which class
+/// of exception ends the run where no tick may be paid: where there is none, the call comes to its tick.
+const CALLED: [(&str, Option<u32>); 10] = [
+    (
+        "painless 1\nfun 0 loop R - -\ntext \"a\"\ninvoke java.lang.Exception.getMessage/0\nret\nend\n",
+        Some(CLASS_CAST_EXCEPTION),
+    ),
+    (
+        "painless 1\nfun 0 loop R - -\nnull\ninvoke java.lang.Exception.getMessage/0\nret\nend\n",
+        Some(NULL_POINTER_EXCEPTION),
+    ),
+    (
+        "painless 1\nfun 0 loop R - -\ni 1\nbox int\ninvoke java.lang.CharSequence.length/0\nbox int\nret\nend\n",
+        Some(CLASS_CAST_EXCEPTION),
+    ),
+    (
+        "painless 1\nfun 0 loop R - -\nnull\ninvoke java.lang.CharSequence.length/0\nbox int\nret\nend\n",
+        Some(NULL_POINTER_EXCEPTION),
+    ),
+    (
+        "painless 1\nfun 0 loop R - -\ntext \"a\"\ninvoke java.lang.CharSequence.length/0\nbox int\nret\nend\n",
+        None,
+    ),
+    (
+        "painless 1\nfun 0 loop R - -\ntext \"a\"\ni 1\nbox int\ninvoke java.lang.String.concat/1\nret\nend\n",
+        Some(CLASS_CAST_EXCEPTION),
+    ),
+    (
+        "painless 1\nfun 0 loop R - -\ntext \"a\"\nnull\ninvoke java.lang.String.concat/1\nret\nend\n",
+        None,
+    ),
+    (
+        "painless 1\nfun 0 loop R - -\ni 1\nbox int\ntext \"a\"\ninvoke java.lang.String.concat/1\nret\nend\n",
+        Some(CLASS_CAST_EXCEPTION),
+    ),
+    (
+        "painless 1\nfun 0 loop R - -\ni 1\nbox int\nnew java.lang.Exception/1\nret\nend\n",
+        Some(CLASS_CAST_EXCEPTION),
+    ),
+    (
+        "painless 1\nfun 0 loop R - -\nnull\nnew java.lang.Exception/1\nret\nend\n",
+        None,
+    ),
+];
+
 const LIMITS: Limits = Limits {
     loops: 5,
     depth: 100,
@@ -62,6 +108,7 @@ fn verified(
 fn started<'c>(
     alloc: Global,
     code: &'c VerifiedExecutable,
+    limits: Limits,
 ) -> Result<Option<VerifiedActivation<'c>>, AllocError> {
     let arguments = Elements::new(alloc);
     if !have_rows(code.allow(), code.code()) {
@@ -71,7 +118,7 @@ fn started<'c>(
         return Ok(None);
     }
     let heap = Heap::new(alloc, 1000);
-    match VerifiedActivation::start(code, heap, arguments, LIMITS) {
+    match VerifiedActivation::start(code, heap, arguments, limits) {
         Ok(activation) => Ok(Some(activation)),
         Err(error) => Err(error),
     }
@@ -111,7 +158,10 @@ fn take_turns(
 ) -> Result<bool, AllocError>
     requires { 0 < q }
 {
-    match (started(alloc, first)?, started(alloc, second)?) {
+    match (
+        started(alloc, first, LIMITS)?,
+        started(alloc, second, LIMITS)?,
+    ) {
         (Some(sum), Some(calls)) => {
             let mut tasks = Vec::new(alloc);
             tasks.push(sum)?;
@@ -163,7 +213,7 @@ fn to_the_end(rt: HostRuntime) -> Result<(), Fail> {
     let Some(code) = verified(rt.alloc(), &allow, SUM)? else {
         return Err("not verified")?;
     };
-    let Some(activation) = started(rt.alloc(), &code)? else {
+    let Some(activation) = started(rt.alloc(), &code, LIMITS)? else {
         return Err("not started")?;
     };
     let outcome = activation.finish()?;
@@ -200,7 +250,7 @@ fn ends_at(activation: VerifiedActivation<'_>, wanted: Which) -> bool {
 fn passes(alloc: Global, listing: &str, wanted: Which) -> Result<bool, AllocError> {
     let allow = Catalogue::full(alloc)?;
     match verified(alloc, &allow, listing)? {
-        Some(code) => match started(alloc, &code)? {
+        Some(code) => match started(alloc, &code, LIMITS)? {
             Some(mut activation) => {
                 activation.advance(1_000);
                 Ok(ends_at(activation, wanted))
@@ -217,6 +267,57 @@ fn limits_of_turns(rt: HostRuntime) -> Result<(), Fail> {
     for (listing, wanted) in HEADERS.iter() {
         let ends = passes(rt.alloc(), listing, *wanted)?;
         assert!(rt; ends);
+    }
+    Ok(())
+}
+
+/// Whether a run has paid no tick and called no member, and has ended with an exception of a class without a message, or, where there
+/// is none, for want of ticks.
+fn is_refused(outcome: &RunOutcome, wanted: Option<u32>) -> bool {
+    outcome.ticks == 0 && outcome.reached.as_slice().is_empty() && ends_so(outcome, wanted)
+}
+
+fn ends_so(outcome: &RunOutcome, wanted: Option<u32>) -> bool {
+    match (&outcome.end, wanted) {
+        (RunEnd::Thrown(id), Some(class)) => is_bare_exception(&outcome.heap, *id, class),
+        (RunEnd::Limit(which), None) => *which == Which::Ticks,
+        _ => false,
+    }
+}
+
+fn is_bare_exception(heap: &Heap, id: u32, wanted: u32) -> bool {
+    match heap.get(id) {
+        Some(Object::Exc { class, message }) => *class == wanted && message.is_none(),
+        _ => false,
+    }
+}
+
+fn called_without_ticks(
+    alloc: Global,
+    listing: &str,
+    wanted: Option<u32>,
+) -> Result<bool, AllocError> {
+    let limits = Limits {
+        loops: 5,
+        depth: 100,
+        ticks: 0,
+    };
+    let allow = Catalogue::full(alloc)?;
+    match verified(alloc, &allow, listing)? {
+        Some(code) => match started(alloc, &code, limits)? {
+            Some(activation) => Ok(is_refused(&activation.finish()?, wanted)),
+            None => Ok(false),
+        },
+        None => Ok(false),
+    }
+}
+
+/// The classes of receivers and arguments are tested before a call is paid.
+#[test]
+fn classes_of_calls(rt: HostRuntime) -> Result<(), Fail> {
+    for (listing, wanted) in CALLED.iter() {
+        let refused = called_without_ticks(rt.alloc(), listing, *wanted)?;
+        assert!(rt; refused);
     }
     Ok(())
 }
