@@ -1,5 +1,5 @@
 -- Calls of members that rules give agree, where their parts do.
-use Rattle.std.proofs.Common.{◌≡◌, ℕ, suc, ◌+◌, Bool, true, false, not, ◌&&◌, List, [], ◌∷◌, ◌++◌, map, length, Option, Some, None, Ok, refl, sym, ap, ◌∙◌, subst, arith, eqb-true, ◌⊎◌, inl, inr, codes}
+use Rattle.std.proofs.Common.{◌≡◌, ℕ, suc, ◌+◌, Bool, true, false, ◌&&◌, List, [], ◌∷◌, ◌++◌, map, length, Option, Some, None, Ok, refl, sym, ap, ◌∙◌, subst, arith, eqb-true, ◌⊎◌, inl, inr, codes}
 use Rattle.std.specs.Prelude.{slice_get, ◌==◌, if◌then◌else◌}
 use Rattle.std.specs.List.{list_all}
 use Rattle.std.specs.Str.{bytes_eq}
@@ -36,7 +36,7 @@ use Rattle.typing_rules.specs.Rules.Nodes.{applied, part, type_of_part}
 use Rattle.typing_rules.specs.Rules.Types.{is_built_class}
 use Rattle.typing_rules.specs.Rules.Casts.{cast_to}
 use Rattle.typing_rules.specs.Rules.Operators.{primitive_layer, primitive_of, is_primitive}
-use Rattle.typing_rules.specs.Rules.Members.{is_open_layer, is_open, is_waiting, is_open_member, is_open_at, is_kind, wanted, member, cast_all, member_arguments, guards, gives_primitive, nullable, result, instance_node, instance_call, called_layer, method_of, static_node, static_call, static_layer, static_of, constructed, new_layer, new_of, or_else, capital, getter, plainly, is_map, read_named, read_layer, read_of, field_node, field_layer, field_of}
+use Rattle.typing_rules.specs.Rules.Members.{is_open_layer, is_open, is_open_member, is_open_at, is_kind, wanted, member, cast_all, member_arguments, guards, gives_primitive, nullable, result, instance_node, instance_call, called_layer, method_of, static_node, static_call, static_layer, static_of, constructed, new_layer, new_of, or_else, capital, getter, plainly, is_map, read_named, read_layer, read_of, field_node, field_layer, field_of}
 use Rattle.source_meaning.specs.Tree.{type_of}
 use Rattle.source_meaning.specs.Programs.{exprs_of, expr_of}
 use Rattle.program_typing.specs.Types.{IsReference, IsGiven}
@@ -67,8 +67,7 @@ record Opens (number : ℕ) : Type 0 where
 
 opens : (number : ℕ) → is_open_at number ≡ true → Opens number
 opens number e =
-    let member = and_parts (not (is_waiting number)) (is_open_member (member_at number)) e in
-    let first = and_parts (is_built_class (member_at number).owner) (list_all is_open (member_at number).params && is_open (member_at number).result) member.1 in
+    let first = and_parts (is_built_class (member_at number).owner) (list_all is_open (member_at number).params && is_open (member_at number).result) e in
     let second = and_parts (list_all is_open (member_at number).params) (is_open (member_at number).result) first.1 in
     record {
       is = e;
@@ -116,7 +115,7 @@ record Allowed (allow : AllowList) (arity number : ℕ) : Type 0 where
 
 -- a member that is open is built: each row of the catalogue is tested
 abbrev open_and_built : ℕ → MemberType → Bool
-open_and_built n m = if_then (not (is_waiting n) && is_open_member m) (built_range n)
+open_and_built n m = if_then (is_open_member m) (built_range n)
 
 all_built : holds_of_all open_and_built ≡ true
 unfolding catalogue container_ranges out-Ty denote.Hole.Carrier.out

@@ -1,5 +1,5 @@
 -- Members: which one a name means, and its call.
-use Rattle.std.specs.Prelude.{ℕ, ◌-◌, ◌==◌, ◌&&◌, ◌||◌, nat_le, not, Bool, true, false, List, [], ◌∷◌, ◌++◌, codes, length, Option, Some, None, Ok, if◌then◌else◌}
+use Rattle.std.specs.Prelude.{ℕ, ◌-◌, ◌&&◌, nat_le, Bool, true, false, List, [], ◌∷◌, ◌++◌, codes, length, Option, Some, None, Ok, if◌then◌else◌}
 use Rattle.std.specs.List.{list_all}
 use Rattle.pl_types.specs.declared.ty.Ty.{Ty, out-Ty}
 use Rattle.pl_types.specs.declared.ty.Ty.TheOpen.{Ty-F}
@@ -35,17 +35,13 @@ is_open_layer layer = is_built_layer layer
 abbrev pub is_open : Ty → Bool
 is_open of = is_open_layer (out-Ty of)
 
--- the members of Collection that lists do not have yet: containsAll, removeAll and retainAll
-abbrev pub is_waiting : ℕ → Bool
-is_waiting number = number == 101 || (number == 104 || number == 105)
-
--- Built are the members of the classes that are built, but for those that name another class or an array, and those that wait. (The
+-- Built are the members of the classes that are built, but for those that name another class or an array. (The
 -- members that the prelude has take functions.)
 abbrev pub is_open_member : MemberType → Bool
 is_open_member m = is_built_class m.owner && (list_all is_open m.params && is_open m.result)
 
 abbrev pub is_open_at : ℕ → Bool
-is_open_at number = not (is_waiting number) && is_open_member (member_at number)
+is_open_at number = is_open_member (member_at number)
 
 -- a member of the kind that is wanted
 abbrev pub is_kind : MemberKind → MemberKind → Bool

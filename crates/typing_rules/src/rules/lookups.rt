@@ -68,13 +68,6 @@ fn all_open(types: &[Ty]) -> bool
     types.iter().all(|of| is_open(of))
 }
 
-/// Whether a member is one of those of Collection that lists do not have yet: containsAll, removeAll and retainAll.
-fn is_waiting(number: u32) -> bool
-    ensures { result ≡ spec.is_waiting number }
-{
-    number == 101 || (number == 104 || number == 105)
-}
-
 /// Whether all types that a member names are built.
 fn is_open_member(member: &MemberType) -> bool
     ensures { result ≡ spec.is_open_member member.now }
@@ -87,7 +80,7 @@ fn is_open_at(allow: &Allow, number: u32) -> bool
     requires { number < length allow.now.members }
     ensures { result ≡ spec.is_open_at number }
 {
-    !is_waiting(number) && is_open_member(member_at(allow, number))
+    is_open_member(member_at(allow, number))
 }
 
 fn is_kind(wanted: MemberKind, kind: MemberKind) -> bool
