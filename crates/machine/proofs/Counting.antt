@@ -1,5 +1,5 @@
 -- A turn pays a tick, so that the turns of each frame and the ticks that are left stay within 64 bits together.
-use Rattle.std.proofs.Common.{◌≡◌, ℕ, ℤ, suc, ◌+◌, ◌-◌, ◌<◌, ◌^◌, ◌||◌, Bool, true, false, List, [], ◌∷◌, Option, Some, None, refl, sym, subst, arith}
+use Rattle.std.proofs.Common.{◌≡◌, ℕ, ℤ, zero, suc, ◌+◌, ◌-◌, ◌<◌, ◌^◌, ◌||◌, Bool, true, false, List, [], ◌∷◌, Option, Some, None, refl, sym, subst, arith}
 use Rattle.std.specs.Prelude.{slice_get, nat_lt, not, if◌then◌else◌}
 use Rattle.std.proofs.lemmas.Bool.{ltb-true}
 use Rattle.pl_types.specs.declared.ty.Ty.{Ty}
@@ -36,8 +36,9 @@ use Rattle.code_meaning.specs.declared.word.Word.{Word}
 use Rattle.code_meaning.specs.declared.word.Word.TheVariants.{I, J, R}
 use Rattle.code_meaning.specs.Members.{Receiving, Unfit, OnNull, Receives, Reads, count_of, given_as, received}
 use Rattle.code_meaning.specs.Words.{Calculation, NoRow, Calculates, boxed, calculation, unboxed}
-use Rattle.code_meaning.specs.Machine.{Codes, code_in, function_of, Frame, Config, Next, Goes, Ends, Stuck, Handlers, is_instance, lands, traps_of, unwind, on_top, on_int, on_reference, on_value, on_local, on_stack, on_words, to_line, take_words, copied, depth_of, is_written, on_outcome, on_thrown, on_calculation, gives_back, returns, returns_of, on_turn, on_enter, on_call, on_act, on_paid, on_tested, on_received, plain_act, numbered_act, quoted_act, typed_act, member_act, act, acts, lines_of, step}
+use Rattle.code_meaning.specs.Machine.{Codes, code_in, function_of, Frame, Config, Next, Goes, Ends, Stuck, Handlers, is_instance, lands, traps_of, unwind, on_top, on_int, on_reference, on_value, on_local, on_stack, on_words, to_line, take_words, copied, depth_of, is_written, on_outcome, on_thrown, on_calculation, gives_back, returns, returns_of, on_turn, on_enter, on_call, on_act, on_paid, on_tested, on_received, plain_act, numbered_act, quoted_act, typed_act, member_act, act, acts, lines_of, step, after}
 use Rattle.code_fit.proofs.Nexts.{int_holds, long_holds, type_holds, loops_hold, either_holds, null_holds}
+use Rattle.machine.specs.Fast.{Leads}
 use Rattle.machine.specs.Runs.{TurnsFit, CountsFit}
 
 -- ---- ticks
@@ -331,3 +332,12 @@ module _ (codes : Codes) (limits : Limits) where
 
   pub counts_on : (c d : Config) → CountsFit c → step codes limits c ≡ Goes d → CountsFit d
   counts_on c d h e = subst NextFits e (acts_fit c.top c.below c.world h (slice_get (lines_of codes limits (function_of codes c.top)) c.top.line))
+
+  after_fits : (k : ℕ) (n : Next) → NextFits n → NextFits (after codes limits k n)
+  after_fits zero n h = h
+  after_fits (suc k) (Goes c) h = after_fits k (step codes limits c) (acts_fit c.top c.below c.world h (slice_get (lines_of codes limits (function_of codes c.top)) c.top.line))
+  after_fits (suc k) (Ends r) h = h
+  after_fits (suc k) Stuck h = h
+
+  pub counts_led : (k : ℕ) (c d : Config) → Leads codes limits k c d → CountsFit c → CountsFit d
+  counts_led k c d l h = subst NextFits (l.leads 0) (after_fits (k + 0) (Goes c) h)

@@ -5,6 +5,7 @@ pub mod Ended
 pub mod Fitted
 pub mod Turning
 pub mod Rows
+pub mod Quick
 pub mod Reaching
 pub mod Given
 pub mod Handling

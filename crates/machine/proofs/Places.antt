@@ -1,7 +1,7 @@
 -- Words of the frames that lie one on the other.
-use Rattle.std.proofs.Common.{◌≡◌, ℕ, zero, suc, ◌+◌, ◌-◌, ◌<◌, ◌≤◌, List, [], ◌∷◌, length, slice_set, Some, None, arith, refl, ap, sym, subst, ◌∙◌}
+use Rattle.std.proofs.Common.{◌≡◌, ℕ, zero, suc, ◌+◌, ◌-◌, ◌<◌, ◌≤◌, List, [], ◌∷◌, ◌++◌, length, slice_set, Some, None, arith, refl, ap, sym, subst, ◌∙◌}
 use Rattle.std.specs.Prelude.{get_or, slice_get, take, drop, reverse}
-use Rattle.std.proofs.lemmas.List.{drop-take, length-drop, length-reverse, length-take, drop-set-lt, drop-set-add, take-set-le, get_or-reverse, get_or-drop}
+use Rattle.std.proofs.lemmas.List.{drop-take, length-drop, length-reverse, length-take, drop-set-lt, drop-set-add, take-set-le, get_or-reverse, get_or-drop, reverse-append, reverse-reverse, set-append_right}
 use Rattle.std.proofs.lemmas.Option.{slice_get-get_or, slice_get_past}
 use Rattle.std.proofs.Math.Seq.{take-set-lt, take-length, drop-length}
 use Rattle.code_meaning.specs.declared.word.Word.{Word}
@@ -37,6 +37,59 @@ module _ {X : Type 0} (n : ℕ) (xs : List X) where
 
   pub none_upper : length xs ≤ n → slice_get (reverse (drop n xs)) 0 ≡ None
   none_upper h = slice_get_past (reverse (drop n xs)) 0 (omega (arith, length-reverse (drop n xs), length-drop n xs))
+
+-- The second word from the top
+module _ {X : Type 0} (n : ℕ) (xs : List X) where
+  last_lower : (d : X) → n + 2 ≤ length xs → get_or (reverse (drop n xs)) 1 d ≡ get_or xs (length xs - 2) d
+  last_lower d h =
+      get_or-reverse (drop n xs) 1 d (omega (arith, length-drop n xs)) ∙ get_or-drop n xs (length (drop n xs) - 1 - 1) d
+      ∙ ap (λ k. get_or xs k d) {x = n + (length (drop n xs) - 1 - 1)} {y = length xs - 2} (omega (arith, length-drop n xs))
+
+  pub lower : n + 2 ≤ length xs → slice_get (reverse (drop n xs)) 1 ≡ slice_get xs (length xs - 2)
+  lower h = last xs refl where
+    last : (ys : List X) → xs ≡ ys → slice_get (reverse (drop n xs)) 1 ≡ slice_get xs (length xs - 2)
+    last [] e = absurd (omega (arith, ap length e))
+    last (d ∷ ys) e =
+        slice_get-get_or (reverse (drop n xs)) 1 d (omega (arith, length-reverse (drop n xs), length-drop n xs)) ∙ ap Some (last_lower d h)
+        ∙ sym (slice_get-get_or xs (length xs - 2) d (omega arith))
+
+  pub none_lower : length xs < n + 2 → slice_get (reverse (drop n xs)) 1 ≡ None
+  none_lower h = slice_get_past (reverse (drop n xs)) 1 (omega (arith, length-reverse (drop n xs), length-drop n xs))
+
+pub left_below : (word : Word) (stack rest : List Word) → stack ≡ word ∷ rest → rest ≡ drop 1 stack
+left_below word stack rest e = sym (ap (drop 1) e)
+
+-- ---- a word that is written in the place of the last one
+
+module _ {X : Type 0} where
+  turned : (r x : X) (rs : List X) → reverse (slice_set (reverse (r ∷ rs)) (length rs) x) ≡ x ∷ rs
+  turned r x rs =
+      ap (λ ys. reverse (slice_set ys (length rs) x)) (reverse-append (r ∷ []) rs)
+      ∙ ap reverse (set-append_right (reverse rs) (r ∷ []) (length rs) (length rs) x (length-reverse rs) (omega arith))
+      ∙ ap (λ k. reverse (reverse rs ++ slice_set (r ∷ []) k x)) {x = length rs - length rs} {y = 0} (omega arith)
+      ∙ reverse-append (reverse rs) (x ∷ []) ∙ ap (λ ys. x ∷ ys) (reverse-reverse rs)
+
+  last_written : (xs : List X) (x : X) → 0 < length xs → reverse (slice_set xs (length xs - 1) x) ≡ x ∷ drop 1 (reverse xs)
+  last_written xs x h = by_last (reverse xs) refl where
+    by_last : (rs : List X) → reverse xs ≡ rs → reverse (slice_set xs (length xs - 1) x) ≡ x ∷ drop 1 (reverse xs)
+    by_last [] e = absurd (omega (arith, length-reverse xs, ap length e))
+    by_last (r ∷ rs) e =
+        ap (λ ys. reverse (slice_set ys (length xs - 1) x)) (sym (reverse-reverse xs) ∙ ap reverse e)
+        ∙ ap (λ k. reverse (slice_set (reverse (r ∷ rs)) k x)) {x = length xs - 1} {y = length rs} (omega (arith, length-reverse xs, ap length e))
+        ∙ turned r x rs ∙ ap (λ ys. x ∷ drop 1 ys) (sym e)
+
+  pub upper_written : (n : ℕ) (xs : List X) (x : X) → n < length xs → reverse (drop n (slice_set xs (length xs - 1) x)) ≡ x ∷ drop 1 (reverse (drop n xs))
+  upper_written n xs x h =
+      ap (λ k. reverse (drop n (slice_set xs k x))) {x = length xs - 1} {y = n + (length (drop n xs) - 1)} (omega (arith, length-drop n xs))
+      ∙ ap reverse (drop-set-add n xs (length (drop n xs) - 1) x) ∙ last_written (drop n xs) x (omega (arith, length-drop n xs))
+
+  pub locals_below : (base locals : ℕ) (xs : List X) (x : X) → base + locals < length xs → take locals (drop base (slice_set xs (length xs - 1) x)) ≡ take locals (drop base xs)
+  locals_below base locals xs x h =
+      ap (λ k. take locals (drop base (slice_set xs k x))) {x = length xs - 1} {y = base + (length xs - 1 - base)} (omega arith)
+      ∙ ap (take locals) (drop-set-add base xs (length xs - 1 - base) x) ∙ take-set-le locals (drop base xs) (length xs - 1 - base) x (omega arith)
+
+  pub rest_below : (base : ℕ) (xs : List X) (x : X) → base < length xs → take base (slice_set xs (length xs - 1) x) ≡ take base xs
+  rest_below base xs x h = take-set-le base xs (length xs - 1) x (omega arith)
 
 lying : (hs : List Held) (xs : List Word) → depth_of (lie hs xs) ≡ length hs
 lying [] xs = refl

@@ -1,7 +1,8 @@
 -- Instructions one after the other.
 use Rattle.std.proofs.Common.{◌≡◌, ℕ, zero, suc, true, false, ◌+◌, ◌-◌, ◌<◌, refl, sym, ap, ◌∙◌, arith}
 use Rattle.run_state.specs.World.{World, Limits}
-use Rattle.code_meaning.specs.Machine.{Next, Goes, step, after, Codes}
+use Rattle.code_meaning.specs.Machine.{Config, Next, Goes, step, after, Codes}
+use Rattle.machine.specs.Fast.{Leads}
 use Rattle.machine.specs.declared.configuration.Configuration.{Configuration}
 use Rattle.machine.specs.declared.configuration.RunEnd.{RunEnd}
 use Rattle.machine.specs.declared.configuration.RunEnd.TheVariants as end
@@ -22,25 +23,41 @@ one_more k m = omega arith
 the_rest : (k count : ℕ) → k < count → k + suc (count - k - 1) ≡ count
 the_rest k count h = omega arith
 
-module _ (codes : Codes) (limits : Limits) where
-  -- From the one configuration so many steps lead to the other.
-  pub record Reached (k : ℕ) (from c : Configuration) : Type 0 where
-    pub leads : (m : ℕ) → after codes limits (k + m) (Goes (configuration_of from)) ≡ after codes limits m (Goes (configuration_of c))
-    pub taken : (m : ℕ) → steps_taken codes limits (k + m) (Goes (configuration_of from)) ≡ k + steps_taken codes limits m (Goes (configuration_of c))
+together : (k j m : ℕ) → (k + j) + m ≡ k + (j + m)
+together k j m = omega arith
 
-  pub begins : (c : Configuration) → Reached 0 c c
-  begins c = record {
-    leads = λ m. ap (λ n. after codes limits n (Goes (configuration_of c))) (zero_add m);
-    taken = λ m. ap (λ n. steps_taken codes limits n (Goes (configuration_of c))) (zero_add m) ∙ sym (zero_add (steps_taken codes limits m (Goes (configuration_of c))));
+module _ (codes : Codes) (limits : Limits) where
+  pub starts : (c : Config) → Leads codes limits 0 c c
+  starts c = record {
+    leads = λ m. ap (λ n. after codes limits n (Goes c)) (zero_add m);
+    taken = λ m. ap (λ n. steps_taken codes limits n (Goes c)) (zero_add m) ∙ sym (zero_add (steps_taken codes limits m (Goes c)));
   }
 
-  pub goes_on : (k : ℕ) (from c d : Configuration) → Reached k from c → step codes limits (configuration_of c) ≡ Goes (configuration_of d) → Reached (k + 1) from d
-  goes_on k from c d r e = record {
-    leads = λ m. ap (λ n. after codes limits n (Goes (configuration_of from))) (one_more k m) ∙ r.leads (suc m) ∙ ap (after codes limits m) e;
+  pub steps_on : (k : ℕ) (from c d : Config) → Leads codes limits k from c → step codes limits c ≡ Goes d → Leads codes limits (k + 1) from d
+  steps_on k from c d r e = record {
+    leads = λ m. ap (λ n. after codes limits n (Goes from)) (one_more k m) ∙ r.leads (suc m) ∙ ap (after codes limits m) e;
     taken = λ m.
-        ap (λ n. steps_taken codes limits n (Goes (configuration_of from))) (one_more k m) ∙ r.taken (suc m)
+        ap (λ n. steps_taken codes limits n (Goes from)) (one_more k m) ∙ r.taken (suc m)
         ∙ ap (λ n. k + suc (steps_taken codes limits m n)) e
-        ∙ sym (one_more k (steps_taken codes limits m (Goes (configuration_of d))));
+        ∙ sym (one_more k (steps_taken codes limits m (Goes d)));
+  }
+
+  -- From the one configuration so many steps lead to the other.
+  abbrev pub Reached : ℕ → Configuration → Configuration → Type 0
+  Reached k from c = Leads codes limits k (configuration_of from) (configuration_of c)
+
+  pub begins : (c : Configuration) → Reached 0 c c
+  begins c = starts (configuration_of c)
+
+  pub goes_on : (k : ℕ) (from c d : Configuration) → Reached k from c → step codes limits (configuration_of c) ≡ Goes (configuration_of d) → Reached (k + 1) from d
+  goes_on k from c d r e = steps_on k (configuration_of from) (configuration_of c) (configuration_of d) r e
+
+  pub joined : (k j : ℕ) (from c d : Configuration) → Reached k from c → Reached j c d → Reached (k + j) from d
+  joined k j from c d r l = record {
+    leads = λ m. ap (λ n. after codes limits n (Goes (configuration_of from))) (together k j m) ∙ r.leads (j + m) ∙ l.leads m;
+    taken = λ m.
+        ap (λ n. steps_taken codes limits n (Goes (configuration_of from))) (together k j m) ∙ r.taken (j + m) ∙ ap (λ n. k + n) (l.taken m)
+        ∙ sym (together k j (steps_taken codes limits m (Goes (configuration_of d))));
   }
 
   pub stays : (m : ℕ) (e : RunEnd) (w : World) → after codes limits m (ended e w) ≡ ended e w

@@ -8,6 +8,7 @@ pub mod Members
 pub mod Links
 pub mod Sparing
 pub mod Runs
+pub mod Fast
 pub mod Activations
 pub mod Fitting
 pub mod Laws

@@ -1,5 +1,5 @@
 //! Frames that lie one on the other in one vector of words.
-ghost use Rattle.std.specs.Prelude.{◌+◌, ◌^◌, ◌++◌, map, nat_le, ◌≡◌, ◌≤◌, ◌<◌, true, suc, [], ◌∷◌, length, option_map, slice_get, slice_set, MatchOption, OnOk, OnErr, IsOk, IfOk};
+ghost use Rattle.std.specs.Prelude.{◌+◌, ◌^◌, ◌++◌, map, nat_le, drop, false, ◌≡◌, ◌≤◌, ◌<◌, true, suc, [], ◌∷◌, length, option_map, slice_get, slice_set, MatchOption, OnOk, OnErr, IsOk, IfOk};
 ghost use Rattle.std.specs.Option.{option_copied};
 ghost use Rattle.std.specs.Vec.{vec_capacity};
 ghost use Rattle.code_meaning.specs.Machine.{depth_of, take_words, code_in, function_of};
@@ -125,6 +125,24 @@ impl Frames {
         })
     }
 
+    /// Frames without words and memory, which stand where others were taken from.
+    pub fn none(alloc: Global) -> Frames {
+        Frames {
+            top: Held {
+                text: Owner::Script,
+                fun: 0,
+                line: 0,
+                turns: 0,
+                base: 0,
+                locals: 0,
+            },
+            below: Vec::new(alloc),
+            words: Vec::new(alloc),
+            room_frames: 0,
+            room_words: 0,
+        }
+    }
+
     /// The memory of all frames, which are dropped.
     pub fn into_memory(self) -> FrameMemory {
         let Frames {
@@ -222,6 +240,65 @@ impl Frames {
             Word::R(_) => self.words[place] = word,
             _ => forget(replace(&mut self.words[place], word)),
         }
+    }
+
+    /// Puts a number on the newest frame's operands and goes on at a line, where there is memory for it. Else nothing changes.
+    #[inline(always)]
+    #[tactic(auto)]
+    pub fn put(&mut self, word: Word, line: usize) -> bool
+        ensures done { result ≡ true → self.new.top ≡ at_line (with_stack self.old.top (word ∷ self.old.top.stack)) line }
+        ensures full { result ≡ false → self.new.top ≡ self.old.top }
+        ensures below { self.new.below ≡ self.old.below }
+        ensures words { self.new.words ≡ self.old.words }
+        ensures depth { self.new.depth ≡ self.old.depth }
+    {
+        if self.words.len() < self.words.capacity() {
+            self.words.push_reserved(word);
+            self.top.line = line;
+            return true;
+        }
+        false
+    }
+
+    /// The operand below the upper one, which stays.
+    #[inline(always)]
+    #[tactic(auto, using(crate::proofs::Places::lower, crate::proofs::Places::none_lower))]
+    pub fn lower(&self) -> Option<&Word>
+        ensures { option_copied result ≡ slice_get self.now.top.stack 1 }
+    {
+        let count = self.words.len();
+        if count - self.top.base - self.top.locals < 2 {
+            return None;
+        }
+        self.words.get(count - 2)
+    }
+
+    /// Takes the upper operand off, which is a number and owns nothing, and goes on at a line.
+    #[inline(always)]
+    #[tactic(auto, using(crate::proofs::Places::left_below))]
+    pub fn drop_number(&mut self, line: usize)
+        ensures top { self.new.top ≡ at_line (with_stack self.old.top (drop 1 self.old.top.stack)) line }
+        ensures below { self.new.below ≡ self.old.below }
+        ensures words { self.new.words ≡ self.old.words }
+        ensures depth { self.new.depth ≡ self.old.depth }
+    {
+        forget(self.pop());
+        self.top.line = line;
+    }
+
+    /// Writes a number in the place of the upper operand, which is a number, and goes on at a line.
+    #[inline(always)]
+    #[tactic(auto, using(crate::proofs::Places::upper_written, crate::proofs::Places::locals_below, crate::proofs::Places::rest_below, crate::proofs::Entering::height_is))]
+    pub fn write_upper(&mut self, word: Word, line: usize)
+        requires { 0 < length self.old.top.stack }
+        ensures top { self.new.top ≡ at_line (with_stack self.old.top (word ∷ drop 1 self.old.top.stack)) line }
+        ensures below { self.new.below ≡ self.old.below }
+        ensures words { self.new.words ≡ self.old.words }
+        ensures depth { self.new.depth ≡ self.old.depth }
+    {
+        let place = self.words.len() - 1;
+        forget(replace(&mut self.words[place], word));
+        self.top.line = line;
     }
 
     /// Takes all operands of the newest frame off.

@@ -52,7 +52,7 @@ pub fn arithmetic(
 }
 
 #[inline(always)]
-fn word_of(number: Num) -> Word
+pub fn word_of(number: Num) -> Word
     ensures { result ≡ words.word_of number }
 {
     match number {
@@ -102,14 +102,14 @@ fn longs(frames: &mut Frames, op: ArithmeticOp) -> Operated
 }
 
 #[inline(always)]
-fn takes_one(op: ArithmeticOp) -> bool
+pub fn takes_one(op: ArithmeticOp) -> bool
     ensures { result ≡ words.takes_one op }
 {
     matches!(op, ArithmeticOp::Neg | ArithmeticOp::Not)
 }
 
 #[inline(always)]
-fn is_shift(op: ArithmeticOp) -> bool
+pub fn is_shift(op: ArithmeticOp) -> bool
     ensures { result ≡ words.is_shift op }
 {
     matches!(
@@ -235,7 +235,7 @@ fn some_long(number: Option<i64>) -> Option<Num>
 
 // An operator on ints. The operator is chosen here alone.
 #[inline(always)]
-fn on_ints(op: ArithmeticOp, a: i32, b: i32) -> Option<Num>
+pub fn on_ints(op: ArithmeticOp, a: i32, b: i32) -> Option<Num>
     ensures { result ≡ of_type n.Int w32 (words.op_of op) a b }
 {
     match op {
@@ -263,7 +263,7 @@ fn on_ints(op: ArithmeticOp, a: i32, b: i32) -> Option<Num>
 
 // An operator on longs. The right operand of a shift is an int, and is cast to one.
 #[inline(always)]
-fn on_longs(op: ArithmeticOp, a: i64, b: i64) -> Option<Num>
+pub fn on_longs(op: ArithmeticOp, a: i64, b: i64) -> Option<Num>
     ensures { result ≡ of_type n.Long w64 (words.op_of op) a b }
 {
     match op {

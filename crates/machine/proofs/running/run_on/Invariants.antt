@@ -1,4 +1,4 @@
-use Rattle.std.proofs.Common.{◌≡◌}
+use Rattle.std.proofs.Common.{◌≡◌, ◌≤◌, ◌-◌}
 use Rattle.machine.specs.Seen.{room_of, codes_alone, configuration_of, limits_in}
 use Rattle.machine.proofs.Reaching.{Reached}
 use Rattle.machine.proofs.running.run_on.Given as goal
@@ -10,4 +10,8 @@ invariant-instructions l = record {
   leads : Reached (codes_alone l.fn.executable.code.functions) (limits_in l.fn.limits) l.taken l.initial.run l.run;
   counts : CountsFit (configuration_of l.run);
   room : room_of l.run ≡ room_of l.initial.run;
+  within : l.taken ≤ l.fn.count;
 }
+
+abbrev pub decreases-instructions : goal.decreases-instructions
+decreases-instructions l = l.fn.count - l.taken
