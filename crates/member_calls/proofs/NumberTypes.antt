@@ -1,8 +1,7 @@
 -- What members give is of their types.
-use Rattle.std.proofs.Common.{◌≡◌, ℕ, ◌&&◌, Bool, true, false, ℤ, Option, Some, None, List, [], ◌∷◌, refl, sym, subst, slice_get, is_some, if◌then◌else◌}
+use Rattle.std.proofs.Common.{◌≡◌, ℕ, ◌&&◌, Bool, true, false, ℤ, Option, Some, None, List, refl, slice_get, if◌then◌else◌}
 use Rattle.std.specs.Prelude.{pos, negsuc, int_lt, int_le}
 use Rattle.std.specs.Ordering.{int_eq}
-use Rattle.std.proofs.lemmas.Bool.{false≢true}
 use Rattle.pl_types.specs.declared.primitive.Primitive.{Primitive}
 use Rattle.pl_types.specs.declared.primitive.Primitive.TheVariants as prim
 use Rattle.object_values.specs.declared.object.Object.{Object}

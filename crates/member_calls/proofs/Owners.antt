@@ -1,5 +1,5 @@
 -- Members that are built stand in the catalogue, and of the classes of which none is missing they are those that the prelude does not have.
-use Rattle.std.proofs.Common.{arith, inl, inr, ◌≡◌, ℕ, Bool, true, false, not, Some, length, refl, sym, ap, ◌∙◌, slice_get, is_some}
+use Rattle.std.proofs.Common.{arith, inl, inr, ◌≡◌, ℕ, Bool, true, false, not, Some, refl, sym, ap, ◌∙◌, slice_get, is_some}
 use Rattle.std.proofs.lemmas.Bool.{both_ways, not-true}
 use Rattle.std.proofs.lemmas.Option.{slice_get_cases}
 use Rattle.allowlist.specs.declared.member.MemberType.{MemberType}

@@ -1,5 +1,5 @@
 -- What members give is of their types: by their rows in the catalogue.
-use Rattle.std.proofs.Common.{arith, inl, inr, ◌≡◌, ◌+◌, ◌-◌, ℕ, nat_le, true, false, ℤ, Option, Some, None, List, [], ◌∷◌, ◌++◌, length, get_or, map, refl, sym, ap, subst, ◌∙◌, slice_get, if◌then◌else◌}
+use Rattle.std.proofs.Common.{arith, inl, inr, ◌≡◌, ◌+◌, ◌-◌, ℕ, true, false, ℤ, Option, Some, None, List, length, get_or, map, refl, sym, ap, subst, ◌∙◌, slice_get, if◌then◌else◌}
 use Rattle.std.specs.Prelude.{option_map}
 use Rattle.std.specs.List.{range_with_len}
 use Rattle.std.proofs.lemmas.Bool.{cond_both, cond-true, cases_lt, both_ways, lt-leb}
@@ -12,13 +12,10 @@ use Rattle.pl_types.specs.declared.ty.Ty.{out-Ty}
 use Rattle.allowlist.specs.declared.member.MemberType.{MemberType}
 use Rattle.allowlist.specs.Catalogue.{catalogue}
 use Rattle.allowlist.proofs.Tables.{length-catalogue}
-use Rattle.object_values.specs.declared.object.Object.{Object}
-use Rattle.object_values.specs.declared.object.Object.TheVariants as o
 use Rattle.object_values.specs.declared.value.Value.{Value}
 use Rattle.object_values.specs.declared.value.Value.TheVariants as v
-use Rattle.object_heap.specs.Effects.{Effect, after_paying}
 use Rattle.object_heap.specs.Effects as e
-use Rattle.object_heap.specs.Store.{Store, charge, paid}
+use Rattle.object_heap.specs.Store.{Store, paid}
 use Rattle.number_ops.specs.declared.member.Member.{Member as NumberMember}
 use Rattle.number_ops.specs.declared.outcome.Outcome.{Outcome as NumberOutcome}
 use Rattle.number_ops.specs.declared.outcome.Outcome.TheVariants as outcome
