@@ -5,10 +5,6 @@
 #[cfg(test)]
 mod joining;
 #[cfg(test)]
-mod rows;
-#[cfg(test)]
-mod running;
-#[cfg(test)]
 mod sample;
 #[cfg(test)]
 mod steps;

@@ -1,96 +1,108 @@
 //! Iterators, step by step, by the numbers of their members.
-use crate::rows::Arg::{Int, Null, Object};
-use crate::rows::Row;
-use crate::running::first_wrong;
-use crate::sample::sample;
+use crate::sample::{Iterables, OBJECTS};
+use member_rows::first_wrong;
 use std::test::Fail;
 
-// An iterator whose element is taken out twice; over the keys of a map that changes; over entries, of which one is set, taken out,
-// and set once more; over a set that is cut by retainAll; over what is frozen, and an array; two over a list that shrinks below the
-// place of the first; and receivers that are null or of another kind.
-const ALL: [Row; 51] = [
-    (86, &[Object(0)], 1008, 99, 0, 3),
-    (166, &[Object(8)], 2001, 99, 0, 3),
-    (167, &[Object(8)], 10, 99, 0, 3),
-    (168, &[Object(8)], -1, 99, 0, 2),
-    (168, &[Object(8)], -45, 88, 0, 2),
-    (167, &[Object(8)], 20, 88, 0, 2),
-    (167, &[Object(8)], 30, 88, 0, 2),
-    (166, &[Object(8)], 2000, 88, 0, 2),
-    (167, &[Object(8)], -48, 87, 0, 2),
-    (86, &[Object(4)], 1011, 86, 3, 2),
-    (167, &[Object(11)], 1, 86, 3, 2),
-    (137, &[Object(3), Int(9), Int(9)], -1, 84, 3, 3),
-    (167, &[Object(11)], -43, 83, 3, 3),
-    (168, &[Object(11)], -43, 82, 3, 3),
-    (86, &[Object(5)], 1014, 81, 3, 3),
-    (167, &[Object(14)], 1015, 78, 3, 3),
-    (165, &[Object(15), Int(70)], 7, 78, 3, 3),
-    (168, &[Object(14)], -1, 78, 3, 2),
-    (165, &[Object(15), Int(71)], -45, 64, 3, 2),
-    (164, &[Object(15)], -1, 64, 3, 2),
-    (166, &[Object(14)], 2001, 64, 3, 2),
-    (167, &[Object(14)], 1017, 61, 3, 2),
-    (86, &[Object(6)], 1018, 60, 6, 2),
-    (167, &[Object(18)], 1, 60, 6, 2),
-    (105, &[Object(6), Object(4)], 2001, 60, 6, 1),
-    (167, &[Object(18)], -48, 59, 6, 1),
-    (86, &[Object(1)], 1020, 58, 1, 2),
-    (168, &[Object(20)], -50, 57, 1, 2),
-    (86, &[Object(7)], 1022, 56, 7, 1),
-    (167, &[Object(22)], 5, 56, 7, 1),
-    (168, &[Object(22)], -50, 55, 7, 1),
-    (86, &[Object(0)], 1024, 54, 0, 2),
-    (86, &[Object(0)], 1025, 53, 0, 2),
-    (167, &[Object(24)], 20, 53, 0, 2),
-    (167, &[Object(24)], 30, 53, 0, 2),
-    (167, &[Object(25)], 20, 53, 0, 2),
-    (168, &[Object(25)], -1, 53, 0, 1),
-    (167, &[Object(25)], 30, 53, 0, 1),
-    (168, &[Object(25)], -1, 53, 0, 0),
-    (166, &[Object(24)], 2001, 53, 0, 0),
-    (167, &[Object(24)], -43, 52, 0, 0),
-    (168, &[Object(24)], -43, 51, 0, 0),
-    (166, &[Object(25)], 2000, 51, 0, 0),
-    (86, &[Null], -49, 50, 0, 0),
-    (166, &[Null], -49, 49, 0, 0),
-    (167, &[Object(0)], -49, 48, 0, 0),
-    (168, &[Object(0)], -49, 47, 0, 0),
-    (166, &[Object(0)], -49, 46, 0, 0),
-    (86, &[Object(8)], -49, 45, 0, 0),
-    (225, &[Object(1)], 5, 45, 1, 2),
-    (225, &[Null], -49, 44, 1, 2),
-];
-
-// With room for one entry and nothing else, and without it.
-const EDGE: [Row; 4] = [
-    (86, &[Object(5)], 1008, 3, 3, 2),
-    (167, &[Object(8)], 1009, 0, 3, 2),
-    (168, &[Object(8)], -1, 0, 3, 1),
-    (168, &[Object(8)], -100, 0, 3, 1),
-];
-
-const BELOW: [Row; 3] = [
-    (86, &[Object(5)], 1008, 2, 3, 2),
-    (167, &[Object(8)], -100, 2, 3, 2),
-    (225, &[Object(2)], -100, 2, 3, 2),
-];
+const ROWS: &str = "\
+room 100
+# an iterator whose element is removed twice
+then 86 @0 | @16 | 1 | @0 0 [10, 20, 30]
+then 166 @16 | true | 0 | @0 0 [10, 20, 30]
+then 167 @16 | 10 | 0 | @0 0 [10, 20, 30]
+then 168 @16 | null | 0 | @0 1 [20, 30]
+then 168 @16 | !IllegalStateException: no element | 11 | @0 1 [20, 30]
+then 167 @16 | 20 | 0 | @0 1 [20, 30]
+then 167 @16 | 30 | 0 | @0 1 [20, 30]
+then 166 @16 | false | 0 | @0 1 [20, 30]
+then 167 @16 | !NoSuchElementException | 1 | @0 1 [20, 30]
+# over the keys of a map that gets another
+then 86 @4 | @19 | 1 | @3 0 {1=7, 2=8}
+then 167 @19 | 1 | 0 | @3 0 {1=7, 2=8}
+then 137 @3 9 9 | null | 2 | @3 1 {1=7, 2=8, 9=9}
+then 167 @19 | !ConcurrentModificationException | 1 | @3 1 {1=7, 2=8, 9=9}
+then 168 @19 | !ConcurrentModificationException | 1 | @3 1 {1=7, 2=8, 9=9}
+# over entries, of which one is set, removed, and set once more
+then 86 @5 | @22 | 1 | @3 1 {1=7, 2=8, 9=9}
+then 167 @22 | @23 | 3 | @3 1 {1=7, 2=8, 9=9}
+then 165 @23 70 | 7 | 0 | @3 1 {1=70, 2=8, 9=9}
+then 168 @22 | null | 0 | @3 2 {2=8, 9=9}
+then 165 @23 71 | !IllegalStateException: entry is gone | 14 | @3 2 {2=8, 9=9}
+then 164 @23 | null | 0 | @3 2 {2=8, 9=9}
+then 166 @22 | true | 0 | @3 2 {2=8, 9=9}
+then 167 @22 | @25 | 3 | @3 2 {2=8, 9=9}
+# over a set that is cut by retainAll
+then 86 @6 | @26 | 1 | @6 0 [1, 2]
+then 167 @26 | 1 | 0 | @6 0 [1, 2]
+then 105 @6 @4 | true | 0 | @6 1 [2]
+then 167 @26 | !NoSuchElementException | 1 | @6 1 [2]
+# over what is frozen, and over an array
+then 86 @1 | @28 | 1 | @1 0 [5, 6]
+then 168 @28 | !UnsupportedOperationException | 1 | @1 0 [5, 6]
+then 86 @7 | @30 | 1 | @7 0 [5]
+then 167 @30 | 5 | 0 | @7 0 [5]
+then 168 @30 | !UnsupportedOperationException | 1 | @7 0 [5]
+# two over a list that shrinks below the place of the first
+then 86 @0 | @32 | 1 | @0 1 [20, 30]
+then 86 @0 | @33 | 1 | @0 1 [20, 30]
+then 167 @32 | 20 | 0 | @0 1 [20, 30]
+then 167 @32 | 30 | 0 | @0 1 [20, 30]
+then 167 @33 | 20 | 0 | @0 1 [20, 30]
+then 168 @33 | null | 0 | @0 2 [30]
+then 167 @33 | 30 | 0 | @0 2 [30]
+then 168 @33 | null | 0 | @0 3 []
+then 166 @32 | true | 0 | @0 3 []
+then 167 @32 | !ConcurrentModificationException | 1 | @0 3 []
+then 168 @32 | !ConcurrentModificationException | 1 | @0 3 []
+then 166 @33 | false | 0 | @0 3 []
+# receivers that are null or of another kind
+then 86 null | !NullPointerException | 1 | @0 3 []
+then 166 null | !NullPointerException | 1 | @0 3 []
+then 167 @0 | !NullPointerException | 1 | @0 3 []
+then 168 @0 | !NullPointerException | 1 | @0 3 []
+then 166 @0 | !NullPointerException | 1 | @0 3 []
+then 86 @16 | !NullPointerException | 1 | @0 3 []
+then 225 @1 | 5 | 0 | @1 0 [5, 6]
+then 225 null | !NullPointerException | 1 | @1 0 [5, 6]
+# with room for one entry and nothing else, and without it
+room 4
+then 86 @5 | @16 | 1 | @3 0 {1=7, 2=8}
+then 167 @16 | @17 | 3 | @3 0 {1=7, 2=8}
+then 168 @16 | null | 0 | @3 1 {2=8}
+then 168 @16 | Room | 0 | @3 1 {2=8}
+room 3
+then 86 @5 | @16 | 1 | @3 0 {1=7, 2=8}
+then 167 @16 | Room | 0 | @3 0 {1=7, 2=8}
+then 225 @2 | Room | 0 | @3 0 {1=7, 2=8}
+# over what is empty
+room 14
+then 86 @8 | @16 | 1 | @8 0 []
+then 166 @16 | false | 0 | @8 0 []
+then 167 @16 | !NoSuchElementException | 1 | @8 0 []
+then 168 @16 | !IllegalStateException: no element | 11 | @8 0 []
+then 166 @16 | false | 0 | @8 0 []
+# over values: one that is put under a key that is there is no change, and what is removed is removed from the map
+room 12
+then 86 @9 | @16 | 1 | @9 0 [7, 8]
+then 137 @3 1 70 | 7 | 0 | @9 0 [70, 8]
+then 167 @16 | 70 | 0 | @9 0 [70, 8]
+then 168 @16 | null | 0 | @3 1 {2=8}
+then 167 @16 | 8 | 0 | @3 1 {2=8}
+then 168 @16 | null | 0 | @3 2 {}
+then 166 @16 | false | 0 | @4 0 []
+then 168 @16 | !IllegalStateException: no element | 11 | @3 2 {}
+# over views of what is frozen, and of what has guarded keys
+room 6
+then 86 @11 | @16 | 1 | @11 0 [k]
+then 167 @16 | 'k' | 0 | @11 0 [k]
+then 168 @16 | !UnsupportedOperationException | 1 | @10 0 {k=1}
+then 86 @13 | @18 | 1 | @13 0 [a=1]
+then 168 @18 | !UnsupportedOperationException | 1 | @12 0 {a=1}
+then 166 @18 | true | 0 | @12 0 {a=1}
+then 167 @18 | Room | 0 | @12 0 {a=1}";
 
 #[test]
 fn iterators_step_by_step(rt: HostRuntime) -> Result<(), Fail> {
-    let mut heap = sample(rt.alloc(), 100)?;
-    let wrong = first_wrong(&mut heap, &ALL)?;
-    assert!(rt; wrong == 0, "row {wrong}");
-    Ok(())
-}
-
-#[test]
-fn room_at_the_edge(rt: HostRuntime) -> Result<(), Fail> {
-    let mut heap = sample(rt.alloc(), 4)?;
-    let wrong = first_wrong(&mut heap, &EDGE)?;
-    assert!(rt; wrong == 0, "row {wrong}");
-    let mut heap = sample(rt.alloc(), 3)?;
-    let wrong = first_wrong(&mut heap, &BELOW)?;
-    assert!(rt; wrong == 0, "row {wrong}");
+    let wrong = first_wrong::<Iterables>(rt.alloc(), OBJECTS, ROWS);
+    assert!(rt; wrong == 0, "line {wrong}");
     Ok(())
 }

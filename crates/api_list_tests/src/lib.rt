@@ -12,10 +12,8 @@ mod making;
 #[cfg(test)]
 mod ordering;
 #[cfg(test)]
-mod rows;
-#[cfg(test)]
-mod running;
-#[cfg(test)]
 mod sample;
+#[cfg(test)]
+mod steps;
 #[cfg(test)]
 mod taking;

@@ -1,52 +1,32 @@
 //! Rows of what makes lists and arrays.
-use crate::rows::Arg::{Int, Null, Object};
-use crate::rows::{Row, Wanted};
-use crate::running::first_wrong;
+use crate::sample::{Lists, OBJECTS};
+use member_rows::first_wrong;
 use std::test::Fail;
 
-const ROWS: [Row; 13] = [
-    (
-        89,
-        &[Object(0)],
-        Wanted::Sample(0),
-        0,
-        0,
-        "[1, b, 1, null]",
-        5,
-    ),
-    (89, &[Object(2)], Wanted::Sample(2), 0, 2, "[7]", 0),
-    (89, &[Null], Wanted::NullPointer, 1, 0, "[1, b, 1, null]", 5),
-    (107, &[Object(0)], Wanted::New, 5, 20, "[1, b, 1, null]", 0),
-    (107, &[Object(1)], Wanted::New, 1, 20, "[]", 0),
-    (107, &[Object(2)], Wanted::New, 2, 20, "[7]", 0),
-    (
-        107,
-        &[Null],
-        Wanted::NullPointer,
-        1,
-        0,
-        "[1, b, 1, null]",
-        5,
-    ),
-    (123, &[], Wanted::New, 1, 20, "[]", 0),
-    (169, &[], Wanted::New, 1, 20, "[]", 0),
-    (170, &[], Wanted::New, 1, 20, "{}", 0),
-    (174, &[Int(1)], Wanted::New, 2, 20, "[1]", 0),
-    (174, &[Null], Wanted::New, 2, 20, "[null]", 0),
-    (
-        174,
-        &[Object(0)],
-        Wanted::New,
-        2,
-        20,
-        "[[1, b, 1, null]]",
-        0,
-    ),
-];
+const ROWS: &str = "\
+# Iterable: List asList()
+89 @0 | @0 | 0 | @0 5 [1, b, 1, null]
+89 @2 | @2 | 0 | @2 0 [7]
+89 null | !NullPointerException | 1 | @0 5 [1, b, 1, null]
+# Collection: def[] toArray()
+107 @0 | @28 | 5 | @28 0 [1, b, 1, null]
+107 @1 | @28 | 1 | @28 0 []
+107 @2 | @28 | 2 | @28 0 [7]
+107 null | !NullPointerException | 1 | @0 5 [1, b, 1, null]
+# ArrayList: ArrayList()
+123 | @28 | 1 | @28 0 []
+# Collections: List emptyList()
+169 | @28 | 1 | @28 0 []
+# Collections: Map emptyMap()
+170 | @28 | 1 | @28 0 {}
+# Collections: List singletonList(def)
+174 1 | @28 | 2 | @28 0 [1]
+174 null | @28 | 2 | @28 0 [null]
+174 @0 | @28 | 2 | @28 0 [[1, b, 1, null]]";
 
 #[test]
 fn making(rt: HostRuntime) -> Result<(), Fail> {
-    let wrong = first_wrong(rt.alloc(), &ROWS)?;
-    assert!(rt; wrong == 0, "row {wrong}");
+    let wrong = first_wrong::<Lists>(rt.alloc(), OBJECTS, ROWS);
+    assert!(rt; wrong == 0, "line {wrong}");
     Ok(())
 }

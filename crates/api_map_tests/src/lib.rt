@@ -14,8 +14,6 @@ mod maps;
 #[cfg(test)]
 mod maps_further;
 #[cfg(test)]
-mod rows;
-#[cfg(test)]
-mod running;
-#[cfg(test)]
 mod sample;
+#[cfg(test)]
+mod steps;

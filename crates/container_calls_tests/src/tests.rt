@@ -1,175 +1,136 @@
-//! Calls of members of containers by their numbers in the catalogue.
-
+//! Rows of the members of containers, and of which are built.
 use container_calls::{call, is_of_containers};
+use member_rows::{Members, first_wrong};
 use object_heap::{Answer, Heap};
 use object_values::Value;
-use std::alloc::{AllocError, Global};
 use std::test::Fail;
 
-const ITERATOR: u32 = 86;
+/// The members of containers.
+struct Containers;
 
-const AS_LIST: u32 = 89;
-
-const ADD: u32 = 97;
-
-const ADD_ALL: u32 = 98;
-
-const CONTAINS: u32 = 100;
-
-const IS_EMPTY: u32 = 102;
-
-const REMOVE: u32 = 103;
-
-const SIZE: u32 = 106;
-
-const TO_ARRAY: u32 = 107;
-
-const NEW_LIST: u32 = 123;
-
-const NEW_LIST_OF: u32 = 124;
-
-const NEW_SET: u32 = 125;
-
-const NEW_LINKED_SET: u32 = 127;
-
-const KEY_SET: u32 = 136;
-
-const NEW_MAP: u32 = 159;
-
-const HAS_NEXT: u32 = 166;
-
-fn alone(alloc: Global, value: Value) -> Result<Vec<Value>, AllocError> {
-    let mut args = Vec::new(alloc);
-    args.push(value)?;
-    Ok(args)
-}
-
-fn with(alloc: Global, id: u32, value: Value) -> Result<Vec<Value>, AllocError> {
-    let mut args = alone(alloc, Value::Ref(id))?;
-    args.push(value)?;
-    Ok(args)
-}
-
-fn gives_int(answer: &Answer, wanted: i32) -> bool {
-    match answer {
-        Answer::Value(Value::Int(number)) => *number == wanted,
-        _ => false,
+impl Members for Containers {
+    fn call(number: u32, heap: &mut Heap, args: &[Value]) -> Answer {
+        call(number, heap, args)
     }
 }
 
-fn gives_flag(answer: &Answer, wanted: bool) -> bool {
-    match answer {
-        Answer::Value(Value::Bool(flag)) => *flag == wanted,
-        _ => false,
-    }
-}
+/// A new object is 11.
+const OBJECTS: &str = "\
+list open 0
+set open 0
+map open 0
+list open 0 10 20 30
+map open 0 'a'=1 'b'=null
+keys @4
+values @4
+entries @4
+set open 0 1 2
+list frozen 0 5
+list open 0 3 1 2";
 
-fn gives_object(answer: &Answer, wanted: u32) -> bool {
-    match answer {
-        Answer::Value(Value::Ref(id)) => *id == wanted,
-        _ => false,
-    }
-}
+const ROWS: &str = "\
+# members of Collection go by their receiver: a list, a set, a set in the order of its keys
+room 12
+then 123 | @11 | 1 | @11 0 []
+then 97 @11 7 | true | 1 | @11 1 [7]
+then 97 @11 7 | true | 1 | @11 2 [7, 7]
+then 100 @11 7 | true | 0 | @11 2 [7, 7]
+then 106 @11 | 2 | 0 | @11 2 [7, 7]
+then 103 @11 7 | true | 0 | @11 3 [7]
+then 102 @11 | false | 0 | @11 3 [7]
+then 99 @11 | null | 0 | @11 4 []
+then 125 | @12 | 1 | @12 0 []
+then 97 @12 7 | true | 1 | @12 1 [7]
+then 97 @12 7 | false | 0 | @12 1 [7]
+then 100 @12 7 | true | 0 | @12 1 [7]
+then 106 @12 | 1 | 0 | @12 1 [7]
+then 103 @12 7 | true | 0 | @12 2 []
+then 102 @12 | true | 0 | @12 2 []
+then 127 | @13 | 1 | @13 0 []
+then 97 @13 7 | true | 1 | @13 1 [7]
+then 100 @13 7 | true | 0 | @13 1 [7]
+then 106 @13 | 1 | 0 | @13 1 [7]
+then 103 @13 7 | true | 0 | @13 2 []
+then 102 @13 | true | 0 | @13 2 []
+then 97 @13 7 | true | 1 | @13 3 [7]
+then 99 @13 | null | 0 | @13 4 []
+# a list takes the element of a set, which then takes none of the list's
+then 97 @12 7 | true | 1 | @12 3 [7]
+then 98 @11 @12 | true | 1 | @11 5 [7]
+then 98 @12 @11 | false | 0 | @12 3 [7]
+# what takes all of a collection is of lists
+89 @8 | @11 | 3 | @11 0 [1, 2]
+107 @8 | @11 | 3 | @11 0 [1, 2]
+124 @8 | @11 | 3 | @11 0 [1, 2]
+89 @3 | @3 | 0 | @3 0 [10, 20, 30]
+107 @7 | @13 | 9 | @13 0 [a=1, b=null]
+# to a view nothing is added
+97 @5 7 | !UnsupportedOperationException | 1 | @4 0 {a=1, b=null}
+98 @5 @8 | !UnsupportedOperationException | 1 | @4 0 {a=1, b=null}
+# the view of a map without keys takes none, and an iterator over it has no next
+room 4
+then 136 @2 | @11 | 1 | @11 0 []
+then 97 @11 7 | !UnsupportedOperationException | 1 | @2 0 {}
+then 86 @11 | @13 | 1 | @11 0 []
+then 166 @13 | false | 0 | @11 0 []
+# setting, sorting and reversing are no changes for an iterator
+room 1
+then 86 @10 | @11 | 1 | @10 0 [3, 1, 2]
+then 167 @11 | 3 | 0 | @10 0 [3, 1, 2]
+then 121 @10 0 5 | 3 | 0 | @10 0 [5, 1, 2]
+then 175 @10 | null | 0 | @10 0 [1, 2, 5]
+then 167 @11 | 2 | 0 | @10 0 [1, 2, 5]
+then 173 @10 | null | 0 | @10 0 [5, 2, 1]
+then 177 @10 0 2 | null | 0 | @10 0 [1, 2, 5]
+then 167 @11 | 5 | 0 | @10 0 [1, 2, 5]
+then 166 @11 | false | 0 | @10 0 [1, 2, 5]
+# adding, inserting, removing and clearing are
+room 12
+then 86 @3 | @11 | 1 | @3 0 [10, 20, 30]
+then 167 @11 | 10 | 0 | @3 0 [10, 20, 30]
+then 97 @3 9 | true | 1 | @3 1 [10, 20, 30, 9]
+then 167 @11 | !ConcurrentModificationException | 1 | @3 1 [10, 20, 30, 9]
+then 168 @11 | !ConcurrentModificationException | 1 | @3 1 [10, 20, 30, 9]
+then 119 @3 3 | 9 | 0 | @3 2 [10, 20, 30]
+then 98 @3 @3 | true | 3 | @3 5 [10, 20, 30, 10, 20, 30]
+then 86 @3 | @14 | 1 | @3 5 [10, 20, 30, 10, 20, 30]
+then 167 @14 | 10 | 0 | @3 5 [10, 20, 30, 10, 20, 30]
+then 168 @14 | null | 0 | @3 6 [20, 30, 10, 20, 30]
+then 113 @3 0 1 | null | 1 | @3 7 [1, 20, 30, 10, 20, 30]
+then 167 @14 | !ConcurrentModificationException | 1 | @3 7 [1, 20, 30, 10, 20, 30]
+then 86 @3 | @16 | 1 | @3 7 [1, 20, 30, 10, 20, 30]
+then 99 @3 | null | 0 | @3 8 []
+then 166 @16 | false | 0 | @3 8 []
+then 166 @14 | false | 0 | @3 8 []
+then 166 @11 | true | 0 | @3 8 []
+then 167 @11 | !ConcurrentModificationException | 1 | @3 8 []
+then 167 @16 | Room | 0 | @3 8 []
+# two iterators over views of one map: what the one removes the other sees as a change
+room 20
+then 86 @5 | @11 | 1 | @5 0 [a, b]
+then 86 @7 | @12 | 1 | @7 0 [a=1, b=null]
+then 167 @12 | @13 | 3 | @13 0 a=1
+then 168 @12 | null | 0 | @4 1 {b=null}
+then 167 @11 | !ConcurrentModificationException | 1 | @4 1 {b=null}
+then 163 @13 | 'a' | 0 | @13 0 a=null
+then 164 @13 | null | 0 | @13 0 a=null
+then 165 @13 2 | !IllegalStateException: entry is gone | 14 | @4 1 {b=null}
+then 166 @12 | true | 0 | @6 0 [null]
+# lists of Collections are frozen
+room 9
+then 174 7 | @11 | 2 | @11 0 [7]
+then 97 @11 8 | !UnsupportedOperationException | 1 | @11 0 [7]
+then 169 | @13 | 1 | @13 0 []
+then 99 @13 | !UnsupportedOperationException | 1 | @13 0 []
+then 170 | @15 | 1 | @15 0 {}
+then 137 @15 1 1 | !UnsupportedOperationException | 1 | @15 0 {}
+then 175 @11 | !UnsupportedOperationException | 1 | @11 0 [7]
+then 115 @11 0 | 7 | 0 | @11 0 [7]";
 
-fn is_thrown(answer: &Answer) -> bool {
-    match answer {
-        Answer::Thrown(_) => true,
-        _ => false,
-    }
-}
-
-const COLLECTIONS: [u32; 3] = [NEW_LIST, NEW_SET, NEW_LINKED_SET];
-
-// Those of a list go to one function each, and those of a set to another
 #[test]
-fn members_of_collections_go_by_their_receiver(rt: HostRuntime) -> Result<(), Fail> {
-    for constructor in COLLECTIONS {
-        let mut heap = Heap::new(rt.alloc(), 100);
-        let nothing = Vec::new(rt.alloc());
-        let made = call(constructor, &mut heap, nothing.as_slice());
-        assert!(rt; gives_object(&made, 0), "{constructor}");
-        let collection = alone(rt.alloc(), Value::Ref(0))?;
-        let element = with(rt.alloc(), 0, Value::Int(7))?;
-        let added = call(ADD, &mut heap, element.as_slice());
-        assert!(rt; gives_flag(&added, true), "{constructor}");
-        let found = call(CONTAINS, &mut heap, element.as_slice());
-        assert!(rt; gives_flag(&found, true), "{constructor}");
-        let size = call(SIZE, &mut heap, collection.as_slice());
-        assert!(rt; gives_int(&size, 1), "{constructor}");
-        let removed = call(REMOVE, &mut heap, element.as_slice());
-        assert!(rt; gives_flag(&removed, true), "{constructor}");
-        let empty = call(IS_EMPTY, &mut heap, collection.as_slice());
-        assert!(rt; gives_flag(&empty, true), "{constructor}");
-        assert!(rt; heap.room_left() == 98, "{constructor}");
-    }
-    Ok(())
-}
-
-// A list takes the element of a set, which then takes none of the list's
-#[test]
-fn lists_and_sets_take_all_of_each_other(rt: HostRuntime) -> Result<(), Fail> {
-    let mut heap = Heap::new(rt.alloc(), 100);
-    let nothing = Vec::new(rt.alloc());
-    let list = call(NEW_LIST, &mut heap, nothing.as_slice());
-    assert!(rt; gives_object(&list, 0));
-    let set = call(NEW_SET, &mut heap, nothing.as_slice());
-    assert!(rt; gives_object(&set, 1));
-    let element = with(rt.alloc(), 1, Value::Int(7))?;
-    let added = call(ADD, &mut heap, element.as_slice());
-    assert!(rt; gives_flag(&added, true));
-    let into_list = with(rt.alloc(), 0, Value::Ref(1))?;
-    let grown = call(ADD_ALL, &mut heap, into_list.as_slice());
-    assert!(rt; gives_flag(&grown, true));
-    let into_set = with(rt.alloc(), 1, Value::Ref(0))?;
-    let same = call(ADD_ALL, &mut heap, into_set.as_slice());
-    assert!(rt; gives_flag(&same, false));
-    // the list, the set, and the element in each
-    assert!(rt; heap.room_left() == 96);
-    Ok(())
-}
-
-const TAKERS: [u32; 3] = [AS_LIST, TO_ARRAY, NEW_LIST_OF];
-
-// A set goes to the functions of lists that take all of it: each makes an object with the element
-#[test]
-fn what_takes_all_is_of_lists(rt: HostRuntime) -> Result<(), Fail> {
-    for taker in TAKERS {
-        let mut heap = Heap::new(rt.alloc(), 100);
-        let nothing = Vec::new(rt.alloc());
-        let set = call(NEW_SET, &mut heap, nothing.as_slice());
-        assert!(rt; gives_object(&set, 0), "{taker}");
-        let element = with(rt.alloc(), 0, Value::Int(7))?;
-        let added = call(ADD, &mut heap, element.as_slice());
-        assert!(rt; gives_flag(&added, true), "{taker}");
-        let of_set = alone(rt.alloc(), Value::Ref(0))?;
-        let made = call(taker, &mut heap, of_set.as_slice());
-        assert!(rt; gives_object(&made, 1), "{taker}");
-        assert!(rt; heap.room_left() == 96, "{taker}");
-    }
-    Ok(())
-}
-
-// A view of the keys of a map takes none, and an iterator over it has no next
-#[test]
-fn members_of_views_and_iterators(rt: HostRuntime) -> Result<(), Fail> {
-    let mut heap = Heap::new(rt.alloc(), 100);
-    let nothing = Vec::new(rt.alloc());
-    let map = call(NEW_MAP, &mut heap, nothing.as_slice());
-    assert!(rt; gives_object(&map, 0));
-    let of_map = alone(rt.alloc(), Value::Ref(0))?;
-    let view = call(KEY_SET, &mut heap, of_map.as_slice());
-    assert!(rt; gives_object(&view, 1));
-    let element = with(rt.alloc(), 1, Value::Int(7))?;
-    let added = call(ADD, &mut heap, element.as_slice());
-    assert!(rt; is_thrown(&added));
-    let of_view = alone(rt.alloc(), Value::Ref(1))?;
-    let iterator = call(ITERATOR, &mut heap, of_view.as_slice());
-    assert!(rt; gives_object(&iterator, 3));
-    let of_iterator = alone(rt.alloc(), Value::Ref(3))?;
-    let next = call(HAS_NEXT, &mut heap, of_iterator.as_slice());
-    assert!(rt; gives_flag(&next, false));
-    // the map, the view, the exception and the iterator
-    assert!(rt; heap.room_left() == 96);
+fn members_of_containers(rt: HostRuntime) -> Result<(), Fail> {
+    let wrong = first_wrong::<Containers>(rt.alloc(), OBJECTS, ROWS);
+    assert!(rt; wrong == 0, "line {wrong}");
     Ok(())
 }
 
