@@ -1,11 +1,15 @@
 //! Prints what the calls of the heap take, in nanoseconds, over a map of few and of many keys, and what a sum of two Integers
 //! takes whose types are found at run time: `rt run -- times`. And makes a million objects of a kind, so that the memory of the
 //! process tells what one takes: `/usr/bin/time -v` over the program with `builders`, `exceptions`, `lists`, `maps` or `sets`,
-//! where a list, a map and a set have no element, or one with a second word. With no argument it does nothing.
+//! where a list, a map and a set have no element, or one with a second word. With `members` it prints what calls of members of
+//! containers take (`bench/containers` runs it). With no argument it does nothing.
 #![tactic(auto)]
+
+mod members;
 
 ghost use Rattle.std.specs.Prelude.{◌<◌};
 
+use members::measure_members;
 use number_ops::{Op, def_op};
 use object_heap::{Answer, Heap};
 use object_values::{Elements, Guard, Object, Pairs, Value};
@@ -215,6 +219,9 @@ fn main(rt: HostRuntime) -> io::Result<()> {
     let Some(word) = args.nth(1) else {
         return Ok(());
     };
+    if word.as_str() == "members" {
+        return measure_members(&rt, rt.alloc());
+    }
     match kind_of(word.as_str()) {
         Some(kind) => {
             let room = fill(rt.alloc(), kind, args.next().is_some());
