@@ -15,7 +15,7 @@ ghost use Rattle.verified_machine.specs.Tasks.{LeavesFitting, OnlySpares, Spares
 
 use allowlist::Allow;
 use code_meaning::Word;
-use machine::{Activation, Executable, Limits, RunOutcome};
+use machine::{Activation, Executable, Finished, Limits, RunMemory, RunOutcome};
 use object_heap::Heap;
 use object_values::Elements;
 use pl_code::Code;
@@ -85,6 +85,13 @@ pub struct VerifiedActivation<'c> {
     done: bool,
 }
 
+/// What a run leaves that has come to its end, and its memory for the next one.
+#[derive(Drop)]
+pub struct FinishedRun {
+    pub outcome: RunOutcome,
+    pub memory: RunMemory,
+}
+
 impl<'c> Model for VerifiedActivation<'c> {
     ghost use Rattle.machine.specs.Activations.{is_over};
     ghost use Rattle.pl_types.specs.contracts.ty.Ty as ty;
@@ -120,7 +127,28 @@ impl<'c> VerifiedActivation<'c> {
         ensures started { IfOk result (λ a. a ≡ record { run = record { code = code.now.code.functions; limits = limits; allow = code.now.allow; frame = code.now.frame; now = Some (start (codes_alone code.now.code.functions) args (record { store = heap; ticks = limits.ticks; reached = [] })); steps = 0 }; allow = code.now.allow }) }
         ensures bound { IfOk result (λ a. rest a.run ≤ most_steps code.now.code.functions (limits_of limits code.now.allow) limits.ticks) }
     {
-        let run = Activation::start(&code.executable, heap, args, limits)?;
+        let memory = RunMemory::new(heap.alloc());
+        VerifiedActivation::start_in(code, memory, heap, args, limits)
+    }
+
+    /// The same in the memory that an earlier run has left, which may have been of other code: only what it lacks is taken.
+    ///
+    /// # Errors
+    ///
+    /// Want of memory. The memory that was given is given back to the system then.
+    pub fn start_in(
+        code: &'c VerifiedExecutable,
+        memory: RunMemory,
+        heap: Heap,
+        args: Elements<Word>,
+        limits: Limits,
+    ) -> Result<VerifiedActivation<'c>, AllocError>
+        requires rows { HaveRows code.now.allow code.now.code.functions }
+        requires args { kinds_of args ≡ main_params code.now.code.functions }
+        ensures started { IfOk result (λ a. a ≡ record { run = record { code = code.now.code.functions; limits = limits; allow = code.now.allow; frame = code.now.frame; now = Some (start (codes_alone code.now.code.functions) args (record { store = heap; ticks = limits.ticks; reached = [] })); steps = 0 }; allow = code.now.allow }) }
+        ensures bound { IfOk result (λ a. rest a.run ≤ most_steps code.now.code.functions (limits_of limits code.now.allow) limits.ticks) }
+    {
+        let run = Activation::start_in(&code.executable, memory, heap, args, limits)?;
         Ok(VerifiedActivation {
             code,
             run,
@@ -154,23 +182,41 @@ impl<'c> VerifiedActivation<'c> {
     /// # Errors
     ///
     /// Want of memory.
-    #[tactic(auto, using(crate::proofs::Finishing::left_by, crate::proofs::Finishing::fits_still))]
-    pub fn finish(mut self) -> Result<RunOutcome, AllocError>
+    pub fn finish(self) -> Result<RunOutcome, AllocError>
         ensures alone { IfOk result (λ left. ending self.entry.run ≡ Some left) }
         ensures fitting { IfOk result (LeavesFitting self.entry) }
         // Where the start fits, so does what is left, as with [`VerifiedActivation::outcome`].
         ensures heap { (rules : Rules) (before : List Object) → NowFits rules before self.entry.run.now → IfOk result (LeavesFit rules before) }
         ensures memory { SparesMemory self.entry.run → IsOk result }
     {
+        let FinishedRun {
+            outcome,
+            memory: _memory,
+        } = self.finish_with_memory()?;
+        Ok(outcome)
+    }
+
+    /// The same, and the memory that the run had, for the next one.
+    ///
+    /// # Errors
+    ///
+    /// Want of memory.
+    #[tactic(auto, using(crate::proofs::Finishing::left_by, crate::proofs::Finishing::fits_still))]
+    pub fn finish_with_memory(mut self) -> Result<FinishedRun, AllocError>
+        ensures alone { IfOk result (λ left. ending self.entry.run ≡ Some left.outcome) }
+        ensures fitting { IfOk result (λ left. LeavesFitting self.entry left.outcome) }
+        ensures heap { (rules : Rules) (before : List Object) → NowFits rules before self.entry.run.now → IfOk result (λ left. LeavesFit rules before left.outcome) }
+        ensures memory { SparesMemory self.entry.run → IsOk result }
+    {
         self.run_out()?;
-        let Some(left) = self.outcome() else {
+        let Finished { outcome, memory } = self.leave();
+        let Some(outcome) = outcome else {
             unreachable!()
         };
-        Ok(left)
+        Ok(FinishedRun { outcome, memory })
     }
 
     /// What the run leaves, once it has ended: what it would have come to alone.
-    #[tactic(auto, using(crate::proofs::Fitted::left_under))]
     pub fn outcome(self) -> Option<RunOutcome>
         ensures leaves { Leaves self.entry.run result }
         ensures fitting { IfSome result (LeavesFitting self.entry) }
@@ -179,7 +225,22 @@ impl<'c> VerifiedActivation<'c> {
         ensures heap { (rules : Rules) (before : List Object) → NowFits rules before self.entry.run.now → IfSome result (LeavesFit rules before) }
         ensures alone { rest self.entry.run ≡ 0 → result ≡ ending self.entry.run }
     {
-        self.run.outcome()
+        let Finished {
+            outcome,
+            memory: _memory,
+        } = self.leave();
+        outcome
+    }
+
+    /// The same, and the memory that the run had, for the next one.
+    #[tactic(auto, using(crate::proofs::Fitted::left_under))]
+    pub fn leave(self) -> Finished
+        ensures leaves { Leaves self.entry.run result.outcome }
+        ensures fitting { IfSome result.outcome (LeavesFitting self.entry) }
+        ensures heap { (rules : Rules) (before : List Object) → NowFits rules before self.entry.run.now → IfSome result.outcome (LeavesFit rules before) }
+        ensures alone { rest self.entry.run ≡ 0 → result.outcome ≡ ending self.entry.run }
+    {
+        self.run.finish()
     }
 }
 

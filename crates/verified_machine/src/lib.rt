@@ -3,4 +3,4 @@
 
 mod activation;
 
-pub use activation::{VerifiedActivation, VerifiedExecutable};
+pub use activation::{FinishedRun, VerifiedActivation, VerifiedExecutable};

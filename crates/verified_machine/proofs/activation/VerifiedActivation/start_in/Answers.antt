@@ -3,7 +3,7 @@ use Rattle.run_state.specs.World.{World}
 use Rattle.machine.specs.Activations.{Activation}
 use Rattle.verified_machine.specs.Tasks.{RunUnder}
 use Rattle.verified_machine.proofs.Outcomes.{started_with, starts, starts_bounded}
-use Rattle.verified_machine.proofs.activation.VerifiedActivation.start.Goals as goal
+use Rattle.verified_machine.proofs.activation.VerifiedActivation.start_in.Goals as goal
 
 pub invariant_of-result : goal.invariant_of-result
 invariant_of-result c =
