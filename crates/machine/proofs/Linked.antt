@@ -6,11 +6,14 @@ use Rattle.object_values.specs.declared.object.Object.{Object}
 use Rattle.instruction_types.specs.Members.{method_of, constructor_of, field_of}
 use Rattle.pl_code.specs.declared.code.Instruction.{Instruction}
 use Rattle.pl_code.specs.declared.code.Instruction.TheVariants as i
+use Rattle.pl_code.specs.declared.kinds.Quoting.{Quoting}
+use Rattle.pl_code.specs.declared.kinds.Quoting.TheVariants as quoting
 use Rattle.pl_code.specs.declared.kinds.Typed.{Typed}
 use Rattle.pl_code.specs.declared.kinds.Way.{Way}
 use Rattle.run_state.specs.World.{World, Limits, allowed_in}
 use Rattle.code_meaning.specs.Machine.{Frame, Next, act, typed_act, cast_act, member_act, on_type, is_written, code_in}
-use Rattle.machine.specs.Links.{Executable, instruction_at, link_at, link_of, type_link, member_link, type_in, member_in, lines_in}
+use Rattle.machine.specs.Links.{Executable, instruction_at, link_at, link_of, type_link, member_link, text_link, type_in, member_in, text_in, lines_in}
+use Rattle.machine.specs.Rows.{text_act}
 use Rattle.machine.specs.Sparing.{InstructionSpares, MemberSpares, CastSpares, OnType, OnValue}
 use Rattle.machine.specs.Seen.{codes_alone}
 use Rattle.object_values.specs.declared.object.Owner.{Owner}
@@ -57,6 +60,10 @@ module _ (e : Executable) (limits : Limits) (line : Instruction) (f : Frame) (sa
   unfolding link_of
   field_names field is = ap member_in (names (i.Field field) is) ∙ linked_member (field_of limits.allowed field)
 
+  text_names : (kind : Quoting) (text : List ℕ) → line ≡ i.Quoted kind text → text_in (link_at e f) ≡ text_in (Some (text_link kind text))
+  unfolding link_of
+  text_names kind text is = ap text_in (names (i.Quoted kind text) is)
+
   -- what such an instruction does is what its link makes of it
   module _ (below : List Frame) (w : World) where
     abbrev acts : Instruction → Next
@@ -67,6 +74,14 @@ module _ (e : Executable) (limits : Limits) (line : Instruction) (f : Frame) (sa
 
     pub cast_acts : (to : List ℕ) (way : Way) → line ≡ i.Cast to way → acts line ≡ on_type (type_in (link_at e f)) (λ to. cast_act (codes_alone e.code.functions) limits to (is_written way) f below w)
     cast_acts to way is = ap acts is ∙ ap (λ o. on_type o (λ to. cast_act (codes_alone e.code.functions) limits to (is_written way) f below w)) (sym (cast_names to way is))
+
+    text_acts_so : (kind : Quoting) (text : List ℕ) → acts (i.Quoted kind text) ≡ text_act (text_in (Some (text_link kind text))) f below w
+    text_acts_so quoting.Constant text = refl
+    text_acts_so quoting.GetName text = refl
+    text_acts_so quoting.PutName text = refl
+
+    pub text_acts : (kind : Quoting) (text : List ℕ) → line ≡ i.Quoted kind text → acts line ≡ text_act (text_in (link_at e f)) f below w
+    text_acts kind text is = ap acts is ∙ text_acts_so kind text ∙ ap (λ o. text_act o f below w) (sym (text_names kind text is))
 
     pub method_acts : (method : List ℕ) → line ≡ i.Invoke method → acts line ≡ member_act (codes_alone e.code.functions) limits (member_in (link_at e f)) f below w
     method_acts method is = ap acts is ∙ ap (λ (list : AllowList). member_act (codes_alone e.code.functions) limits (method_of list method) f below w) allows ∙ ap (λ o. member_act (codes_alone e.code.functions) limits o f below w) (sym (method_names method is))

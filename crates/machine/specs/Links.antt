@@ -2,6 +2,7 @@
 use Rattle.std.specs.Prelude.{ℕ, List, [], map, Option, Some, None, option_map, slice_get}
 use Rattle.pl_types.specs.declared.ty.Ty.{Ty}
 use Rattle.pl_types.specs.Texts.{type_of_full}
+use Rattle.pl_units.specs.Utf16.{units}
 use Rattle.allowlist.specs.Allow.{AllowList}
 use Rattle.instruction_types.specs.Members.{method_of, constructor_of, field_of}
 use Rattle.code_meaning.specs.Machine.{Frame, function_of}
@@ -9,6 +10,8 @@ use Rattle.pl_code.specs.declared.code.Code.{Code}
 use Rattle.pl_code.specs.declared.code.FunCode.{FunCode}
 use Rattle.pl_code.specs.declared.code.Instruction.{Instruction}
 use Rattle.pl_code.specs.declared.code.Instruction.TheVariants as i
+use Rattle.pl_code.specs.declared.kinds.Quoting.{Quoting}
+use Rattle.pl_code.specs.declared.kinds.Quoting.TheVariants as quoting
 use Rattle.machine.specs.declared.executable.Link.{Link}
 use Rattle.machine.specs.declared.executable.Link.TheVariants as link
 use Rattle.machine.specs.Seen.{codes_alone}
@@ -21,13 +24,19 @@ abbrev pub member_link : Option ℕ → Link
 member_link None = link.Nothing
 member_link (Some number) = link.Member number
 
--- the type or the member that the text in an instruction names
+-- a text constant as the units of its text
+abbrev pub text_link : Quoting → List ℕ → Link
+text_link quoting.Constant text = link.Text (units text)
+text_link other text = link.Nothing
+
+-- the type or the member that the text in an instruction names, or its units
 unfoldable pub link_of : AllowList → Instruction → Link
 link_of allow (i.Typed kind of) = type_link (type_of_full of)
 link_of allow (i.Cast to way) = type_link (type_of_full to)
 link_of allow (i.Invoke method) = member_link (method_of allow method)
 link_of allow (i.New constructor) = member_link (constructor_of allow constructor)
 link_of allow (i.Field field) = member_link (field_of allow field)
+link_of allow (i.Quoted kind text) = text_link kind text
 link_of allow other = link.Nothing
 
 -- the lines of a function, and none where there is no function
@@ -48,6 +57,10 @@ type_in other = None
 abbrev pub member_in : Option Link → Option ℕ
 member_in (Some (link.Member number)) = Some number
 member_in other = None
+
+abbrev pub text_in : Option Link → Option (List ℕ)
+text_in (Some (link.Text text)) = Some text
+text_in other = None
 
 -- code with the list of the members that it may call, and how many words there is memory for in each frame
 pub record Executable : Type 0 where

@@ -9,12 +9,11 @@ use Rattle.pl_code.specs.declared.code.FunCode.{FunCode}
 use Rattle.number_ops.specs.Operators.{concatenated}
 use Rattle.number_ops.specs.Outcomes.{effect}
 use Rattle.number_ops.specs.Relations.{equal, is_same}
-use Rattle.pl_units.specs.Utf16.{units}
 use Rattle.run_state.specs.World.{World, Limits, Counted, Counts, Passes, acts_in}
 use Rattle.code_meaning.specs.declared.word.Word.{Word}
 use Rattle.code_meaning.specs.declared.word.Word.TheVariants.{I, J, R}
 use Rattle.code_meaning.specs.Words.{bit, start_of, unboxed, Calculation, NoRow, Calculates}
-use Rattle.code_meaning.specs.Machine.{Frame, Next, Goes, on_outcome, on_reference, on_top, to_line, Codes}
+use Rattle.code_meaning.specs.Machine.{Frame, Next, Goes, Stuck, on_outcome, on_reference, on_top, to_line, Codes}
 use Rattle.machine.specs.declared.references.Pairing.{Pairing}
 use Rattle.machine.specs.declared.references.Pairing.TheVariants as pairing
 use Rattle.machine.specs.declared.operators.Operated.{Operated}
@@ -68,9 +67,10 @@ with_locals slots (Some p) = Some (p.0 ++ map start_of slots, p.1)
 
 -- ---- references
 
--- a text goes on the stack
-abbrev pub text_act : List ℕ → Frame → List Frame → World → Next
-text_act text f below w = to_line f below w (suc f.line) (R (v.Str (units text)) ∷ f.stack)
+-- a text, if there is one, goes on the stack
+abbrev pub text_act : Option (List ℕ) → Frame → List Frame → World → Next
+text_act None f below w = Stuck
+text_act (Some text) f below w = to_line f below w (suc f.line) (R (v.Str text) ∷ f.stack)
 
 -- whether a word is null; none of a number
 abbrev pub null_in : Word → Option Bool

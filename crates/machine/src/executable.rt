@@ -3,7 +3,7 @@ ghost use Rattle.std.specs.Prelude.{◌≡◌, ◌≤◌, ◌<◌, ◌^◌, ℕ,
 ghost use Rattle.std.specs.Option.{option_copied};
 ghost use Rattle.allowlist.specs.Index.{member_at};
 ghost use Rattle.code_meaning.specs.Members.{count_of};
-ghost use Rattle.machine.specs.Links.{instruction_at, link_at, link_of, links_of, links_in, member_in, member_link, type_link};
+ghost use Rattle.machine.specs.Links.{instruction_at, link_at, link_of, links_of, links_in, member_in, member_link, text_link, type_link};
 ghost use Rattle.pl_types.specs.Texts.{type_of_full};
 
 use crate::frames::Frames;
@@ -13,9 +13,10 @@ use allowlist::Allow;
 use instruction_types::{constructor_of, field_of, method_of};
 use listing_parts::TypeName;
 use object_values::Owner;
-use pl_code::{Code, FunCode, Instruction};
+use pl_code::{Code, FunCode, Instruction, Quoting};
 use pl_types::Ty;
-use plain_data::Items;
+use pl_units::UText;
+use plain_data::{Items, Text};
 use std::alloc::{AllocError, Global};
 use std::marker::Model;
 
@@ -49,12 +50,14 @@ impl MemberNumber {
     }
 }
 
-/// What an instruction names.
+/// What an instruction names, or its text.
 pub enum Link {
     /// Nothing, or nothing that is there.
     Nothing,
     Member(MemberNumber),
     Type(Ty),
+    /// A text constant.
+    Text(UText),
 }
 
 impl Drop for Link {
@@ -63,6 +66,7 @@ impl Drop for Link {
             Link::Nothing => {}
             Link::Member(_number) => {}
             Link::Type(_of) => {}
+            Link::Text(_text) => {}
         }
     }
 }
@@ -237,6 +241,7 @@ fn link_of(alloc: Global, allow: &Allow, line: &Instruction) -> Result<Link, All
         Instruction::Invoke(method) => Ok(member_link(method_of(allow, method))),
         Instruction::New(constructor) => Ok(member_link(constructor_of(allow, constructor))),
         Instruction::Field(field) => Ok(member_link(field_of(allow, field))),
+        Instruction::Quoted(kind, text) => text_link(alloc, *kind, text),
         _ => Ok(Link::Nothing),
     }
 }
@@ -247,6 +252,16 @@ fn type_link(alloc: Global, of: &TypeName) -> Result<Link, AllocError>
     match Ty::of_full_text(alloc, of.as_str().as_bytes())? {
         Some(of) => Ok(Link::Type(of)),
         None => Ok(Link::Nothing),
+    }
+}
+
+// A text is converted from its bytes here, once for all its loads.
+fn text_link(alloc: Global, kind: Quoting, text: &Text) -> Result<Link, AllocError>
+    ensures { IfOk result (λ link. link ≡ text_link kind text.now) }
+{
+    match kind {
+        Quoting::Constant => Ok(Link::Text(UText::from_utf8(alloc, text.as_str())?)),
+        _ => Ok(Link::Nothing),
     }
 }
 

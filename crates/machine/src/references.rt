@@ -1,45 +1,39 @@
 //! Texts, and what is asked of references: whether two are equal or one, their texts joined, and whether one is null.
-ghost use Rattle.std.specs.Prelude.{◌≡◌, ◌≤◌, ◌<◌, ◌^◌, List, suc};
+ghost use Rattle.std.specs.Prelude.{◌≡◌, ◌≤◌, ◌<◌, ◌^◌, List, Some, suc};
 ghost use Rattle.code_meaning.specs.declared.word.Word.{Word};
-ghost use Rattle.code_meaning.specs.Machine.{quoted_act, on_reference, on_top, if_null, to_line};
+ghost use Rattle.code_meaning.specs.Machine.{on_reference, on_top, if_null, to_line};
 ghost use Rattle.machine.specs.Seen.{Comes, room_of, with_stack, world_of, codes_alone, limits_in};
+ghost use Rattle.machine.specs.Links.{link_at, text_in};
 ghost use Rattle.machine.specs.Sparing.{OnReference, OnValues};
 ghost use Rattle.machine.specs.Memory.{HasMemory, PairSpares};
 ghost use Rattle.machine.specs.Rows.{null_in, on_pair, on_references, paired, text_act};
 
 use crate::configuration::{Configuration, Step};
+use crate::executable::{Executable, Link};
 use crate::linked_code::LinkedCode;
 use crate::rules::Rules;
 use crate::throwing::{answered, answered_whole};
 use code_meaning::Word;
 use number_ops::{concatenate, equal, is_same};
 use object_values::Value;
-use pl_code::Quoting;
 use pl_units::UText;
-use plain_data::Text;
 
-/// An instruction with a text.
-pub fn quoted(
-    run: &mut Configuration,
-    code: &LinkedCode,
-    limits: &Rules<'_>,
-    kind: Quoting,
-    text: &Text,
-) -> Step
-    ensures exact { Comes (quoted_act (codes_alone code.now.functions) (limits_in limits.now) kind text.now run.old.frames.top run.old.frames.below (world_of run.old.world)) result run.new }
+/// Puts the text of the instruction on the stack, which is shared. No other instruction with a text is built.
+pub fn quoted(run: &mut Configuration, executable: &Executable) -> Step
+    ensures exact { Comes (text_act (text_in (link_at executable.now run.old.frames.top)) run.old.frames.top run.old.frames.below (world_of run.old.world)) result run.new }
     ensures room { room_of run.new ≡ room_of run.old }
 {
-    match kind {
-        Quoting::Constant => constant(run, text),
+    match executable.link(&run.frames) {
+        Some(Link::Text(text)) => constant(run, text),
         _ => Step::Stuck,
     }
 }
 
-fn constant(run: &mut Configuration, text: &Text) -> Step
-    ensures exact { Comes (text_act text.now run.old.frames.top run.old.frames.below (world_of run.old.world)) result run.new }
+fn constant(run: &mut Configuration, text: &UText) -> Step
+    ensures exact { Comes (text_act (Some text.now) run.old.frames.top run.old.frames.below (world_of run.old.world)) result run.new }
     ensures room { room_of run.new ≡ room_of run.old }
 {
-    match UText::from_utf8(run.world.heap.alloc(), text.as_str()) {
+    match text.share() {
         Ok(text) => run.push(Word::R(Value::Str(text))),
         Err(_) => Step::NoMemory,
     }

@@ -60,7 +60,7 @@ fn execute(
         Instruction::Numbered(kind, number) => numbered(run, code, limits, *kind, *number),
         Instruction::Boxing(primitive) => box_number(run, *primitive),
         Instruction::Unboxing(primitive, way) => unbox(run, code, limits, *primitive, *way),
-        Instruction::Quoted(kind, text) => quoted(run, code, limits, *kind, text),
+        Instruction::Quoted(_, _) => quoted(run, executable),
         Instruction::Typed(kind, _) => typed(run, executable, limits, *kind),
         Instruction::Cast(_, way) => cast(run, executable, limits, *way),
         Instruction::Invoke(_) => named(run, executable, limits),

@@ -1,8 +1,12 @@
 use Rattle.std.proofs.Common.{arith}
 use Rattle.machine.specs.Seen.{world_of, limits_in}
 use Rattle.machine.proofs.Calling.{as_well}
-use Rattle.machine.proofs.Linked.{typed_acts, cast_acts, cast_spares, method_acts, method_spares, constructor_acts, constructor_spares, field_acts, field_spares}
+use Rattle.machine.proofs.Linked.{text_acts, typed_acts, cast_acts, cast_spares, method_acts, method_spares, constructor_acts, constructor_spares, field_acts, field_spares}
 use Rattle.machine.proofs.step.execute.Goals as goal
+
+pub returns-in-Quoted-clause-exact : goal.returns-in-Quoted-clause-exact
+returns-in-Quoted-clause-exact c =
+    as_well _ _ _ _ (text_acts c.args.executable.now (limits_in c.args.limits.now) c.args.instruction.now c.args.run.now.frames.top c.requires.allowed c.requires.instruction c.args.run.now.frames.below (world_of c.args.run.now.world) _ _ c.in-Quoted.is) c.quoted.ensures.exact
 
 pub returns-in-Typed-clause-exact : goal.returns-in-Typed-clause-exact
 returns-in-Typed-clause-exact c =
