@@ -6,6 +6,8 @@ pub mod Fitted
 pub mod Turning
 pub mod Rows
 pub mod Quick
+pub mod Returning
+pub mod Moving
 pub mod Reaching
 pub mod Given
 pub mod Handling

@@ -2,9 +2,11 @@
 use Rattle.std.specs.Prelude.{◌≡◌, ◌+◌, ℕ, Bool, true, false, List}
 use Rattle.object_heap.specs.Store.{Store}
 use Rattle.run_state.specs.World.{World, Limits}
-use Rattle.code_meaning.specs.Machine.{Codes, Config, Goes, Next, after}
+use Rattle.code_meaning.specs.Machine.{Codes, Config, Frame, Goes, Next, after}
 use Rattle.machine.specs.Frames.{Laid}
 use Rattle.machine.specs.Runs.{steps_taken}
+use Rattle.machine.specs.declared.fast_calls.Taken.{Taken}
+use Rattle.machine.specs.declared.fast_calls.Taken.TheVariants as taken
 
 -- frames in a world with so many ticks
 abbrev pub placed : Laid → Store → ℕ → List ℕ → Config
@@ -17,6 +19,31 @@ in_world s w = record { top = s.top; below = s.below; world = w }
 abbrev pub Does : Next → Config → Config → Bool → Type 0
 Does next old new true = next ≡ Goes new
 Does next old new false = new ≡ old
+
+-- an instruction that was done stays in its function, or goes to another
+abbrev pub stays : Bool → Taken
+stays true = taken.Here
+stays false = taken.Not
+
+abbrev pub moves : Bool → Taken
+moves true = taken.Elsewhere
+moves false = taken.Not
+
+-- what an instruction does was done, or nothing was changed
+abbrev pub Takes : Next → Config → Config → Taken → Type 0
+Takes next old new taken.Here = next ≡ Goes new
+Takes next old new taken.Elsewhere = next ≡ Goes new
+Takes next old new taken.Not = new ≡ old
+
+-- where it stays in its function, the newest frame runs that one
+abbrev pub StaysIn : Frame → Frame → Taken → Type 0
+StaysIn old new taken.Here = (new.text ≡ old.text) × (new.fun ≡ old.fun)
+StaysIn old new taken.Elsewhere = Unit {0}
+StaysIn old new taken.Not = Unit {0}
+
+-- there is memory for as much as before
+abbrev pub KeepsRoom : Laid → Laid → Type 0
+KeepsRoom old new = (new.words ≡ old.words) × (new.depth ≡ old.depth)
 
 -- the newest frame runs the same function, and there is memory for as much as before
 abbrev pub Keeps : Laid → Laid → Type 0

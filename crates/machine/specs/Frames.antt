@@ -55,6 +55,11 @@ abbrev pub Leaves : Frame → List Frame → Frame → List Frame → Bool → T
 Leaves top below new left true = below ≡ new ∷ left
 Leaves top below new left false = (below ≡ []) × (new ≡ top) × (left ≡ [])
 
+-- The newest frame is dropped, if there is one below it, which gets a word and goes on; else nothing changes
+abbrev pub GivesBack : Word → Frame → List Frame → Frame → List Frame → Bool → Type 0
+GivesBack word top below new left true = (f : Frame) × (below ≡ f ∷ left) × (new ≡ at_line (with_stack f (word ∷ f.stack)) (suc f.line))
+GivesBack word top below new left false = (new ≡ top) × (left ≡ below)
+
 -- A new frame of a function: these words were taken off the stack of the one below it, and are its first locals
 abbrev pub Enters : Option (List Word × List Word) → ℕ → List Slot → Frame → List Frame → Frame → List Frame → Type 0
 Enters None fun slots old below new left = ⊥

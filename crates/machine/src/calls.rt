@@ -55,6 +55,7 @@ fn call_function(
 }
 
 /// What a local of a kind begins with.
+#[inline(always)]
 pub fn start_of(slot: Slot) -> Word
     ensures { result ≡ words.start_of slot }
 {

@@ -1,5 +1,5 @@
-//! The fast path: instructions on numbers, one after the other, in frames that are held by value. So the line, the number of words and
-//! the ticks lie in registers. What is not a row of it, or finds no number or no memory, is left for `step` with nothing changed.
+//! The fast path: instructions on numbers, calls and returns, one after the other, in frames that are held by value. So the line, the
+//! number of words and the ticks lie in registers. What is not a row of it, or finds no number or no memory, is left for `step` with nothing changed.
 ghost use Rattle.std.specs.Prelude.{◌≡◌, ◌≤◌, ◌<◌, ◌+◌, ◌^◌, ◌∷◌, Some, List, ℕ, suc, drop, length, slice_get, slice_set, MatchOption};
 ghost use Rattle.object_heap.specs.Store.{Store};
 ghost use Rattle.run_state.specs.World.{Limits, World, take_turn};
@@ -8,10 +8,14 @@ ghost use Rattle.code_meaning.specs.Words as words;
 ghost use Rattle.code_meaning.specs.declared.word.Word.TheVariants.{I, J};
 ghost use Rattle.code_meaning.specs.Machine.{Codes, Goes, act, numbered_act, function_of, on_calculation, on_int, on_local, on_stack, on_top, on_turn, plain_act, step, to_line, unless_zero, copied};
 ghost use Rattle.pl_code.specs.declared.kinds.Plain.TheVariants as plains;
-ghost use Rattle.machine.specs.Fast.{Does, Keeps, KeepsTurns, Leads, in_world, placed};
+ghost use Rattle.machine.specs.Fast.{Does, Keeps, KeepsRoom, KeepsTurns, Leads, StaysIn, Takes, in_world, placed};
+ghost use Rattle.machine.specs.Runs.{TurnsFit};
+ghost use Rattle.machine.specs.Seen.{codes_alone};
 ghost use Rattle.machine.specs.Frames.{at_line, with_stack};
 
+use crate::fast_calls::{Taken, call, give_back, moves, stays};
 use crate::frames::Frames;
+use crate::linked_code::LinkedCode;
 use crate::operators::{is_shift, on_ints, on_longs, takes_one, word_of};
 use arithmetic::Num;
 use code_meaning::Word;
@@ -40,7 +44,7 @@ pub fn begins_fast(frames: &Frames, function: &FunCode) -> bool {
     }
 }
 
-// A call, and what is not on numbers, ends the fast path at once.
+// What is not on numbers ends the fast path at once.
 #[inline(always)]
 fn begins_numbered(frames: &Frames, kind: Numbered, number: u32) -> bool {
     match kind {
@@ -50,6 +54,7 @@ fn begins_numbered(frames: &Frames, kind: Numbered, number: u32) -> bool {
         Numbered::IfZero => true,
         Numbered::IfNotZero => true,
         Numbered::Loop => true,
+        Numbered::Call => true,
         _ => false,
     }
 }
@@ -61,21 +66,44 @@ fn is_number(word: Option<&Word>) -> bool {
 
 /// Takes so many instructions, or fewer: those of the fast path, up to the first that is none of it.
 #[inline(always)]
-pub fn run_fast(frames: Frames, function: &FunCode, loops: u64, ticks: u64, count: u64) -> FastRun
-    requires { frames.top.turns + ticks < 2 ^ 64 }
-    ensures exact { (codes : Codes) (limits : Limits) (store : Store) (reached : List ℕ) → function_of codes frames.top ≡ Some function.now → limits.loop ≡ loops → Leads codes limits result.steps (placed frames store ticks reached) (placed result.frames store result.ticks reached) }
-    ensures keeps { Keeps frames result.frames }
+pub fn run_fast(
+    frames: Frames,
+    code: &LinkedCode,
+    function: &FunCode,
+    loops: u64,
+    depth: u32,
+    ticks: u64,
+    count: u64,
+) -> FastRun
+    requires found { function_of (codes_alone code.now.functions) frames.top ≡ Some function.now }
+    requires counts { TurnsFit ticks (frames.top ∷ frames.below) }
+    ensures exact { (limits : Limits) (store : Store) (reached : List ℕ) → limits.loop ≡ loops → limits.depth ≡ depth → Leads (codes_alone code.now.functions) limits result.steps (placed frames store ticks reached) (placed result.frames store result.ticks reached) }
+    ensures keeps { KeepsRoom frames result.frames }
     ensures steps { result.steps ≤ count }
 {
     let mut frames = frames;
     let mut ticks = ticks;
+    let mut function = function;
     'instructions: for taken in 0..count {
-        if !fast_step(&mut frames, &mut ticks, function, loops) {
-            return FastRun {
-                frames,
-                ticks,
-                steps: taken,
-            };
+        match fast_step(&mut frames, &mut ticks, code, function, loops, depth) {
+            Taken::Here => {}
+            Taken::Elsewhere => match frames.function_at(code, frames.fun()) {
+                Some(found) => function = found,
+                None => {
+                    return FastRun {
+                        frames,
+                        ticks,
+                        steps: taken + 1,
+                    };
+                }
+            },
+            Taken::Not => {
+                return FastRun {
+                    frames,
+                    ticks,
+                    steps: taken,
+                };
+            }
         }
     }
     FastRun {
@@ -85,25 +113,93 @@ pub fn run_fast(frames: Frames, function: &FunCode, loops: u64, ticks: u64, coun
     }
 }
 
-// Does the instruction at the line of the newest frame, if it is one of the fast path: whether it was done. Else nothing is changed.
+// Does the instruction at the line of the newest frame, if it is one of the fast path. Else nothing is changed.
 #[inline(always)]
-fn fast_step(frames: &mut Frames, ticks: &mut u64, function: &FunCode, loops: u64) -> bool
+fn fast_step(
+    frames: &mut Frames,
+    ticks: &mut u64,
+    code: &LinkedCode,
+    function: &FunCode,
+    loops: u64,
+    depth: u32,
+) -> Taken
+    requires found { function_of (codes_alone code.now.functions) frames.old.top ≡ Some function.now }
     requires turns { frames.old.top.turns + ticks.old < 2 ^ 64 }
-    ensures exact { (codes : Codes) (limits : Limits) (store : Store) (reached : List ℕ) → function_of codes frames.old.top ≡ Some function.now → limits.loop ≡ loops → Does (step codes limits (placed frames.old store ticks.old reached)) (placed frames.old store ticks.old reached) (placed frames.new store ticks.new reached) result }
-    ensures keeps { Keeps frames.old frames.new }
-    ensures turns { frames.new.top.turns + ticks.new ≡ frames.old.top.turns + ticks.old }
+    ensures exact { (limits : Limits) (store : Store) (reached : List ℕ) → limits.loop ≡ loops → limits.depth ≡ depth → Takes (step (codes_alone code.now.functions) limits (placed frames.old store ticks.old reached)) (placed frames.old store ticks.old reached) (placed frames.new store ticks.new reached) result }
+    ensures same { StaysIn frames.old.top frames.new.top result }
+    ensures room { KeepsRoom frames.old frames.new }
 {
     let line = frames.line();
     if line >= function.lines.len() {
-        return false;
+        return Taken::Not;
     }
     match function.lines.get(line) {
-        Some(instruction) => fast(frames, ticks, instruction, line + 1, function.loops, loops),
-        None => false,
+        Some(instruction) => take(
+            frames,
+            ticks,
+            code,
+            function,
+            instruction,
+            line + 1,
+            loops,
+            depth,
+        ),
+        None => Taken::Not,
     }
 }
 
 // The same of an instruction.
+#[inline(always)]
+fn take(
+    frames: &mut Frames,
+    ticks: &mut u64,
+    code: &LinkedCode,
+    function: &FunCode,
+    instruction: &Instruction,
+    next: usize,
+    loops: u64,
+    depth: u32,
+) -> Taken
+    requires found { function_of (codes_alone code.now.functions) frames.old.top ≡ Some function.now }
+    requires turns { frames.old.top.turns + ticks.old < 2 ^ 64 }
+    requires next { next ≡ suc frames.old.top.line }
+    ensures exact { (limits : Limits) (store : Store) (reached : List ℕ) → limits.loop ≡ loops → limits.depth ≡ depth → Takes (act (codes_alone code.now.functions) limits instruction.now frames.old.top frames.old.below (record { store = store; ticks = ticks.old; reached = reached })) (placed frames.old store ticks.old reached) (placed frames.new store ticks.new reached) result }
+    ensures same { StaysIn frames.old.top frames.new.top result }
+    ensures room { KeepsRoom frames.old frames.new }
+{
+    match instruction {
+        Instruction::Numbered(kind, number) => match kind {
+            Numbered::Call => moves(call(frames, ticks, code, depth, *number)),
+            _ => stay(frames, ticks, function, instruction, next, loops),
+        },
+        Instruction::Plain(kind) => match kind {
+            Plain::Ret => moves(give_back(frames, function)),
+            _ => stay(frames, ticks, function, instruction, next, loops),
+        },
+        _ => stay(frames, ticks, function, instruction, next, loops),
+    }
+}
+
+// The same of an instruction that stays in its function.
+#[inline(always)]
+fn stay(
+    frames: &mut Frames,
+    ticks: &mut u64,
+    function: &FunCode,
+    instruction: &Instruction,
+    next: usize,
+    loops: u64,
+) -> Taken
+    requires turns { frames.old.top.turns + ticks.old < 2 ^ 64 }
+    requires next { next ≡ suc frames.old.top.line }
+    ensures exact { (codes : Codes) (limits : Limits) (store : Store) (reached : List ℕ) → function_of codes frames.old.top ≡ Some function.now → limits.loop ≡ loops → Takes (act codes limits instruction.now frames.old.top frames.old.below (record { store = store; ticks = ticks.old; reached = reached })) (placed frames.old store ticks.old reached) (placed frames.new store ticks.new reached) result }
+    ensures same { StaysIn frames.old.top frames.new.top result }
+    ensures room { KeepsRoom frames.old frames.new }
+{
+    stays(fast(frames, ticks, instruction, next, function.loops, loops))
+}
+
+// Does an instruction that stays in its function, if it is one of the fast path: whether it was done. Else nothing is changed.
 #[inline(always)]
 fn fast(
     frames: &mut Frames,

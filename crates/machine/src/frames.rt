@@ -1,11 +1,11 @@
 //! Frames that lie one on the other in one vector of words.
-ghost use Rattle.std.specs.Prelude.{◌+◌, ◌^◌, ◌++◌, map, nat_le, drop, false, ◌≡◌, ◌≤◌, ◌<◌, true, suc, [], ◌∷◌, length, option_map, slice_get, slice_set, MatchOption, OnOk, OnErr, IsOk, IfOk};
+ghost use Rattle.std.specs.Prelude.{◌+◌, ◌^◌, ◌++◌, map, nat_le, drop, take, false, ◌≡◌, ◌≤◌, ◌<◌, true, suc, [], ◌∷◌, length, option_map, slice_get, slice_set, MatchOption, OnOk, OnErr, IsOk, IfOk};
 ghost use Rattle.std.specs.Option.{option_copied};
 ghost use Rattle.std.specs.Vec.{vec_capacity};
 ghost use Rattle.code_meaning.specs.Machine.{depth_of, take_words, code_in, function_of};
 ghost use Rattle.code_meaning.specs.Words.{start_of};
 ghost use Rattle.code_meaning.specs.Sizes.{words_in};
-ghost use Rattle.machine.specs.Frames.{Enters, Leaves, at_line, with_turns};
+ghost use Rattle.machine.specs.Frames.{Enters, GivesBack, Leaves, at_line, with_turns};
 ghost use Rattle.machine.specs.Frames.{with_stack, with_words};
 ghost use Rattle.object_values.specs.declared.object.Owner.TheVariants.{Script};
 ghost use Rattle.machine.specs.Handlers.{linked_traps};
@@ -461,6 +461,74 @@ impl Frames {
         };
         Ok(())
     }
+
+    /// A new frame as by [`Frames::enter`], where there are so many operands, and memory for it. Else nothing changes.
+    #[inline(always)]
+    #[tactic(auto, using(crate::proofs::Places::frames_below))]
+    pub fn enter_reserved(&mut self, fun: u32, params: usize, slots: &[Slot]) -> bool
+        ensures done { result ≡ true → Enters (take_words params self.old.top.stack []) fun slots.now self.old.top self.old.below self.new.top self.new.below }
+        ensures top { result ≡ false → self.new.top ≡ self.old.top }
+        ensures below { result ≡ false → self.new.below ≡ self.old.below }
+        ensures words { self.new.words ≡ self.old.words }
+        ensures depth { self.new.depth ≡ self.old.depth }
+    {
+        let count = self.words.len();
+        let room = self.words.capacity();
+        if self.top.line == usize::MAX {
+            return false;
+        }
+        if count - self.top.base - self.top.locals < params {
+            return false;
+        }
+        if room < count || room - count < slots.len() {
+            return false;
+        }
+        if self.below.len() >= self.below.capacity() {
+            return false;
+        }
+        put_starts(&mut self.words, slots);
+        self.below.push_reserved(self.top);
+        self.top = Held {
+            text: self.top.text,
+            fun,
+            line: 0,
+            turns: 0,
+            base: count - params,
+            locals: params + slots.len(),
+        };
+        true
+    }
+
+    /// Drops the newest frame with its words, if there is one below it. A word goes on that one's operands, which goes on to its next
+    /// line. Else nothing changes.
+    #[inline(always)]
+    pub fn give_back(&mut self, word: Word) -> bool
+        ensures due { self.old.top.due ≡ [] }
+        ensures frames { GivesBack word self.old.top self.old.below self.new.top self.new.below result }
+        ensures words { self.new.words ≡ self.old.words }
+        ensures depth { self.new.depth ≡ self.old.depth }
+    {
+        let base = self.top.base;
+        if base >= self.words.capacity() {
+            return false;
+        }
+        match self.below.pop() {
+            Some(held) => {
+                cut(&mut self.words, base);
+                self.words.push_reserved(word);
+                self.top = Held {
+                    text: held.text,
+                    fun: held.fun,
+                    line: held.line + 1,
+                    turns: held.turns,
+                    base: held.base,
+                    locals: held.locals,
+                };
+                true
+            }
+            None => false,
+        }
+    }
 }
 
 // What locals begin with, behind words that are there.
@@ -474,4 +542,32 @@ fn push_starts(words: &mut Vec<Word>, slots: &[Slot]) -> Result<(), AllocError>
         words.push(start_of(*slot))?;
     }
     Ok(())
+}
+
+// The same where there is memory for it.
+#[inline(always)]
+fn put_starts(words: &mut Vec<Word>, slots: &[Slot])
+    requires { length words.old.items + length slots.now ≤ vec_capacity words.old }
+    ensures items { words.new.items ≡ words.old.items ++ map start_of slots.now }
+    ensures room { vec_capacity words.new ≡ vec_capacity words.old }
+{
+    for slot in slots {
+        words.push_reserved(start_of(*slot));
+    }
+}
+
+// Drops the words behind so many.
+#[inline(always)]
+fn cut(words: &mut Vec<Word>, count: usize)
+    ensures items { words.new.items ≡ take count words.old.items }
+    ensures room { vec_capacity words.new ≡ vec_capacity words.old }
+{
+    'words: while words.len() > count {
+        match &words[words.len() - 1] {
+            Word::R(_) => {
+                let _word = words.pop();
+            }
+            _ => forget(words.pop()),
+        }
+    }
 }

@@ -7,6 +7,7 @@ mod calls;
 mod configuration;
 mod copies;
 mod executable;
+mod fast_calls;
 mod fast_path;
 mod frames;
 mod handlers;

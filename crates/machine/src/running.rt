@@ -71,10 +71,8 @@ fn run_numbers(
     ensures steps { result ≤ count }
     ensures room { room_of run.new ≡ room_of run.old }
 {
-    match run
-        .frames
-        .function_at(executable.linked(), run.frames.fun())
-    {
+    let code = executable.linked();
+    match run.frames.function_at(code, run.frames.fun()) {
         Some(function) => {
             if !begins_fast(&run.frames, function) {
                 return 0;
@@ -85,7 +83,15 @@ fn run_numbers(
                 frames,
                 ticks,
                 steps,
-            } = run_fast(frames, function, limits.loops(), run.world.ticks, count);
+            } = run_fast(
+                frames,
+                code,
+                function,
+                limits.loops(),
+                limits.depth(),
+                run.world.ticks,
+                count,
+            );
             forget(replace(&mut run.frames, frames));
             run.world.ticks = ticks;
             steps

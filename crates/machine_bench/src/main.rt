@@ -1,9 +1,9 @@
-//! Prints what a loop of a million turns, as many calls, and a million instructions in a straight line take, in nanoseconds an
-//! instruction. It measures where it is given an argument, and else prints nothing: `rt run -- times`.
+//! Prints what a loop of a million turns, as many calls, fib(24), 100,000 appends, and a million instructions in a straight line take, in
+//! nanoseconds an instruction, and what a run of eleven instructions takes, in new memory and in the memory of the run before. It measures where it is given an argument, and else prints nothing: `rt run -- times`.
 #![tactic(auto)]
 
-use allowlist::Catalogue;
-use machine::{Activation, Executable, Limits};
+use allowlist::{Allow, Catalogue};
+use machine::{Activation, Executable, Finished, Limits, RunMemory};
 use object_heap::Heap;
 use object_values::Elements;
 use pl_code::read_listing;
@@ -21,6 +21,21 @@ const LOOP: &str =
 const CALLS: &str =
     "painless 1\nfun 0 loop V - I\ni 0\nstore 0\ngoto 10\nload 0\ncall 1\npop\nload 0\ni 1\nadd.i\nstore 0\nload 0\ni 1000000\nlt.i\nloop 3\nret\nend\nfun 1 loop I I -\nload 0\nret\nend\n";
 
+// int fib(int n) { if (n < 2) { return n } return fib(n - 1) + fib(n - 2) } fib(24)
+const FIB: &str =
+    "painless 1\nfun 0 loop R - -\ni 24\ncall 1\nbox int\nret\nend\nfun 1 loop I I -\nload 0\ni 2\nlt.i\nifz 6\nload 0\nret\nload 0\ni 1\nsub.i\ncall 1\nload 0\ni 2\nsub.i\ncall 1\nadd.i\nret\nend\n";
+
+// StringBuilder b = new StringBuilder(); for (int i = 0; i < 100000; i++) { b.append('ab') }
+const APPEND: &str =
+    "painless 1\nfun 0 loop R - RI\nnew java.lang.StringBuilder/0\nstore 0\ni 0\nstore 1\ngoto 13\nload 0\ntext \"ab\"\ninvoke java.lang.StringBuilder.append/1\npop\nload 1\ni 1\nadd.i\nstore 1\nload 1\ni 100000\nlt.i\nloop 5\nload 1\nbox int\nret\nend\n";
+
+// int a = 2; int b = 3; a * b + 1, with sixteen locals
+const SHORT: &str =
+    "painless 1\nfun 0 loop R - IIIIIIIIIIIIIIII\ni 2\nstore 0\ni 3\nstore 1\nload 0\nload 1\nmul.i\ni 1\nadd.i\nbox int\nret\nend\n";
+
+// How often it is run.
+const RUNS: u32 = 200_000;
+
 // So often stands s += 1 in a straight line.
 const SUMS: usize = 250_000;
 
@@ -31,7 +46,7 @@ const LIMITS: Limits = Limits {
 };
 
 // How many words each frame may have.
-const FRAME: usize = 8;
+const FRAME: usize = 20;
 
 /// The listing of int s = 0; s += 1; s += 1; .. s
 fn straight(alloc: Global) -> Result<String, AllocError> {
@@ -57,6 +72,14 @@ fn run(alloc: Global, executable: &Executable, q: u64) -> Result<u64, AllocError
     })
 }
 
+/// The code of a listing, ready to run. What is no listing counts as want of memory.
+fn ready(alloc: Global, listing: &str, allow: &Allow) -> Result<Executable, AllocError> {
+    let Ok(code) = read_listing(alloc, listing.as_bytes()) else {
+        return Err(AllocError);
+    };
+    Executable::new(alloc, code, allow.share(alloc)?, FRAME)
+}
+
 fn measure(
     rt: &(impl Clock + Print),
     alloc: Global,
@@ -73,6 +96,58 @@ fn measure(
     println!(rt; "{name} in turns of {q}: {steps} instructions, {each} ns each, {spent} ns in all")
 }
 
+/// One run in this memory, and what it leaves of it.
+fn run_in(
+    alloc: Global,
+    executable: &Executable,
+    memory: RunMemory,
+) -> Result<RunMemory, AllocError> {
+    let heap = Heap::new(alloc, 1_000_000);
+    let mut activation =
+        Activation::start_in(executable, memory, heap, Elements::new(alloc), LIMITS)?;
+    let _turn = activation.turn(1_000);
+    let Finished {
+        outcome: _outcome,
+        memory,
+    } = activation.finish();
+    Ok(memory)
+}
+
+/// Many runs, each in new memory.
+fn runs_anew(alloc: Global, executable: &Executable) -> Result<(), AllocError> {
+    for _ in 0..RUNS {
+        let _memory = run_in(alloc, executable, RunMemory::new(alloc))?;
+    }
+    Ok(())
+}
+
+/// Many runs, each in the memory of the one before.
+fn runs_on(alloc: Global, executable: &Executable) -> Result<(), AllocError> {
+    let mut memory = RunMemory::new(alloc);
+    for _ in 0..RUNS {
+        memory = run_in(alloc, executable, memory)?;
+    }
+    Ok(())
+}
+
+fn measure_runs(
+    rt: &(impl Clock + Print),
+    alloc: Global,
+    executable: &Executable,
+) -> io::Result<()> {
+    let start = Instant::now(rt)?;
+    let Ok(()) = runs_anew(alloc, executable) else {
+        return Ok(());
+    };
+    let anew = start.elapsed(rt)?.as_nanos() / u128::from(RUNS);
+    let start = Instant::now(rt)?;
+    let Ok(()) = runs_on(alloc, executable) else {
+        return Ok(());
+    };
+    let on = start.elapsed(rt)?.as_nanos() / u128::from(RUNS);
+    println!(rt; "a run of eleven instructions: {anew} ns in new memory, {on} ns in that of the run before")
+}
+
 fn main(rt: HostRuntime) -> io::Result<()> {
     if env::args(&rt)?.nth(1).is_none() {
         return Ok(());
@@ -86,20 +161,19 @@ fn main(rt: HostRuntime) -> io::Result<()> {
     for (name, listing) in [
         ("a loop", LOOP),
         ("calls", CALLS),
+        ("fib(24)", FIB),
+        ("append", APPEND),
         ("a straight line", line.as_str()),
     ] {
-        let Ok(code) = read_listing(rt.alloc(), listing.as_bytes()) else {
-            return Ok(());
-        };
-        let Ok(allow) = allow.share(rt.alloc()) else {
-            return Ok(());
-        };
-        let Ok(executable) = Executable::new(rt.alloc(), code, allow, FRAME) else {
+        let Ok(executable) = ready(rt.alloc(), listing, &allow) else {
             return Ok(());
         };
         for q in [1, 1_000, 100_000_000] {
             measure(&rt, rt.alloc(), name, &executable, q)?;
         }
     }
-    Ok(())
+    let Ok(executable) = ready(rt.alloc(), SHORT, &allow) else {
+        return Ok(());
+    };
+    measure_runs(&rt, rt.alloc(), &executable)
 }
