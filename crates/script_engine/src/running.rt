@@ -107,18 +107,10 @@ fn outcome_left(of: &Ty, ran: machine::RunOutcome) -> Outcome
 }
 
 /// What a run of a script leaves, and its memory for the next one.
+#[derive(Drop)]
 pub struct ScriptRun {
     pub outcome: Outcome,
     pub memory: RunMemory,
-}
-
-impl Drop for ScriptRun {
-    fn drop(self) {
-        let ScriptRun {
-            outcome: _outcome,
-            memory: _memory,
-        } = self;
-    }
 }
 
 impl Script {
@@ -196,7 +188,8 @@ impl Script {
         ensures heap { (rules : Rules) (before : List Object) → NowFits rules before activation.entry.run.now → IfOk result (λ ran. LeavesFit rules before ran.outcome) }
         ensures memory { SparesMemory activation.entry.run → IsOk result }
     {
-        let FinishedRun { outcome, memory } = activation.finish_with_memory()?;
+        let finished = activation.finish_with_memory()?;
+        let FinishedRun { outcome, memory } = finished;
         Ok(ScriptRun {
             outcome: outcome_left(&self.result, outcome),
             memory,
