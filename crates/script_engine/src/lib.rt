@@ -7,4 +7,3 @@ mod running;
 
 pub use compiling::{Script, compile};
 pub use laws::script_laws;
-pub use running::ScriptRun;
