@@ -103,8 +103,13 @@ fn run_in(
     memory: RunMemory,
 ) -> Result<RunMemory, AllocError> {
     let heap = Heap::new(alloc, 1_000_000);
-    let mut activation =
-        Activation::start_in(executable, memory, heap, Elements::new(alloc), LIMITS)?;
+    let mut activation = Activation::start_in(
+        executable,
+        memory,
+        heap,
+        Elements::new(alloc),
+        LIMITS,
+    )?;
     let _turn = activation.turn(1_000);
     let Finished {
         outcome: _outcome,
@@ -145,7 +150,9 @@ fn measure_runs(
         return Ok(());
     };
     let on = start.elapsed(rt)?.as_nanos() / u128::from(RUNS);
-    println!(rt; "a run of eleven instructions: {anew} ns in new memory, {on} ns in that of the run before")
+    println!(rt;
+        "a run of eleven instructions: {anew} ns in new memory, {on} ns in that of the run before"
+    )
 }
 
 fn main(rt: HostRuntime) -> io::Result<()> {
