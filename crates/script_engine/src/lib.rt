@@ -7,3 +7,4 @@ mod running;
 
 pub use compiling::{Script, compile};
 pub use laws::script_laws;
+pub use running::ScriptRun;

@@ -13,13 +13,13 @@ ghost use Rattle.script_engine.specs.Running.{RunsAsItsProgram, LeftOf, Comes, I
 use crate::compiling::Script;
 use code_meaning::Word;
 use compiled_outcome::programs_end;
-use machine::{Limits, boxed, unboxed};
+use machine::{Limits, RunMemory, boxed, unboxed};
 use object_heap::{End, Heap, Outcome};
 use object_values::{Elements, Value};
 use pl_code::{Code, Slot};
 use pl_types::Ty;
 use std::alloc::{AllocError, Global};
-use verified_machine::VerifiedActivation;
+use verified_machine::{FinishedRun, VerifiedActivation};
 
 /// The word of an argument in a local of a kind.
 fn word_in(kind: Slot, value: Value) -> Word
@@ -106,6 +106,13 @@ fn outcome_left(of: &Ty, ran: machine::RunOutcome) -> Outcome
     }
 }
 
+/// What a run of a script leaves, and its memory for the next one.
+#[derive(Drop)]
+pub struct ScriptRun {
+    pub outcome: Outcome,
+    pub memory: RunMemory,
+}
+
 impl Script {
     /// A run of the script over a heap, whose room is what the run may take of it, on arguments, within limits. The arguments are the
     /// values of the context's variables, in their order.
@@ -125,8 +132,28 @@ impl Script {
         requires args { TakesArguments self.now args.items }
         ensures { IfOk result (λ a. a.run ≡ begun self.now heap args.items limits) }
     {
+        let memory = RunMemory::new(heap.alloc());
+        self.start_in(memory, heap, args, limits)
+    }
+
+    /// The same in the memory that an earlier run has left, which may have been of another script: only what it lacks is taken.
+    ///
+    /// # Errors
+    ///
+    /// Want of memory. The memory that was given is given back to the system then.
+    pub fn start_in(
+        &self,
+        memory: RunMemory,
+        heap: Heap,
+        args: Vec<Value>,
+        limits: Limits,
+    ) -> Result<VerifiedActivation<'_>, AllocError>
+        requires rows { HaveRows self.now.executable.allow self.now.executable.code.functions }
+        requires args { TakesArguments self.now args.items }
+        ensures { IfOk result (λ a. a.run ≡ begun self.now heap args.items limits) }
+    {
         let words = words_in(heap.alloc(), params_of(self.executable.code()), args)?;
-        VerifiedActivation::start(&self.executable, heap, words, limits)
+        VerifiedActivation::start_in(&self.executable, memory, heap, words, limits)
     }
 
     /// Runs what [`Script::start`] began to its end.
@@ -134,15 +161,39 @@ impl Script {
     /// # Errors
     ///
     /// Want of memory; none where no instruction of the run takes any.
-    #[tactic(auto, using(crate::proofs::Left::fitting_end, crate::proofs::Left::comes_from))]
     pub fn finish(&self, activation: VerifiedActivation<'_>) -> Result<Outcome, AllocError>
         ensures comes { IfOk result (Comes self.now.result (ending activation.entry.run)) }
         // Where the start fits, so does what is left.
         ensures heap { (rules : Rules) (before : List Object) → NowFits rules before activation.entry.run.now → IfOk result (LeavesFit rules before) }
         ensures memory { SparesMemory activation.entry.run → IsOk result }
     {
-        let ran = activation.finish()?;
-        Ok(outcome_left(&self.result, ran))
+        let ScriptRun {
+            outcome,
+            memory: _memory,
+        } = self.finish_with_memory(activation)?;
+        Ok(outcome)
+    }
+
+    /// The same, and the memory that the run had, for the next one.
+    ///
+    /// # Errors
+    ///
+    /// Want of memory.
+    #[tactic(auto, using(crate::proofs::Left::fitting_end, crate::proofs::Left::comes_from))]
+    pub fn finish_with_memory(
+        &self,
+        activation: VerifiedActivation<'_>,
+    ) -> Result<ScriptRun, AllocError>
+        ensures comes { IfOk result (λ ran. Comes self.now.result (ending activation.entry.run) ran.outcome) }
+        ensures heap { (rules : Rules) (before : List Object) → NowFits rules before activation.entry.run.now → IfOk result (λ ran. LeavesFit rules before ran.outcome) }
+        ensures memory { SparesMemory activation.entry.run → IsOk result }
+    {
+        let finished = activation.finish_with_memory()?;
+        let FinishedRun { outcome, memory } = finished;
+        Ok(ScriptRun {
+            outcome: outcome_left(&self.result, outcome),
+            memory,
+        })
     }
 
     /// Runs the script: [`Script::start`], and then [`Script::finish`].
@@ -164,8 +215,36 @@ impl Script {
         // left.
         ensures typed { (rules : Rules) → Fits rules heap.objects → IfOk result (GivesTyped self.now heap args.items) }
     {
+        let memory = RunMemory::new(heap.alloc());
+        let ScriptRun {
+            outcome,
+            memory: _memory,
+        } = self.run_in(memory, heap, args, limits)?;
+        Ok(outcome)
+    }
+
+    /// The same in the memory that an earlier run has left, which may have been of another script, and the memory for the next one. So
+    /// many runs take memory for their frames once. The outcome does not depend on the memory.
+    ///
+    /// # Errors
+    ///
+    /// Want of memory. The memory that was given is given back to the system then.
+    pub fn run_in(
+        &self,
+        memory: RunMemory,
+        heap: Heap,
+        args: Vec<Value>,
+        limits: Limits,
+    ) -> Result<ScriptRun, AllocError>
+        requires rows { HaveRows self.now.executable.allow self.now.executable.code.functions }
+        requires args { TakesArguments self.now args.items }
+        ensures program { IfOk result (λ ran. RunsAsItsProgram self.now heap args.items limits ran.outcome) }
+        // As of [`Script::run`].
+        ensures heap { (rules : Rules) → Fits rules heap.objects → AllFit (length heap.objects) args.items → IfOk result (λ ran. LeavesFit rules heap.objects ran.outcome) }
+        ensures typed { (rules : Rules) → Fits rules heap.objects → IfOk result (λ ran. GivesTyped self.now heap args.items ran.outcome) }
+    {
         programs_end();
-        let activation = self.start(heap, args, limits)?;
-        self.finish(activation)
+        let activation = self.start_in(memory, heap, args, limits)?;
+        self.finish_with_memory(activation)
     }
 }

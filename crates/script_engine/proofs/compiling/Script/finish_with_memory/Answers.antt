@@ -1,0 +1,6 @@
+use Rattle.script_engine.proofs.Fitting.{left_from}
+use Rattle.script_engine.proofs.compiling.Script.finish_with_memory.Goals as goal
+
+pub returns-clause-heap : goal.returns-clause-heap
+returns-clause-heap c = λ rules before fits.
+    left_from c.args.self.now.result c.in_ok-finished.finished.outcome c.outcome_left.result c.outcome_left.ensures rules before (c.in_ok-finished.ensures.heap rules before fits)

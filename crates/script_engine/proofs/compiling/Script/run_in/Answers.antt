@@ -1,0 +1,25 @@
+-- What the run comes to is the outcome of the program, and it fits where the start does.
+use Rattle.std.proofs.Common.{subst}
+use Rattle.std.proofs.lemmas.Result.{IfOk-weaker}
+use Rattle.machine.specs.Activations.{Activation}
+use Rattle.verified_machine.specs.Tasks.{ending}
+use Rattle.script_engine.specs.Running.{Comes}
+use Rattle.script_engine.proofs.Fitting.{began_fits}
+use Rattle.script_engine.proofs.Runs.{ending_runs}
+use Rattle.script_engine.proofs.Typed.{scripts_give}
+use Rattle.script_engine.proofs.compiling.Script.run_in.Goals as goal
+
+pub returns-clause-program : goal.returns-clause-program
+returns-clause-program c =
+    IfOk-weaker c.finish_with_memory.result _ _ (λ ran comes. ending_runs c.programs_end.ensures.ends c.args.self.now c.args.heap c.args.args.items c.args.limits ran.outcome
+    (subst (λ (a : Activation). Comes c.args.self.now.result (ending a) ran.outcome) c.in_ok-activation.ensures comes)) c.finish_with_memory.ensures.comes
+
+pub returns-clause-heap : goal.returns-clause-heap
+returns-clause-heap c = λ rules f g.
+    c.finish_with_memory.ensures.heap rules c.args.heap.objects (began_fits c.args.self.now c.args.heap c.args.args.items c.args.limits _ c.in_ok-activation.ensures rules f g)
+
+pub returns-clause-typed : goal.returns-clause-typed
+returns-clause-typed c = λ rules f.
+    IfOk-weaker c.finish_with_memory.result _ _ (λ ran comes. scripts_give rules c.args.self.now c.args.heap c.args.args.items c.args.limits ran.outcome f
+    (ending_runs c.programs_end.ensures.ends c.args.self.now c.args.heap c.args.args.items c.args.limits ran.outcome
+    (subst (λ (a : Activation). Comes c.args.self.now.result (ending a) ran.outcome) c.in_ok-activation.ensures comes))) c.finish_with_memory.ensures.comes
