@@ -1,6 +1,6 @@
 -- Each instruction keeps a run within its rules.
 use Rattle.std.proofs.Common.{◌≡◌, ℕ, ℤ, zero, suc, Bool, true, false, List, [], ◌∷◌, Option, Some, None, sym, subst}
-use Rattle.std.specs.Prelude.{slice_get, map, length, if◌then◌else◌}
+use Rattle.std.specs.Prelude.{◌*◌, slice_get, map, length, if◌then◌else◌}
 use Rattle.pl_types.specs.declared.ty.Ty.{Ty}
 use Rattle.pl_types.specs.declared.ty.Ty.TheVariants as ty
 use Rattle.pl_types.specs.Texts.{type_of_full}
@@ -15,9 +15,13 @@ use Rattle.allowlist.specs.Index.{member_at}
 use Rattle.instruction_types.specs.Members.{method_of, constructor_of, field_of}
 use Rattle.container_calls.specs.Laws.{StillThere}
 use Rattle.member_calls.specs.Members.{does}
+use Rattle.container_ops.specs.Elements.{element_read, element_written, length_of}
+use Rattle.container_ops.specs.Loops.{iterated, has_more, next_element}
+use Rattle.container_ops.specs.Making.{list_made, map_made, array_filled, array_made}
+use Rattle.def_access.specs.Access.{Access, Calls, Acts, index_read, index_written, name_read, name_written, method_called}
 use Rattle.number_ops.specs.Outcomes.{effect, zero_divisor, null_error, says}
 use Rattle.number_ops.specs.Casts.{cast_at_run_time}
-use Rattle.number_ops.specs.Operators.{concatenated}
+use Rattle.number_ops.specs.Operators.{concatenated, compares, is_unary, operate}
 use Rattle.number_ops.specs.Relations.{equal, thrown}
 use Rattle.pl_code.specs.declared.kinds.ArithmeticOp.{ArithmeticOp}
 use Rattle.pl_code.specs.declared.kinds.Width.{Width}
@@ -29,6 +33,8 @@ use Rattle.pl_code.specs.declared.kinds.Quoting.{Quoting}
 use Rattle.pl_code.specs.declared.kinds.Quoting.TheVariants as quoting
 use Rattle.pl_code.specs.declared.kinds.Typed.{Typed}
 use Rattle.pl_code.specs.declared.kinds.Typed.TheVariants as typed
+use Rattle.pl_code.specs.declared.kinds.Sized.{Sized}
+use Rattle.pl_code.specs.declared.kinds.Sized.TheVariants as sized
 use Rattle.pl_code.specs.declared.kinds.Slot.{Slot}
 use Rattle.pl_code.specs.declared.kinds.Width.TheVariants as width
 use Rattle.pl_code.specs.declared.code.FunCode.{FunCode}
@@ -39,18 +45,20 @@ use Rattle.run_state.specs.World.{World, Limits, Outcome, Given, Raised, Full, a
 use Rattle.run_fit.specs.Laws.{DoneFits}
 use Rattle.run_fit.specs.Worlds.{WorldFits, count_in, OutcomeFits}
 use Rattle.run_fit.proofs.Counted.{SameStore, turn_keeps, call_keeps, member_keeps}
-use Rattle.run_fit.proofs.Values.{MadeFits}
+use Rattle.run_fit.proofs.Values.{MadeFits, AllMadeFit}
+use Rattle.run_fit.proofs.Containers as containers
+use Rattle.run_fit.proofs.Containers.{AccessFits}
 use Rattle.run_fit.proofs.Effects.{beginnings_fit, outcomes_fit, casts_fit, concatenation_fits, equality_fits, members_fit, throwing_fits}
 use Rattle.code_meaning.specs.declared.word.Word.{Word}
 use Rattle.code_meaning.specs.declared.word.Word.TheVariants.{I, J, R}
-use Rattle.code_meaning.specs.Members.{Receiving, Unfit, OnNull, Receives, Reads, count_of, given_as, received}
-use Rattle.code_meaning.specs.Words.{Calculation, NoRow, Calculates, boxed, calculation, unboxed, word_of, start_of, takes_one, is_shift, one_int, two_ints, one_long, two_longs, long_and_int, op_of}
+use Rattle.code_meaning.specs.Members.{Receiving, Unfit, OnNull, Receives, Reads, count_of, given_as, received, references_in, taken, taken_alike, ints_in}
+use Rattle.code_meaning.specs.Words.{Calculation, NoRow, Calculates, boxed, calculation, unboxed, word_of, start_of, takes_one, is_shift, one_int, two_ints, one_long, two_longs, long_and_int, op_of, op_of_dynamic}
 use Rattle.arithmetic.specs.declared.operator.Op.{Op}
-use Rattle.code_meaning.specs.Machine.{Codes, code_in, function_of, Frame, Next, Goes, Ends, Stuck, Handlers, is_instance, lands, traps_of, unwind, on_top, on_int, on_reference, on_value, on_local, on_stack, on_words, to_line, take_words, copied, pushed, depth_of, is_written, on_outcome, on_thrown, on_calculation, gives_back, returns, returns_of, on_turn, on_enter, on_call, on_act, on_paid, on_tested, on_received, plain_act, numbered_act, quoted_act, typed_act, member_act, act, acts, lines_of, step, start_at, after}
+use Rattle.code_meaning.specs.Machine.{Codes, code_in, function_of, Frame, Next, Goes, Ends, Stuck, Handlers, is_instance, lands, traps_of, unwind, on_top, on_int, on_reference, on_value, on_values, on_first, on_local, on_stack, on_words, to_line, take_words, copied, pushed, depth_of, is_written, on_outcome, on_done, on_thrown, on_found, on_found_paid, on_access, on_put, on_put_paid, on_write, dynamic_given, on_operated, operator_act, sized_act, method_act, on_calculation, gives_back, returns, returns_of, on_turn, on_enter, on_call, on_act, on_paid, on_tested, on_received, plain_act, numbered_act, quoted_act, typed_act, member_act, act, acts, lines_of, step, start_at, after}
 use Rattle.code_fit.specs.Laws.{StartsFit, StepsFit, RunsFit}
 use Rattle.code_fit.specs.Moments.{WordFits, WordsFit, FramesFit, ResultFits, NextFits}
-use Rattle.code_fit.proofs.Nexts.{int_holds, long_holds, type_holds, loops_hold, either_holds, null_holds}
-use Rattle.code_fit.proofs.Words.{frames_grow, words_grow, words_join, starts_fit, words_set, FoundFits, word_at, CopiedFit, pop_fits, dup_fits, dup2_fits, dupx1_fits, dupx2_fits, TakenFit, take_fits, unboxed_fits, number_fits, given_fits, boxed_fits, ReceivingFits, received_fits}
+use Rattle.code_fit.proofs.Nexts.{int_holds, long_holds, type_holds, ints_hold, loops_hold, either_holds, chosen_holds, null_holds}
+use Rattle.code_fit.proofs.Words.{frames_grow, words_grow, words_join, starts_fit, words_set, FoundFits, word_at, CopiedFit, pop_fits, dup_fits, dup2_fits, dupx1_fits, dupx2_fits, TakenFit, take_fits, unboxed_fits, number_fits, given_fits, boxed_fits, taken_fits, references_fit, alike_fit, ReceivingFits, received_fits}
 
 -- ---- the operands of a calculation
 
@@ -156,6 +164,14 @@ module _ (rules : Rules) (before : List Object) where
   words_fit n None next f k = tt
   words_fit n (Some p) next f k = k p.0 p.1 f.0 f.1
 
+  values_fit : (n : ℕ) (o : Option (List Value)) (next : List Value → Next) → AllMadeFit n o → ((values : List Value) → AllFit n values → N (next values)) → N (on_values o next)
+  values_fit n None next f k = tt
+  values_fit n (Some values) next f k = k values f
+
+  first_fits : (n : ℕ) (values : List Value) (next : Value → List Value → Next) → AllFit n values → ((value : Value) (others : List Value) → AllFit n (value ∷ others) → N (next value others)) → N (on_first values next)
+  first_fits n [] next f k = tt
+  first_fits n (value ∷ values) next f k = k value values f
+
   module _ (codes : Codes) (limits : Limits) where
     -- ---- what is thrown
 
@@ -178,6 +194,13 @@ module _ (rules : Rules) (before : List Object) where
         line_fits f below w' (suc f.line) (word value ∷ stack) (g.0, frames_grow (count_in w) (count_in w') g.1 (f ∷ below) h.1) (k (count_in w') value g.2, words_grow (count_in w) (count_in w') g.1 stack s)
     outcome_fits (Raised id w') word k f below w stack h s g = unwind_fits (f ∷ below) id w' (g.0, frames_grow (count_in w) (count_in w') g.1 (f ∷ below) h.1) g.2
     outcome_fits Full word k f below w stack h s g = h.0
+
+    done_fits : (o : Outcome Value) (f : Frame) (below : List Frame) (w : World) (stack : List Word) → Here w (f ∷ below) → WordsFit (count_in w) stack → OutcomeFits rules before (count_in w) o
+        → N (on_done codes limits o f below w stack)
+    done_fits (Given value w') f below w stack h s g =
+        line_fits f below w' (suc f.line) stack (g.0, frames_grow (count_in w) (count_in w') g.1 (f ∷ below) h.1) (words_grow (count_in w) (count_in w') g.1 stack s)
+    done_fits (Raised id w') f below w stack h s g = unwind_fits (f ∷ below) id w' (g.0, frames_grow (count_in w) (count_in w') g.1 (f ∷ below) h.1) g.2
+    done_fits Full f below w stack h s g = h.0
 
     thrown_fits : (o : Outcome Value) (f : Frame) (below : List Frame) (w : World) → Here w (f ∷ below) → OutcomeFits rules before (count_in w) o → N (on_thrown codes limits o f below w)
     thrown_fits (Given value w') f below w h g = tt
@@ -213,6 +236,53 @@ module _ (rules : Rules) (before : List Object) where
     received_act_fits (Receives arguments) number t f below w stack h s g = tested_fits (suits_member w.store.objects t arguments) number arguments t f below w stack h s g
     received_act_fits Reads number t f below w stack h s g =
         act_fits (does limits.host number [] w.store) t f below w stack h s (members_fit rules before w limits.host number [] h.0 tt)
+
+    -- ---- what is found for a receiver when the code runs
+
+    whole_fits : (n : ℕ) (value : Value) → ValueFits n value → WordFits n (R value)
+    whole_fits n value f = f
+
+    found_fits : (o : Option Effect) (f : Frame) (below : List Frame) (w : World) (stack : List Word) → Here w (f ∷ below) → WordsFit (count_in w) stack → DoneFits rules before w o
+        → N (on_found codes limits o f below w stack)
+    found_fits None f below w stack h s g = tt
+    found_fits (Some e) f below w stack h s g = outcome_fits (acts_in w e) R whole_fits f below w stack h s g
+
+    found_paid_fits : (c : Counted) (number : ℕ) (arguments : List Value) (f : Frame) (below : List Frame) (w : World) (stack : List Word) → Here w (f ∷ below) → WordsFit (count_in w) stack
+        → AllFit (count_in w) arguments → SameStore w c → N (on_found_paid codes limits c number arguments f below stack)
+    found_paid_fits (Passes limit w') number arguments f below w stack h s g p = same_store w w' p h.0
+    found_paid_fits (Counts w') number arguments f below w stack h s g p =
+        found_fits (does limits.host number arguments w'.store) f below w' stack (same_frames w w' (f ∷ below) p h) (same_words w w' stack p s)
+        (members_fit rules before w' limits.host number arguments (same_store w w' p h.0) (subst (λ (x : Store). AllFit (length x.objects) arguments) (sym p) g))
+
+    access_fits : (a : Access) (f : Frame) (below : List Frame) (w : World) (stack : List Word) → Here w (f ∷ below) → WordsFit (count_in w) stack → AccessFits rules before w a
+        → N (on_access codes limits a f below w stack)
+    access_fits (Calls number arguments) f below w stack h s g = found_paid_fits (pay_member f.text number w) number arguments f below w stack h s g (member_keeps f.text number w)
+    access_fits (Acts e) f below w stack h s g = outcome_fits (acts_in w e) R whole_fits f below w stack h s g
+
+    put_fits : (o : Option Effect) (f : Frame) (below : List Frame) (w : World) (stack : List Word) → Here w (f ∷ below) → WordsFit (count_in w) stack → DoneFits rules before w o
+        → N (on_put codes limits o f below w stack)
+    put_fits None f below w stack h s g = tt
+    put_fits (Some e) f below w stack h s g = done_fits (acts_in w e) f below w stack h s g
+
+    put_paid_fits : (c : Counted) (number : ℕ) (arguments : List Value) (f : Frame) (below : List Frame) (w : World) (stack : List Word) → Here w (f ∷ below) → WordsFit (count_in w) stack
+        → AllFit (count_in w) arguments → SameStore w c → N (on_put_paid codes limits c number arguments f below stack)
+    put_paid_fits (Passes limit w') number arguments f below w stack h s g p = same_store w w' p h.0
+    put_paid_fits (Counts w') number arguments f below w stack h s g p =
+        put_fits (does limits.host number arguments w'.store) f below w' stack (same_frames w w' (f ∷ below) p h) (same_words w w' stack p s)
+        (members_fit rules before w' limits.host number arguments (same_store w w' p h.0) (subst (λ (x : Store). AllFit (length x.objects) arguments) (sym p) g))
+
+    write_fits : (a : Access) (f : Frame) (below : List Frame) (w : World) (stack : List Word) → Here w (f ∷ below) → WordsFit (count_in w) stack → AccessFits rules before w a
+        → N (on_write codes limits a f below w stack)
+    write_fits (Calls number arguments) f below w stack h s g = put_paid_fits (pay_member f.text number w) number arguments f below w stack h s g (member_keeps f.text number w)
+    write_fits (Acts e) f below w stack h s g = done_fits (acts_in w e) f below w stack h s g
+
+    -- ---- operators on values of any types
+
+    dynamic_fits : (o : Op) (n : ℕ) (value : Value) → ValueFits n value → WordFits n (dynamic_given codes limits o value)
+    dynamic_fits o n value x = by_test (compares o) where
+      by_test : (b : Bool) → WordFits n (if b then unboxed value else R value)
+      by_test true = unboxed_fits n value x
+      by_test false = x
 
     zero_fits : (w : World) → WorldFits rules before w → OutcomeFits rules before (count_in w) (acts_in w (effect w.store zero_divisor))
     unfolding says
@@ -274,11 +344,29 @@ module _ (rules : Rules) (before : List Object) where
           → N (on_top f.stack (λ word stack. on_reference word (λ value. next value stack)))
       on_one next k = top_fits count f.stack _ here.1.0.1 (λ word stack g s. reference_fits count word _ g (λ value x. k value stack x s))
 
-      on_two : (next : Value → Value → List Word → Next) → ((a b : Value) (stack : List Word) → WordsFit count stack → N (next a b stack))
+      on_two : (next : Value → Value → List Word → Next) → ((a b : Value) (stack : List Word) → AllFit count (a ∷ b ∷ []) → WordsFit count stack → N (next a b stack))
           → N (on_top f.stack (λ upper rest. on_reference upper (λ b. on_top rest (λ lower stack. on_reference lower (λ a. next a b stack)))))
       on_two next k =
           top_fits count f.stack _ here.1.0.1 (λ upper rest g s. reference_fits count upper _ g (λ b x.
-          top_fits count rest _ s (λ lower stack g' s'. reference_fits count lower _ g' (λ a y. k a b stack s'))))
+          top_fits count rest _ s (λ lower stack g' s'. reference_fits count lower _ g' (λ a y. k a b stack (y, (x, tt)) s'))))
+
+      on_three : (next : Value → Value → Value → List Word → Next) → ((a b c : Value) (stack : List Word) → AllFit count (a ∷ b ∷ c ∷ []) → WordsFit count stack → N (next a b c stack))
+          → N (on_top f.stack (λ third more. on_reference third (λ c. on_top more (λ second rest. on_reference second (λ b. on_top rest (λ first stack. on_reference first (λ a. next a b c stack)))))))
+      on_three next k =
+          top_fits count f.stack _ here.1.0.1 (λ third more g s. reference_fits count third _ g (λ c z.
+          top_fits count more _ s (λ second rest g' s'. reference_fits count second _ g' (λ b y.
+          top_fits count rest _ s' (λ first stack g'' s''. reference_fits count first _ g'' (λ a x. k a b c stack (x, (y, (z, tt))) s''))))))
+
+      -- an array and an index in it, off a stack
+      on_place : (stack : List Word) (next : ℤ → Value → List Word → Next) → WordsFit count stack → ((at : ℤ) (array : Value) (rest : List Word) → ValueFits count array → WordsFit count rest → N (next at array rest))
+          → N (on_top stack (λ upper rest. on_int upper (λ at. on_top rest (λ lower stack. on_reference lower (λ array. next at array stack)))))
+      on_place stack next h k =
+          top_fits count stack _ h (λ upper rest g s. int_holds N tt upper _ (λ at.
+          top_fits count rest _ s (λ lower left g' s'. reference_fits count lower _ g' (λ array x. k at array left x s'))))
+
+      -- so many words
+      on_parts : (n : ℕ) (next : List Word → List Word → Next) → ((words stack : List Word) → WordsFit count words → WordsFit count stack → N (next words stack)) → N (on_words (take_words n f.stack []) next)
+      on_parts n next k = words_fit count (take_words n f.stack []) next (take_fits count n f.stack [] here.1.0.1 tt) k
 
       on_number : (next : ℤ → List Word → Next) → ((a : ℤ) (stack : List Word) → WordsFit count stack → N (next a stack)) → N (on_top f.stack (λ word stack. on_int word (λ a. next a stack)))
       on_number next k = top_fits count f.stack _ here.1.0.1 (λ word stack g s. int_holds N tt word _ (λ a. k a stack s))
@@ -302,16 +390,21 @@ module _ (rules : Rules) (before : List Object) where
       plain_fits plain.IntToShort = on_number _ (λ a stack s. to _ _ (tt, s))
       plain_fits plain.IntToChar = on_number _ (λ a stack s. to _ _ (tt, s))
       plain_fits plain.Concat =
-          on_two _ (λ a b stack s. outcome_fits (acts_in w (effect w.store (concatenated w.store.objects a b))) R (λ n value x. x) f below w stack here s (concatenation_fits rules before w a b here.0))
-      plain_fits plain.Same = on_two _ (λ a b stack s. to _ _ (tt, s))
+          on_two _ (λ a b stack x s. outcome_fits (acts_in w (effect w.store (concatenated w.store.objects a b))) R (λ n value x. x) f below w stack here s (concatenation_fits rules before w a b here.0))
+      plain_fits plain.Same = on_two _ (λ a b stack x s. to _ _ (tt, s))
       plain_fits plain.Equal =
-          on_two _ (λ a b stack s. outcome_fits (acts_in w (effect w.store (equal w.store.objects a b))) unboxed unboxed_fits f below w stack here s (equality_fits rules before w a b here.0))
-      plain_fits plain.ArrayLength = tt
-      plain_fits plain.GetIndex = tt
-      plain_fits plain.PutIndex = tt
-      plain_fits plain.Iter = tt
-      plain_fits plain.Has = tt
-      plain_fits plain.Next = tt
+          on_two _ (λ a b stack x s. outcome_fits (acts_in w (effect w.store (equal w.store.objects a b))) unboxed unboxed_fits f below w stack here s (equality_fits rules before w a b here.0))
+      plain_fits plain.ArrayLength =
+          on_one _ (λ value stack x s. outcome_fits (acts_in w (length_of w.store value)) unboxed unboxed_fits f below w stack here s (containers.length_fits rules before w here.0 value))
+      plain_fits plain.GetIndex =
+          on_two _ (λ receiver index stack x s. access_fits (index_read (allowed_in limits f.text) w.store receiver index) f below w stack here s
+          (containers.index_read_fits rules before w here.0 (allowed_in limits f.text) receiver index x))
+      plain_fits plain.PutIndex =
+          on_three _ (λ receiver index value stack x s. write_fits (index_written (allowed_in limits f.text) w.store receiver index value) f below w stack here s
+          (containers.index_written_fits rules before w here.0 (allowed_in limits f.text) receiver index value x))
+      plain_fits plain.Iter = on_one _ (λ value stack x s. outcome_fits (acts_in w (iterated w.store value)) R whole_fits f below w stack here s (containers.iterated_fits rules before w here.0 value))
+      plain_fits plain.Has = on_one _ (λ value stack x s. outcome_fits (acts_in w (has_more w.store value)) unboxed unboxed_fits f below w stack here s (containers.has_fits rules before w here.0 value))
+      plain_fits plain.Next = on_one _ (λ value stack x s. outcome_fits (acts_in w (next_element w.store value)) R whole_fits f below w stack here s (containers.next_fits rules before w here.0 value))
       plain_fits plain.Throw = on_one _ (λ value stack x s. thrown_fits (acts_in w (thrown w.store value)) f below w here (throwing_fits rules before w value here.0))
       plain_fits plain.Ret = return_fits (function_of codes f)
 
@@ -327,18 +420,54 @@ module _ (rules : Rules) (before : List Object) where
           loops_hold N tt codes limits (function_of codes f) _ (λ limited. on_number _ (λ a stack s.
           either_holds N a _ _ (turn_fits (take_turn limits limited f.turns w) k stack s (turn_keeps limits limited f.turns w)) (to _ _ s)))
       numbered_fits numbered.Call k = call_fits (slice_get (code_in codes f.text) k) k
-      numbered_fits numbered.List k = tt
-      numbered_fits numbered.Map k = tt
+      numbered_fits numbered.List k =
+          on_parts k _ (λ words stack g s. values_fit count (references_in words) _ (references_fit count words g) (λ items x.
+          outcome_fits (acts_in w (list_made w.store items)) R whole_fits f below w stack here s (containers.list_fits rules before w here.0 items x)))
+      numbered_fits numbered.Map k =
+          on_parts (2 * k) _ (λ words stack g s. values_fit count (references_in words) _ (references_fit count words g) (λ parts x.
+          outcome_fits (acts_in w (map_made w.store parts)) R whole_fits f below w stack here s (containers.map_fits rules before w here.0 parts x)))
 
       quoted_fits : (q : Quoting) (text : List ℕ) → N (quoted_act codes limits q text f below w)
       quoted_fits quoting.Constant text = to _ _ (tt, here.1.0.1)
-      quoted_fits quoting.GetName text = tt
-      quoted_fits quoting.PutName text = tt
+      quoted_fits quoting.GetName name =
+          on_one _ (λ receiver stack x s. access_fits (name_read (allowed_in limits f.text) w.store receiver name) f below w stack here s
+          (containers.name_read_fits rules before w here.0 (allowed_in limits f.text) receiver name x))
+      quoted_fits quoting.PutName name =
+          on_two _ (λ receiver value stack x s. write_fits (name_written (allowed_in limits f.text) w.store receiver name value) f below w stack here s
+          (containers.name_written_fits rules before w here.0 (allowed_in limits f.text) receiver name value x))
 
       typed_fits : (t : Typed) (of : Ty) → N (typed_act codes limits t of f below w)
       typed_fits typed.IsA of = on_one _ (λ value stack x s. to _ _ (tt, s))
-      typed_fits typed.LoadElement of = tt
-      typed_fits typed.StoreElement of = tt
+      typed_fits typed.LoadElement of =
+          on_place f.stack _ here.1.0.1 (λ at array stack x s. outcome_fits (acts_in w (element_read w.store of array at)) (given_as of) (given_fits of) f below w stack here s
+          (containers.element_fits rules before w here.0 of array at))
+      typed_fits typed.StoreElement of =
+          top_fits count f.stack _ here.1.0.1 (λ third more g s. value_fits count (taken of third) _ (taken_fits count of third g) (λ value y.
+          on_place more _ s (λ at array stack x s'. done_fits (acts_in w (element_written w.store of array at value)) f below w stack here s'
+          (containers.written_fits rules before w here.0 of array at value y))))
+
+      sized_fits : (s : Sized) (of : Ty) (n : ℕ) → N (sized_act codes limits s of n f below w)
+      sized_fits sized.Filled elem n =
+          on_parts n _ (λ words stack g s. values_fit count (taken_alike elem words) _ (alike_fit count elem words g) (λ items x.
+          outcome_fits (acts_in w (array_filled w.store elem items)) R whole_fits f below w stack here s (containers.filled_fits rules before w here.0 elem items x)))
+      sized_fits sized.Empty of n =
+          on_parts n _ (λ words stack g s. ints_hold N tt (ints_in words) _ (λ sizes.
+          outcome_fits (acts_in w (array_made w.store of sizes)) R whole_fits f below w stack here s (containers.array_fits rules before w here.0 of sizes)))
+
+      method_fits : (name : List ℕ) (n : ℕ) → N (method_act codes limits name n f below w)
+      method_fits name n =
+          on_parts (suc n) _ (λ words stack g s. values_fit count (references_in words) _ (references_fit count words g) (λ values x.
+          first_fits count values _ x (λ receiver arguments y. access_fits (method_called (allowed_in limits f.text) w.store receiver name arguments) f below w stack here s
+          (containers.method_called_fits rules before w here.0 (allowed_in limits f.text) receiver name arguments y))))
+
+      operated_fits : (o : Op) (a b : Value) (stack : List Word) → WordsFit count stack → N (on_operated codes limits o a b f below w stack)
+      operated_fits o a b stack s =
+          outcome_fits (acts_in w (effect w.store (operate w.store.objects o a b))) (dynamic_given codes limits o) (dynamic_fits o) f below w stack here s (containers.operate_fits rules before w here.0 o a b)
+
+      operator_fits : (o : Op) → N (operator_act codes limits o f below w)
+      operator_fits o =
+          top_fits count f.stack _ here.1.0.1 (λ upper rest g s. reference_fits count upper _ g (λ b x. chosen_holds N (is_unary o) _ _ (operated_fits o b b rest s)
+          (top_fits count rest _ s (λ lower stack g' s'. reference_fits count lower _ g' (λ a y. operated_fits o a b stack s')))))
 
       act_fits_here : (instruction : Instruction) → N (act codes limits instruction f below w)
       act_fits_here (i.Plain p) = plain_fits p
@@ -351,14 +480,14 @@ module _ (rules : Rules) (before : List Object) where
       act_fits_here (i.Unboxing p way) =
           on_one _ (λ value stack x s. outcome_fits (acts_in w (effect w.store (cast_at_run_time w.store.objects value (ty.Prim p) (is_written way)))) unboxed unboxed_fits f below w stack here s
           (casts_fit rules before w value (ty.Prim p) (is_written way) here.0 x))
-      act_fits_here (i.Dynamic o) = tt
+      act_fits_here (i.Dynamic o) = operator_fits (op_of_dynamic o)
       act_fits_here (i.Quoted q text) = quoted_fits q text
       act_fits_here (i.Cast of way) =
           type_holds N tt (type_of_full of) _ (λ to. on_one _ (λ value stack x s.
           outcome_fits (acts_in w (effect w.store (cast_at_run_time w.store.objects value to (is_written way)))) R (λ n value x. x) f below w stack here s (casts_fit rules before w value to (is_written way) here.0 x)))
       act_fits_here (i.Typed t of) = type_holds N tt (type_of_full of) _ (λ of. typed_fits t of)
-      act_fits_here (i.Sized t of n) = tt
-      act_fits_here (i.DefCall word n) = tt
+      act_fits_here (i.Sized s of n) = type_holds N tt (type_of_full of) _ (λ of. sized_fits s of n)
+      act_fits_here (i.DefCall name n) = method_fits name n
       act_fits_here (i.Invoke method) = member_fits (method_of (allowed_in limits f.text) method)
       act_fits_here (i.New constructor) = member_fits (constructor_of (allowed_in limits f.text) constructor)
       act_fits_here (i.Field field) = member_fits (field_of (allowed_in limits f.text) field)

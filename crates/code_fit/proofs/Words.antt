@@ -18,7 +18,7 @@ use Rattle.pl_code.specs.declared.kinds.Slot.TheVariants as slot
 use Rattle.code_meaning.specs.declared.word.Word.{Word}
 use Rattle.code_meaning.specs.declared.word.Word.TheVariants.{I, J, R}
 use Rattle.code_meaning.specs.Machine.{Frame, take_words, copied}
-use Rattle.code_meaning.specs.Members.{Receiving, Unfit, OnNull, Receives, Reads, reference_in, taken_layer, taken_all, before, receives, receives_on, received_by, received, given_layer, given_as}
+use Rattle.code_meaning.specs.Members.{Receiving, Unfit, OnNull, Receives, Reads, reference_in, references_in, taken, taken_alike, taken_layer, taken_all, before, receives, receives_on, received_by, received, given_layer, given_as}
 use Rattle.code_meaning.specs.Words.{start_of, word_of, boxed, boxed_int, boxed_long, unboxed, plain_value}
 use Rattle.run_fit.proofs.Values.{value_grows, MadeFits, AllMadeFit, by_primitive}
 use Rattle.code_fit.specs.Moments.{WordFits, WordsFit, FramesFit}
@@ -174,6 +174,17 @@ taken_all_fits n [] [] f = tt
 taken_all_fits n [] (word ∷ words) f = tt
 taken_all_fits n (of ∷ ofs) [] f = tt
 taken_all_fits n (of ∷ ofs) (word ∷ words) f = before_fits n _ _ (taken_layer_fits n (out-Ty of) word f.0) (taken_all_fits n ofs words f.1)
+
+pub taken_fits : (n : ℕ) (of : Ty) (word : Word) → WordFits n word → MadeFits n (taken of word)
+taken_fits n of word f = taken_layer_fits n (out-Ty of) word f
+
+pub references_fit : (n : ℕ) (words : List Word) → WordsFit n words → AllMadeFit n (references_in words)
+references_fit n [] f = tt
+references_fit n (word ∷ words) f = before_fits n _ _ (reference_fits n word f.0) (references_fit n words f.1)
+
+pub alike_fit : (n : ℕ) (of : Ty) (words : List Word) → WordsFit n words → AllMadeFit n (taken_alike of words)
+alike_fit n of [] f = tt
+alike_fit n of (word ∷ words) f = before_fits n _ _ (taken_layer_fits n (out-Ty of) word f.0) (alike_fit n of words f.1)
 
 abbrev pub ReceivingFits : ℕ → Receiving → Type 0
 ReceivingFits n Unfit = Unit {0}

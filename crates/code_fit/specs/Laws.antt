@@ -1,5 +1,5 @@
--- A run of code fits, from its start to its end. No instruction that has a row writes into an array or calls a function value, so this
--- is said of all rules: those of a code and those of a program.
+-- A run of code fits, from its start to its end. What is written into an array is of its element type, and no instruction that has a row
+-- calls a function value, so this is said of all rules: those of a code and those of a program.
 use Rattle.std.specs.Prelude.{ℕ, List}
 use Rattle.object_values.specs.declared.object.Object.{Object}
 use Rattle.object_heap.specs.Fits.{Rules, Fits}

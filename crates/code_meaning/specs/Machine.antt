@@ -1,5 +1,5 @@
 -- What code does, instruction by instruction. A configuration has frames, the newest apart from those below it, and the world.
-use Rattle.std.specs.Prelude.{ℕ, zero, suc, ◌&&◌, Bool, true, false, List, [], ◌∷◌, ◌++◌, map, length, Option, Some, None, slice_get, slice_set, nat_le, nat_lt, pos, negsuc, ℤ, if◌then◌else◌}
+use Rattle.std.specs.Prelude.{ℕ, zero, suc, ◌&&◌, ◌*◌, Bool, true, false, List, [], ◌∷◌, ◌++◌, map, length, Option, Some, None, slice_get, slice_set, nat_le, nat_lt, pos, negsuc, ℤ, if◌then◌else◌}
 use Rattle.std.specs.Int.{w8, w16, w32}
 use Rattle.pl_types.specs.declared.ty.Ty.{Ty}
 use Rattle.pl_types.specs.declared.ty.Ty.TheVariants as ty
@@ -20,8 +20,13 @@ use Rattle.allowlist.specs.declared.member.MemberType.{MemberType}
 use Rattle.allowlist.specs.Index.{member_at}
 use Rattle.instruction_types.specs.Members.{method_of, constructor_of, field_of}
 use Rattle.member_calls.specs.Members.{does}
+use Rattle.container_ops.specs.Making.{list_made, map_made, array_filled, array_made}
+use Rattle.container_ops.specs.Elements.{element_read, element_written, length_of}
+use Rattle.container_ops.specs.Loops.{iterated, has_more, next_element}
+use Rattle.def_access.specs.Access.{Access, Calls, Acts, index_read, index_written, name_read, name_written, method_called}
+use Rattle.arithmetic.specs.declared.operator.Op.{Op}
 use Rattle.number_ops.specs.Casts.{cast_at_run_time}
-use Rattle.number_ops.specs.Operators.{concatenated}
+use Rattle.number_ops.specs.Operators.{concatenated, compares, is_unary, operate}
 use Rattle.number_ops.specs.Relations.{equal, is_same, thrown}
 use Rattle.number_ops.specs.Relations as relations
 use Rattle.pl_code.specs.declared.kinds.Quoting.{Quoting}
@@ -30,6 +35,9 @@ use Rattle.pl_code.specs.declared.kinds.Typed.{Typed}
 use Rattle.pl_code.specs.declared.kinds.Typed.TheVariants as typed
 use Rattle.pl_code.specs.declared.kinds.Plain.{Plain}
 use Rattle.pl_code.specs.declared.kinds.Plain.TheVariants as plain
+use Rattle.pl_code.specs.declared.kinds.DynamicOp.{DynamicOp}
+use Rattle.pl_code.specs.declared.kinds.Sized.{Sized}
+use Rattle.pl_code.specs.declared.kinds.Sized.TheVariants as sized
 use Rattle.pl_code.specs.declared.kinds.Numbered.{Numbered}
 use Rattle.pl_code.specs.declared.kinds.Numbered.TheVariants as numbered
 use Rattle.pl_code.specs.declared.kinds.Way.{Way}
@@ -43,8 +51,8 @@ use Rattle.run_state.specs.Calls.{suits_member, wrong_class}
 use Rattle.run_state.specs.World.{World, Limits, Room, End, Result, Uncaught, Limited, Outcome, Given, Raised, Full, acts_in, Counted, Counts, Passes, allowed_in, take_turn, enter, pay_member}
 use Rattle.code_meaning.specs.declared.word.Word.{Word}
 use Rattle.code_meaning.specs.declared.word.Word.TheVariants.{I, J, R}
-use Rattle.code_meaning.specs.Members.{Receiving, Unfit, OnNull, Receives, Reads, received, count_of, given_as}
-use Rattle.code_meaning.specs.Words.{start_of, word_of, Calculation, NoRow, Calculates, calculation, boxed, unboxed, bit}
+use Rattle.code_meaning.specs.Members.{Receiving, Unfit, OnNull, Receives, Reads, received, count_of, given_as, taken, references_in, taken_alike, ints_in}
+use Rattle.code_meaning.specs.Words.{start_of, word_of, Calculation, NoRow, Calculates, calculation, boxed, unboxed, bit, op_of_dynamic}
 
 -- The code of the two texts of a run: the script's, and the prelude's.
 pub record Codes : Type 0 where
@@ -163,6 +171,19 @@ abbrev pub on_type : Option Ty → (Ty → Next) → Next
 on_type None next = Stuck
 on_type (Some of) next = next of
 
+abbrev pub on_values : Option (List Value) → (List Value → Next) → Next
+on_values None next = Stuck
+on_values (Some values) next = next values
+
+abbrev pub on_ints : Option (List ℤ) → (List ℤ → Next) → Next
+on_ints None next = Stuck
+on_ints (Some numbers) next = next numbers
+
+-- the deepest of words and those above it
+abbrev pub on_first : List Value → (Value → List Value → Next) → Next
+on_first [] next = Stuck
+on_first (value ∷ values) next = next value values
+
 abbrev pub on_value : Option Value → (Value → Next) → Next
 on_value None next = Stuck
 on_value (Some value) next = next value
@@ -225,6 +246,12 @@ module _ (codes : Codes) (limits : Limits) where
   on_outcome (Raised id w') word f below w stack = unwind codes (f ∷ below) id w'
   on_outcome Full word f below w stack = Ends (Limited Room w)
 
+  -- what an operation gives is dropped
+  abbrev pub on_done : Outcome Value → Frame → List Frame → World → List Word → Next
+  on_done (Given value w') f below w stack = to_line f below w' (suc f.line) stack
+  on_done (Raised id w') f below w stack = unwind codes (f ∷ below) id w'
+  on_done Full f below w stack = Ends (Limited Room w)
+
   -- what is thrown; what gives a value throws nothing
   abbrev pub on_thrown : Outcome Value → Frame → List Frame → World → Next
   on_thrown (Given value w') f below w = Stuck
@@ -278,6 +305,50 @@ module _ (codes : Codes) (limits : Limits) where
   returns None stack next = Stuck
   returns (Some g) stack next = returns_of g.result stack next
 
+  -- ---- what is found for a receiver when the code runs: what is read or called gives a reference, and what a write gives is dropped
+
+  abbrev pub on_found : Option Effect → Frame → List Frame → World → List Word → Next
+  on_found None f below w stack = Stuck
+  on_found (Some given) f below w stack = on_outcome (acts_in w given) R f below w stack
+
+  abbrev pub on_found_paid : Counted → ℕ → List Value → Frame → List Frame → List Word → Next
+  on_found_paid (Passes limit w) number arguments f below stack = Ends (Limited limit w)
+  on_found_paid (Counts w) number arguments f below stack = on_found (does limits.host number arguments w.store) f below w stack
+
+  abbrev pub on_access : Access → Frame → List Frame → World → List Word → Next
+  on_access (Calls number arguments) f below w stack = on_found_paid (pay_member f.text number w) number arguments f below stack
+  on_access (Acts given) f below w stack = on_outcome (acts_in w given) R f below w stack
+
+  abbrev pub on_put : Option Effect → Frame → List Frame → World → List Word → Next
+  on_put None f below w stack = Stuck
+  on_put (Some given) f below w stack = on_done (acts_in w given) f below w stack
+
+  abbrev pub on_put_paid : Counted → ℕ → List Value → Frame → List Frame → List Word → Next
+  on_put_paid (Passes limit w) number arguments f below stack = Ends (Limited limit w)
+  on_put_paid (Counts w) number arguments f below stack = on_put (does limits.host number arguments w.store) f below w stack
+
+  abbrev pub on_write : Access → Frame → List Frame → World → List Word → Next
+  on_write (Calls number arguments) f below w stack = on_put_paid (pay_member f.text number w) number arguments f below stack
+  on_write (Acts given) f below w stack = on_done (acts_in w given) f below w stack
+
+  -- ---- operators on values of any types: a comparison gives an int
+
+  abbrev pub dynamic_given : Op → Value → Word
+  dynamic_given o value = if compares o then unboxed value else R value
+
+  abbrev pub on_operated : Op → Value → Value → Frame → List Frame → World → List Word → Next
+  on_operated o a b f below w stack = on_outcome (acts_in w (effect w.store (operate w.store.objects o a b))) (dynamic_given o) f below w stack
+
+  abbrev pub operator_act : Op → Frame → List Frame → World → Next
+  operator_act o f below w =
+      on_top f.stack (λ upper rest. on_reference upper (λ b.
+      if is_unary o then on_operated o b b f below w rest
+      else on_top rest (λ lower stack. on_reference lower (λ a. on_operated o a b f below w stack))))
+
+  -- an operation on one reference
+  abbrev pub on_one : (Value → Effect) → (Value → Word) → Frame → List Frame → World → Next
+  on_one given word f below w = on_top f.stack (λ top stack. on_reference top (λ value. on_outcome (acts_in w (given value)) word f below w stack))
+
   abbrev pub plain_act : Plain → Frame → List Frame → World → Next
   plain_act plain.Null f below w = to_line f below w (suc f.line) (R v.Null ∷ f.stack)
   plain_act plain.IntToLong f below w = on_top f.stack (λ word stack. on_int word (λ a. to_line f below w (suc f.line) (J a ∷ stack)))
@@ -295,6 +366,16 @@ module _ (codes : Codes) (limits : Limits) where
   plain_act plain.Same f below w =
       on_top f.stack (λ upper rest. on_reference upper (λ b. on_top rest (λ lower stack. on_reference lower (λ a.
       to_line f below w (suc f.line) (I (bit (is_same a b)) ∷ stack)))))
+  plain_act plain.ArrayLength f below w = on_one (length_of w.store) unboxed f below w
+  plain_act plain.GetIndex f below w =
+      on_top f.stack (λ upper rest. on_reference upper (λ index. on_top rest (λ lower stack. on_reference lower (λ receiver.
+      on_access (index_read (allowed_in limits f.text) w.store receiver index) f below w stack))))
+  plain_act plain.PutIndex f below w =
+      on_top f.stack (λ third more. on_reference third (λ value. on_top more (λ second rest. on_reference second (λ index. on_top rest (λ first stack. on_reference first (λ receiver.
+      on_write (index_written (allowed_in limits f.text) w.store receiver index value) f below w stack))))))
+  plain_act plain.Iter f below w = on_one (iterated w.store) R f below w
+  plain_act plain.Has f below w = on_one (has_more w.store) unboxed f below w
+  plain_act plain.Next f below w = on_one (next_element w.store) R f below w
   plain_act plain.Throw f below w = on_top f.stack (λ word stack. on_reference word (λ value. on_thrown (acts_in w (thrown w.store value)) f below w))
   plain_act other f below w = on_stack (copied other f.stack) (λ stack. to_line f below w (suc f.line) stack)
 
@@ -313,17 +394,42 @@ module _ (codes : Codes) (limits : Limits) where
   numbered_act numbered.Loop to f below w =
       on_loops (function_of codes f) (λ limited. on_top f.stack (λ word stack. on_int word (λ a.
       unless_zero a (on_turn (take_turn limits limited f.turns w) to f below w stack) (to_line f below w (suc f.line) stack))))
+  numbered_act numbered.List n f below w =
+      on_words (take_words n f.stack []) (λ words stack. on_values (references_in words) (λ items. on_outcome (acts_in w (list_made w.store items)) R f below w stack))
+  numbered_act numbered.Map n f below w =
+      on_words (take_words (2 * n) f.stack []) (λ words stack. on_values (references_in words) (λ parts. on_outcome (acts_in w (map_made w.store parts)) R f below w stack))
   numbered_act numbered.Call k f below w = on_call (slice_get (code_in codes f.text) k) k f below w
-  numbered_act other k f below w = Stuck
 
   abbrev pub quoted_act : Quoting → List ℕ → Frame → List Frame → World → Next
   quoted_act quoting.Constant text f below w = to_line f below w (suc f.line) (R (v.Str (units text)) ∷ f.stack)
-  quoted_act other text f below w = Stuck
+  quoted_act quoting.GetName name f below w =
+      on_top f.stack (λ word stack. on_reference word (λ receiver. on_access (name_read (allowed_in limits f.text) w.store receiver name) f below w stack))
+  quoted_act quoting.PutName name f below w =
+      on_top f.stack (λ upper rest. on_reference upper (λ value. on_top rest (λ lower stack. on_reference lower (λ receiver.
+      on_write (name_written (allowed_in limits f.text) w.store receiver name value) f below w stack))))
 
   abbrev pub typed_act : Typed → Ty → Frame → List Frame → World → Next
   typed_act typed.IsA of f below w =
       on_top f.stack (λ word stack. on_reference word (λ value. to_line f below w (suc f.line) (I (bit (relations.is_instance w.store.objects value of)) ∷ stack)))
-  typed_act other of f below w = Stuck
+  typed_act typed.LoadElement of f below w =
+      on_top f.stack (λ upper rest. on_int upper (λ at. on_top rest (λ lower stack. on_reference lower (λ array.
+      on_outcome (acts_in w (element_read w.store of array at)) (given_as of) f below w stack))))
+  typed_act typed.StoreElement of f below w =
+      on_top f.stack (λ third more. on_value (taken of third) (λ value. on_top more (λ upper rest. on_int upper (λ at. on_top rest (λ lower stack. on_reference lower (λ array.
+      on_done (acts_in w (element_written w.store of array at value)) f below w stack))))))
+
+  -- arrays: of elements that lie on the stack, and with sizes that lie there
+  abbrev pub sized_act : Sized → Ty → ℕ → Frame → List Frame → World → Next
+  sized_act sized.Filled elem n f below w =
+      on_words (take_words n f.stack []) (λ words stack. on_values (taken_alike elem words) (λ items. on_outcome (acts_in w (array_filled w.store elem items)) R f below w stack))
+  sized_act sized.Empty of n f below w =
+      on_words (take_words n f.stack []) (λ words stack. on_ints (ints_in words) (λ sizes. on_outcome (acts_in w (array_made w.store of sizes)) R f below w stack))
+
+  -- a call of a method by its name: the receiver lies below so many arguments
+  abbrev pub method_act : List ℕ → ℕ → Frame → List Frame → World → Next
+  method_act name n f below w =
+      on_words (take_words (suc n) f.stack []) (λ words stack. on_values (references_in words) (λ values. on_first values (λ receiver arguments.
+      on_access (method_called (allowed_in limits f.text) w.store receiver name arguments) f below w stack)))
 
   abbrev pub cast_act : Ty → Bool → Frame → List Frame → World → Next
   cast_act to written f below w =
@@ -357,11 +463,11 @@ module _ (codes : Codes) (limits : Limits) where
   member_act (Some number) f below w =
       on_words (take_words (count_of (member_at number)) f.stack []) (λ words stack. on_received (received (member_at number) words) number (member_at number) f below w stack)
 
-  -- The rows that are built: constants, locals, copies, arithmetic, number casts, boxes, jumps, loops, calls and returns; texts, equality,
-  -- casts and instances of references, and `throw`; members, by the list of those that are allowed.
+  -- The rows that are built: all but those that make function values.
   abbrev pub act : Instruction → Frame → List Frame → World → Next
   act (i.Plain p) f below w = plain_act p f below w
   act (i.Arithmetic o width) f below w = on_calculation (calculation o width f.stack) f below w
+  act (i.Dynamic o) f below w = operator_act (op_of_dynamic o) f below w
   act (i.Int a) f below w = to_line f below w (suc f.line) (I a ∷ f.stack)
   act (i.Long a) f below w = to_line f below w (suc f.line) (J a ∷ f.stack)
   act (i.Numbered numbered k) f below w = numbered_act numbered k f below w
@@ -371,11 +477,15 @@ module _ (codes : Codes) (limits : Limits) where
       on_outcome (acts_in w (effect w.store (cast_at_run_time w.store.objects value (ty.Prim p) (is_written way)))) unboxed f below w stack))
   act (i.Quoted q text) f below w = quoted_act q text f below w
   act (i.Typed t of) f below w = on_type (type_of_full of) (λ of. typed_act t of f below w)
+  act (i.Sized s of n) f below w = on_type (type_of_full of) (λ of. sized_act s of n f below w)
+  act (i.DefCall name n) f below w = method_act name n f below w
   act (i.Cast to way) f below w = on_type (type_of_full to) (λ to. cast_act to (is_written way) f below w)
   act (i.Invoke method) f below w = member_act (method_of (allowed_in limits f.text) method) f below w
   act (i.New constructor) f below w = member_act (constructor_of (allowed_in limits f.text) constructor) f below w
   act (i.Field field) f below w = member_act (field_of (allowed_in limits f.text) field) f below w
-  act other f below w = Stuck
+  act (i.Lambda interface function n) f below w = Stuck
+  act (i.Ref interface of name) f below w = Stuck
+  act (i.NewRef interface of) f below w = Stuck
 
   abbrev pub lines_of : Option FunCode → List Instruction
   lines_of None = []

@@ -1,5 +1,5 @@
 -- The words of a member's call, as the member takes them, and the word of what it gives.
-use Rattle.std.specs.Prelude.{ℕ, suc, length, Option, Some, None, List, [], ◌∷◌}
+use Rattle.std.specs.Prelude.{ℕ, ℤ, suc, length, Option, Some, None, List, [], ◌∷◌}
 use Rattle.pl_types.specs.declared.ty.Ty.{Ty, out-Ty}
 use Rattle.pl_types.specs.declared.ty.Ty.TheOpen.{Ty-F}
 use Rattle.allowlist.specs.declared.member.MemberKind.{MemberKind}
@@ -8,7 +8,7 @@ use Rattle.allowlist.specs.declared.member.MemberType.{MemberType}
 use Rattle.object_values.specs.declared.value.Value.{Value}
 use Rattle.object_values.specs.declared.value.Value.TheVariants as v
 use Rattle.code_meaning.specs.declared.word.Word.{Word}
-use Rattle.code_meaning.specs.declared.word.Word.TheVariants.{R}
+use Rattle.code_meaning.specs.declared.word.Word.TheVariants.{I, R}
 use Rattle.code_meaning.specs.Words.{boxed, unboxed}
 
 abbrev pub reference_in : Word → Option Value
@@ -31,6 +31,25 @@ abbrev pub taken_all : List Ty → List Word → Option (List Value)
 taken_all [] [] = Some []
 taken_all (of ∷ ofs) (word ∷ words) = before (taken of word) (taken_all ofs words)
 taken_all ofs words = None
+
+-- words that are all references
+abbrev pub references_in : List Word → Option (List Value)
+references_in [] = Some []
+references_in (word ∷ words) = before (reference_in word) (references_in words)
+
+-- words of one type
+abbrev pub taken_alike : Ty → List Word → Option (List Value)
+taken_alike of [] = Some []
+taken_alike of (word ∷ words) = before (taken of word) (taken_alike of words)
+
+-- words that are all ints
+abbrev pub int_before : Word → Option (List ℤ) → Option (List ℤ)
+int_before (I a) (Some others) = Some (a ∷ others)
+int_before word others = None
+
+abbrev pub ints_in : List Word → Option (List ℤ)
+ints_in [] = Some []
+ints_in (word ∷ words) = int_before word (ints_in words)
 
 -- What a member is called with: words that do not fit, a receiver that is null, what it takes, or, of a field, nothing.
 pub data Receiving : Type 0 where

@@ -14,6 +14,8 @@ use Rattle.arithmetic.specs.Arithmetic.{wrapped, low_bits}
 use Rattle.arithmetic.specs.Operators.{of_type}
 use Rattle.pl_code.specs.declared.kinds.ArithmeticOp.{ArithmeticOp}
 use Rattle.pl_code.specs.declared.kinds.ArithmeticOp.TheVariants as code
+use Rattle.pl_code.specs.declared.kinds.DynamicOp.{DynamicOp}
+use Rattle.pl_code.specs.declared.kinds.DynamicOp.TheVariants as dynamic
 use Rattle.pl_code.specs.declared.kinds.Width.{Width}
 use Rattle.pl_code.specs.declared.kinds.Width.TheVariants as width
 use Rattle.pl_code.specs.declared.kinds.Slot.{Slot}
@@ -52,6 +54,27 @@ op_of code.Gt = op.Gt
 op_of code.Ge = op.Ge
 op_of code.Eq = op.Eq
 op_of code.Ne = op.Ne
+
+-- the operator of an instruction on values of any types
+abbrev pub op_of_dynamic : DynamicOp → Op
+op_of_dynamic dynamic.Add = op.Add
+op_of_dynamic dynamic.Sub = op.Sub
+op_of_dynamic dynamic.Mul = op.Mul
+op_of_dynamic dynamic.Div = op.Div
+op_of_dynamic dynamic.Rem = op.Rem
+op_of_dynamic dynamic.And = op.And
+op_of_dynamic dynamic.Or = op.Or
+op_of_dynamic dynamic.Xor = op.Xor
+op_of_dynamic dynamic.Neg = op.Neg
+op_of_dynamic dynamic.Not = op.Not
+op_of_dynamic dynamic.Pos = op.Pos
+op_of_dynamic dynamic.Shl = op.Shl
+op_of_dynamic dynamic.Shr = op.Shr
+op_of_dynamic dynamic.Ushr = op.Ushr
+op_of_dynamic dynamic.Lt = op.Lt
+op_of_dynamic dynamic.Le = op.Le
+op_of_dynamic dynamic.Gt = op.Gt
+op_of_dynamic dynamic.Ge = op.Ge
 
 -- A number, or none for a zero divisor, and the stack without the operands.
 pub data Calculation : Type 0 where

@@ -1,10 +1,9 @@
 -- What stands later stood earlier: one lemma for each thing that is written.
-use Rattle.std.proofs.Common.{◌≡◌, ◌≢◌, ℕ, zero, suc, ◌+◌, ◌<◌, ◌≤◌, List, [], ◌∷◌, ◌++◌, length, Option, Some, None, refl, sym, ap, ◌∙◌, subst, append_assoc}
+use Rattle.std.proofs.Common.{◌≡◌, ◌≢◌, ℕ, zero, suc, ◌+◌, List, [], ◌∷◌, ◌++◌, length, Option, Some, None, refl, sym, ap, ◌∙◌, subst, append_assoc}
 use Rattle.std.specs.Prelude.{map, slice_get, slice_set}
 use Rattle.pl_types.specs.declared.conversion.Cast.{Cast}
 use Rattle.pl_types.specs.declared.ty.Ty.{Ty}
-use Rattle.pl_types.specs.Texts.{full_text}
-use Rattle.pl_code.specs.declared.kinds.Typed.TheVariants as typed
+use Rattle.typed_tree.specs.declared.operation.Operation.{Operation}
 use Rattle.pl_code.specs.declared.kinds.Numbered.{Numbered}
 use Rattle.pl_code.specs.declared.code.FunCode.{FunCode}
 use Rattle.pl_code.specs.declared.code.Instruction.{Instruction}
@@ -14,12 +13,12 @@ use Rattle.codegen.specs.Called.{call_code}
 use Rattle.source_meaning.specs.Tree.{Name, Program}
 use Rattle.pl_code.specs.declared.kinds.Numbered.TheVariants as numbered
 use Rattle.compiler_relation.specs.Representation.{Representation}
-use Rattle.compiler_relation.specs.Parts.{cast_code}
+use Rattle.compiler_relation.specs.Parts.{cast_code, operation_code, write_code}
 use Rattle.compiler_relation.specs.Stands.{At, AllAt, end_all}
 use Rattle.compiler_relation.specs.Placed.{untrapped}
 use Rattle.codegen.specs.Checks.{denoted}
 use Rattle.codegen.specs.Labels.{or_first, bound, settled_line}
-use Rattle.codegen.specs.Worklist.{Item, Put, Convert, Ask, Call, Jump, Bind, Load, Store, Stand, Trapped, Holds, Back, IsLocal, scope_in, next_in, whole_in}
+use Rattle.codegen.specs.Worklist.{Item, Put, Convert, Operate, Write, Call, Jump, Bind, Load, Store, Stand, Trapped, Holds, Back, IsLocal, scope_in, next_in, whole_in}
 use Rattle.codegen.specs.declared.config.Config.{Config}
 use Rattle.codegen.specs.declared.config.Flow.{Flow}
 use Rattle.codegen.specs.declared.labels.Line.{Line}
@@ -164,8 +163,14 @@ module _ (funs : Program) (todo : List Item) (c : Config) where
   pub convert_back : (by : Cast) (to : Ty) (xs : List Line) → xs ≡ c.lines ++ map line.Fixed (cast_code by to) → Back funs (Convert by to ∷ todo) c todo (record c { lines = xs })
   convert_back by to xs e = record { by = λ f labels m. let before = (put_back (cast_code by to) xs e).by f labels m in record { holds = before.holds; stand = before.stand } }
 
-  pub ask_back : (is : Ty) (xs : List Line) → xs ≡ c.lines ++ line.Fixed (i.Typed typed.IsA (full_text is)) ∷ [] → Back funs (Ask is ∷ todo) c todo (record c { lines = xs })
-  ask_back is xs e = record { by = λ f labels m. let before = (put_back (i.Typed typed.IsA (full_text is) ∷ []) xs e).by f labels m in record { holds = before.holds; stand = (before.stand.0.0, before.stand.1) } }
+  pub operate_back : (does : Operation) (of : Ty) (count : ℕ) (xs : List Line) → xs ≡ c.lines ++ map line.Fixed (operation_code does of count)
+      → Back funs (Operate does of count ∷ todo) c todo (record c { lines = xs })
+  operate_back does of count xs e =
+      record { by = λ f labels m. let before = (put_back (operation_code does of count) xs e).by f labels m in record { holds = before.holds; stand = before.stand } }
+
+  pub write_back : (does : Operation) (of : Ty) (xs : List Line) → xs ≡ c.lines ++ map line.Fixed (write_code does of) → Back funs (Write does of ∷ todo) c todo (record c { lines = xs })
+  write_back does of xs e =
+      record { by = λ f labels m. let before = (put_back (write_code does of) xs e).by f labels m in record { holds = before.holds; stand = before.stand } }
 
   pub call_back : (kind : MemberKind) (text : List ℕ) (xs : List Line) → xs ≡ c.lines ++ line.Fixed (call_code kind text) ∷ [] → Back funs (Call kind text ∷ todo) c todo (record c { lines = xs })
   call_back kind text xs e = record { by = λ f labels m. let before = (put_back (call_code kind text ∷ []) xs e).by f labels m in record { holds = before.holds; stand = (before.stand.0.0, before.stand.1) } }

@@ -16,6 +16,8 @@ pub mod Free
 pub mod Known
 pub mod Agreeing
 pub mod Called
+pub mod Wanting
+pub mod Lying
 pub mod Flowing
 pub mod Handled
 pub mod Whole

@@ -73,7 +73,6 @@ layer_before (StatementNode-F.Loop None condition update (Some body)) rest = ref
 layer_before (StatementNode-F.Loop (Some first) condition update None) rest = refl
 layer_before (StatementNode-F.Loop (Some first) condition update (Some body)) rest = refl
 layer_before (StatementNode-F.Do body condition) rest = refl
-layer_before (StatementNode-F.ForEach name of element over body) rest = refl
 layer_before (StatementNode-F.Try body catches) rest = refl
 layer_before StatementNode-F.Break rest = refl
 layer_before StatementNode-F.Continue rest = refl

@@ -1,5 +1,5 @@
 -- Parts and parameters from one on.
-use Rattle.std.proofs.Common.{◌≡◌, ◌≢◌, ℕ, zero, suc, ◌+◌, List, [], ◌∷◌, length, drop, Some, None, Ok, Result, refl, sym, ap, ◌∙◌, subst, add-one, arith}
+use Rattle.std.proofs.Common.{◌≡◌, ◌≢◌, ℕ, zero, suc, ◌+◌, List, [], ◌∷◌, ◌++◌, length, drop, Some, None, Ok, Result, refl, sym, ap, ◌∙◌, subst, add-one, arith}
 use Rattle.std.specs.Prelude.{map, slice_get}
 use Rattle.pl_types.specs.declared.conversion.Cast.{Cast}
 use Rattle.typed_tree.specs.declared.operation.Operation.TheVariants as operation
@@ -11,17 +11,20 @@ use Rattle.pl_types.specs.declared.ty.Ty.{Ty}
 use Rattle.source_meaning.specs.Tree.{Exprs, None', One, Fun, Program, type_of}
 use Rattle.allowlist.specs.Allow.{AllowList}
 use Rattle.program_typing.specs.Agreeing.{Known, known, types_of, types_in, Calls, Applies}
-use Rattle.program_typing.specs.Types.{IsNamed, Casts}
+use Rattle.program_typing.specs.Types.{IsNamed}
 use Rattle.source_meaning.specs.Programs.{expr_of, exprs_of, fun_of, variable_of, program_of}
 use Rattle.compiler_relation.specs.Representation.{Representation, Unboxed, Boxed, representation_of}
-use Rattle.compiler_relation.specs.Stands.{AllRepresented, CastFits, representations, representations_of, Fitting}
+use Rattle.compiler_relation.specs.Stands.{AllRepresented, CastFits, representations, representations_of, count, Fitting}
+use Rattle.compiler_relation.specs.Parts.{cast_takes}
+use Rattle.allowlist.specs.declared.member.MemberKind.TheVariants as kinds
+use Rattle.codegen.specs.Checks.{denoted}
 use Rattle.codegen.specs.Functions.{function_at}
-use Rattle.codegen.specs.Worklist.{Item, Value, Values, Back, Wanted, As, Wants, Taken, wanted, parts_from, representations_in, member_takes}
-use Rattle.codegen.specs.Sound.{Keeps, Refuses, Names}
+use Rattle.codegen.specs.Worklist.{Item, Value, Values, Back, Wanted, As, Wants, Taken, indexed, wanted, parts_from, representations_in, member_takes}
+use Rattle.codegen.specs.Sound.{Keeps, Refuses}
 use Rattle.codegen.specs.declared.work_item.Wanted as dw
 use Rattle.codegen.specs.declared.work_item.Wanted.TheVariants as w
 use Rattle.codegen.specs.declared.config.Config.{Config}
-use Rattle.codegen.proofs.Fitting.{is_boxed, flag_representation, types_lie, casts_fit, casts_name}
+use Rattle.codegen.proofs.Fitting.{is_boxed, flag_representation, casts_fit, cast_given}
 use Rattle.codegen.proofs.Plans.{values_end, values_more}
 use Rattle.codegen.proofs.Steps.{instead, never}
 use Rattle.codegen.specs.declared.error.CodeError.{CodeError}
@@ -79,16 +82,32 @@ call_fits p number f ks of is e h = λ g at.
     let same = fun_at p number f g is at in
     (h ∙ params_lie f.parameters ∙ sym (ap (λ (g : Fun). representations_of g.params) same), e ∙ sym (ap (λ (g : Fun). representation_of g.result) same))
 
-one_part : (parts : List Typed) (x : Typed) → slice_get parts 0 ≡ Some x → length parts ≡ 1 → parts ≡ x ∷ []
-one_part [] x is e = absurd cc
-one_part (y ∷ []) x is e = ap (λ y. y ∷ []) cc
-one_part (y ∷ z ∷ parts) x is e = absurd (omega arith)
+-- ---- casts, and questions whether a value is of a type
 
-pub cast_fits : (funs : Program) (by : Cast) (parts : List Typed) (x : Typed) (of : Ty) (given gives : Representation) → slice_get parts 0 ≡ Some x → length parts ≡ 1
-    → given ≡ representation_of (type_of (expr_of x)) → gives ≡ representation_of of → CastFits by of given gives → Fitting funs (operation.Cast by) (representations (exprs_of (map expr_of parts))) of
-cast_fits funs by parts x of given gives is e g r h =
-    subst (λ (ps : List Typed). Fitting funs (operation.Cast by) (representations (exprs_of (map expr_of ps))) of) (sym (one_part parts x is e))
-    (subst (λ (k : Representation). CastFits by of k (representation_of of)) g (subst (λ (k : Representation). CastFits by of given k) r h))
+-- one operand is represented as the cast takes it
+pub cast_fits : (funs : Program) (by : Cast) (of : Ty) (given gives : Representation) → gives ≡ representation_of of → CastFits by of given gives
+    → (ks : List Representation) → AllRepresented given ks → Fitting funs (operation.Cast by) ks of
+cast_fits funs by of given gives r h [] lie = tt
+cast_fits funs by of given gives r h (k ∷ []) lie = subst (λ (k : Representation). CastFits by of k (representation_of of)) (sym lie.0) (subst (λ (k : Representation). CastFits by of given k) r h)
+cast_fits funs by of given gives r h (k ∷ j ∷ ks) lie = tt
+
+pub cast_lies : (funs : Known) (by : Cast) (ofs : List Ty) (of : Ty) (given gives : Representation) → given ≡ cast_takes by gives → gives ≡ representation_of of → Applies funs (operation.Cast by) ofs of
+    → AllRepresented given (map representation_of ofs) × CastFits by of given gives
+cast_lies funs by [] of given gives e r x = absurd x
+cast_lies funs by (from ∷ []) of given gives e r x =
+    let same : given ≡ representation_of from = e ∙ ap (cast_takes by) r ∙ cast_given by from of x in
+    ((sym same, tt), subst (λ (k : Representation). CastFits by of k gives) (sym same) (subst (λ (k : Representation). CastFits by of (representation_of from) k) (sym r) (casts_fit by from of x)))
+cast_lies funs by (from ∷ other ∷ ofs) of given gives e r x = absurd x
+
+pub record AskRepresented (is : Ty) (ofs : List Ty) (of : Ty) : Type 0 where
+  pub operands : AllRepresented Boxed (map representation_of ofs)
+  pub gives : representation_of of ≡ Unboxed
+  pub named : IsNamed is
+
+pub ask_representation : (funs : Known) (is : Ty) (ofs : List Ty) (of : Ty) → Applies funs (operation.InstanceOf is) ofs of → AskRepresented is ofs of
+ask_representation funs is [] of x = absurd x
+ask_representation funs is (from ∷ []) of x = record { operands = (is_boxed from x.0, tt); gives = flag_representation of x.2; named = x.1 }
+ask_representation funs is (from ∷ other ∷ ofs) of x = absurd x
 
 -- ---- parts of a well-formed program
 
@@ -111,10 +130,12 @@ rest_lie (x ∷ ls) zero k ks e = cc
 rest_lie (x ∷ ls) (suc at) k ks e = rest_lie ls at k ks e
 
 pub wanted_of_others : (kind : dw.Wanted) (at : ℕ) (k : Representation) (ks : List Representation) → Wants (wanted at kind) (k ∷ ks) → Wants (wanted (at + 1) kind) ks
-wanted_of_others w.Any at k ks h = tt
 wanted_of_others (w.All one) at k ks h = h.1
 wanted_of_others (w.As params) at k ks h = others_lie params.now at k ks h ∙ ap (λ n. representations_in (drop n params.now)) (sym (add-one at))
 wanted_of_others (w.Member kind params) at k ks h = rest_lie (member_takes kind params.now) at k ks h ∙ ap (λ n. drop n (member_takes kind params.now)) (sym (add-one at))
+wanted_of_others w.Indexed at k ks h = rest_lie indexed at k ks h ∙ ap (λ n. drop n indexed) (sym (add-one at))
+wanted_of_others (w.Setter params one) at k ks h =
+    rest_lie (member_takes kinds.Instance params.now) at k (ks ++ denoted one ∷ []) h ∙ ap (λ n. drop n (member_takes kinds.Instance params.now)) (sym (add-one at))
 
 pub refuses_param : (params : List Named) (at : ℕ) (x : Named) (k : Representation) → slice_get params at ≡ Some x → k ≢ representation_of x.of → Refuses (As (representations_in (drop at params))) k
 refuses_param params at x k is n = record { by = λ ks h. let e : k ∷ ks ≡ representation_of x.of ∷ representations_in (drop (at + 1) params) = h ∙ ap representations_in (drop_one at params x is) in n cc }
@@ -143,9 +164,9 @@ params_typed (x ∷ xs) = ap (λ l. representation_of x.of ∷ l) (params_typed 
 pub call_gives : (allow : AllowList) (p : typed.Program) (number : ℕ) (f : TypedFunction) (ofs : List Ty) (of : Ty) → function_at p number ≡ Some f → Calls (known allow (program_of p)) number ofs of → representation_of of ≡ representation_of f.result
 call_gives allow p number f ofs of is x = ap representation_of (x.gives ∙ ap (λ (g : Fun). g.result) (fun_at p number f x.fun is x.is))
 
-pub call_takes : (allow : AllowList) (p : typed.Program) (number : ℕ) (f : TypedFunction) (parts : Exprs) (of : Ty) → function_at p number ≡ Some f → Calls (known allow (program_of p)) number (types_of parts) of → Wants (As (representations_in f.parameters)) (representations parts)
-call_takes allow p number f parts of is x =
-    types_lie parts ∙ ap (map representation_of) (x.takes ∙ ap (λ (g : Fun). types_in g.params) (fun_at p number f x.fun is x.is)) ∙ params_typed f.parameters
+pub call_takes : (allow : AllowList) (p : typed.Program) (number : ℕ) (f : TypedFunction) (ofs : List Ty) (of : Ty) → function_at p number ≡ Some f → Calls (known allow (program_of p)) number ofs of → Wants (As (representations_in f.parameters)) (map representation_of ofs)
+call_takes allow p number f ofs of is x =
+    ap (map representation_of) (x.takes ∙ ap (λ (g : Fun). types_in g.params) (fun_at p number f x.fun is x.is)) ∙ params_typed f.parameters
 
 -- ---- steps over the parts of a well-formed program
 
@@ -173,38 +194,23 @@ module _ (funs : Program) (todo : List Item) (c : Config) where
       subst (λ (es : Exprs). Keeps funs (Values es (wanted at kind) ∷ todo) c result todo' c') (sym (parts_stop parts at is))
       (never funs (Values None' (wanted at kind) ∷ todo) todo' c result c' (λ allow of s. n s.0.1))
 
--- ---- casts of a well-formed program
+-- ---- how many parts there are
 
-pub cast_there : (funs : Known) (c : Cast) (parts : List Typed) (of : Ty) → slice_get parts 0 ≡ None → Applies funs (operation.Cast c) (types_of (exprs_of (map expr_of parts))) of → ⊥
-cast_there funs c [] of e x = x
-cast_there funs c (y ∷ parts) of e x = cc
+pub parts_counted : (parts : List Typed) → count (exprs_of (map expr_of parts)) ≡ length parts
+parts_counted [] = refl
+parts_counted (x ∷ parts) = ap suc (parts_counted parts)
 
-pub cast_alone : (funs : Known) (c : Cast) (parts : List Typed) (of : Ty) → length parts ≢ 1 → Applies funs (operation.Cast c) (types_of (exprs_of (map expr_of parts))) of → ⊥
-cast_alone funs c [] of n x = x
-cast_alone funs c (y ∷ []) of n x = n refl
-cast_alone funs c (y ∷ z ∷ parts) of n x = x
+pub types_counted : (parts : List Typed) → length (types_of (exprs_of (map expr_of parts))) ≡ length parts
+types_counted [] = refl
+types_counted (x ∷ parts) = ap suc (types_counted parts)
 
-casts : (funs : Known) (c : Cast) (parts : List Typed) (x : Typed) (of : Ty) → slice_get parts 0 ≡ Some x → Applies funs (operation.Cast c) (types_of (exprs_of (map expr_of parts))) of → Casts c (type_of (expr_of x)) of
-casts funs c [] x of e h = absurd h
-casts funs c (y ∷ []) x of e h = let same : y ≡ x = cc in subst (λ (x : Typed). Casts c (type_of (expr_of x)) of) same h
-casts funs c (y ∷ z ∷ parts) x of e h = absurd h
+pub alone : (parts : List Typed) (x : Typed) → slice_get parts 0 ≡ Some x → slice_get parts 1 ≡ None → parts ≡ x ∷ []
+alone [] x is e = absurd cc
+alone (y ∷ []) x is e = ap (λ y. y ∷ []) cc
+alone (y ∷ z ∷ parts) x is e = absurd cc
 
-module _ (funs : Known) (c : Cast) (parts : List Typed) (x : Typed) (of : Ty) where
-  pub well_cast_fits : (given gives : Representation) → slice_get parts 0 ≡ Some x → given ≡ representation_of (type_of (expr_of x)) → gives ≡ representation_of of → Applies funs (operation.Cast c) (types_of (exprs_of (map expr_of parts))) of → CastFits c of given gives
-  well_cast_fits given gives is e r h =
-      subst (λ (k : Representation). CastFits c of k gives) (sym e) (subst (λ (k : Representation). CastFits c of (representation_of (type_of (expr_of x))) k) (sym r) (casts_fit c (type_of (expr_of x)) of (casts funs c parts x of is h)))
-
-  pub well_cast_names : slice_get parts 0 ≡ Some x → Applies funs (operation.Cast c) (types_of (exprs_of (map expr_of parts))) of → Names c of
-  well_cast_names is h = casts_name c (type_of (expr_of x)) of (casts funs c parts x of is h)
-
--- ---- questions of a well-formed program whether a value is of a type
-
-pub record AskRepresented (is : Ty) (parts : Exprs) (of : Ty) : Type 0 where
-  pub operands : AllRepresented Boxed (representations parts)
-  pub gives : representation_of of ≡ Unboxed
-  pub named : IsNamed is
-
-pub ask_representation : (funs : Known) (is : Ty) (parts : Exprs) (of : Ty) → Applies funs (operation.InstanceOf is) (types_of parts) of → AskRepresented is parts of
-ask_representation funs is None' of x = absurd x
-ask_representation funs is (One a None') of x = record { operands = (is_boxed (type_of a) x.0, tt); gives = flag_representation of x.2; named = x.1 }
-ask_representation funs is (One a (One b parts)) of x = absurd x
+pub both : (parts : List Typed) (x y : Typed) → slice_get parts 0 ≡ Some x → slice_get parts 1 ≡ Some y → length parts ≡ 2 → parts ≡ x ∷ y ∷ []
+both [] x y is e many = absurd cc
+both (v ∷ []) x y is e many = absurd cc
+both (v ∷ w ∷ []) x y is e many = let first : v ≡ x = cc in let second : w ≡ y = cc in λ k. first k ∷ second k ∷ []
+both (v ∷ w ∷ z ∷ parts) x y is e many = absurd (omega arith)

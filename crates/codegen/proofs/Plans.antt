@@ -1,12 +1,11 @@
 -- What is to be written for each kind of expression.
-use Rattle.std.proofs.Common.{◌≡◌, ℕ, suc, List, [], ◌∷◌, sym, ◌∙◌, subst, Some}
+use Rattle.std.proofs.Common.{◌≡◌, ℕ, suc, List, [], ◌∷◌, sym, ◌∙◌, subst, Option, Some}
 use Rattle.pl_types.specs.declared.ty.Ty.{Ty}
 use Rattle.pl_code.specs.declared.kinds.Numbered.{Numbered}
 use Rattle.pl_code.specs.declared.kinds.Numbered.TheVariants as numbered
 use Rattle.pl_code.specs.declared.code.FunCode.{FunCode}
 use Rattle.pl_code.specs.declared.code.Instruction.TheVariants as i
 use Rattle.pl_code.specs.declared.kinds.Plain.TheVariants as plain
-use Rattle.pl_types.specs.declared.conversion.Cast.{Cast}
 use Rattle.typed_tree.specs.declared.operation.Operation.{Operation}
 use Rattle.typed_tree.specs.declared.operation.Operation.TheVariants as operation
 use Rattle.typed_tree.specs.declared.operation.Logical.{Logical}
@@ -16,16 +15,15 @@ use Rattle.typed_tree.specs.declared.operation.Change.{Change}
 use Rattle.typed_tree.specs.declared.operation.Gives.{Gives}
 use Rattle.source_meaning.specs.Tree.{Name, Expr, Local, Logic, Conditional, Elvis, Assign, Modify, Apply, Guarded, Exprs, None', One, Program, type_of}
 use Rattle.compiler_relation.specs.Representation.{representation_of, Representation, Unboxed, Boxed}
-use Rattle.compiler_relation.specs.Parts.{operation_code, operator_code, kept_before, kept_behind, without_null}
-use Rattle.allowlist.specs.declared.member.MemberKind.{MemberKind}
+use Rattle.compiler_relation.specs.Parts.{operator_code, kept_under, copies, kept_before, kept_behind, without_null}
 use Rattle.allowlist.specs.declared.member.MemberKind.TheVariants as kinds
 use Rattle.typed_tree.specs.declared.operation.Member.{Member}
-use Rattle.codegen.specs.Called.{member_operation}
 use Rattle.codegen.specs.Checks.{jump_of}
-use Rattle.compiler_relation.specs.Stands.{Entry, Scope, IsEntry, At, end_expr, end_exprs, MemberFits, GuardFits, settled, settles, Fitting, ChangeFits, representations, change_first, change_last, elvis_right}
+use Rattle.compiler_relation.specs.Stands.{Entry, Scope, IsEntry, At, end_expr, end_exprs, count, PlaceFits, GuardFits, settled, settles, Fitting, ChangeFits, representations, change_first, change_last, elvis_right}
 use Rattle.compiler_relation.specs.Placed.{untrapped}
 use Rattle.codegen.specs.Labels.{line_of}
-use Rattle.codegen.specs.Worklist.{Item, Value, Values, Put, Convert, Ask, Call, Jump, Bind, Load, Store, Wanted, Wants, Taken, Back}
+use Rattle.codegen.specs.Called.{IsFound}
+use Rattle.codegen.specs.Worklist.{Item, Value, Values, Put, Convert, Operate, Write, Call, Jump, Bind, Load, Store, Wanted, Wants, Taken, Back}
 use Rattle.codegen.specs.declared.config.Config.{Config}
 use Rattle.codegen.proofs.Back.{planned}
 
@@ -117,10 +115,10 @@ module _ (funs : Program) (todo : List Item) (c : Config) where
 
   pub modify_plan : (at : ℕ) (of : Ty) (x : Name) (parts : Exprs) (change : Change) (a : Expr) (gives : Gives) (representation : Representation) → representation ≡ representation_of of → ChangeFits change of (representation_of (type_of a))
       → Back funs (Value (Modify at of (target.Local x) parts change a gives) ∷ todo) c
-      (Load x representation ∷ Put (kept_before gives) ∷ Convert change.before of ∷ Value a ∷ Put (operator_code change.operator) ∷ Convert change.after of ∷ Put (kept_behind gives) ∷ Store x representation ∷ todo) c
+      (Load x representation ∷ Put (kept_before 0 gives) ∷ Convert change.before of ∷ Value a ∷ Put (operator_code change.operator) ∷ Convert change.after of ∷ Put (kept_behind 0 gives) ∷ Store x representation ∷ todo) c
   modify_plan at of x parts change a gives representation e fits =
       planned funs (Value (Modify at of (target.Local x) parts change a gives) ∷ todo) c
-      (Load x representation ∷ Put (kept_before gives) ∷ Convert change.before of ∷ Value a ∷ Put (operator_code change.operator) ∷ Convert change.after of ∷ Put (kept_behind gives) ∷ Store x representation ∷ todo)
+      (Load x representation ∷ Put (kept_before 0 gives) ∷ Convert change.before of ∷ Value a ∷ Put (operator_code change.operator) ∷ Convert change.after of ∷ Put (kept_behind 0 gives) ∷ Store x representation ∷ todo)
       (λ f labels g n p flows whole s.
       let load = s.0 in
       let store = s.1.1.1.1.1.1.1.0 in (
@@ -135,49 +133,59 @@ module _ (funs : Program) (todo : List Item) (c : Config) where
           s.1.1.1.1.0,
           s.1.1.1.1.1.0,
           s.1.1.1.1.1.1.0,
-          subst (λ (y : Entry). At (untrapped f) [] (change_last gives change of (end_expr (change_first gives change of p) a)) (i.Numbered numbered.Store y.local)) (same_entry g x load.0 store.0 load.1 store.1) store.3,
+          subst (λ (y : Entry). At (untrapped f) [] (change_last 0 gives change of (end_expr (change_first 0 gives change of (suc p)) a)) (i.Numbered numbered.Store y.local)) (same_entry g x load.0 store.0 load.1 store.1) store.3,
           fits,
         ),
         s.1.1.1.1.1.1.1.1,
       ))
 
-  pub apply_plan : (at : ℕ) (of : Ty) (o : Operation) (parts : Exprs) (wanted : Wanted) → (Wants wanted (representations parts) → Fitting funs o (representations parts) of)
-      → Back funs (Value (Apply at of o parts) ∷ todo) c (Values parts wanted ∷ Put (operation_code o of) ∷ todo) c
-  apply_plan at of o parts wanted e =
-      planned funs (Value (Apply at of o parts) ∷ todo) c (Values parts wanted ∷ Put (operation_code o of) ∷ todo) (λ f labels g n p flows whole s. ((s.0.0, s.1.0, e s.0.1), s.1.1))
+  pub apply_plan : (at : ℕ) (of : Ty) (o : Operation) (parts : Exprs) (wanted : Wanted) (n' : ℕ) → n' ≡ count parts → (Wants wanted (representations parts) → Fitting funs o (representations parts) of)
+      → Back funs (Value (Apply at of o parts) ∷ todo) c (Values parts wanted ∷ Operate o of n' ∷ todo) c
+  apply_plan at of o parts wanted n' many e =
+      subst (λ n'. Back funs (Value (Apply at of o parts) ∷ todo) c (Values parts wanted ∷ Operate o of n' ∷ todo) c) (sym many)
+      (planned funs (Value (Apply at of o parts) ∷ todo) c (Values parts wanted ∷ Operate o of (count parts) ∷ todo) (λ f labels g n p flows whole s. ((s.0.0, s.1.0, e s.0.1), s.1.1)))
 
-  pub cast_plan : (at : ℕ) (of : Ty) (by : Cast) (parts : Exprs) (wanted : Wanted) → (Wants wanted (representations parts) → Fitting funs (operation.Cast by) (representations parts) of)
-      → Back funs (Value (Apply at of (operation.Cast by) parts) ∷ todo) c (Values parts wanted ∷ Convert by of ∷ todo) c
-  cast_plan at of by parts wanted e =
-      planned funs (Value (Apply at of (operation.Cast by) parts) ∷ todo) c (Values parts wanted ∷ Convert by of ∷ todo) (λ f labels g n p flows whole s. ((s.0.0, s.1.0, e s.0.1), s.1.1))
+  pub assign_place_plan : (at : ℕ) (of : Ty) (read : Option Operation) (write : Operation) (parts : Exprs) (a : Expr) (wanted : Wanted) (n' : ℕ) → n' ≡ count parts
+      → (Wants wanted (representations parts) → PlaceFits write (representations parts) of) → representation_of (type_of a) ≡ representation_of of
+      → Back funs (Value (Assign at of (target.Place read write) parts a) ∷ todo) c (Values parts wanted ∷ Value a ∷ Put (kept_under n') ∷ Write write of ∷ todo) c
+  assign_place_plan at of read write parts a wanted n' many fits e =
+      subst (λ n'. Back funs (Value (Assign at of (target.Place read write) parts a) ∷ todo) c (Values parts wanted ∷ Value a ∷ Put (kept_under n') ∷ Write write of ∷ todo) c) (sym many)
+      (planned funs (Value (Assign at of (target.Place read write) parts a) ∷ todo) c (Values parts wanted ∷ Value a ∷ Put (kept_under (count parts)) ∷ Write write of ∷ todo)
+      (λ f labels g n p flows whole s. ((s.0.0, s.1.0, s.1.1.0, s.1.1.1.0, e, fits s.0.1), s.1.1.1.1)))
 
-  pub ask_plan : (at : ℕ) (of is : Ty) (parts : Exprs) (wanted : Wanted) → (Wants wanted (representations parts) → Fitting funs (operation.InstanceOf is) (representations parts) of)
-      → Back funs (Value (Apply at of (operation.InstanceOf is) parts) ∷ todo) c (Values parts wanted ∷ Ask is ∷ todo) c
-  ask_plan at of is parts wanted e =
-      planned funs (Value (Apply at of (operation.InstanceOf is) parts) ∷ todo) c (Values parts wanted ∷ Ask is ∷ todo) (λ f labels g n p flows whole s. ((s.0.0, (s.1.0, tt), e s.0.1), s.1.1))
-
-  pub member_plan : (at : ℕ) (of : Ty) (kind : MemberKind) (m : Member) (parts : Exprs) (wanted : Wanted) (representation : Representation) → representation ≡ representation_of of → (Wants wanted (representations parts) → MemberFits kind m (representations parts) of)
-      → Back funs (Value (Apply at of (member_operation kind m) parts) ∷ todo) c (Values parts wanted ∷ Call kind m.text ∷ Put (without_null representation) ∷ todo) c
-  member_plan at of kind m parts wanted representation e fits =
-      subst (λ (representation : Representation). Back funs (Value (Apply at of (member_operation kind m) parts) ∷ todo) c (Values parts wanted ∷ Call kind m.text ∷ Put (without_null representation) ∷ todo) c) (sym e) (by_kind kind fits)
-    where
-      by_kind : (kind : MemberKind) → (Wants wanted (representations parts) → MemberFits kind m (representations parts) of)
-          → Back funs (Value (Apply at of (member_operation kind m) parts) ∷ todo) c (Values parts wanted ∷ Call kind m.text ∷ Put (without_null (representation_of of)) ∷ todo) c
-      by_kind kinds.Constructor fits =
-          planned funs (Value (Apply at of (operation.Constructor m) parts) ∷ todo) c (Values parts wanted ∷ Call kinds.Constructor m.text ∷ Put (without_null (representation_of of)) ∷ todo)
-          (λ f labels g n p flows whole s. ((s.0.0, (s.1.0, s.1.1.0), fits s.0.1), s.1.1.1))
-      by_kind kinds.Static fits =
-          planned funs (Value (Apply at of (operation.Static m) parts) ∷ todo) c (Values parts wanted ∷ Call kinds.Static m.text ∷ Put (without_null (representation_of of)) ∷ todo)
-          (λ f labels g n p flows whole s. ((s.0.0, (s.1.0, s.1.1.0), fits s.0.1), s.1.1.1))
-      by_kind kinds.Instance fits =
-          planned funs (Value (Apply at of (operation.Instance m) parts) ∷ todo) c (Values parts wanted ∷ Call kinds.Instance m.text ∷ Put (without_null (representation_of of)) ∷ todo)
-          (λ f labels g n p flows whole s. ((s.0.0, (s.1.0, s.1.1.0), fits s.0.1), s.1.1.1))
-      by_kind kinds.Field fits =
-          planned funs (Value (Apply at of (operation.Field m) parts) ∷ todo) c (Values parts wanted ∷ Call kinds.Field m.text ∷ Put (without_null (representation_of of)) ∷ todo)
-          (λ f labels g n p flows whole s. ((s.0.0, (s.1.0, s.1.1.0), fits s.0.1), s.1.1.1))
+  pub modify_place_plan : (at : ℕ) (of : Ty) (read write : Operation) (parts : Exprs) (change : Change) (a : Expr) (gives : Gives) (wanted : Wanted) (n' : ℕ) → n' ≡ count parts
+      → (Wants wanted (representations parts) → PlaceFits write (representations parts) of) → Fitting funs read (representations parts) of → ChangeFits change of (representation_of (type_of a))
+      → Back funs (Value (Modify at of (target.Place (Some read) write) parts change a gives) ∷ todo) c
+      (Values parts wanted ∷ Put (copies n') ∷ Operate read of n' ∷ Put (kept_before n' gives) ∷ Convert change.before of ∷ Value a ∷ Put (operator_code change.operator) ∷ Convert change.after of
+      ∷ Put (kept_behind n' gives) ∷ Write write of ∷ todo) c
+  modify_place_plan at of read write parts change a gives wanted n' many fits reads changes =
+      subst (λ n'. Back funs (Value (Modify at of (target.Place (Some read) write) parts change a gives) ∷ todo) c
+      (Values parts wanted ∷ Put (copies n') ∷ Operate read of n' ∷ Put (kept_before n' gives) ∷ Convert change.before of ∷ Value a ∷ Put (operator_code change.operator) ∷ Convert change.after of
+      ∷ Put (kept_behind n' gives) ∷ Write write of ∷ todo) c) (sym many)
+      (planned funs (Value (Modify at of (target.Place (Some read) write) parts change a gives) ∷ todo) c
+      (Values parts wanted ∷ Put (copies (count parts)) ∷ Operate read of (count parts) ∷ Put (kept_before (count parts) gives) ∷ Convert change.before of ∷ Value a ∷ Put (operator_code change.operator)
+      ∷ Convert change.after of ∷ Put (kept_behind (count parts) gives) ∷ Write write of ∷ todo)
+      (λ f labels g n p flows whole s. (
+        (
+          s.0.0,
+          s.1.0,
+          s.1.1.0,
+          s.1.1.1.0,
+          s.1.1.1.1.0,
+          s.1.1.1.1.1.0,
+          s.1.1.1.1.1.1.0,
+          s.1.1.1.1.1.1.1.0,
+          s.1.1.1.1.1.1.1.1.0,
+          s.1.1.1.1.1.1.1.1.1.0,
+          changes,
+          reads,
+          fits s.0.1,
+        ),
+        s.1.1.1.1.1.1.1.1.1.1,
+      )))
 
   pub guarded_plan : (at : ℕ) (of : Ty) (m : Member) (a : Expr) (others : Exprs) (wanted : Wanted) (representation : Representation) (end : ℕ) → representation ≡ representation_of of
-      → (Wants wanted (representations others) → GuardFits (operation.Instance m) (representation_of (type_of a) ∷ representations others) of)
+      → (Wants wanted (representations others) → GuardFits funs (operation.Instance m) (representation_of (type_of a) ∷ representations others) of)
       → Back funs (Value (Guarded at of (operation.Instance m) (One a others)) ∷ todo) c
       (Value a ∷ Put (i.Plain plain.Dup ∷ []) ∷ Jump numbered.IfNull end ∷ Values others wanted ∷ Call kinds.Instance m.text ∷ Bind end ∷ Put (without_null representation) ∷ todo) c
   guarded_plan at of m a others wanted representation end e fits =
@@ -199,6 +207,57 @@ module _ (funs : Program) (todo : List Item) (c : Config) where
         ),
         s.1.1.1.1.1.1.1,
       )))
+
+  -- of what is found when the code runs
+  pub found_plan : (at : ℕ) (of : Ty) (does : Operation) (a : Expr) (others : Exprs) (wanted : Wanted) (representation : Representation) (end n' : ℕ) → IsFound does → representation ≡ representation_of of
+      → n' ≡ suc (count others) → (Wants wanted (representations others) → GuardFits funs does (representation_of (type_of a) ∷ representations others) of)
+      → Back funs (Value (Guarded at of does (One a others)) ∷ todo) c
+      (Value a ∷ Put (i.Plain plain.Dup ∷ []) ∷ Jump numbered.IfNull end ∷ Values others wanted ∷ Operate does of n' ∷ Bind end ∷ Put (without_null representation) ∷ todo) c
+  found_plan at of does a others wanted representation end n' found e many fits =
+      subst (λ (representation : Representation). Back funs (Value (Guarded at of does (One a others)) ∷ todo) c
+      (Value a ∷ Put (i.Plain plain.Dup ∷ []) ∷ Jump numbered.IfNull end ∷ Values others wanted ∷ Operate does of n' ∷ Bind end ∷ Put (without_null representation) ∷ todo) c) (sym e)
+      (subst (λ n'. Back funs (Value (Guarded at of does (One a others)) ∷ todo) c
+      (Value a ∷ Put (i.Plain plain.Dup ∷ []) ∷ Jump numbered.IfNull end ∷ Values others wanted ∷ Operate does of n' ∷ Bind end ∷ Put (without_null (representation_of of)) ∷ todo) c) (sym many)
+      (by_sort does found fits))
+    where
+      by_sort : (does : Operation) → IsFound does → (Wants wanted (representations others) → GuardFits funs does (representation_of (type_of a) ∷ representations others) of)
+          → Back funs (Value (Guarded at of does (One a others)) ∷ todo) c
+          (Value a ∷ Put (i.Plain plain.Dup ∷ []) ∷ Jump numbered.IfNull end ∷ Values others wanted ∷ Operate does of (suc (count others)) ∷ Bind end ∷ Put (without_null (representation_of of)) ∷ todo) c
+      by_sort (operation.DefCall name) found fits =
+          planned funs (Value (Guarded at of (operation.DefCall name) (One a others)) ∷ todo) c
+          (Value a ∷ Put (i.Plain plain.Dup ∷ []) ∷ Jump numbered.IfNull end ∷ Values others wanted ∷ Operate (operation.DefCall name) of (suc (count others)) ∷ Bind end ∷ Put (without_null (representation_of of)) ∷ todo)
+          (λ f labels g n p flows whole s.
+          let q = end_expr p a in
+          let r = end_exprs (suc (suc q)) others in (
+            (
+              s.0,
+              s.1.0.0,
+              goes_to (untrapped f) (suc q) numbered.IfNull (line_of labels end) (suc r) s.1.1.1.1.1.0 s.1.1.0,
+              s.1.1.1.0.0,
+              s.1.1.1.1.0,
+              s.1.1.1.1.1.1.0,
+              fits s.1.1.1.0.1,
+            ),
+            s.1.1.1.1.1.1.1,
+          ))
+      by_sort (operation.DefName name) found fits =
+          planned funs (Value (Guarded at of (operation.DefName name) (One a others)) ∷ todo) c
+          (Value a ∷ Put (i.Plain plain.Dup ∷ []) ∷ Jump numbered.IfNull end ∷ Values others wanted ∷ Operate (operation.DefName name) of (suc (count others)) ∷ Bind end ∷ Put (without_null (representation_of of)) ∷ todo)
+          (λ f labels g n p flows whole s.
+          let q = end_expr p a in
+          let r = end_exprs (suc (suc q)) others in (
+            (
+              s.0,
+              s.1.0.0,
+              goes_to (untrapped f) (suc q) numbered.IfNull (line_of labels end) (suc r) s.1.1.1.1.1.0 s.1.1.0,
+              s.1.1.1.0.0,
+              s.1.1.1.1.0,
+              s.1.1.1.1.1.1.0,
+              fits s.1.1.1.0.1,
+            ),
+            s.1.1.1.1.1.1.1,
+          ))
+      by_sort other found fits = absurd found
 
   pub values_end : (wanted : Wanted) → Wants wanted [] → Back funs (Values None' wanted ∷ todo) c todo c
   values_end wanted e = planned funs (Values None' wanted ∷ todo) c todo (λ f labels g n p flows whole s. ((tt, e), s))

@@ -26,10 +26,19 @@ call_code kind.Static text = i.Invoke text
 call_code kind.Instance text = i.Invoke text
 call_code kind.Field text = i.Field text
 
--- The member of the catalogue that a call names: it is of this number, of this kind and of this text, and what it gives is represented as the call's
--- type says.
-pub record IsCalled (kind : MemberKind) (m : Member) (of : Ty) (member : MemberType) : Type 0 where
+-- a call whose member is found when the code runs
+abbrev pub IsFound : Operation → Type 0
+IsFound (operation.DefCall name) = Unit {0}
+IsFound (operation.DefName name) = Unit {0}
+IsFound other = ⊥
+
+-- The member of the catalogue that a call names: it is of this number, of this kind and of this text.
+pub record IsMember (kind : MemberKind) (m : Member) (member : MemberType) : Type 0 where
   pub is : slice_get catalogue m.number ≡ Some member
   pub sort : member.kind ≡ kind
   pub text : m.text ≡ text_of member
+
+-- And what it gives is represented as the call's type says.
+pub record IsCalled (kind : MemberKind) (m : Member) (of : Ty) (member : MemberType) : Type 0 where
+  pub named : IsMember kind m member
   pub gives : representation_of of ≡ representation_of member.result

@@ -7,5 +7,6 @@ pub mod Opened
 pub mod Worklist
 pub mod Symbols
 pub mod Sound
+pub mod Operands
 pub mod Functions
 pub mod Weights

@@ -4,7 +4,7 @@ use Rattle.pl_types.specs.declared.ty.Ty.{Ty}
 use Rattle.typed_tree.specs.declared.typed.Typed.{Typed, out-Typed}
 use Rattle.typed_tree.specs.declared.typed.Node.{Node, out-Node}
 use Rattle.typed_tree.specs.declared.typed.Node.TheOpen.{Node-F}
-use Rattle.source_meaning.specs.Tree.{Expr, Literal, Quoted, Local, Apply, Guarded, Logic, Conditional, Elvis, Assign, Modify, Lambda, Reference, NewReference, Stmt, Do, If, While, DoWhile, ForEach, Try, Block, Break, Continue, Return, Throw, Stmts, Finish, Then}
+use Rattle.source_meaning.specs.Tree.{Expr, Literal, Quoted, Local, Apply, Guarded, Logic, Conditional, Elvis, Assign, Modify, Lambda, Reference, NewReference, Stmt, Do, If, While, DoWhile, Try, Block, Break, Continue, Return, Throw, Stmts, Finish, Then}
 use Rattle.source_meaning.specs.Programs.{expr_of, exprs_of, maybe_of, before, declared, stmts_of, Before, Caught, caught_in_row, node_before, catch_before, statement_before}
 use Rattle.typed_tree.specs.declared.statement.TypedStatement.{TypedStatement, out-TypedStatement}
 use Rattle.typed_tree.specs.declared.statement.StatementNode.{StatementNode, out-StatementNode}
@@ -49,7 +49,6 @@ opened_statement (StatementNode-F.Block statements) = Block (stmts_of statements
 opened_statement (StatementNode-F.If condition then otherwise) = If (expr_of condition) (body_of then) (body_if otherwise)
 opened_statement (StatementNode-F.Loop first condition update body) = While (maybe_of condition) (maybe_of update) (body_if body)
 opened_statement (StatementNode-F.Do body condition) = DoWhile (body_of body) (maybe_of condition)
-opened_statement (StatementNode-F.ForEach name of element over body) = ForEach name of element (expr_of over) (body_of body)
 opened_statement (StatementNode-F.Try body catches) = Try (body_of body) (caught_in_row (map caught catches))
 opened_statement StatementNode-F.Break = Break
 opened_statement StatementNode-F.Continue = Continue

@@ -8,12 +8,19 @@ use Rattle.source_meaning.specs.Tree.{Name, Maybe, Missing, Given, Stmts, Finish
 use Rattle.program_typing.specs.Types.{HasValues}
 use Rattle.program_typing.specs.Types as types
 use Rattle.allowlist.specs.Allow.{AllowList}
+use Rattle.allowlist.specs.declared.member.MemberKind.TheVariants as kind
 use Rattle.member_names.specs.Names.{has_form}
+use Rattle.listing_parts.specs.Names.{is_word}
+use Rattle.container_ops.specs.Types.{element_of}
+use Rattle.typed_tree.specs.declared.operation.Operator.{Operator}
+use Rattle.typed_tree.specs.declared.operation.Operator.TheVariants as operator
+use Rattle.typed_tree.specs.declared.operation.Operation.{Operation}
+use Rattle.typed_tree.specs.declared.operation.Operation.TheVariants as operation
 use Rattle.program_typing.specs.Agreeing.{Known, known, IsVariable, ExprAgrees, ExprsAgree, TestAgrees, UpdateAgrees, StmtAgrees, StmtsAgree, CatchesAgree}
 use Rattle.compiler_relation.specs.Representation.{Representation, representation_of}
 use Rattle.compiler_relation.specs.Stands.{Entry, representations}
 use Rattle.codegen.specs.Checks.{denoted}
-use Rattle.codegen.specs.Worklist.{Item, Value, Values, Put, Convert, Ask, Call, Jump, Bind, Load, Store, One, Run, Declared, Close, Flows, Both, Either, Skip, Update, Test, Last, Turned, Tried, Caught, Over, End, Wanted, Wants, lowest, scope_in, flow_of, flow_in, flow_caught, both, either, on, on_top, on_two}
+use Rattle.codegen.specs.Worklist.{Item, Value, Values, Put, Convert, Operate, Write, Call, Jump, Bind, Load, Store, One, Run, Declared, Close, Flows, Both, Either, Skip, Update, Test, Last, Turned, Tried, Caught, Over, End, Wanted, Wants, lowest, scope_in, flow_of, flow_in, flow_caught, both, either, on, on_top, on_two}
 use Rattle.codegen.specs.declared.work_item.Exits.{Exits}
 use Rattle.codegen.specs.declared.config.Config.{Config}
 use Rattle.codegen.specs.declared.config.Flow.{Flow}
@@ -58,6 +65,31 @@ Names cast.Implicit to = types.IsNamed to
 Names cast.Explicit to = types.IsNamed to
 Names other to = Unit {0}
 
+-- an operator of a node of a type asks for a type that code may name
+abbrev pub SpellsOperator : Operator → Ty → Type 0
+SpellsOperator operator.NewArray of = types.IsNamed of
+SpellsOperator operator.ArrayOf of = types.IsNamed (element_of of)
+SpellsOperator operator.Element of = types.IsNamed of
+SpellsOperator operator.PutElement of = types.IsNamed of
+SpellsOperator other of = Unit {0}
+
+-- what the instructions of an operation name has the form of a name
+abbrev pub Spells : Operation → Ty → Type 0
+Spells (operation.Operator o) of = SpellsOperator o of
+Spells (operation.Cast c) of = Names c of
+Spells (operation.InstanceOf is) of = types.IsNamed is
+Spells (operation.Instance m) of = has_form kind.Instance m.text ≡ true
+Spells (operation.Static m) of = has_form kind.Static m.text ≡ true
+Spells (operation.Constructor m) of = has_form kind.Constructor m.text ≡ true
+Spells (operation.Field m) of = has_form kind.Field m.text ≡ true
+Spells (operation.DefCall name) of = is_word name ≡ true
+Spells other of = Unit {0}
+
+abbrev pub SpellsWrite : Operation → Ty → Type 0
+SpellsWrite (operation.Operator operator.PutElement) of = types.IsNamed of
+SpellsWrite (operation.Instance m) of = has_form kind.Instance m.text ≡ true
+SpellsWrite other of = Unit {0}
+
 -- there is a loop to leave
 abbrev pub is_looped : Option Exits → Bool
 is_looped None = false
@@ -71,7 +103,8 @@ module _ (funs : Known) (result : Ty) where
   Agree (Values es wanted ∷ todo) g flows = (ExprsAgree funs g es × Wants wanted (representations es)) × Agree todo g flows
   Agree (Put is ∷ todo) g flows = Agree todo g flows
   Agree (Convert by to ∷ todo) g flows = Names by to × Agree todo g flows
-  Agree (Ask is ∷ todo) g flows = types.IsNamed is × Agree todo g flows
+  Agree (Operate does of count ∷ todo) g flows = Spells does of × Agree todo g flows
+  Agree (Write does of ∷ todo) g flows = SpellsWrite does of × Agree todo g flows
   Agree (Call kind text ∷ todo) g flows = (has_form kind text ≡ true) × Agree todo g flows
   Agree (Jump kind label ∷ todo) g flows = Agree todo g flows
   Agree (Bind label ∷ todo) g flows = Agree todo g flows

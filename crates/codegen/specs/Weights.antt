@@ -74,7 +74,6 @@ alone_step (StatementNode-F.Block statements) = 20 + row statements
 alone_step (StatementNode-F.If condition then otherwise) = 20 + (value condition + then + perhaps otherwise)
 alone_step (StatementNode-F.Loop first condition update body) = 20 + (value_if condition + value_if update + perhaps body)
 alone_step (StatementNode-F.Do body condition) = 20 + (body + value_if condition)
-alone_step (StatementNode-F.ForEach name of element over body) = 20
 alone_step (StatementNode-F.Try body catches) = 20 + (body + handlers catches)
 alone_step StatementNode-F.Break = 20
 alone_step StatementNode-F.Continue = 20

@@ -3,7 +3,6 @@ use Rattle.std.specs.Prelude.{◌≡◌, ◌≢◌, ℕ, suc, ◌+◌, ◌&&◌,
 use Rattle.pl_code.specs.declared.kinds.Numbered.{Numbered}
 use Rattle.pl_code.specs.declared.kinds.Numbered.TheVariants as numbered
 use Rattle.pl_code.specs.declared.kinds.Slot.{Slot}
-use Rattle.pl_code.specs.declared.kinds.Typed.TheVariants as typed
 use Rattle.pl_code.specs.declared.code.FunCode.{FunCode}
 use Rattle.pl_code.specs.declared.code.Trap.{Trap}
 use Rattle.pl_code.specs.declared.code.Instruction.{Instruction}
@@ -11,16 +10,17 @@ use Rattle.pl_code.specs.declared.code.Instruction.TheVariants as i
 use Rattle.pl_types.specs.declared.ty.Ty.{Ty}
 use Rattle.pl_types.specs.declared.ty.Ty.TheVariants as ty
 use Rattle.allowlist.specs.declared.member.MemberKind.{MemberKind}
+use Rattle.allowlist.specs.declared.member.MemberKind.TheVariants as kind
+use Rattle.typed_tree.specs.declared.operation.Operation.{Operation}
 use Rattle.pl_types.specs.declared.conversion.Cast.{Cast}
-use Rattle.pl_types.specs.Texts.{full_text}
 use Rattle.std.specs.Borrow.{Bor}
 use Rattle.source_meaning.specs.Tree.{Name, Expr, Exprs, Maybe, Missing, Given, Stmt, Stmts, Finish, Then, Catches, NoCatch, Catch, Program, type_of}
 use Rattle.source_meaning.specs.Falls.{any_falls, catches_continue}
 use Rattle.source_meaning.specs.Programs.{expr_of, exprs_of, before, declared, stmts_of, maybe_of, caught_in_row}
-use Rattle.compiler_relation.specs.Representation.{Representation, Absent, representation_of}
+use Rattle.compiler_relation.specs.Representation.{Representation, Unboxed, Boxed, Absent, representation_of}
 use Rattle.compiler_relation.specs.Stands.{Entry, Scope, IsEntry, At, AllAt, end_all, end_expr, end_exprs, ExprAt, ExprsAt, AllRepresented, representations, with_receiver, falls, all_fall, continues, any_continues, end_skip, end_update, end_test, end_last, end_stmt, end_stmts, end_catches, next_stmt, next_stmts, next_catches, traps_stmt, traps_stmts, traps_catches, Jumps, no_jumps, HasLocal, SkipAt, UpdateAt, TestAt, LastAt, EndAt, end_end}
 use Rattle.compiler_relation.specs.Placed.{untrapped, StmtIn, StmtsIn, CatchesIn}
-use Rattle.compiler_relation.specs.Parts.{default_code, cast_code}
+use Rattle.compiler_relation.specs.Parts.{default_code, cast_code, operation_code, write_code}
 use Rattle.typed_tree.specs.declared.statement.TypedVariable.{TypedVariable}
 use Rattle.typed_tree.specs.declared.statement.TypedCatch.{TypedCatch, out-TypedCatch}
 pub use Rattle.plain_stack.specs.Stacks.{lowest}
@@ -43,16 +43,16 @@ use Rattle.codegen.specs.declared.labels.Line.{Line}
 use Rattle.codegen.specs.declared.work_item.WorkItem.{WorkItem}
 use Rattle.codegen.specs.declared.work_item.WorkItem.TheVariants as t
 
--- how parts have to be represented: in any way, all in one, or as parameters are
+-- how parts have to be represented: all in one way, as parameters are, or as those are before one that is represented so
 pub data Wanted : Type 0 where
-  Any : Wanted
   All : (one : Representation) → Wanted
   As : (all : List Representation) → Wanted
+  Before : (all : List Representation) (one : Representation) → Wanted
 
 abbrev pub Wants : Wanted → List Representation → Type 0
-Wants Any ks = Unit {0}
 Wants (All one) ks = AllRepresented one ks
 Wants (As all) ks = ks ≡ all
+Wants (Before all one) ks = (ks ++ one ∷ []) ≡ all
 
 -- one part more, which is represented so: what was wanted before, and what is wanted of the others
 pub record Taken (before behind : Wanted) (one : Representation) : Type 0 where
@@ -62,9 +62,11 @@ pub data Item : Type 0 where
   Value : (expression : Expr) → Item
   Values : (parts : Exprs) (wanted : Wanted) → Item
   Put : (instructions : List Instruction) → Item
-  -- a cast to a type, and whether a value is of a type
+  -- a cast to a type
   Convert : (by : Cast) (to : Ty) → Item
-  Ask : (is : Ty) → Item
+  -- an operation on so many parts that gives a value of a type, and one that writes such a value at a place
+  Operate : (does : Operation) (of : Ty) (count : ℕ) → Item
+  Write : (does : Operation) (of : Ty) → Item
   -- a member of a text that is called, made or read
   Call : (kind : MemberKind) (text : List ℕ) → Item
   Jump : (kind : Numbered) (label : ℕ) → Item
@@ -107,11 +109,16 @@ representations_in params = map (λ (x : Named). representation_of x.of) params
 abbrev pub member_takes : MemberKind → List Ty → List Representation
 member_takes kind params = with_receiver kind (map representation_of params)
 
+-- an array, and an index
+abbrev pub indexed : List Representation
+indexed = Boxed ∷ Unboxed ∷ []
+
 abbrev pub wanted : ℕ → dw.Wanted → Wanted
-wanted at w.Any = Any
 wanted at (w.All one) = All (denoted one)
 wanted at (w.As params) = As (representations_in (drop at params.now))
 wanted at (w.Member kind params) = As (drop at (member_takes kind params.now))
+wanted at w.Indexed = As (drop at indexed)
+wanted at (w.Setter params one) = Before (drop at (member_takes kind.Instance params.now)) (denoted one)
 
 abbrev pub First : Ty → Maybe → Item → Type 0
 First of Missing first = first ≡ Put (default_code of)
@@ -136,7 +143,8 @@ item_of (t.Value e) = Value (expr_of e.now)
 item_of (t.Values parts at kind) = Values (parts_from at parts.now) (wanted at kind)
 item_of (t.Put what) = Put (piece what)
 item_of (t.Convert by to) = Convert by to.now
-item_of (t.Ask is) = Ask is.now
+item_of (t.Operate does of count) = Operate does.now of.now count
+item_of (t.Write does of) = Write does.now of.now
 item_of (t.Call kind text) = Call kind text.now
 item_of (t.Jump kind label) = Jump kind label
 item_of (t.Bind label) = Bind label
@@ -241,7 +249,8 @@ module _ (funs : Program) (k : Representation) (f : FunCode) (labels : List (Opt
   Stand (Values es wanted ∷ todo) g n p flows whole = (ExprsAt funs (untrapped f) [] g p es × Wants wanted (representations es)) × Stand todo g n (end_exprs p es) flows whole
   Stand (Put is ∷ todo) g n p flows whole = AllAt (untrapped f) [] p is × Stand todo g n (end_all p is) flows whole
   Stand (Convert by to ∷ todo) g n p flows whole = AllAt (untrapped f) [] p (cast_code by to) × Stand todo g n (end_all p (cast_code by to)) flows whole
-  Stand (Ask is ∷ todo) g n p flows whole = At (untrapped f) [] p (i.Typed typed.IsA (full_text is)) × Stand todo g n (suc p) flows whole
+  Stand (Operate does of count ∷ todo) g n p flows whole = AllAt (untrapped f) [] p (operation_code does of count) × Stand todo g n (end_all p (operation_code does of count)) flows whole
+  Stand (Write does of ∷ todo) g n p flows whole = AllAt (untrapped f) [] p (write_code does of) × Stand todo g n (end_all p (write_code does of)) flows whole
   Stand (Call kind text ∷ todo) g n p flows whole = At (untrapped f) [] p (call_code kind text) × Stand todo g n (suc p) flows whole
   Stand (Jump kind label ∷ todo) g n p flows whole = At (untrapped f) [] p (i.Numbered kind (line_of labels label)) × Stand todo g n (suc p) flows whole
   Stand (Bind label ∷ todo) g n p flows whole = (line_of labels label ≡ p) × Stand todo g n p flows whole

@@ -1,9 +1,10 @@
 //! Whether casts and changes fit the types that they go between.
 
-ghost use Rattle.std.specs.Prelude.{◌≡◌, ◌≢◌, Bool, true, MatchResult};
+ghost use Rattle.std.specs.Prelude.{◌≡◌, ◌≢◌, ◌*◌, ◌/◌, Bool, true, MatchResult};
 ghost use Rattle.codegen.specs.Checks.{denoted};
 ghost use Rattle.pl_types.specs.Texts.{is_known};
-ghost use Rattle.compiler_relation.specs.Stands.{AsksKnown, CastFits, ChangeFits};
+ghost use Rattle.compiler_relation.specs.Stands.{AsksKnown, CastFits, ChangeFits, IsDynamic, HasCode, Asks};
+ghost use Rattle.container_ops.specs.Types.{element_of};
 
 use crate::error::CodeError;
 use crate::representation::{
@@ -11,9 +12,10 @@ use crate::representation::{
     representation_of,
 };
 use crate::scopes::present;
+use arithmetic::Op;
 use pl_types::classes::CLASS_COUNT;
 use pl_types::{Cast, Ty};
-use typed_tree::Change;
+use typed_tree::{Change, Operator};
 
 /// Whether each class in a type is one of the table.
 fn is_known(of: &Ty) -> bool
@@ -66,7 +68,60 @@ pub fn cast_fits(
     Ok(())
 }
 
-/// A change of a variable of a type, by a right side that is represented so.
+/// An operator on values of any types, which is neither `==` nor `!=`.
+fn dynamic(op: Op) -> Result<(), CodeError>
+    ensures { MatchResult result (λ _. IsDynamic op) (λ _. IsDynamic op → ⊥) }
+{
+    match op {
+        Op::Eq => Err(CodeError::Malformed),
+        Op::Ne => Err(CodeError::Malformed),
+        _ => Ok(()),
+    }
+}
+
+/// An operator that has code.
+fn has_code(operator: Operator) -> Result<(), CodeError>
+    ensures { MatchResult result (λ _. HasCode operator) (λ _. HasCode operator → ⊥) }
+{
+    match operator {
+        Operator::Def(op) => dynamic(op),
+        _ => Ok(()),
+    }
+}
+
+/// So many parts are keys and values by turns.
+fn even(count: usize) -> Result<(), CodeError>
+    ensures { MatchResult result (λ _. (2 * (count / 2)) ≡ count) (λ _. (2 * (count / 2)) ≢ count) }
+{
+    if 2 * (count / 2) == count {
+        Ok(())
+    } else {
+        Err(CodeError::Malformed)
+    }
+}
+
+/// What an operator of a node of a type asks for, which has so many parts.
+pub fn asks(operator: Operator, of: &Ty, count: usize) -> Result<(), CodeError>
+    ensures { MatchResult result (λ _. Asks operator of.now count) (λ _. Asks operator of.now count → ⊥) }
+{
+    match operator {
+        Operator::Map => even(count),
+        Operator::NewArray => known(of),
+        _ => has_code(operator),
+    }
+}
+
+/// The type of an array's elements; of another type that itself.
+pub fn element(of: &Ty) -> &Ty
+    ensures { result.now ≡ element_of of.now }
+{
+    match of {
+        Ty::Array(element) => element.get(),
+        _ => of,
+    }
+}
+
+/// A change of a value of a type, by a right side that is represented so.
 pub fn change_fits(change: Change, of: &Ty, operand: Representation) -> Result<(), CodeError>
     ensures { MatchResult result (λ _. ChangeFits change of.now (denoted operand)) (λ _. ChangeFits change of.now (denoted operand) → ⊥) }
 {
@@ -85,5 +140,6 @@ pub fn change_fits(change: Change, of: &Ty, operand: Representation) -> Result<(
         operator_gives(change.operator),
         representation,
     )?;
+    has_code(change.operator)?;
     Ok(())
 }

@@ -6,7 +6,6 @@ ghost use Rattle.codegen.specs.Errors.{OnlyMemory};
 ghost use Rattle.codegen.specs.Pieces.{if_any};
 ghost use Rattle.codegen.specs.Sound.{Names};
 ghost use Rattle.pl_code.specs.declared.code.Instruction.TheVariants as i;
-ghost use Rattle.pl_code.specs.declared.kinds.Typed.TheVariants as typed;
 ghost use Rattle.pl_code.specs.declared.kinds.Way.TheVariants as way;
 ghost use Rattle.pl_types.specs.declared.classes.TheConstants.{STRING};
 ghost use Rattle.pl_types.specs.declared.primitive.Primitive.TheVariants as prim;
@@ -205,12 +204,17 @@ pub fn put_cast(
     }
 }
 
-/// Puts the question whether a value is of a type at the end. `Malformed` where code has no name for the type.
-pub fn put_instance_of(alloc: Global, lines: &mut Items<Line>, is: &Ty) -> Result<(), CodeError>
-    ensures lines { OnOk result (lines.new ≡ lines.old ++ map Fixed (i.Typed typed.IsA (full_text is.now) ∷ [])) }
-    ensures total { IsNamed is.now → OnlyMemory result }
+/// Puts an instruction with a type at the end. `Malformed` where code has no name for the type.
+pub fn put_typed(
+    alloc: Global,
+    lines: &mut Items<Line>,
+    kind: Typed,
+    of: &Ty,
+) -> Result<(), CodeError>
+    ensures lines { OnOk result (lines.new ≡ lines.old ++ map Fixed (i.Typed kind (full_text of.now) ∷ [])) }
+    ensures total { IsNamed of.now → OnlyMemory result }
 {
-    let name = type_name(alloc, is)?;
-    one(lines, Instruction::Typed(Typed::IsA, name))?;
+    let name = type_name(alloc, of)?;
+    one(lines, Instruction::Typed(kind, name))?;
     Ok(())
 }

@@ -13,27 +13,27 @@ ghost use Rattle.compiler_relation.specs.Stands as stands;
 ghost use Rattle.source_meaning.specs.Programs.{program_of, expr_of, exprs_of};
 ghost use Rattle.source_meaning.specs.Tree.{type_of};
 ghost use Rattle.source_meaning.specs.Tree as tree;
-ghost use Rattle.typed_tree.specs.declared.operation.Operation.TheVariants as operation;
+ghost use Rattle.typed_tree.specs.declared.operation.Target.TheVariants as target;
 ghost use Rattle.codegen.specs.Weights as weight;
 
-use crate::checks::{cast_fits, change_fits, known};
-use crate::config::Config;
+use crate::checks::change_fits;
+use crate::config::{Config, number_of};
 use crate::error::CodeError;
-use crate::members::{apply_member, guarded};
-use crate::pieces::Piece;
-use crate::representation::{
-    Representation, alike, operator_gives, operator_takes, representation_of,
-};
-use crate::work_item::{Wanted, WorkItem};
-use allowlist::{Allow, MemberKind};
+use crate::members::guarded;
+use crate::operands::operands;
+use crate::pieces::{Below, Piece};
+use crate::representation::{Representation, alike, representation_of};
+use crate::targets::{assign_place, modify_place};
+use crate::work_item::WorkItem;
+use allowlist::Allow;
+use member_names::names_of_members;
 use pl_code::{Numbered, Plain};
-use pl_types::{Cast, Ty};
+use pl_types::Ty;
 use plain_data::{Items, Subtree, Text};
 use plain_stack::Stack;
 use std::alloc::Global;
 use typed_tree::{
-    Change, Constant, Gives, Logical, Node, Operation, Operator, Program, Target, Typed,
-    TypedFunction,
+    Change, Constant, Gives, Logical, Node, Operation, Program, Target, Typed, TypedFunction,
 };
 
 /// How an expression's values are represented.
@@ -110,6 +110,8 @@ pub fn value<'a>(
             parts,
             value,
         } => assign(
+            alloc,
+            catalogue,
             program,
             config,
             worklist,
@@ -126,6 +128,8 @@ pub fn value<'a>(
             right,
             gives,
         } => modify(
+            alloc,
+            catalogue,
             program,
             config,
             worklist,
@@ -315,23 +319,20 @@ fn settling(operator: Logical) -> Numbered
     }
 }
 
-fn assign<'a>(
+fn assign_local<'a>(
     program: &'a Program,
     config: &Config,
     worklist: &mut Stack<WorkItem<'a>>,
     at: u32,
     of: &Ty,
-    target: &'a Target,
+    name: &'a Text,
     parts: &Items<Subtree<Typed>>,
     value: &'a Typed,
 ) -> Result<(), CodeError>
-    ensures back { OnOk result (Back (program_of program.now) (w.Value (tree.Assign at of.now target.now (exprs_of (map expr_of parts.now)) (expr_of value.now)) ∷ items_of worklist.old) config.now (items_of worklist.new) config.now) }
-    ensures sound { Keeps (program_of program.now) (w.Value (tree.Assign at of.now target.now (exprs_of (map expr_of parts.now)) (expr_of value.now)) ∷ items_of worklist.old) config.now result (items_of worklist.new) config.now }
-    ensures falls { OnOk result (weight.weights worklist.new < weight.expression (tree.Assign at of.now target.now (exprs_of (map expr_of parts.now)) (expr_of value.now)) + weight.weights worklist.old) }
+    ensures back { OnOk result (Back (program_of program.now) (w.Value (tree.Assign at of.now (target.Local name.now) (exprs_of (map expr_of parts.now)) (expr_of value.now)) ∷ items_of worklist.old) config.now (items_of worklist.new) config.now) }
+    ensures sound { Keeps (program_of program.now) (w.Value (tree.Assign at of.now (target.Local name.now) (exprs_of (map expr_of parts.now)) (expr_of value.now)) ∷ items_of worklist.old) config.now result (items_of worklist.new) config.now }
+    ensures falls { OnOk result (weight.weights worklist.new < weight.expression (tree.Assign at of.now (target.Local name.now) (exprs_of (map expr_of parts.now)) (expr_of value.now)) + weight.weights worklist.old) }
 {
-    let Target::Local(name) = target else {
-        return Err(CodeError::Unbuilt);
-    };
     let representation = representation_of(of);
     represented_as(value, representation)?;
     worklist.push_three(
@@ -342,14 +343,73 @@ fn assign<'a>(
     Ok(())
 }
 
-fn modify<'a>(
+fn assign<'a>(
+    alloc: Global,
+    catalogue: &'a Allow,
     program: &'a Program,
     config: &Config,
     worklist: &mut Stack<WorkItem<'a>>,
     at: u32,
     of: &'a Ty,
     target: &'a Target,
+    parts: &'a Items<Subtree<Typed>>,
+    value: &'a Typed,
+) -> Result<(), CodeError>
+    ensures back { OnOk result (Back (program_of program.now) (w.Value (tree.Assign at of.now target.now (exprs_of (map expr_of parts.now)) (expr_of value.now)) ∷ items_of worklist.old) config.now (items_of worklist.new) config.now) }
+    ensures sound { Keeps (program_of program.now) (w.Value (tree.Assign at of.now target.now (exprs_of (map expr_of parts.now)) (expr_of value.now)) ∷ items_of worklist.old) config.now result (items_of worklist.new) config.now }
+    ensures falls { OnOk result (weight.weights worklist.new < weight.expression (tree.Assign at of.now target.now (exprs_of (map expr_of parts.now)) (expr_of value.now)) + weight.weights worklist.old) }
+{
+    match target {
+        Target::Local(name) => assign_local(program, config, worklist, at, of, name, parts, value),
+        Target::Place { read, write } => assign_place(
+            alloc, catalogue, program, config, worklist, at, of, read, write, parts, value,
+        ),
+    }
+}
+
+fn modify_local<'a>(
+    program: &'a Program,
+    config: &Config,
+    worklist: &mut Stack<WorkItem<'a>>,
+    at: u32,
+    of: &'a Ty,
+    name: &'a Text,
     parts: &Items<Subtree<Typed>>,
+    change: Change,
+    right: &'a Typed,
+    gives: Gives,
+) -> Result<(), CodeError>
+    ensures back { OnOk result (Back (program_of program.now) (w.Value (tree.Modify at of.now (target.Local name.now) (exprs_of (map expr_of parts.now)) change (expr_of right.now) gives) ∷ items_of worklist.old) config.now (items_of worklist.new) config.now) }
+    ensures sound { Keeps (program_of program.now) (w.Value (tree.Modify at of.now (target.Local name.now) (exprs_of (map expr_of parts.now)) change (expr_of right.now) gives) ∷ items_of worklist.old) config.now result (items_of worklist.new) config.now }
+    ensures falls { OnOk result (weight.weights worklist.new < weight.expression (tree.Modify at of.now (target.Local name.now) (exprs_of (map expr_of parts.now)) change (expr_of right.now) gives) + weight.weights worklist.old) }
+{
+    let representation = representation_of(of);
+    change_fits(change, of, representation_in(right))?;
+    worklist.push_four(
+        WorkItem::Put(Piece::Operator(change.operator)),
+        WorkItem::Convert(change.after, of),
+        WorkItem::Put(Piece::Behind(Below::Nothing, gives)),
+        WorkItem::Store(name, representation),
+    )?;
+    worklist.push_four(
+        WorkItem::Load(name, representation),
+        WorkItem::Put(Piece::Before(Below::Nothing, gives)),
+        WorkItem::Convert(change.before, of),
+        WorkItem::Value(right),
+    )?;
+    Ok(())
+}
+
+fn modify<'a>(
+    alloc: Global,
+    catalogue: &'a Allow,
+    program: &'a Program,
+    config: &Config,
+    worklist: &mut Stack<WorkItem<'a>>,
+    at: u32,
+    of: &'a Ty,
+    target: &'a Target,
+    parts: &'a Items<Subtree<Typed>>,
     change: Change,
     right: &'a Typed,
     gives: Gives,
@@ -358,24 +418,15 @@ fn modify<'a>(
     ensures sound { Keeps (program_of program.now) (w.Value (tree.Modify at of.now target.now (exprs_of (map expr_of parts.now)) change (expr_of right.now) gives) ∷ items_of worklist.old) config.now result (items_of worklist.new) config.now }
     ensures falls { OnOk result (weight.weights worklist.new < weight.expression (tree.Modify at of.now target.now (exprs_of (map expr_of parts.now)) change (expr_of right.now) gives) + weight.weights worklist.old) }
 {
-    let Target::Local(name) = target else {
-        return Err(CodeError::Unbuilt);
-    };
-    let representation = representation_of(of);
-    change_fits(change, of, representation_in(right))?;
-    worklist.push_four(
-        WorkItem::Put(Piece::Operator(change.operator)),
-        WorkItem::Convert(change.after, of),
-        WorkItem::Put(Piece::Behind(gives)),
-        WorkItem::Store(name, representation),
-    )?;
-    worklist.push_four(
-        WorkItem::Load(name, representation),
-        WorkItem::Put(Piece::Before(gives)),
-        WorkItem::Convert(change.before, of),
-        WorkItem::Value(right),
-    )?;
-    Ok(())
+    match target {
+        Target::Local(name) => modify_local(
+            program, config, worklist, at, of, name, parts, change, right, gives,
+        ),
+        Target::Place { read, write } => modify_place(
+            alloc, catalogue, program, config, worklist, at, of, read, write, parts, change, right,
+            gives,
+        ),
+    }
 }
 
 fn apply<'a>(
@@ -386,175 +437,19 @@ fn apply<'a>(
     worklist: &mut Stack<WorkItem<'a>>,
     at: u32,
     of: &'a Ty,
-    operation: &'a Operation,
+    does: &'a Operation,
     parts: &'a Items<Subtree<Typed>>,
 ) -> Result<(), CodeError>
-    ensures back { OnOk result (Back (program_of program.now) (w.Value (tree.Apply at of.now operation.now (exprs_of (map expr_of parts.now))) ∷ items_of worklist.old) config.now (items_of worklist.new) config.now) }
-    ensures sound { Keeps (program_of program.now) (w.Value (tree.Apply at of.now operation.now (exprs_of (map expr_of parts.now))) ∷ items_of worklist.old) config.now result (items_of worklist.new) config.now }
-    ensures falls { OnOk result (weight.weights worklist.new < weight.expression (tree.Apply at of.now operation.now (exprs_of (map expr_of parts.now))) + weight.weights worklist.old) }
+    ensures back { OnOk result (Back (program_of program.now) (w.Value (tree.Apply at of.now does.now (exprs_of (map expr_of parts.now))) ∷ items_of worklist.old) config.now (items_of worklist.new) config.now) }
+    ensures sound { Keeps (program_of program.now) (w.Value (tree.Apply at of.now does.now (exprs_of (map expr_of parts.now))) ∷ items_of worklist.old) config.now result (items_of worklist.new) config.now }
+    ensures falls { OnOk result (weight.weights worklist.new < weight.expression (tree.Apply at of.now does.now (exprs_of (map expr_of parts.now))) + weight.weights worklist.old) }
 {
-    match operation {
-        Operation::Operator(it) => apply_operator(program, config, worklist, at, of, *it, parts),
-        Operation::Cast(it) => apply_cast(program, config, worklist, at, of, *it, parts),
-        Operation::InstanceOf(is) => {
-            apply_instance_of(program, config, worklist, at, of, is, parts)
-        }
-        Operation::Function(it) => apply_call(program, config, worklist, at, of, *it, parts),
-        Operation::Instance(it) => {
-            apply_member(
-                alloc,
-                catalogue,
-                program,
-                config,
-                worklist,
-                at,
-                of,
-                MemberKind::Instance,
-                it,
-                parts,
-            )
-        }
-        Operation::Static(it) => {
-            apply_member(
-                alloc,
-                catalogue,
-                program,
-                config,
-                worklist,
-                at,
-                of,
-                MemberKind::Static,
-                it,
-                parts,
-            )
-        }
-        Operation::Constructor(it) => {
-            apply_member(
-                alloc,
-                catalogue,
-                program,
-                config,
-                worklist,
-                at,
-                of,
-                MemberKind::Constructor,
-                it,
-                parts,
-            )
-        }
-        Operation::Field(it) => {
-            apply_member(
-                alloc,
-                catalogue,
-                program,
-                config,
-                worklist,
-                at,
-                of,
-                MemberKind::Field,
-                it,
-                parts,
-            )
-        }
-        _ => Err(CodeError::Unbuilt),
-    }
-}
-
-fn apply_operator<'a>(
-    program: &'a Program,
-    config: &Config,
-    worklist: &mut Stack<WorkItem<'a>>,
-    at: u32,
-    of: &Ty,
-    operator: Operator,
-    parts: &'a Items<Subtree<Typed>>,
-) -> Result<(), CodeError>
-    ensures back { OnOk result (Back (program_of program.now) (w.Value (tree.Apply at of.now (operation.Operator operator) (exprs_of (map expr_of parts.now))) ∷ items_of worklist.old) config.now (items_of worklist.new) config.now) }
-    ensures sound { Keeps (program_of program.now) (w.Value (tree.Apply at of.now (operation.Operator operator) (exprs_of (map expr_of parts.now))) ∷ items_of worklist.old) config.now result (items_of worklist.new) config.now }
-    ensures falls { OnOk result (weight.weights worklist.new < weight.expression (tree.Apply at of.now (operation.Operator operator) (exprs_of (map expr_of parts.now))) + weight.weights worklist.old) }
-{
-    alike(representation_of(of), operator_gives(operator))?;
+    names_of_members();
+    let wanted = operands(alloc, catalogue, program, does, of, parts.len())?;
+    let count = number_of(parts.len())?;
     worklist.push_two(
-        WorkItem::Values(parts, 0, Wanted::All(operator_takes(operator))),
-        WorkItem::Put(Piece::Operator(operator)),
-    )?;
-    Ok(())
-}
-
-fn apply_cast<'a>(
-    program: &'a Program,
-    config: &Config,
-    worklist: &mut Stack<WorkItem<'a>>,
-    at: u32,
-    of: &'a Ty,
-    cast: Cast,
-    parts: &'a Items<Subtree<Typed>>,
-) -> Result<(), CodeError>
-    ensures back { OnOk result (Back (program_of program.now) (w.Value (tree.Apply at of.now (operation.Cast cast) (exprs_of (map expr_of parts.now))) ∷ items_of worklist.old) config.now (items_of worklist.new) config.now) }
-    ensures sound { Keeps (program_of program.now) (w.Value (tree.Apply at of.now (operation.Cast cast) (exprs_of (map expr_of parts.now))) ∷ items_of worklist.old) config.now result (items_of worklist.new) config.now }
-    ensures falls { OnOk result (weight.weights worklist.new < weight.expression (tree.Apply at of.now (operation.Cast cast) (exprs_of (map expr_of parts.now))) + weight.weights worklist.old) }
-{
-    let Some(part) = parts.get(0) else {
-        return Err(CodeError::Malformed);
-    };
-    if parts.len() != 1 {
-        return Err(CodeError::Malformed);
-    }
-    cast_fits(
-        cast,
-        of,
-        representation_in(part.get()),
-        representation_of(of),
-    )?;
-    worklist.push_two(
-        WorkItem::Values(parts, 0, Wanted::Any),
-        WorkItem::Convert(cast, of),
-    )?;
-    Ok(())
-}
-
-fn apply_instance_of<'a>(
-    program: &'a Program,
-    config: &Config,
-    worklist: &mut Stack<WorkItem<'a>>,
-    at: u32,
-    of: &Ty,
-    is: &'a Ty,
-    parts: &'a Items<Subtree<Typed>>,
-) -> Result<(), CodeError>
-    ensures back { OnOk result (Back (program_of program.now) (w.Value (tree.Apply at of.now (operation.InstanceOf is.now) (exprs_of (map expr_of parts.now))) ∷ items_of worklist.old) config.now (items_of worklist.new) config.now) }
-    ensures sound { Keeps (program_of program.now) (w.Value (tree.Apply at of.now (operation.InstanceOf is.now) (exprs_of (map expr_of parts.now))) ∷ items_of worklist.old) config.now result (items_of worklist.new) config.now }
-    ensures falls { OnOk result (weight.weights worklist.new < weight.expression (tree.Apply at of.now (operation.InstanceOf is.now) (exprs_of (map expr_of parts.now))) + weight.weights worklist.old) }
-{
-    alike(representation_of(of), Representation::Unboxed)?;
-    known(is)?;
-    worklist.push_two(
-        WorkItem::Values(parts, 0, Wanted::All(Representation::Boxed)),
-        WorkItem::Ask(is),
-    )?;
-    Ok(())
-}
-
-fn apply_call<'a>(
-    program: &'a Program,
-    config: &Config,
-    worklist: &mut Stack<WorkItem<'a>>,
-    at: u32,
-    of: &Ty,
-    number: u32,
-    parts: &'a Items<Subtree<Typed>>,
-) -> Result<(), CodeError>
-    ensures back { OnOk result (Back (program_of program.now) (w.Value (tree.Apply at of.now (operation.Function number) (exprs_of (map expr_of parts.now))) ∷ items_of worklist.old) config.now (items_of worklist.new) config.now) }
-    ensures sound { Keeps (program_of program.now) (w.Value (tree.Apply at of.now (operation.Function number) (exprs_of (map expr_of parts.now))) ∷ items_of worklist.old) config.now result (items_of worklist.new) config.now }
-    ensures falls { OnOk result (weight.weights worklist.new < weight.expression (tree.Apply at of.now (operation.Function number) (exprs_of (map expr_of parts.now))) + weight.weights worklist.old) }
-{
-    let Some(callee) = function(program, number) else {
-        return Err(CodeError::Malformed);
-    };
-    alike(representation_of(of), representation_of(&callee.result))?;
-    worklist.push_two(
-        WorkItem::Values(parts, 0, Wanted::As(&callee.parameters)),
-        WorkItem::Put(Piece::Call(number)),
+        WorkItem::Values(parts, 0, wanted),
+        WorkItem::Operate(does, of, count),
     )?;
     Ok(())
 }

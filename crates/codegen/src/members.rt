@@ -4,7 +4,7 @@ ghost use Rattle.std.specs.Prelude.{◌≡◌, ◌≢◌, ◌<◌, ◌+◌, ◌�
 ghost use Rattle.std.specs.Option.{option_map};
 ghost use Rattle.std.specs.Str.{bytes_eq};
 ghost use Rattle.allowlist.specs.declared.member.MemberType.{MemberType};
-ghost use Rattle.codegen.specs.Called.{IsCalled, member_operation};
+ghost use Rattle.codegen.specs.Called.{IsMember, IsCalled, IsFound};
 ghost use Rattle.codegen.specs.Checks.{denoted};
 ghost use Rattle.codegen.specs.Errors.{OnlyMemory};
 ghost use Rattle.codegen.specs.Worklist as w;
@@ -17,7 +17,7 @@ ghost use Rattle.typed_tree.specs.declared.operation.Member.{Member};
 ghost use Rattle.typed_tree.specs.declared.operation.Operation.TheVariants as operation;
 ghost use Rattle.codegen.specs.Weights as weight;
 
-use crate::config::Config;
+use crate::config::{Config, number_of};
 use crate::error::CodeError;
 use crate::expressions::represented_as;
 use crate::pieces::Piece;
@@ -83,16 +83,15 @@ fn same_text(left: &String, right: &Text) -> Result<(), CodeError>
     }
 }
 
-/// The list's member that a call names, of this kind. `Malformed` where there is none.
-fn called<'a>(
+/// The list's member that an operation names, of this kind. `Malformed` where there is none.
+pub fn named_member<'a>(
     alloc: Global,
     catalogue: &'a Allow,
     kind: MemberKind,
     named: &Member,
-    of: &Ty,
 ) -> Result<&'a MemberType, CodeError>
-    ensures found { IfOk result (λ member. IsCalled kind named.now of.now member.now) }
-    ensures total { (member : MemberType) → IsCalled kind named.now of.now member → OnlyMemory result }
+    ensures found { IfOk result (λ member. IsMember kind named.now member.now) }
+    ensures total { (member : MemberType) → IsMember kind named.now member → OnlyMemory result }
 {
     let count = catalogue.member_count();
     if named.number >= count {
@@ -102,35 +101,23 @@ fn called<'a>(
     same_kind(member.kind, kind)?;
     let text = member_text(alloc, catalogue, named.number)?;
     same_text(&text, &named.text)?;
-    alike(representation_of(of), representation_of(&member.result))?;
     Ok(member)
 }
 
-/// What is to be written for a call of a member, or for what makes or reads it.
-pub fn apply_member<'a>(
+/// The list's member that a call names, of this kind, which gives a value of a type. `Malformed` where there is none.
+pub fn called<'a>(
     alloc: Global,
     catalogue: &'a Allow,
-    program: &'a Program,
-    config: &Config,
-    worklist: &mut Stack<WorkItem<'a>>,
-    at: u32,
-    of: &Ty,
     kind: MemberKind,
-    named: &'a Member,
-    parts: &'a Items<Subtree<Typed>>,
-) -> Result<(), CodeError>
-    ensures back { OnOk result (Back (program_of program.now) (w.Value (tree.Apply at of.now (member_operation kind named.now) (exprs_of (map expr_of parts.now))) ∷ items_of worklist.old) config.now (items_of worklist.new) config.now) }
-    ensures sound { Keeps (program_of program.now) (w.Value (tree.Apply at of.now (member_operation kind named.now) (exprs_of (map expr_of parts.now))) ∷ items_of worklist.old) config.now result (items_of worklist.new) config.now }
-    ensures falls { OnOk result (weight.weights worklist.new < weight.expression (tree.Apply at of.now (member_operation kind named.now) (exprs_of (map expr_of parts.now))) + weight.weights worklist.old) }
+    named: &Member,
+    of: &Ty,
+) -> Result<&'a MemberType, CodeError>
+    ensures found { IfOk result (λ member. IsCalled kind named.now of.now member.now) }
+    ensures total { (member : MemberType) → IsCalled kind named.now of.now member → OnlyMemory result }
 {
-    names_of_members();
-    let member = called(alloc, catalogue, kind, named, of)?;
-    worklist.push_three(
-        WorkItem::Values(parts, 0, Wanted::Member(kind, &member.params)),
-        WorkItem::Call(kind, &named.text),
-        WorkItem::Put(Piece::WithoutNull(representation_of(of))),
-    )?;
-    Ok(())
+    let member = named_member(alloc, catalogue, kind, named)?;
+    alike(representation_of(of), representation_of(&member.result))?;
+    Ok(member)
 }
 
 /// A value is not represented as a number.
@@ -143,18 +130,8 @@ fn not_unboxed(of: &Ty) -> Result<(), CodeError>
     }
 }
 
-/// The member that is called on a value. `Unbuilt` where something else is done.
-fn instance(does: &Operation) -> Result<&Member, CodeError>
-    ensures { MatchResult result (λ m. does.now ≡ operation.Instance m.now) (λ _. (m : Member) → does.now ≡ operation.Instance m → ⊥) }
-{
-    match does {
-        Operation::Instance(named) => Ok(named),
-        _ => Err(CodeError::Unbuilt),
-    }
-}
-
-/// What is to be written for a call that a null receiver leaves out.
-pub fn guarded<'a>(
+/// What is to be written for a call of a member that a null receiver leaves out.
+fn guarded_member<'a>(
     alloc: Global,
     catalogue: &'a Allow,
     program: &'a Program,
@@ -162,15 +139,14 @@ pub fn guarded<'a>(
     worklist: &mut Stack<WorkItem<'a>>,
     at: u32,
     of: &Ty,
-    operation: &'a Operation,
+    named: &'a Member,
     parts: &'a Items<Subtree<Typed>>,
 ) -> Result<(), CodeError>
-    ensures back { OnOk result (Back (program_of program.now) (w.Value (tree.Guarded at of.now operation.now (exprs_of (map expr_of parts.now))) ∷ items_of worklist.old) config.old (items_of worklist.new) config.new) }
-    ensures sound { Keeps (program_of program.now) (w.Value (tree.Guarded at of.now operation.now (exprs_of (map expr_of parts.now))) ∷ items_of worklist.old) config.old result (items_of worklist.new) config.new }
-    ensures falls { OnOk result (weight.weights worklist.new < weight.expression (tree.Guarded at of.now operation.now (exprs_of (map expr_of parts.now))) + weight.weights worklist.old) }
+    ensures back { OnOk result (Back (program_of program.now) (w.Value (tree.Guarded at of.now (operation.Instance named.now) (exprs_of (map expr_of parts.now))) ∷ items_of worklist.old) config.old (items_of worklist.new) config.new) }
+    ensures sound { Keeps (program_of program.now) (w.Value (tree.Guarded at of.now (operation.Instance named.now) (exprs_of (map expr_of parts.now))) ∷ items_of worklist.old) config.old result (items_of worklist.new) config.new }
+    ensures falls { OnOk result (weight.weights worklist.new < weight.expression (tree.Guarded at of.now (operation.Instance named.now) (exprs_of (map expr_of parts.now))) + weight.weights worklist.old) }
 {
     names_of_members();
-    let named = instance(operation)?;
     let Some(receiver) = parts.get(0) else {
         return Err(CodeError::Malformed);
     };
@@ -197,4 +173,78 @@ pub fn guarded<'a>(
         WorkItem::Put(Piece::Plain(Plain::Dup)),
     )?;
     Ok(())
+}
+
+/// A call whose member is found when the code runs.
+fn is_found(does: &Operation) -> Result<(), CodeError>
+    ensures { MatchResult result (λ _. IsFound does.now) (λ _. IsFound does.now → ⊥) }
+{
+    match does {
+        Operation::DefCall(_) => Ok(()),
+        Operation::DefName(_) => Ok(()),
+        _ => Err(CodeError::Unbuilt),
+    }
+}
+
+/// What is to be written for a call that a null receiver leaves out, whose member is found when the code runs.
+fn guarded_found<'a>(
+    program: &'a Program,
+    config: &mut Config,
+    worklist: &mut Stack<WorkItem<'a>>,
+    at: u32,
+    of: &'a Ty,
+    does: &'a Operation,
+    parts: &'a Items<Subtree<Typed>>,
+) -> Result<(), CodeError>
+    ensures back { OnOk result (Back (program_of program.now) (w.Value (tree.Guarded at of.now does.now (exprs_of (map expr_of parts.now))) ∷ items_of worklist.old) config.old (items_of worklist.new) config.new) }
+    ensures sound { IsFound does.now → Keeps (program_of program.now) (w.Value (tree.Guarded at of.now does.now (exprs_of (map expr_of parts.now))) ∷ items_of worklist.old) config.old result (items_of worklist.new) config.new }
+    ensures falls { OnOk result (weight.weights worklist.new < weight.expression (tree.Guarded at of.now does.now (exprs_of (map expr_of parts.now))) + weight.weights worklist.old) }
+{
+    is_found(does)?;
+    let Some(receiver) = parts.get(0) else {
+        return Err(CodeError::Malformed);
+    };
+    let receiver = receiver.get();
+    represented_as(receiver, Representation::Boxed)?;
+    alike(representation_of(of), Representation::Boxed)?;
+    let count = number_of(parts.len())?;
+    let end = config.labels.fresh()?;
+    worklist.push_three(
+        WorkItem::Operate(does, of, count),
+        WorkItem::Bind(end),
+        WorkItem::Put(Piece::WithoutNull(representation_of(of))),
+    )?;
+    worklist.push_two(
+        WorkItem::Jump(Numbered::IfNull, end),
+        WorkItem::Values(parts, 1, Wanted::All(Representation::Boxed)),
+    )?;
+    worklist.push_two(
+        WorkItem::Value(receiver),
+        WorkItem::Put(Piece::Plain(Plain::Dup)),
+    )?;
+    Ok(())
+}
+
+/// What is to be written for a call that a null receiver leaves out.
+pub fn guarded<'a>(
+    alloc: Global,
+    catalogue: &'a Allow,
+    program: &'a Program,
+    config: &mut Config,
+    worklist: &mut Stack<WorkItem<'a>>,
+    at: u32,
+    of: &'a Ty,
+    operation: &'a Operation,
+    parts: &'a Items<Subtree<Typed>>,
+) -> Result<(), CodeError>
+    ensures back { OnOk result (Back (program_of program.now) (w.Value (tree.Guarded at of.now operation.now (exprs_of (map expr_of parts.now))) ∷ items_of worklist.old) config.old (items_of worklist.new) config.new) }
+    ensures sound { Keeps (program_of program.now) (w.Value (tree.Guarded at of.now operation.now (exprs_of (map expr_of parts.now))) ∷ items_of worklist.old) config.old result (items_of worklist.new) config.new }
+    ensures falls { OnOk result (weight.weights worklist.new < weight.expression (tree.Guarded at of.now operation.now (exprs_of (map expr_of parts.now))) + weight.weights worklist.old) }
+{
+    match operation {
+        Operation::Instance(named) => guarded_member(
+            alloc, catalogue, program, config, worklist, at, of, named, parts,
+        ),
+        _ => guarded_found(program, config, worklist, at, of, operation, parts),
+    }
 }

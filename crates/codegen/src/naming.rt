@@ -4,7 +4,7 @@ ghost use Rattle.std.specs.Prelude.{◌≡◌, true, [], ◌∷◌, ◌++◌, If
 ghost use Rattle.codegen.specs.Called.{call_code};
 ghost use Rattle.codegen.specs.declared.labels.Line.TheVariants.{Fixed};
 ghost use Rattle.member_names.specs.Names.{has_form};
-ghost use Rattle.listing_parts.specs.Names.{is_method, is_constructor, is_field};
+ghost use Rattle.listing_parts.specs.Names.{is_method, is_constructor, is_field, is_word};
 ghost use Rattle.codegen.specs.Errors.{OnlyMemory};
 ghost use Rattle.pl_types.specs.Texts.{full_text};
 ghost use Rattle.program_typing.specs.Types.{IsNamed};
@@ -13,7 +13,7 @@ use crate::error::CodeError;
 use crate::labels::Line;
 use crate::pieces::one;
 use allowlist::MemberKind;
-use listing_parts::{ConstructorName, FieldName, MethodName, TypeName};
+use listing_parts::{ConstructorName, FieldName, MethodName, TypeName, Word};
 use pl_code::Instruction;
 use pl_types::Ty;
 use plain_data::{Items, Text};
@@ -62,6 +62,17 @@ fn field_name(alloc: Global, text: &Text) -> Result<FieldName, CodeError>
         return Err(CodeError::Malformed);
     };
     Ok(name)
+}
+
+/// A name that a call finds its method by. `Malformed` where it is no word.
+pub fn word(alloc: Global, name: &Text) -> Result<Word, CodeError>
+    ensures word { IfOk result (λ word. word ≡ name.now) }
+    ensures total { is_word name.now ≡ true → OnlyMemory result }
+{
+    let Some(word) = Word::new(alloc, name.as_str())? else {
+        return Err(CodeError::Malformed);
+    };
+    Ok(word)
 }
 
 fn instruction(alloc: Global, kind: MemberKind, text: &Text) -> Result<Instruction, CodeError>

@@ -3,20 +3,28 @@
 ghost use Rattle.std.specs.Prelude.{◌≡◌, [], ◌∷◌, ◌++◌, map, OnOk};
 ghost use Rattle.codegen.specs.Checks.{denoted};
 ghost use Rattle.codegen.specs.declared.labels.Line.TheVariants.{Fixed};
-ghost use Rattle.codegen.specs.Pieces.{piece, if_any, in_width};
+ghost use Rattle.codegen.specs.Pieces.{piece, parts_below, if_any, in_width};
 ghost use Rattle.pl_code.specs.declared.code.Instruction.TheVariants as i;
 ghost use Rattle.pl_code.specs.declared.kinds.Width.{Width};
-ghost use Rattle.compiler_relation.specs.Parts.{constant_code, text_code, arithmetic_code, boolean_code, turned_round, operator_code, default_code, default_of_primitive, pops, without_null, kept_before, kept_behind};
+ghost use Rattle.compiler_relation.specs.Parts.{constant_code, text_code, arithmetic_code, boolean_code, turned_round, dynamic_code, operator_code, default_code, default_of_primitive, pops, without_null, kept_under, copies, kept_before, kept_behind};
 ghost use Rattle.compiler_relation.specs.Stands.{settled};
 
 use crate::labels::Line;
 use crate::representation::Representation;
 use arithmetic::Op;
-use pl_code::{ArithmeticOp, Instruction, Numbered, Plain, Quoting, Width};
+use pl_code::{ArithmeticOp, DynamicOp, Instruction, Numbered, Plain, Quoting, Width};
 use pl_types::{Primitive, Ty};
 use plain_data::{Items, Text};
 use std::alloc::{AllocError, Global};
 use typed_tree::{Constant, Gives, Logical, Operator};
+
+/// How many parts of a place a value lies on.
+#[derive(Clone, Copy)]
+pub enum Below {
+    Nothing,
+    One,
+    Two,
+}
 
 /// Some instructions.
 #[derive(Clone, Copy)]
@@ -33,10 +41,14 @@ pub enum Piece<'a> {
     WithoutNull(Representation),
     /// The value that settles an operator before its right side.
     Settled(Logical),
+    /// A copy of a value, below the parts of its place.
+    Under(Below),
+    /// Copies of the parts of a place.
+    Copies(Below),
     /// What keeps a value below a change of it.
-    Before(Gives),
+    Before(Below, Gives),
     /// What keeps a value behind a change.
-    Behind(Gives),
+    Behind(Below, Gives),
     /// What a variable of a type begins with.
     Default(&'a Ty),
 }
@@ -63,8 +75,10 @@ pub fn put<'a>(alloc: Global, lines: &mut Items<Line>, what: Piece<'a>) -> Resul
         Piece::Pop(representation) => put_pop(lines, representation),
         Piece::WithoutNull(representation) => put_without_null(lines, representation),
         Piece::Settled(operator) => put_settled(lines, operator),
-        Piece::Before(gives) => put_before(lines, gives),
-        Piece::Behind(gives) => put_behind(lines, gives),
+        Piece::Under(below) => put_under(lines, below),
+        Piece::Copies(below) => put_copies(lines, below),
+        Piece::Before(below, gives) => put_before(lines, below, gives),
+        Piece::Behind(below, gives) => put_behind(lines, below, gives),
         Piece::Default(of) => put_default(lines, of),
     }
 }
@@ -99,7 +113,8 @@ fn put_pop(lines: &mut Items<Line>, representation: Representation) -> Result<()
     }
 }
 
-fn put_without_null(
+/// Drops the null that a member leaves which gives nothing.
+pub fn put_without_null(
     lines: &mut Items<Line>,
     representation: Representation,
 ) -> Result<(), AllocError>
@@ -120,21 +135,41 @@ fn put_settled(lines: &mut Items<Line>, operator: Logical) -> Result<(), AllocEr
     }
 }
 
-fn put_before(lines: &mut Items<Line>, gives: Gives) -> Result<(), AllocError>
-    ensures { OnOk result (lines.new ≡ lines.old ++ map Fixed (kept_before gives)) }
+fn put_under(lines: &mut Items<Line>, below: Below) -> Result<(), AllocError>
+    ensures { OnOk result (lines.new ≡ lines.old ++ map Fixed (kept_under (parts_below below))) }
+{
+    match below {
+        Below::Nothing => one(lines, Instruction::Plain(Plain::Dup)),
+        Below::One => one(lines, Instruction::Plain(Plain::DupX1)),
+        Below::Two => one(lines, Instruction::Plain(Plain::DupX2)),
+    }
+}
+
+fn put_copies(lines: &mut Items<Line>, below: Below) -> Result<(), AllocError>
+    ensures { OnOk result (lines.new ≡ lines.old ++ map Fixed (copies (parts_below below))) }
+{
+    match below {
+        Below::Nothing => Ok(()),
+        Below::One => one(lines, Instruction::Plain(Plain::Dup)),
+        Below::Two => one(lines, Instruction::Plain(Plain::Dup2)),
+    }
+}
+
+fn put_before(lines: &mut Items<Line>, below: Below, gives: Gives) -> Result<(), AllocError>
+    ensures { OnOk result (lines.new ≡ lines.old ++ map Fixed (kept_before (parts_below below) gives)) }
 {
     match gives {
-        Gives::Old => one(lines, Instruction::Plain(Plain::Dup)),
+        Gives::Old => put_under(lines, below),
         Gives::New => Ok(()),
     }
 }
 
-fn put_behind(lines: &mut Items<Line>, gives: Gives) -> Result<(), AllocError>
-    ensures { OnOk result (lines.new ≡ lines.old ++ map Fixed (kept_behind gives)) }
+fn put_behind(lines: &mut Items<Line>, below: Below, gives: Gives) -> Result<(), AllocError>
+    ensures { OnOk result (lines.new ≡ lines.old ++ map Fixed (kept_behind (parts_below below) gives)) }
 {
     match gives {
         Gives::Old => Ok(()),
-        Gives::New => one(lines, Instruction::Plain(Plain::Dup)),
+        Gives::New => put_under(lines, below),
     }
 }
 
@@ -160,7 +195,8 @@ fn put_default(lines: &mut Items<Line>, of: &Ty) -> Result<(), AllocError>
     }
 }
 
-fn put_operator(lines: &mut Items<Line>, operator: Operator) -> Result<(), AllocError>
+/// Puts an operator at the end whose node's type says nothing more.
+pub fn put_operator(lines: &mut Items<Line>, operator: Operator) -> Result<(), AllocError>
     ensures { OnOk result (lines.new ≡ lines.old ++ map Fixed (operator_code operator)) }
 {
     match operator {
@@ -172,6 +208,11 @@ fn put_operator(lines: &mut Items<Line>, operator: Operator) -> Result<(), Alloc
         Operator::Same => one(lines, Instruction::Plain(Plain::Same)),
         Operator::NotSame => put_turned_round(lines, Plain::Same),
         Operator::Concat => one(lines, Instruction::Plain(Plain::Concat)),
+        Operator::Def(op) => put_dynamic(lines, op),
+        Operator::Length => one(lines, Instruction::Plain(Plain::ArrayLength)),
+        Operator::Iterate => one(lines, Instruction::Plain(Plain::Iter)),
+        Operator::HasNext => one(lines, Instruction::Plain(Plain::Has)),
+        Operator::Next => one(lines, Instruction::Plain(Plain::Next)),
         _ => Ok(()),
     }
 }
@@ -183,6 +224,39 @@ fn put_turned_round(lines: &mut Items<Line>, plain: Plain) -> Result<(), AllocEr
     one(lines, Instruction::Plain(plain))?;
     one(lines, Instruction::Int(0))?;
     one(lines, Instruction::Arithmetic(ArithmeticOp::Eq, Width::Int))
+}
+
+fn dynamic_op(op: Op) -> Option<Instruction>
+    ensures { if_any result ≡ dynamic_code op }
+{
+    match op {
+        Op::Add => Some(Instruction::Dynamic(DynamicOp::Add)),
+        Op::Sub => Some(Instruction::Dynamic(DynamicOp::Sub)),
+        Op::Mul => Some(Instruction::Dynamic(DynamicOp::Mul)),
+        Op::Div => Some(Instruction::Dynamic(DynamicOp::Div)),
+        Op::Rem => Some(Instruction::Dynamic(DynamicOp::Rem)),
+        Op::And => Some(Instruction::Dynamic(DynamicOp::And)),
+        Op::Or => Some(Instruction::Dynamic(DynamicOp::Or)),
+        Op::Xor => Some(Instruction::Dynamic(DynamicOp::Xor)),
+        Op::Shl => Some(Instruction::Dynamic(DynamicOp::Shl)),
+        Op::Shr => Some(Instruction::Dynamic(DynamicOp::Shr)),
+        Op::Ushr => Some(Instruction::Dynamic(DynamicOp::Ushr)),
+        Op::Neg => Some(Instruction::Dynamic(DynamicOp::Neg)),
+        Op::Not => Some(Instruction::Dynamic(DynamicOp::Not)),
+        Op::Pos => Some(Instruction::Dynamic(DynamicOp::Pos)),
+        Op::Lt => Some(Instruction::Dynamic(DynamicOp::Lt)),
+        Op::Le => Some(Instruction::Dynamic(DynamicOp::Le)),
+        Op::Gt => Some(Instruction::Dynamic(DynamicOp::Gt)),
+        Op::Ge => Some(Instruction::Dynamic(DynamicOp::Ge)),
+        Op::Eq => None,
+        Op::Ne => None,
+    }
+}
+
+fn put_dynamic(lines: &mut Items<Line>, op: Op) -> Result<(), AllocError>
+    ensures { OnOk result (lines.new ≡ lines.old ++ map Fixed (dynamic_code op)) }
+{
+    put_if_any(lines, dynamic_op(op))
 }
 
 fn arithmetic_op(op: Op) -> Option<ArithmeticOp>

@@ -7,6 +7,7 @@ ghost use Rattle.pl_types.specs.declared.ty.Ty.{out-Ty};
 ghost use Rattle.codegen.specs.Checks.{denoted};
 
 use crate::error::CodeError;
+use arithmetic::Op;
 use pl_code::Slot;
 use pl_types::{Cast, Primitive, Ty};
 use typed_tree::Operator;
@@ -112,12 +113,26 @@ pub fn operator_takes(operator: Operator) -> Representation
     ensures { denoted result ≡ parts.operator_takes operator }
 {
     match operator {
-        Operator::Equal => Representation::Boxed,
-        Operator::NotEqual => Representation::Boxed,
-        Operator::Same => Representation::Boxed,
-        Operator::NotSame => Representation::Boxed,
-        Operator::Concat => Representation::Boxed,
-        _ => Representation::Unboxed,
+        Operator::Int(_) => Representation::Unboxed,
+        Operator::Long(_) => Representation::Unboxed,
+        Operator::Boolean(_) => Representation::Unboxed,
+        Operator::NewArray => Representation::Unboxed,
+        _ => Representation::Boxed,
+    }
+}
+
+/// How what an operator on values of any types gives is represented.
+fn dynamic_gives(op: Op) -> Representation
+    ensures { denoted result ≡ parts.dynamic_gives op }
+{
+    match op {
+        Op::Lt => Representation::Unboxed,
+        Op::Le => Representation::Unboxed,
+        Op::Gt => Representation::Unboxed,
+        Op::Ge => Representation::Unboxed,
+        Op::Eq => Representation::Unboxed,
+        Op::Ne => Representation::Unboxed,
+        _ => Representation::Boxed,
     }
 }
 
@@ -126,7 +141,14 @@ pub fn operator_gives(operator: Operator) -> Representation
     ensures { denoted result ≡ parts.operator_gives operator }
 {
     match operator {
+        Operator::Def(op) => dynamic_gives(op),
         Operator::Concat => Representation::Boxed,
+        Operator::List => Representation::Boxed,
+        Operator::Map => Representation::Boxed,
+        Operator::NewArray => Representation::Boxed,
+        Operator::ArrayOf => Representation::Boxed,
+        Operator::Iterate => Representation::Boxed,
+        Operator::Next => Representation::Boxed,
         _ => Representation::Unboxed,
     }
 }

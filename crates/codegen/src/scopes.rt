@@ -65,7 +65,6 @@ fn by_kind<'a>(
             program, config, worklist, s, first, tail, exits,
         ),
         StatementNode::Do { .. } => simple(program, config, worklist, s, tail, exits),
-        StatementNode::ForEach { .. } => Err(CodeError::Unbuilt),
         StatementNode::Try { .. } => simple(program, config, worklist, s, tail, exits),
         StatementNode::Break => simple(program, config, worklist, s, tail, exits),
         StatementNode::Continue => simple(program, config, worklist, s, tail, exits),

@@ -64,7 +64,6 @@ pub fn one<'a>(
         StatementNode::Continue => go_on(program, config, worklist, exits),
         StatementNode::Return(value) => give(program, config, worklist, value, exits),
         StatementNode::Declare(all) => variables(program, config, worklist, all, exits),
-        StatementNode::ForEach { .. } => Err(CodeError::Unbuilt),
         StatementNode::Try { body, catches } => {
             attempt(program, config, worklist, body.get(), catches, exits)
         }

@@ -10,12 +10,13 @@ ghost use Rattle.source_meaning.specs.Programs.{program_of, expr_of};
 ghost use Rattle.codegen.specs.Weights as weight;
 
 use crate::config::{Config, next_line};
-use crate::conversions::{put_cast, put_instance_of};
+use crate::conversions::put_cast;
 use crate::error::CodeError;
 use crate::expressions::value;
 use crate::flows::{add, both, either, end, last, skip, test, turned, update};
 use crate::labels::Line;
 use crate::naming::put_member;
+use crate::operations::{put_operation, put_write};
 use crate::pieces::{Piece, put};
 use crate::representation::{Representation, alike, representation_of};
 use crate::scopes::{close, declare, rest, statement, variables};
@@ -30,7 +31,7 @@ use pl_types::{Cast, Ty};
 use plain_data::Text;
 use plain_stack::Stack;
 use std::alloc::Global;
-use typed_tree::{Program, Typed, TypedVariable};
+use typed_tree::{Operation, Program, Typed, TypedVariable};
 
 /// Goes on with an item of the worklist.
 #[tactic(auto, using(crate::proofs::Lighter::one_less))]
@@ -56,8 +57,11 @@ pub fn step<'a>(
         WorkItem::Convert(cast, to) => {
             return convert(alloc, program, config, worklist, cast, to);
         }
-        WorkItem::Ask(is) => {
-            return ask(alloc, program, config, worklist, is);
+        WorkItem::Operate(does, of, count) => {
+            return operate(alloc, program, config, worklist, does, of, count);
+        }
+        WorkItem::Write(does, of) => {
+            return write(alloc, program, config, worklist, does, of);
         }
         WorkItem::Call(kind, text) => {
             return call(alloc, program, config, worklist, kind, text);
@@ -203,17 +207,34 @@ fn convert<'a>(
     Ok(())
 }
 
-fn ask<'a>(
+fn operate<'a>(
     alloc: Global,
     program: &'a Program,
     config: &mut Config,
     worklist: &Stack<WorkItem<'a>>,
-    is: &Ty,
+    does: &Operation,
+    of: &Ty,
+    count: u32,
 ) -> Result<(), CodeError>
-    ensures back { OnOk result (Back (program_of program.now) (w.Ask is.now ∷ items_of worklist.now) config.old (items_of worklist.now) config.new) }
-    ensures sound { Keeps (program_of program.now) (w.Ask is.now ∷ items_of worklist.now) config.old result (items_of worklist.now) config.new }
+    ensures back { OnOk result (Back (program_of program.now) (w.Operate does.now of.now count ∷ items_of worklist.now) config.old (items_of worklist.now) config.new) }
+    ensures sound { Keeps (program_of program.now) (w.Operate does.now of.now count ∷ items_of worklist.now) config.old result (items_of worklist.now) config.new }
 {
-    put_instance_of(alloc, &mut config.lines, is)?;
+    put_operation(alloc, &mut config.lines, does, of, count)?;
+    Ok(())
+}
+
+fn write<'a>(
+    alloc: Global,
+    program: &'a Program,
+    config: &mut Config,
+    worklist: &Stack<WorkItem<'a>>,
+    does: &Operation,
+    of: &Ty,
+) -> Result<(), CodeError>
+    ensures back { OnOk result (Back (program_of program.now) (w.Write does.now of.now ∷ items_of worklist.now) config.old (items_of worklist.now) config.new) }
+    ensures sound { Keeps (program_of program.now) (w.Write does.now of.now ∷ items_of worklist.now) config.old result (items_of worklist.now) config.new }
+{
+    put_write(alloc, &mut config.lines, does, of)?;
     Ok(())
 }
 

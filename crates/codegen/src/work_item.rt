@@ -7,18 +7,21 @@ use allowlist::MemberKind;
 use pl_code::Numbered;
 use pl_types::{Cast, Ty};
 use plain_data::{Items, Subtree, Text};
-use typed_tree::{Named, Typed, TypedCatch, TypedStatement, TypedVariable};
+use typed_tree::{Named, Operation, Typed, TypedCatch, TypedStatement, TypedVariable};
 
 /// How parts have to be represented.
 #[derive(Clone, Copy)]
 pub enum Wanted<'a> {
-    Any,
     /// All so.
     All(Representation),
     /// As parameters do.
     As(&'a Items<Named>),
     /// As the receiver, where there is one, and the arguments of a member with these parameters do.
     Member(MemberKind, &'a Items<Ty>),
+    /// An array, and an index.
+    Indexed,
+    /// As those before the last of a member on a value with these parameters, of which the last is represented so.
+    Setter(&'a Items<Ty>, Representation),
 }
 
 /// Where `break` and `continue` go.
@@ -49,8 +52,10 @@ pub enum WorkItem<'a> {
     Put(Piece<'a>),
     /// A cast to a type.
     Convert(Cast, &'a Ty),
-    /// Whether a value is of a type.
-    Ask(&'a Ty),
+    /// An operation on so many parts that gives a value of a type.
+    Operate(&'a Operation, &'a Ty, u32),
+    /// An operation that writes a value of a type at a place.
+    Write(&'a Operation, &'a Ty),
     /// A member of a text is called, made or read.
     Call(MemberKind, &'a Text),
     /// A jump to a label.

@@ -2,7 +2,11 @@
 #![tactic(auto)]
 
 #[cfg(test)]
+mod accesses;
+#[cfg(test)]
 mod build;
+#[cfg(test)]
+mod containers;
 #[cfg(test)]
 mod members;
 #[cfg(test)]

@@ -63,8 +63,8 @@ ret
 end
 ";
 
-// A member of a class by its name, which is empty where the class is made.
-fn member(
+/// A member of a class by its name, which is empty where the class is made.
+pub fn member(
     alloc: Global,
     class: u32,
     name: &str,
@@ -80,16 +80,19 @@ fn member(
     Ok(Member { number, text })
 }
 
-fn builder() -> Ty {
+/// The type `StringBuilder`.
+pub fn builder() -> Ty {
     Ty::Class(STRING_BUILDER)
 }
 
-fn boxed(alloc: Global, it: i32) -> Result<Subtree<Typed>, AllocError> {
+/// An int in its box.
+pub fn boxed(alloc: Global, it: i32) -> Result<Subtree<Typed>, AllocError> {
     let wrap = Cast::Wrap(Primitive::Int, Primitive::Int);
     cast_to(alloc, Ty::Def, wrap, number(alloc, it)?)
 }
 
-fn called_with(
+/// A call of a member on a value, with one argument.
+pub fn called_with(
     alloc: Global,
     of: Ty,
     member: Member,
@@ -103,8 +106,8 @@ fn called_with(
     expression(alloc, of, Node::Apply { operation, parts })
 }
 
-// Whether `return value` has this listing, in a script of one parameter `x`.
-fn gives(
+/// Whether `return value` has this listing, in a script of one parameter `x`.
+pub fn gives(
     alloc: Global,
     of: Ty,
     given: Ty,

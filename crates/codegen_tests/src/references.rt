@@ -143,7 +143,8 @@ pub fn cast_to(
     one_part(alloc, to, Operation::Cast(cast), part)
 }
 
-fn two_parts(
+/// An operator on two parts.
+pub fn two_parts(
     alloc: Global,
     of: Ty,
     operator: Operator,

@@ -16,15 +16,15 @@ use Rattle.typed_tree.specs.declared.operation.Logical.TheVariants.{And, Or}
 use Rattle.typed_tree.specs.declared.operation.Target.TheVariants as target
 use Rattle.allowlist.specs.Allow.{AllowList}
 use Rattle.member_names.specs.Names.{TextsName}
-use Rattle.source_meaning.specs.Tree.{Expr, Literal, Quoted, Local, Apply, Guarded, Logic, Conditional, Elvis, Assign, Modify, Lambda, Reference, NewReference, Exprs, None', One, Maybe, Missing, Given, Stmt, Do, If, While, DoWhile, ForEach, Try, Block, Break, Continue, Return, Throw, Stmts, Finish, Then, Declare, Catches, NoCatch, Catch, Program, type_of}
+use Rattle.source_meaning.specs.Tree.{Expr, Literal, Quoted, Local, Apply, Guarded, Logic, Conditional, Elvis, Assign, Modify, Lambda, Reference, NewReference, Exprs, None', One, Maybe, Missing, Given, Stmt, Do, If, While, DoWhile, Try, Block, Break, Continue, Return, Throw, Stmts, Finish, Then, Declare, Catches, NoCatch, Catch, Program, type_of}
 use Rattle.source_meaning.specs.Falls.{all_fall}
 use Rattle.compiler_relation.specs.Representation.{Representation, representation_of}
-use Rattle.compiler_relation.specs.Parts.{constant_code, text_code, default_code, operator_code, operation_code, cast_code, member_code, without_null, kept_before, kept_behind, pops}
-use Rattle.compiler_relation.specs.Stands.{Scope, At, AllAt, end_all, end_expr, end_exprs, change_first, change_last, elvis_right, settled, settles, ExprAt, ExprsAt, goes_on, end_skip, end_dropped, end_update, end_test, end_last, end_value, end_returned, end_stmt, end_stmts, end_catches, end_tried, end_caught, jumps_over, handlers_of, next_stmt, next_stmts, Jumps, SkipAt, DroppedAt, UpdateAt, TestAt, LastAt, ValueAt, ReturnedAt, StmtAt, StmtsAt, CatchesAt}
+use Rattle.compiler_relation.specs.Parts.{constant_code, text_code, default_code, operator_code, operation_code, cast_code, member_code, without_null, read_code, write_code, kept_under, copies, kept_before, kept_behind, pops}
+use Rattle.compiler_relation.specs.Stands.{Scope, At, AllAt, end_all, end_expr, end_exprs, representations, count, change_first, change_last, end_read, elvis_right, settled, settles, ExprAt, ExprsAt, goes_on, end_skip, end_dropped, end_update, end_test, end_last, end_value, end_returned, end_stmt, end_stmts, end_catches, end_tried, end_caught, jumps_over, handlers_of, next_stmt, next_stmts, Jumps, SkipAt, DroppedAt, UpdateAt, TestAt, LastAt, ValueAt, ReturnedAt, StmtAt, StmtsAt, CatchesAt}
 use Rattle.program_typing.specs.Agreeing as agreeing
 use Rattle.program_typing.specs.Agreeing.{known, types_of, ExprAgrees, ExprsAgree, TestAgrees, UpdateAgrees, BeginAgrees, ReturnAgrees, StmtAgrees, StmtsAgree, CatchesAgree}
 use Rattle.verifier_soundness.specs.Rows.{has_row}
-use Rattle.compiled_runs.proofs.Parts.{AllRows, constant_row, operator_rows, operation_rows, guard_rows, null_rows, cast_rows, default_rows, pops_rows, before_rows, behind_rows}
+use Rattle.compiled_runs.proofs.Parts.{AllRows, constant_row, operator_rows, operation_rows, guard_rows, null_rows, cast_rows, default_rows, pops_rows, under_rows, copies_rows, before_rows, behind_rows, read_rows, write_rows}
 
 -- a line whose instruction has a row
 pub record RowAt (allow : AllowList) (f : FunCode) (line : ℕ) : Type 0 where
@@ -82,18 +82,18 @@ module _ (allow : AllowList) (f : FunCode) where
       expr_covered g names p (Local at of x) ok s = one h p (i.Numbered numbered.Load s.0.local) s.3 refl
       expr_covered g names p (Apply at of o parts) ok s =
           let q = end_exprs p parts in
-          join p q (end_all q (operation_code o of)) (exprs_covered g names p parts ok.0 s.0) (all h q (operation_code o of) s.1 (operation_rows allow texts funs o parts of ok.1 s.2))
+          join p q (end_all q (operation_code o of (count parts))) (exprs_covered g names p parts ok.0 s.0) (all h q (operation_code o of (count parts)) s.1 (operation_rows allow texts funs o parts of ok.1 s.2))
       expr_covered g names p (Guarded at of o None') ok s = nothing p
       expr_covered g names p (Guarded at of o (One a others)) ok s =
           let q = end_expr p a in
           let r = end_exprs (suc (suc q)) others in
-          let c = end_all r (member_code o) in
+          let c = end_all r (member_code o (suc (count others))) in
           let e = end_all c (without_null (representation_of of)) in
           join p q e (expr_covered g names p a ok.0 s.0)
           (join q (suc q) e (one h q (i.Plain plain.Dup) s.1 refl)
           (join (suc q) (suc (suc q)) e (one h (suc q) (i.Numbered numbered.IfNull c) s.2 refl)
           (join (suc (suc q)) r e (exprs_covered g names (suc (suc q)) others ok.1 s.3)
-          (join r c e (all h r (member_code o) s.4 (guard_rows allow texts funs o (type_of a ∷ types_of others) of ok.2))
+          (join r c e (all h r (member_code o (suc (count others))) s.4 (guard_rows allow texts funs o (type_of a ∷ types_of others) of (suc (count others)) ok.2))
           (all h c (without_null (representation_of of)) s.5 (null_rows allow (representation_of of)))))))
       expr_covered g names p (Logic at of o left right) ok s =
           let q = end_expr p left in
@@ -119,24 +119,54 @@ module _ (allow : AllowList) (f : FunCode) where
           let q = end_expr p value in
           join p q (suc (suc q)) (expr_covered g names p value ok.0 s.0)
           (join q (suc q) (suc (suc q)) (one h q (i.Plain plain.Dup) s.1 refl) (one h (suc q) (i.Numbered numbered.Store s.2.0.local) s.2.4 refl))
-      expr_covered g names p (Assign at of other parts value) ok s = absurd ok
+      expr_covered g names p (Assign at of (target.Place read write) parts value) ok s =
+          let q = end_exprs p parts in
+          let r = end_expr q value in
+          let u = end_all r (kept_under (count parts)) in
+          let e = end_all u (write_code write of) in
+          join p q e (exprs_covered g names p parts ok.0 s.0)
+          (join q r e (expr_covered g names q value ok.1 s.1)
+          (join r u e (all h r (kept_under (count parts)) s.2 (under_rows allow (count parts)))
+          (all h u (write_code write of) s.3 (write_rows allow texts funs write (types_of parts) (representations parts) of ok.4 s.5.writes))))
       expr_covered g names p (Modify at of (target.Local x) parts change right gives) ok s =
-          let q = change_first gives change of p in
-          let b = end_all (suc p) (kept_before gives) in
+          let q = change_first 0 gives change of (suc p) in
+          let b = end_all (suc p) (kept_before 0 gives) in
           let r = end_expr q right in
           let o = end_all r (operator_code change.operator) in
           let c = end_all o (cast_code change.after of) in
-          let e = change_last gives change of r in
+          let e = change_last 0 gives change of r in
           let fits = s.11 in
           join p (suc p) (suc e) (one h p (i.Numbered numbered.Load s.0.local) s.3 refl)
-          (join (suc p) b (suc e) (all h (suc p) (kept_before gives) s.4 (before_rows allow gives))
+          (join (suc p) b (suc e) (all h (suc p) (kept_before 0 gives) s.4 (before_rows allow 0 gives))
           (join b q (suc e) (all h b (cast_code change.before of) s.5 (cast_rows allow change.before of fits.before.asks))
           (join q r (suc e) (expr_covered g names q right ok.0 s.6)
           (join r o (suc e) (all h r (operator_code change.operator) s.7 (operator_rows allow change.operator))
           (join o c (suc e) (all h o (cast_code change.after of) s.8 (cast_rows allow change.after of fits.after.asks))
-          (join c e (suc e) (all h c (kept_behind gives) s.9 (behind_rows allow gives))
+          (join c e (suc e) (all h c (kept_behind 0 gives) s.9 (behind_rows allow 0 gives))
           (one h e (i.Numbered numbered.Store s.0.local) s.10 refl)))))))
-      expr_covered g names p (Modify at of other parts change right gives) ok s = absurd ok
+      expr_covered g names p (Modify at of (target.Place read write) parts change right gives) ok s =
+          let n = count parts in
+          let p1 = end_exprs p parts in
+          let p2 = end_all p1 (copies n) in
+          let p3 = end_read n read of p1 in
+          let b = end_all p3 (kept_before n gives) in
+          let q = change_first n gives change of p3 in
+          let r = end_expr q right in
+          let o = end_all r (operator_code change.operator) in
+          let c = end_all o (cast_code change.after of) in
+          let w = change_last n gives change of r in
+          let e = end_all w (write_code write of) in
+          let fits = s.10 in
+          join p p1 e (exprs_covered g names p parts ok.0 s.0)
+          (join p1 p2 e (all h p1 (copies n) s.1 (copies_rows allow n))
+          (join p2 p3 e (all h p2 (read_code read of n) s.2 (read_rows allow texts funs read parts of ok.4 s.11))
+          (join p3 b e (all h p3 (kept_before n gives) s.3 (before_rows allow n gives))
+          (join b q e (all h b (cast_code change.before of) s.4 (cast_rows allow change.before of fits.before.asks))
+          (join q r e (expr_covered g names q right ok.1 s.5)
+          (join r o e (all h r (operator_code change.operator) s.6 (operator_rows allow change.operator))
+          (join o c e (all h o (cast_code change.after of) s.7 (cast_rows allow change.after of fits.after.asks))
+          (join c w e (all h c (kept_behind n gives) s.8 (behind_rows allow n gives))
+          (all h w (write_code write of) s.9 (write_rows allow texts funs write (types_of parts) (representations parts) of ok.5 s.12.writes))))))))))
       expr_covered g names p (Lambda at of interface function) ok s = nothing p
       expr_covered g names p (Reference at of interface class name) ok s = nothing p
       expr_covered g names p (NewReference at of interface made) ok s = nothing p
@@ -208,7 +238,6 @@ module _ (allow : AllowList) (f : FunCode) where
           (join (suc p) r (suc (suc e)) (stmts_covered h k of true g names n (record { out = end_stmt p (DoWhile body test); on = r }) (suc p) body ok.0 s.1)
           (join r e (suc (suc e)) (tested_last texts funs h g names (goes_on body) r test (end_stmt p (DoWhile body test)) ok.1 s.2)
           (join e (suc e) (suc (suc e)) (one h e (i.Int (pos 1)) s.3 refl) (one h (suc e) (i.Numbered numbered.Loop (suc p)) s.4 refl))))
-      stmt_covered h k of looped g names n j p (ForEach x element cast over body) ok s = nothing p
       stmt_covered h k of looped g names n j p (Try body catches) ok s =
           let r = end_stmts p body in
           let q = end_tried p body in

@@ -1,5 +1,5 @@
 -- The instructions of what is strict have rows.
-use Rattle.std.proofs.Common.{◌≡◌, ◌&&◌, Bool, true, List, [], ◌∷◌, ◌++◌, Some, refl, sym, ap, ◌∙◌}
+use Rattle.std.proofs.Common.{◌≡◌, ℕ, zero, suc, ◌&&◌, Bool, true, List, [], ◌∷◌, ◌++◌, Option, Some, None, refl, sym, ap, ◌∙◌}
 use Rattle.std.specs.Prelude.{is_some}
 use Rattle.std.specs.List.{list_all}
 use Rattle.std.proofs.lemmas.List.Folds.{list_all-append}
@@ -16,6 +16,9 @@ use Rattle.pl_types.specs.declared.conversion.Cast.{Cast}
 use Rattle.pl_types.specs.declared.conversion.Cast.TheVariants as cast
 use Rattle.arithmetic.specs.declared.operator.Op.{Op}
 use Rattle.arithmetic.specs.declared.operator.Op.TheVariants as op
+use Rattle.container_ops.specs.Types.{element_of}
+use Rattle.pl_code.specs.declared.kinds.Plain.TheVariants as plain
+use Rattle.pl_code.specs.declared.kinds.Sized.TheVariants as sized
 use Rattle.pl_code.specs.declared.kinds.Typed.TheVariants as typed
 use Rattle.pl_code.specs.declared.kinds.Way.{Way}
 use Rattle.pl_code.specs.declared.kinds.Way.TheVariants as way
@@ -37,10 +40,10 @@ use Rattle.allowlist.specs.Allow.{AllowList}
 use Rattle.member_names.specs.Names.{TextsName, named_by}
 use Rattle.typed_tree.specs.declared.operation.Member.{Member}
 use Rattle.source_meaning.specs.Tree.{Exprs, None', One, Program}
-use Rattle.program_typing.specs.Agreeing.{known, Applies, MemberAgrees, Guards, types_of}
+use Rattle.program_typing.specs.Agreeing.{known, Applies, MemberAgrees, Guards, Reads, Writes, types_of}
 use Rattle.compiler_relation.specs.Representation.{Representation, Unboxed, Boxed, Absent, representation_of}
-use Rattle.compiler_relation.specs.Parts.{constant_code, default_code_layer, default_code, arithmetic_code, boolean_code, operator_code, from_int_code, from_long_code, from_byte_code, from_short_code, from_char_code, number_code, run_time_code_layer, run_time_code, cast_code, operation_code, member_code, without_null, pops, kept_before, kept_behind}
-use Rattle.compiler_relation.specs.Stands.{AsksKnown, Fitting, representations}
+use Rattle.compiler_relation.specs.Parts.{constant_code, default_code_layer, default_code, arithmetic_code, boolean_code, dynamic_code, operator_code, typed_code, from_int_code, from_long_code, from_byte_code, from_short_code, from_char_code, number_code, run_time_code_layer, run_time_code, cast_code, operation_code, member_code, without_null, pops, read_code, write_code, kept_under, copies, kept_before, kept_behind}
+use Rattle.compiler_relation.specs.Stands.{AsksKnown, OperatorFits, Fitting, ReadFits, WriteFits, representations, count}
 use Rattle.verifier_soundness.specs.Rows.{member_has_row, has_row}
 
 module _ (allow : AllowList) where
@@ -101,6 +104,28 @@ module _ (allow : AllowList) where
   boolean_rows op.Eq = refl
   boolean_rows op.Ne = refl
 
+  dynamic_rows : (o : Op) → AllRows (dynamic_code o)
+  dynamic_rows op.Add = refl
+  dynamic_rows op.Sub = refl
+  dynamic_rows op.Mul = refl
+  dynamic_rows op.Div = refl
+  dynamic_rows op.Rem = refl
+  dynamic_rows op.And = refl
+  dynamic_rows op.Or = refl
+  dynamic_rows op.Xor = refl
+  dynamic_rows op.Shl = refl
+  dynamic_rows op.Shr = refl
+  dynamic_rows op.Ushr = refl
+  dynamic_rows op.Neg = refl
+  dynamic_rows op.Not = refl
+  dynamic_rows op.Pos = refl
+  dynamic_rows op.Lt = refl
+  dynamic_rows op.Le = refl
+  dynamic_rows op.Gt = refl
+  dynamic_rows op.Ge = refl
+  dynamic_rows op.Eq = refl
+  dynamic_rows op.Ne = refl
+
   pub operator_rows : (o : Operator) → AllRows (operator_code o)
   operator_rows (operator.Int o) = arithmetic_rows o width.Int
   operator_rows (operator.Long o) = arithmetic_rows o width.Long
@@ -110,6 +135,7 @@ module _ (allow : AllowList) where
   operator_rows operator.Same = refl
   operator_rows operator.NotSame = refl
   operator_rows operator.Concat = refl
+  operator_rows (operator.Def o) = dynamic_rows o
   operator_rows other = refl
 
   from_int_rows : (p : Primitive) → AllRows (from_int_code p)
@@ -213,13 +239,29 @@ module _ (allow : AllowList) where
         ap member_has_row named ∙ a.built
 
     -- of a call that a null receiver leaves out
-    pub guard_rows : (o : Operation) (ofs : List Ty) (of : Ty) → Guards (known allow funs) o ofs of → AllRows (member_code o)
-    guard_rows o ofs of guards =
-        ap (λ o. list_all (has_row allow) (member_code o)) guards.is ∙ one_row (i.Invoke guards.member.text) (member_row kind.Instance guards.member ofs of guards.agrees)
+    pub guard_rows : (o : Operation) (ofs : List Ty) (of : Ty) (n : ℕ) → Guards (known allow funs) o ofs of → AllRows (member_code o n)
+    guard_rows (operation.Instance m) ofs of n guards = one_row (i.Invoke m.text) (member_row kind.Instance m ofs of guards.agrees)
+    guard_rows (operation.DefCall name) ofs of n guards = refl
+    guard_rows (operation.DefName name) ofs of n guards = refl
+    guard_rows other ofs of n guards = absurd guards.sort
+
+    -- an operator of a node of a type, on parts that are represented as it takes them
+    typed_rows : (o : Operator) (ks : List Representation) (of : Ty) (n : ℕ) → OperatorFits o ks of → AllRows (typed_code o of n)
+    typed_rows operator.List ks of n fits = refl
+    typed_rows operator.Map ks of n fits = refl
+    typed_rows operator.NewArray ks of n fits = one_row (i.Sized sized.Empty (full_text of) n) (known_row of fits.2)
+    typed_rows operator.ArrayOf ks of n fits = one_row (i.Sized sized.Filled (full_text (element_of of)) n) (known_row (element_of of) fits.2.known)
+    typed_rows operator.Element ks of n fits = one_row (i.Typed typed.LoadElement (full_text of)) (known_row of fits.1.known)
+    typed_rows operator.PutElement ks of n fits = absurd fits
+    typed_rows (operator.Int o) ks of n fits = operator_rows (operator.Int o)
+    typed_rows (operator.Long o) ks of n fits = operator_rows (operator.Long o)
+    typed_rows (operator.Boolean o) ks of n fits = operator_rows (operator.Boolean o)
+    typed_rows (operator.Def o) ks of n fits = operator_rows (operator.Def o)
+    typed_rows other ks of n fits = refl
 
     -- an operation on parts that agree and are represented as it takes them
-    pub operation_rows : (o : Operation) (parts : Exprs) (of : Ty) → Applies (known allow funs) o (types_of parts) of → Fitting funs o (representations parts) of → AllRows (operation_code o of)
-    operation_rows (operation.Operator o) parts of applies fits = operator_rows o
+    pub operation_rows : (o : Operation) (parts : Exprs) (of : Ty) → Applies (known allow funs) o (types_of parts) of → Fitting funs o (representations parts) of → AllRows (operation_code o of (count parts))
+    operation_rows (operation.Operator o) parts of applies fits = typed_rows o (representations parts) of (count parts) fits
     operation_rows (operation.Cast c) None' of applies fits = absurd applies
     operation_rows (operation.Cast c) (One a None') of applies fits = cast_rows c of fits.asks
     operation_rows (operation.Cast c) (One a (One b others)) of applies fits = absurd applies
@@ -233,7 +275,23 @@ module _ (allow : AllowList) where
         row_and (i.New m.text) (without_null (representation_of of)) (member_row kind.Constructor m (types_of parts) of applies) (null_rows (representation_of of))
     operation_rows (operation.Field m) parts of applies fits =
         row_and (i.Field m.text) (without_null (representation_of of)) (member_row kind.Field m (types_of parts) of applies) (null_rows (representation_of of))
-    operation_rows other parts of applies fits = refl
+    operation_rows (operation.DefCall name) parts of applies fits = refl
+    operation_rows (operation.DefName name) parts of applies fits = refl
+    operation_rows operation.DefIndex parts of applies fits = refl
+    operation_rows other parts of applies fits = absurd fits
+
+    pub read_rows : (read : Option Operation) (parts : Exprs) (of : Ty) → Reads (known allow funs) read (types_of parts) of → ReadFits funs read (representations parts) of
+        → AllRows (read_code read of (count parts))
+    read_rows None parts of reads fits = refl
+    read_rows (Some read) parts of reads fits = operation_rows read parts of reads fits
+
+    pub write_rows : (write : Operation) (ofs : List Ty) (ks : List Representation) (of : Ty) → Writes (known allow funs) write ofs of → WriteFits write ks of → AllRows (write_code write of)
+    write_rows (operation.Operator operator.PutElement) ofs ks of writes fits = one_row (i.Typed typed.StoreElement (full_text of)) (known_row of fits.1)
+    write_rows (operation.Instance m) ofs ks of writes fits =
+        row_and (i.Invoke m.text) (i.Plain plain.Pop ∷ []) (member_row kind.Instance m (ofs ++ of ∷ []) writes.given writes.agrees) refl
+    write_rows (operation.PutDefName name) ofs ks of writes fits = refl
+    write_rows operation.PutDefIndex ofs ks of writes fits = refl
+    write_rows other ofs ks of writes fits = absurd fits
 
   default_layer_rows : (l : Ty-F Ty) → AllRows (default_code_layer l)
   default_layer_rows Ty-F.Void = refl
@@ -256,10 +314,20 @@ module _ (allow : AllowList) where
   pops_rows Boxed = refl
   pops_rows Absent = refl
 
-  pub before_rows : (g : Gives) → AllRows (kept_before g)
-  before_rows gives.Old = refl
-  before_rows gives.New = refl
+  pub under_rows : (n : ℕ) → AllRows (kept_under n)
+  under_rows zero = refl
+  under_rows (suc zero) = refl
+  under_rows (suc (suc n)) = refl
 
-  pub behind_rows : (g : Gives) → AllRows (kept_behind g)
-  behind_rows gives.Old = refl
-  behind_rows gives.New = refl
+  pub copies_rows : (n : ℕ) → AllRows (copies n)
+  copies_rows zero = refl
+  copies_rows (suc zero) = refl
+  copies_rows (suc (suc n)) = refl
+
+  pub before_rows : (n : ℕ) (g : Gives) → AllRows (kept_before n g)
+  before_rows n gives.Old = under_rows n
+  before_rows n gives.New = refl
+
+  pub behind_rows : (n : ℕ) (g : Gives) → AllRows (kept_behind n g)
+  behind_rows n gives.Old = refl
+  behind_rows n gives.New = under_rows n

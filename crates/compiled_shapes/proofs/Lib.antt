@@ -2,8 +2,12 @@ mod Lines
 mod Runs
 mod Parts
 mod Named
+mod Texts
 mod Steps
+mod Containers
+mod Accesses
 mod Members
+mod Places
 mod Scopes
 mod Exprs
 mod Traps

@@ -1,5 +1,5 @@
 -- Members: what the instructions of calls take and leave, by the types of the catalogue.
-use Rattle.std.proofs.Common.{◌≡◌, ℕ, zero, suc, Bool, true, false, not, ◌&&◌, List, [], ◌∷◌, ◌++◌, reverse, map, Some, is_some, refl, sym, ap, ◌∙◌, subst, option_map, append_assoc, if◌then◌else◌}
+use Rattle.std.proofs.Common.{◌≡◌, ℕ, zero, suc, Bool, true, false, not, ◌&&◌, List, [], ◌∷◌, ◌++◌, reverse, map, length, Some, is_some, refl, sym, ap, ◌∙◌, subst, option_map, append_assoc, if◌then◌else◌}
 use Rattle.std.specs.Prelude.{slice_get}
 use Rattle.std.specs.List.{list_all}
 use Rattle.std.proofs.lemmas.Bool.{and_parts, false≢true}
@@ -10,6 +10,7 @@ use Rattle.pl_code.specs.declared.kinds.Slot.{Slot}
 use Rattle.pl_code.specs.declared.kinds.Slot.TheVariants.{I, J, R}
 use Rattle.pl_code.specs.declared.code.FunCode.{FunCode}
 use Rattle.pl_code.specs.declared.code.Instruction.TheVariants as i
+use Rattle.pl_code.specs.declared.kinds.Plain.TheVariants as plain
 use Rattle.allowlist.specs.declared.member.MemberKind.{MemberKind}
 use Rattle.allowlist.specs.declared.member.MemberKind.TheVariants as kind
 use Rattle.allowlist.specs.declared.member.MemberType.{MemberType}
@@ -33,20 +34,21 @@ use Rattle.program_typing.specs.Types.{IsReference, has_values_layer}
 use Rattle.program_typing.specs.Agreeing.{known, TakesTypes, MemberAgrees, Guards, is_primitive_layer}
 use Rattle.compiled_shapes.proofs.Runs.{Passes, Straight}
 use Rattle.compiled_shapes.proofs.Parts.{push, push_types}
+use Rattle.compiled_shapes.proofs.Accesses.{method_behind, name_behind}
 use Rattle.compiled_shapes.proofs.Steps.{push_layer, push_reference, push_value, boxed, taken_own, reverse_cons, only, pop_passes}
 
 -- ---- the catalogue
 
-abbrev is_there_layer : Ty-F Ty → Bool
+abbrev pub is_there_layer : Ty-F Ty → Bool
 is_there_layer Ty-F.Void = false
 is_there_layer other = true
 
-abbrev are_there : List Ty → Bool
+abbrev pub are_there : List Ty → Bool
 are_there [] = true
 are_there (of ∷ ofs) = is_there_layer (out-Ty of) && are_there ofs
 
 -- a constructor makes a reference, and a field has no parameters
-abbrev is_shaped_so : MemberKind → List Ty → Ty → Bool
+abbrev pub is_shaped_so : MemberKind → List Ty → Ty → Bool
 is_shaped_so kind.Constructor params result = is_reference (kind_of result)
 is_shaped_so kind.Field [] result = true
 is_shaped_so kind.Field (of ∷ ofs) result = false
@@ -66,7 +68,7 @@ each_is test [] n m h is = cc
 each_is test (x ∷ xs) zero m h is = let same : x ≡ m = cc in subst (λ m. test m ≡ true) same (and_parts (test x) (list_all test xs) h).0
 each_is test (x ∷ xs) (suc n) m h is = each_is test xs n m (and_parts (test x) (list_all test xs) h).1 is
 
-shaped_at : (number : ℕ) (m : MemberType) → slice_get catalogue number ≡ Some m
+pub shaped_at : (number : ℕ) (m : MemberType) → slice_get catalogue number ≡ Some m
     → (are_there m.params ≡ true) × (is_shaped_so m.kind m.params m.result ≡ true)
 shaped_at number m is = and_parts (are_there m.params) (is_shaped_so m.kind m.params m.result) (each_is is_shaped catalogue number m all_shaped is)
 
@@ -83,7 +85,7 @@ boxed_kind (Ty-F.Prim p) h = cc
 boxed_kind (Ty-F.Class class) h = refl
 boxed_kind (Ty-F.Array of) h = refl
 
-there_has_values : (l : Ty-F Ty) → is_there_layer l ≡ true → has_values_layer l
+pub there_has_values : (l : Ty-F Ty) → is_there_layer l ≡ true → has_values_layer l
 there_has_values Ty-F.Void h = absurd (false≢true h)
 there_has_values Ty-F.Null h = tt
 there_has_values Ty-F.Def h = tt
@@ -229,21 +231,28 @@ module _ (allow : AllowList) (functions : List FunCode) (f : FunCode) where
         (invoke_passes m h.member ofs s names (stands_at m.number h.member h.is)
         (method_takes sort h.member ofs s h.sort (shaped_at m.number h.member h.is).0 h.takes method))
 
-    pub instance_straight : (m : Member) (ofs : List Ty) (of : Ty) (s : List Slot) → MemberAgrees (known allow funs) kind.Instance m ofs of
-        → Straight allow functions f (operation_code (operation.Instance m) of) (push_types ofs s) (push of s)
-    instance_straight m ofs of s h =
+    -- what a member gives that writes a place is dropped
+    pub setter_straight : (m : Member) (ofs : List Ty) (given : Ty) (s : List Slot) → MemberAgrees (known allow funs) kind.Instance m ofs given
+        → Straight allow functions f (i.Invoke m.text ∷ i.Plain plain.Pop ∷ []) (push_types ofs s) s
+    setter_straight m ofs given s h =
+        let passes = method_passes kind.Instance m ofs given s h refl (named kind.Instance m ofs given h) in
+        (kind_of given ∷ s, passes, only allow functions f (pop_passes allow functions f (kind_of given) s) refl refl)
+
+    pub instance_straight : (m : Member) (n : ℕ) (ofs : List Ty) (of : Ty) (s : List Slot) → MemberAgrees (known allow funs) kind.Instance m ofs of
+        → Straight allow functions f (operation_code (operation.Instance m) of n) (push_types ofs s) (push of s)
+    instance_straight m n ofs of s h =
         let passes = method_passes kind.Instance m ofs of s h refl (named kind.Instance m ofs of h) in
         (kind_of of ∷ s, passes, null_straight of s)
 
-    pub static_straight : (m : Member) (ofs : List Ty) (of : Ty) (s : List Slot) → MemberAgrees (known allow funs) kind.Static m ofs of
-        → Straight allow functions f (operation_code (operation.Static m) of) (push_types ofs s) (push of s)
-    static_straight m ofs of s h =
+    pub static_straight : (m : Member) (n : ℕ) (ofs : List Ty) (of : Ty) (s : List Slot) → MemberAgrees (known allow funs) kind.Static m ofs of
+        → Straight allow functions f (operation_code (operation.Static m) of n) (push_types ofs s) (push of s)
+    static_straight m n ofs of s h =
         let passes = method_passes kind.Static m ofs of s h refl (named kind.Static m ofs of h) in
         (kind_of of ∷ s, passes, null_straight of s)
 
-    pub constructor_straight : (m : Member) (ofs : List Ty) (of : Ty) (s : List Slot) → MemberAgrees (known allow funs) kind.Constructor m ofs of
-        → Straight allow functions f (operation_code (operation.Constructor m) of) (push_types ofs s) (push of s)
-    constructor_straight m ofs of s h =
+    pub constructor_straight : (m : Member) (n : ℕ) (ofs : List Ty) (of : Ty) (s : List Slot) → MemberAgrees (known allow funs) kind.Constructor m ofs of
+        → Straight allow functions f (operation_code (operation.Constructor m) of n) (push_types ofs s) (push of s)
+    constructor_straight m n ofs of s h =
         let shaped = shaped_at m.number h.member h.is in
         let whole : R ≡ kind_of of = sym (ap kind_of h.gives ∙ made_kind h.member h.sort shaped.1) in
         let passes = new_passes m h.member s (named kind.Constructor m ofs of h) (stands_at m.number h.member h.is) shaped.0 in
@@ -251,9 +260,9 @@ module _ (allow : AllowList) (functions : List FunCode) (f : FunCode) where
         subst (λ ofs. Passes allow functions f (i.New m.text) (push_types ofs s) (R ∷ s)) (sym h.takes) passes in
         (kind_of of ∷ s, subst (λ k. Passes allow functions f (i.New m.text) (push_types ofs s) (k ∷ s)) whole taken, null_straight of s)
 
-    pub field_straight : (m : Member) (ofs : List Ty) (of : Ty) (s : List Slot) → MemberAgrees (known allow funs) kind.Field m ofs of
-        → Straight allow functions f (operation_code (operation.Field m) of) (push_types ofs s) (push of s)
-    field_straight m ofs of s h =
+    pub field_straight : (m : Member) (n : ℕ) (ofs : List Ty) (of : Ty) (s : List Slot) → MemberAgrees (known allow funs) kind.Field m ofs of
+        → Straight allow functions f (operation_code (operation.Field m) of n) (push_types ofs s) (push of s)
+    field_straight m n ofs of s h =
         let shaped = (shaped_at m.number h.member h.is).1 in
         let bare : is_shaped_so kind.Field h.member.params h.member.result ≡ true =
         sym (ap (λ sort. is_shaped_so sort h.member.params h.member.result) h.sort) ∙ shaped in
@@ -268,22 +277,29 @@ module _ (allow : AllowList) (functions : List FunCode) (f : FunCode) where
     -- ---- calls that a null receiver leaves out
 
     pub guard_takes : (o : Operation) (from of : Ty) (ofs : List Ty) → Guards (known allow funs) o (from ∷ ofs) of → IsReference from
-    guard_takes o from of ofs h = h.agrees.takes.0
+    guard_takes (operation.Instance m) from of ofs h = h.agrees.takes.0
+    guard_takes (operation.DefCall name) from of ofs h = h.agrees.0.0
+    guard_takes (operation.DefName name) from of [] h = h.agrees.0
+    guard_takes (operation.DefName name) from of (other ∷ ofs) h = absurd h.agrees.0
+    guard_takes other from of ofs h = absurd h.sort
 
     pub guard_kind : (o : Operation) (ofs : List Ty) (of : Ty) → Guards (known allow funs) o ofs of → kind_of of ≡ R
     guard_kind o ofs of h = boxed_kind (out-Ty of) h.whole
 
     -- the call, behind a receiver
     pub guarded_straight : (o : Operation) (from of : Ty) (ofs : List Ty) (s : List Slot) → Guards (known allow funs) o (from ∷ ofs) of
-        → Straight allow functions f (member_code o) (push_types ofs (R ∷ s)) (R ∷ s)
-    guarded_straight o from of ofs s h =
-        let passes = method_passes kind.Instance h.member (from ∷ ofs) of s h.agrees refl (named kind.Instance h.member (from ∷ ofs) of h.agrees) in
-        let receiver = push_reference from s (guard_takes o from of ofs h) in
-        let taken : Passes allow functions f (i.Invoke h.member.text) (push_types ofs (R ∷ s)) (kind_of of ∷ s) =
-        subst (λ t. Passes allow functions f (i.Invoke h.member.text) (push_types ofs t) (kind_of of ∷ s)) receiver passes in
-        let given : Passes allow functions f (i.Invoke h.member.text) (push_types ofs (R ∷ s)) (R ∷ s) =
-        subst (λ k. Passes allow functions f (i.Invoke h.member.text) (push_types ofs (R ∷ s)) (k ∷ s)) (guard_kind o (from ∷ ofs) of h) taken in
-        subst (λ o. Straight allow functions f (member_code o) (push_types ofs (R ∷ s)) (R ∷ s)) (sym h.is) (only allow functions f given refl refl)
+        → Straight allow functions f (member_code o (suc (length ofs))) (push_types ofs (R ∷ s)) (R ∷ s)
+    guarded_straight (operation.Instance m) from of ofs s h =
+        let passes = method_passes kind.Instance m (from ∷ ofs) of s h.agrees refl (named kind.Instance m (from ∷ ofs) of h.agrees) in
+        let receiver = push_reference from s (guard_takes (operation.Instance m) from of ofs h) in
+        let taken : Passes allow functions f (i.Invoke m.text) (push_types ofs (R ∷ s)) (kind_of of ∷ s) =
+        subst (λ t. Passes allow functions f (i.Invoke m.text) (push_types ofs t) (kind_of of ∷ s)) receiver passes in
+        let given : Passes allow functions f (i.Invoke m.text) (push_types ofs (R ∷ s)) (R ∷ s) =
+        subst (λ k. Passes allow functions f (i.Invoke m.text) (push_types ofs (R ∷ s)) (k ∷ s)) (guard_kind (operation.Instance m) (from ∷ ofs) of h) taken in
+        only allow functions f given refl refl
+    guarded_straight (operation.DefCall name) from of ofs s h = method_behind allow functions f name from ofs s h.agrees.0.0 h.agrees.0.1
+    guarded_straight (operation.DefName name) from of ofs s h = name_behind allow functions f name from ofs s h.agrees.0
+    guarded_straight other from of ofs s h = absurd h.sort
 
     pub guard_null : (o : Operation) (ofs : List Ty) (of : Ty) (s : List Slot) → Guards (known allow funs) o ofs of
         → Straight allow functions f (without_null (representation_of of)) (R ∷ s) (push of s)

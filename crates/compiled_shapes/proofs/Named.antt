@@ -36,10 +36,10 @@ array_known : (element : List ℕ) → is_known_type (element ++ codes "[]") ≡
 unfolding is_known_type element_of
 array_known element = ap is_known_word (before_more is_opening element 91 (93 ∷ []) refl)
 
-at_layer : (x : Ty-F Ty) → full_text (roll-Ty x) ≡ text_layer full_name (map-Ty Ty (List ℕ) full_text x)
+pub at_layer : (x : Ty-F Ty) → full_text (roll-Ty x) ≡ text_layer full_name (map-Ty Ty (List ℕ) full_text x)
 at_layer x = fold-roll-Ty (List ℕ) (text_layer full_name) x
 
-listed_at : (x : Ty-F Ty) → is_listed (roll-Ty x) ≡ listed_layer (map-Ty Ty Bool is_listed x)
+pub listed_at : (x : Ty-F Ty) → is_listed (roll-Ty x) ≡ listed_layer (map-Ty Ty Bool is_listed x)
 listed_at x = fold-roll-Ty Bool listed_layer x
 
 primitive_known : (p : Primitive) → is_known_type (primitive_word p) ≡ true

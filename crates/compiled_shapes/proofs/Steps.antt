@@ -1,5 +1,5 @@
 -- What the instructions of each strict part take and leave, by the types of its operands.
-use Rattle.std.proofs.Common.{◌≡◌, ℕ, ℤ, pos, ◌+◌, leb, false, not, List, [], ◌∷◌, ◌++◌, reverse, length, Some, refl, sym, ap, ◌∙◌, subst, arith, option_map, append_assoc, length-append}
+use Rattle.std.proofs.Common.{◌≡◌, ℕ, ℤ, pos, ◌+◌, leb, true, false, not, List, [], ◌∷◌, ◌++◌, reverse, length, Some, refl, sym, ap, ◌∙◌, subst, arith, option_map, append_assoc, length-append}
 use Rattle.std.specs.Prelude.{slice_get}
 use Rattle.std.proofs.lemmas.List.{reverse-append}
 use Rattle.std.proofs.lemmas.Bool.{lt-leb}
@@ -18,6 +18,9 @@ use Rattle.pl_code.specs.declared.kinds.ArithmeticOp.{ArithmeticOp}
 use Rattle.pl_code.specs.declared.kinds.ArithmeticOp.TheVariants as a
 use Rattle.pl_code.specs.declared.kinds.Width.{Width}
 use Rattle.pl_code.specs.declared.kinds.Width.TheVariants as width
+use Rattle.pl_code.specs.declared.kinds.DynamicOp.{DynamicOp}
+use Rattle.pl_code.specs.declared.kinds.DynamicOp.TheVariants as dynamic
+use Rattle.number_ops.specs.Operators.{is_unary}
 use Rattle.pl_code.specs.declared.kinds.Plain.{Plain}
 use Rattle.pl_code.specs.declared.kinds.Plain.TheVariants as plain
 use Rattle.pl_code.specs.declared.kinds.Numbered.TheVariants as numbered
@@ -32,7 +35,7 @@ use Rattle.pl_code.specs.declared.code.Instruction.TheVariants as i
 use Rattle.allowlist.specs.Allow.{AllowList}
 use Rattle.instruction_types.specs.Types.{kind_of_primitive as boxed_kind}
 use Rattle.instruction_types.specs.declared.flow.Flow.TheVariants as flow
-use Rattle.instruction_types.specs.Effects.{Exchanges, taken, left_by, one, result_kinds, plain_effect, kind_of_width, arithmetic_effect, local_kind, loads, stores, calls, effect_of, plain_flow, flow_of}
+use Rattle.instruction_types.specs.Effects.{Exchanges, taken, left_by, one, result_kinds, plain_effect, kind_of_width, arithmetic_effect, dynamic_effect, local_kind, loads, stores, calls, effect_of, plain_flow, flow_of}
 use Rattle.instruction_types.specs.Faults.{is_bad_target, is_bad_member}
 use Rattle.verifier.specs.Meets.{left_in}
 use Rattle.typed_tree.specs.declared.operation.Constant.{Constant}
@@ -44,9 +47,9 @@ use Rattle.typed_tree.specs.declared.operation.Gives.TheVariants as gives
 use Rattle.object_values.specs.declared.object.Owner.{Owner}
 use Rattle.source_meaning.specs.Tree.{Variable, Fun, Program}
 use Rattle.compiler_relation.specs.Representation.{representation_of_layer, representation_of, kind_of_primitive, kind_of_layer, kind_of, result_of_layer}
-use Rattle.compiler_relation.specs.Parts.{text_code, constant_code, default_code_layer, default_code, arithmetic_code, boolean_code, turned_round, operator_code, from_int_code, number_code, run_time_code_layer, run_time_code, cast_code, pops, kept_before, kept_behind}
+use Rattle.compiler_relation.specs.Parts.{text_code, constant_code, default_code_layer, default_code, arithmetic_code, boolean_code, turned_round, dynamic_code, operator_code, from_int_code, number_code, run_time_code_layer, run_time_code, cast_code, pops, kept_before, kept_behind}
 use Rattle.compiler_relation.specs.Stands.{HasLocal, kinds_of, Compiled}
-use Rattle.program_typing.specs.Types.{is_reference_layer, IsReference, has_values_layer, HasValues, IsOf, TakesNumbers, TakesFlags, TakesReferences, string, Takes, Converts, IsNamed, Keeps, Same, References, Casts}
+use Rattle.program_typing.specs.Types.{is_reference_layer, IsReference, has_values_layer, HasValues, IsOf, TakesNumbers, TakesFlags, TakesReferences, IsDefOf, def_given, string, Takes, Converts, IsNamed, Keeps, Same, References, Casts}
 use Rattle.program_typing.specs.Agreeing.{types_in, IsKnownBefore, HaveValues}
 use Rattle.compiled_shapes.proofs.Named.{IsListedLayer, listed_has_values, named_is_known, string_named}
 use Rattle.compiled_shapes.proofs.Runs.{Passes, Straight}
@@ -90,9 +93,13 @@ string_reference : IsReference string
 unfolding out-Ty denote.Hole.Carrier.out
 string_reference = tt
 
-class_reference : (class : ℕ) → IsReference (t.Class class)
+pub class_reference : (class : ℕ) → IsReference (t.Class class)
 unfolding out-Ty denote.Hole.Carrier.out
 class_reference class = tt
+
+def_reference : IsReference t.Def
+unfolding out-Ty denote.Hole.Carrier.out
+def_reference = tt
 
 pub class_values : (class : ℕ) → HasValues (t.Class class)
 unfolding out-Ty denote.Hole.Carrier.out
@@ -102,7 +109,7 @@ class_values class = tt
 pub push_text : (of : Ty) (s : List Slot) → of ≡ string → push of s ≡ R ∷ s
 push_text of s x = ap (λ of. push of s) x ∙ push_reference string s string_reference
 
-two_references : (x y : Ty) (s : List Slot) → IsReference x → IsReference y → push y (push x s) ≡ R ∷ R ∷ s
+pub two_references : (x y : Ty) (s : List Slot) → IsReference x → IsReference y → push y (push x s) ≡ R ∷ R ∷ s
 two_references x y s e g = ap (push y) (push_reference x s e) ∙ push_reference y (R ∷ s) g
 
 two : (x y : Ty) (p q : Primitive) (j k : Slot) (s : List Slot) → x ≡ t.Prim p → y ≡ t.Prim q → kind_of_primitive p ≡ j → kind_of_primitive q ≡ k → push y (push x s) ≡ k ∷ j ∷ s
@@ -113,13 +120,13 @@ given of p k s e kinds = push_is of p s e ∙ ap (λ k. k ∷ s) kinds
 
 -- ---- exchanges
 
-single : (k g : Slot) (s : List Slot) → left_by (Exchanges (one k) (one g)) (k ∷ s) ≡ Some (g ∷ s)
+pub single : (k g : Slot) (s : List Slot) → left_by (Exchanges (one k) (one g)) (k ∷ s) ≡ Some (g ∷ s)
 unfolding left_by
 single I g s = refl
 single J g s = refl
 single R g s = refl
 
-both : (k g : Slot) (s : List Slot) → left_by (Exchanges (k ∷ k ∷ []) (one g)) (k ∷ k ∷ s) ≡ Some (g ∷ s)
+pub both : (k g : Slot) (s : List Slot) → left_by (Exchanges (k ∷ k ∷ []) (one g)) (k ∷ k ∷ s) ≡ Some (g ∷ s)
 unfolding left_by
 both I g s = refl
 both J g s = refl
@@ -188,7 +195,7 @@ module _ (allow : AllowList) (functions : List FunCode) (f : FunCode) where
   unfolding is_bad_target is_bad_member flow_of effect_of
   arithmetic_passes o w s t x = record { flow = refl; target = refl; member = refl; leaves = x }
 
-  plain_passes : (p : Plain) (k g : Slot) (s : List Slot) → plain_flow p ≡ flow.GoesOn → plain_effect f.result p ≡ Exchanges (one k) (one g) → Passes allow functions f (i.Plain p) (k ∷ s) (g ∷ s)
+  pub plain_passes : (p : Plain) (k g : Slot) (s : List Slot) → plain_flow p ≡ flow.GoesOn → plain_effect f.result p ≡ Exchanges (one k) (one g) → Passes allow functions f (i.Plain p) (k ∷ s) (g ∷ s)
   unfolding is_bad_target is_bad_member flow_of effect_of
   plain_passes p k g s w e = record { flow = w; target = refl; member = refl; leaves = ap (λ e. left_by e (k ∷ s)) e ∙ single k g s }
 
@@ -311,6 +318,52 @@ module _ (allow : AllowList) (functions : List FunCode) (f : FunCode) where
   turned_straight : (s : List Slot) → Straight allow functions f turned_round (I ∷ s) (I ∷ s)
   turned_straight s = (I ∷ I ∷ s, int_passes (pos 0) (I ∷ s), only (arithmetic_passes a.Eq width.Int (I ∷ I ∷ s) (I ∷ s) (both I I s)) refl refl)
 
+  -- operators on values of any types
+  dynamic_passes : (d : DynamicOp) (s t : List Slot) → left_by (dynamic_effect d) s ≡ Some t → Passes allow functions f (i.Dynamic d) s t
+  unfolding is_bad_target is_bad_member flow_of effect_of
+  dynamic_passes d s t x = record { flow = refl; target = refl; member = refl; leaves = x }
+
+  dynamic_two : (d : DynamicOp) (g : Slot) (ofs : List Ty) (of : Ty) (s : List Slot) → dynamic_effect d ≡ Exchanges (R ∷ R ∷ []) (one g) → IsDefOf false ofs → push of s ≡ g ∷ s
+      → Straight allow functions f (i.Dynamic d ∷ []) (push_types ofs s) (push of s)
+  dynamic_two d g [] of s e h is = absurd h
+  dynamic_two d g (x ∷ []) of s e h is = absurd h
+  dynamic_two d g (x ∷ y ∷ []) of s e h is = only (dynamic_passes d (R ∷ R ∷ s) (g ∷ s) (ap (λ e. left_by e (R ∷ R ∷ s)) e ∙ both R g s)) (two_references x y s h.0 h.1) is
+  dynamic_two d g (x ∷ y ∷ z ∷ ofs) of s e h is = absurd h
+
+  dynamic_one : (d : DynamicOp) (ofs : List Ty) (of : Ty) (s : List Slot) → dynamic_effect d ≡ Exchanges (one R) (one R) → IsDefOf true ofs → push of s ≡ R ∷ s
+      → Straight allow functions f (i.Dynamic d ∷ []) (push_types ofs s) (push of s)
+  dynamic_one d [] of s e h is = absurd h
+  dynamic_one d (x ∷ []) of s e h is = only (dynamic_passes d (R ∷ s) (R ∷ s) (ap (λ e. left_by e (R ∷ s)) e ∙ single R R s)) (push_reference x s h) is
+  dynamic_one d (x ∷ y ∷ ofs) of s e h is = absurd h
+
+  push_def : (of : Ty) (s : List Slot) → Some t.Def ≡ Some of → push of s ≡ R ∷ s
+  push_def of s e = let same : t.Def ≡ of = cc in ap (λ of. push of s) (sym same) ∙ push_reference t.Def s def_reference
+
+  push_flag : (of : Ty) (s : List Slot) → Some (t.Prim prim.Boolean) ≡ Some of → push of s ≡ I ∷ s
+  push_flag of s e = let same : t.Prim prim.Boolean ≡ of = cc in push_is of prim.Boolean s (sym same)
+
+  dynamic_straight : (o : Op) (ofs : List Ty) (of : Ty) (s : List Slot) → IsDefOf (is_unary o) ofs → def_given o ≡ Some of → Straight allow functions f (dynamic_code o) (push_types ofs s) (push of s)
+  dynamic_straight op.Add ofs of s h g = dynamic_two dynamic.Add R ofs of s refl h (push_def of s g)
+  dynamic_straight op.Sub ofs of s h g = dynamic_two dynamic.Sub R ofs of s refl h (push_def of s g)
+  dynamic_straight op.Mul ofs of s h g = dynamic_two dynamic.Mul R ofs of s refl h (push_def of s g)
+  dynamic_straight op.Div ofs of s h g = dynamic_two dynamic.Div R ofs of s refl h (push_def of s g)
+  dynamic_straight op.Rem ofs of s h g = dynamic_two dynamic.Rem R ofs of s refl h (push_def of s g)
+  dynamic_straight op.And ofs of s h g = dynamic_two dynamic.And R ofs of s refl h (push_def of s g)
+  dynamic_straight op.Or ofs of s h g = dynamic_two dynamic.Or R ofs of s refl h (push_def of s g)
+  dynamic_straight op.Xor ofs of s h g = dynamic_two dynamic.Xor R ofs of s refl h (push_def of s g)
+  dynamic_straight op.Shl ofs of s h g = dynamic_two dynamic.Shl R ofs of s refl h (push_def of s g)
+  dynamic_straight op.Shr ofs of s h g = dynamic_two dynamic.Shr R ofs of s refl h (push_def of s g)
+  dynamic_straight op.Ushr ofs of s h g = dynamic_two dynamic.Ushr R ofs of s refl h (push_def of s g)
+  dynamic_straight op.Neg ofs of s h g = dynamic_one dynamic.Neg ofs of s refl h (push_def of s g)
+  dynamic_straight op.Not ofs of s h g = dynamic_one dynamic.Not ofs of s refl h (push_def of s g)
+  dynamic_straight op.Pos ofs of s h g = dynamic_one dynamic.Pos ofs of s refl h (push_def of s g)
+  dynamic_straight op.Lt ofs of s h g = dynamic_two dynamic.Lt I ofs of s refl h (push_flag of s g)
+  dynamic_straight op.Le ofs of s h g = dynamic_two dynamic.Le I ofs of s refl h (push_flag of s g)
+  dynamic_straight op.Gt ofs of s h g = dynamic_two dynamic.Gt I ofs of s refl h (push_flag of s g)
+  dynamic_straight op.Ge ofs of s h g = dynamic_two dynamic.Ge I ofs of s refl h (push_flag of s g)
+  dynamic_straight op.Eq ofs of s h g = cc
+  dynamic_straight op.Ne ofs of s h g = cc
+
   references : (code : List Instruction) (ofs : List Ty) (of : Ty) (t s : List Slot) → push of s ≡ t → TakesReferences ofs
       → Straight allow functions f code (R ∷ R ∷ s) t → Straight allow functions f code (push_types ofs s) (push of s)
   references code [] of t s e h x = absurd h
@@ -335,6 +388,7 @@ module _ (allow : AllowList) (functions : List FunCode) (f : FunCode) where
       (I ∷ s, pair_passes plain.Same I s refl refl, turned_straight s)
   operator_straight operator.Concat ofs of s h =
       references (i.Plain plain.Concat ∷ []) ofs of (R ∷ s) s (push_text of s h.1) h.0 (only (pair_passes plain.Concat R s refl refl) refl refl)
+  operator_straight (operator.Def o) ofs of s h = dynamic_straight o ofs of s h.0 h.1
   operator_straight other ofs of s h = absurd h
 
   -- ---- casts
@@ -452,11 +506,11 @@ module _ (allow : AllowList) (functions : List FunCode) (f : FunCode) where
       subst (λ j. Passes allow functions f (i.Plain plain.Dup) j (push of (push of s))) (sym once)
       (subst (λ k. Passes allow functions f (i.Plain plain.Dup) (kind_of of ∷ s) k) (sym twice) (dup_passes (kind_of of) s))
 
-  pub before_straight : (gives : Gives) (of : Ty) (s : List Slot) → HasValues of → Straight allow functions f (kept_before gives) (push of s) (push of (kept gives of s))
+  pub before_straight : (gives : Gives) (of : Ty) (s : List Slot) → HasValues of → Straight allow functions f (kept_before 0 gives) (push of s) (push of (kept gives of s))
   before_straight gives.Old of s h = only (copy_passes of s h) refl refl
   before_straight gives.New of s h = refl
 
-  pub behind_straight : (gives : Gives) (of : Ty) (s : List Slot) → HasValues of → Straight allow functions f (kept_behind gives) (push of (kept gives of s)) (push of (push of s))
+  pub behind_straight : (gives : Gives) (of : Ty) (s : List Slot) → HasValues of → Straight allow functions f (kept_behind 0 gives) (push of (kept gives of s)) (push of (push of s))
   behind_straight gives.Old of s h = refl
   behind_straight gives.New of s h = only (copy_passes of s h) refl refl
 

@@ -15,7 +15,7 @@ use Rattle.verifier.specs.Shaped.{Leads, catches}
 use Rattle.code_meaning.specs.Machine.{Handlers}
 use Rattle.object_values.specs.declared.object.Owner.{Owner}
 use Rattle.source_meaning.specs.Falls.{falls, all_fall, any_falls, continues, any_continues, catches_continue}
-use Rattle.source_meaning.specs.Tree.{Name, Expr, Maybe, Missing, Given, Stmt, Do, If, While, DoWhile, ForEach, Try, Block, Break, Continue, Return, Throw, Stmts, Finish, Then, Declare, Catches, NoCatch, Catch, Program, type_of}
+use Rattle.source_meaning.specs.Tree.{Name, Expr, Maybe, Missing, Given, Stmt, Do, If, While, DoWhile, Try, Block, Break, Continue, Return, Throw, Stmts, Finish, Then, Declare, Catches, NoCatch, Catch, Program, type_of}
 use Rattle.compiler_relation.specs.Representation.{Representation, representation_of, result_of}
 use Rattle.compiler_relation.specs.Parts.{default_code, pops}
 use Rattle.compiler_relation.specs.Stands.{Scope, end_expr, goes_on, end_skip, end_dropped, end_update, end_test, end_last, end_value, end_stmt, end_stmts, end_catches, next_stmt, next_stmts, handlers_of, trap_of, traps_stmt, traps_stmts, traps_catches, Jumps, At, HasLocal, SkipAt, DroppedAt, UpdateAt, TestAt, LastAt, ValueAt, StmtAt, StmtsAt, CatchesAt, Compiled}
@@ -461,7 +461,6 @@ module _ {text : Owner} (texts : TextsName) (allow : AllowList) (funs : Program)
     stmt_fits (If c a b) h looped g n j p locals agrees reached stands caught have aims next = if_fits c a b (stmts_fit a) (stmts_fit b) h looped g n j p locals agrees reached stands caught have aims next
     stmt_fits (While test update body) h looped g n j p locals agrees reached stands caught have aims next = while_fits test update body (stmts_fit body) h looped g n j p locals agrees reached stands caught have aims next
     stmt_fits (DoWhile body test) h looped g n j p locals agrees reached stands caught have aims next = do_while_fits body test (stmts_fit body) h looped g n j p locals agrees reached stands caught have aims next
-    stmt_fits (ForEach x at element over body) h looped g n j p locals agrees reached stands caught have aims next = absurd agrees
     stmt_fits (Try body handlers) h looped g n j p locals agrees reached stands caught have aims next = try_fits body handlers (stmts_fit body) (catches_fit handlers) h looped g n j p locals agrees reached stands caught have aims next
     stmt_fits (Block body) h looped g n j p locals agrees reached stands caught have aims next = block_fits body (stmts_fit body) h looped g n j p locals agrees reached stands caught have aims next
     stmt_fits Break h looped g n j p locals agrees reached stands caught have aims next = break_fits h looped g n j p locals agrees reached stands caught have aims next

@@ -11,7 +11,7 @@ use Rattle.pl_code.specs.declared.code.Trap.{Trap}
 use Rattle.allowlist.specs.Allow.{AllowList}
 use Rattle.instruction_types.specs.Types.{catalogue_class}
 use Rattle.source_meaning.specs.Falls.{falls, all_fall}
-use Rattle.source_meaning.specs.Tree.{Maybe, Missing, Given, Stmt, Do, If, While, DoWhile, ForEach, Try, Block, Break, Continue, Return, Throw, Stmts, Finish, Then, Declare, Catches, NoCatch, Catch}
+use Rattle.source_meaning.specs.Tree.{Maybe, Missing, Given, Stmt, Do, If, While, DoWhile, Try, Block, Break, Continue, Return, Throw, Stmts, Finish, Then, Declare, Catches, NoCatch, Catch}
 use Rattle.compiler_relation.specs.Stands.{end_expr, end_skip, end_value, end_returned, end_tried, end_caught, jumps_over, end_stmt, end_stmts, traps_stmt, traps_stmts, traps_catches}
 use Rattle.program_typing.specs.Agreeing.{Known, Scope, StmtAgrees, StmtsAgree, CatchesAgree}
 use Rattle.compiled_shapes.proofs.Lines.{grows, Has, Have, first, rest, cut}
@@ -94,7 +94,6 @@ module _ (allow : AllowList) (functions : List FunCode) (f : FunCode) where
         omega (arith, tests, first_branch, over, second_branch)
     stmt_line p (While test update body) e = absurd (true_is_false e)
     stmt_line p (DoWhile body test) e = absurd (true_is_false e)
-    stmt_line p (ForEach x of element over body) e = absurd (true_is_false e)
     stmt_line p (Try body catches) e =
         let one = skip_line p (end_stmts p body) (all_fall body) (grows (stmts_ends allow functions f p body)) (stmts_line p body) in
         let longer = grows (catches_ends allow functions f (end_tried p body) catches) in
@@ -136,7 +135,6 @@ module _ (allow : AllowList) (functions : List FunCode) (f : FunCode) where
           both shapes (traps_stmts p1 a) (traps_stmts q b) (stmts_traps a looped g p1 agrees.2 d.0) (stmts_traps b looped g q agrees.3 s.1)
       stmt_traps (While test update body) looped g p agrees have = let c = cut (stmts_ends allow functions f (suc p) body) (rest have) in stmts_traps body true g (suc p) agrees.2 c.0
       stmt_traps (DoWhile body test) looped g p agrees have = let c = cut (stmts_ends allow functions f (suc p) body) (rest have) in stmts_traps body true g (suc p) agrees.0 c.0
-      stmt_traps (ForEach x element cast over body) looped g p agrees have = absurd agrees
       stmt_traps (Try body catches) looped g p agrees have =
           let p1 = end_stmts p body in
           let q = end_skip (all_fall body) p1 in

@@ -28,6 +28,7 @@ change_fits = record {
   before = record { takes = refl; representation = refl; asks = tt };
   right = refl;
   after = record { takes = refl; representation = refl; asks = tt };
+  does = tt;
 }
 
 main_stands : FunAt Script (main ∷ []) (code ∷ []) 0 main
@@ -49,10 +50,10 @@ main_stands = record {
         here refl,
         (((entry, record { is = refl }, refl, here refl, tt, tt, (here refl, refl), (here refl, tt), tt, (here refl, tt), here refl, change_fits), (here refl, tt)), tt),
         tt,
-        ((((entry, record { is = refl }, refl, here refl), ((here refl, refl), tt)), (here refl, tt), ((refl, (refl, tt)), refl)), refl),
+        ((((entry, record { is = refl }, refl, here refl), ((here refl, refl), tt)), (here refl, tt), ((refl, (refl, tt)), refl, tt)), refl),
         here refl,
       ),
-      ((((((entry, record { is = refl }, refl, here refl), ((here refl, refl), tt)), (here refl, tt), ((refl, (refl, tt)), refl)), refl), here refl), tt),
+      ((((((entry, record { is = refl }, refl, here refl), ((here refl, refl), tt)), (here refl, tt), ((refl, (refl, tt)), refl, tt)), refl), here refl), tt),
     ),
   );
   ends = tt;

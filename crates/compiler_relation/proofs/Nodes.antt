@@ -1,11 +1,15 @@
 pub mod Operands
+pub mod Dynamic
 pub mod References
 pub mod Casts
 pub mod Exprs
-pub mod Assigns
 pub mod Calls
 pub mod Members
+pub mod Containers
+pub mod Accesses
 pub mod Applies
+pub mod Places
+pub mod Assigns
 pub mod Statements
 pub mod Tries
 pub mod Loops

@@ -1,7 +1,7 @@
 -- Each meaning is done by the code.
 use Rattle.std.proofs.Common.{ℕ, zero, suc}
 use Rattle.run_state.specs.World.{Limits}
-use Rattle.source_meaning.specs.Tree.{Expr, Literal, Quoted, Local, Apply, Guarded, Logic, Conditional, Elvis, Assign, Modify, Lambda, Reference, NewReference, Exprs, None', One, Stmt, Do, If, While, DoWhile, ForEach, Try, Block, Break, Continue, Return, Throw, Stmts, Finish, Then, Declare, Programs}
+use Rattle.source_meaning.specs.Tree.{Expr, Literal, Quoted, Local, Apply, Guarded, Logic, Conditional, Elvis, Assign, Modify, Lambda, Reference, NewReference, Exprs, None', One, Stmt, Do, If, While, DoWhile, Try, Block, Break, Continue, Return, Throw, Stmts, Finish, Then, Declare, Programs}
 use Rattle.code_meaning.specs.Machine.{Codes}
 use Rattle.source_meaning.specs.Meaning.{Meaning, expr_of, exprs_of, stmt_of, stmts_of}
 use Rattle.member_names.specs.Names.{TextsName}
@@ -27,8 +27,8 @@ module _ (funs : Programs) (codes : Codes) (limits : Limits) (made : AreCompiled
     expr_runs (Logic at' of o left right) = logic_runs funs codes limits m ih at' of o left right
     expr_runs (Conditional at' of t a b) = conditional_runs funs codes limits m ih at' of t a b
     expr_runs (Elvis at' of left right) = elvis_runs funs codes limits m ih at' of left right
-    expr_runs (Assign at' of to parts value) = assign_runs funs codes limits m ih reads at' of to parts value
-    expr_runs (Modify at' of to parts change right given) = modify_runs funs codes limits m ih reads at' of to parts change right given
+    expr_runs (Assign at' of to parts value) = assign_runs funs codes limits m ih reads texts made at' of to parts value
+    expr_runs (Modify at' of to parts change right given) = modify_runs funs codes limits m ih reads texts made at' of to parts change right given
     expr_runs (Lambda at' of interface function) = λ c h g p s e l st stands f. record { by = tt }
     expr_runs (Reference at' of interface class name) = λ c h g p s e l st stands f. record { by = tt }
     expr_runs (NewReference at' of interface made') = λ c h g p s e l st stands f. record { by = tt }
@@ -42,7 +42,6 @@ module _ (funs : Programs) (codes : Codes) (limits : Limits) (made : AreCompiled
     stmt_runs (If t a b) = if_runs funs codes limits m ih t a b
     stmt_runs (While test update body) = while_runs funs codes limits m ih test update body
     stmt_runs (DoWhile body test) = do_while_runs funs codes limits m ih body test
-    stmt_runs (ForEach x of element over body) = λ c h g n j p s e l stands under f. record { by = tt }
     stmt_runs (Try body catches) = try_runs funs codes limits m ih body catches
     stmt_runs (Block body) = block_runs funs codes limits m ih body
     stmt_runs Break = break_runs funs codes limits m ih

@@ -1,5 +1,5 @@
 -- The instructions of what is strict: constants, texts, operators, casts.
-use Rattle.std.specs.Prelude.{ℕ, List, [], ◌∷◌, ◌++◌, pos}
+use Rattle.std.specs.Prelude.{ℕ, zero, suc, ◌-◌, ◌/◌, List, [], ◌∷◌, ◌++◌, Option, Some, None, pos, if◌then◌else◌}
 use Rattle.pl_types.specs.declared.primitive.Primitive.{Primitive}
 use Rattle.pl_types.specs.declared.primitive.Primitive.TheVariants as prim
 use Rattle.pl_types.specs.declared.ty.Ty.{Ty, out-Ty}
@@ -9,6 +9,7 @@ use Rattle.pl_types.specs.declared.conversion.Cast.TheVariants as cast
 use Rattle.arithmetic.specs.declared.operator.Op.{Op}
 use Rattle.arithmetic.specs.declared.operator.Op.TheVariants as op
 use Rattle.pl_code.specs.declared.kinds.ArithmeticOp.TheVariants as a
+use Rattle.pl_code.specs.declared.kinds.DynamicOp.TheVariants as dynamic
 use Rattle.pl_code.specs.declared.kinds.Width.{Width}
 use Rattle.pl_code.specs.declared.kinds.Width.TheVariants as width
 use Rattle.pl_code.specs.declared.kinds.Plain.TheVariants as plain
@@ -23,12 +24,15 @@ use Rattle.typed_tree.specs.declared.operation.Operation.{Operation}
 use Rattle.typed_tree.specs.declared.operation.Operation.TheVariants as operation
 use Rattle.typed_tree.specs.declared.operation.Gives.{Gives}
 use Rattle.typed_tree.specs.declared.operation.Gives.TheVariants as gives
+use Rattle.number_ops.specs.Operators.{compares}
+use Rattle.container_ops.specs.Types.{element_of}
 use Rattle.code_meaning.specs.Words.{bit}
 use Rattle.pl_types.specs.declared.classes.TheConstants.{STRING}
 use Rattle.pl_types.specs.declared.ty.Ty.TheVariants as t
 use Rattle.pl_types.specs.Texts.{full_text}
 use Rattle.pl_code.specs.declared.kinds.Quoting.TheVariants as quoting
 use Rattle.pl_code.specs.declared.kinds.Typed.TheVariants as typed
+use Rattle.pl_code.specs.declared.kinds.Sized.TheVariants as sized
 use Rattle.pl_code.specs.declared.kinds.Way.{Way}
 use Rattle.pl_code.specs.declared.kinds.Way.TheVariants as way
 use Rattle.compiler_relation.specs.Representation.{Representation, Unboxed, Boxed, Absent, representation_of}
@@ -96,28 +100,76 @@ boolean_code o = []
 abbrev pub turned_round : List Instruction
 turned_round = i.Int (pos 0) ∷ i.Arithmetic a.Eq width.Int ∷ []
 
+-- of values whose types are found when the script runs; `==` and `!=` of them are those of references
+abbrev pub dynamic_code : Op → List Instruction
+dynamic_code op.Add = i.Dynamic dynamic.Add ∷ []
+dynamic_code op.Sub = i.Dynamic dynamic.Sub ∷ []
+dynamic_code op.Mul = i.Dynamic dynamic.Mul ∷ []
+dynamic_code op.Div = i.Dynamic dynamic.Div ∷ []
+dynamic_code op.Rem = i.Dynamic dynamic.Rem ∷ []
+dynamic_code op.And = i.Dynamic dynamic.And ∷ []
+dynamic_code op.Or = i.Dynamic dynamic.Or ∷ []
+dynamic_code op.Xor = i.Dynamic dynamic.Xor ∷ []
+dynamic_code op.Shl = i.Dynamic dynamic.Shl ∷ []
+dynamic_code op.Shr = i.Dynamic dynamic.Shr ∷ []
+dynamic_code op.Ushr = i.Dynamic dynamic.Ushr ∷ []
+dynamic_code op.Neg = i.Dynamic dynamic.Neg ∷ []
+dynamic_code op.Not = i.Dynamic dynamic.Not ∷ []
+dynamic_code op.Pos = i.Dynamic dynamic.Pos ∷ []
+dynamic_code op.Lt = i.Dynamic dynamic.Lt ∷ []
+dynamic_code op.Le = i.Dynamic dynamic.Le ∷ []
+dynamic_code op.Gt = i.Dynamic dynamic.Gt ∷ []
+dynamic_code op.Ge = i.Dynamic dynamic.Ge ∷ []
+dynamic_code op.Eq = []
+dynamic_code op.Ne = []
+
+-- an operator whose node's type says nothing more
 abbrev pub operator_code : Operator → List Instruction
 operator_code (operator.Int o) = arithmetic_code o width.Int
 operator_code (operator.Long o) = arithmetic_code o width.Long
 operator_code (operator.Boolean o) = boolean_code o
+operator_code (operator.Def o) = dynamic_code o
 operator_code operator.Equal = i.Plain plain.Equal ∷ []
 operator_code operator.NotEqual = i.Plain plain.Equal ∷ turned_round
 operator_code operator.Same = i.Plain plain.Same ∷ []
 operator_code operator.NotSame = i.Plain plain.Same ∷ turned_round
 operator_code operator.Concat = i.Plain plain.Concat ∷ []
+operator_code operator.Length = i.Plain plain.ArrayLength ∷ []
+operator_code operator.Iterate = i.Plain plain.Iter ∷ []
+operator_code operator.HasNext = i.Plain plain.Has ∷ []
+operator_code operator.Next = i.Plain plain.Next ∷ []
 operator_code other = []
 
--- how the operands of an operator are represented, and how what it gives is
+-- An operator of a node of a type, with so many parts. A map has half as many entries as its node has parts.
+abbrev pub typed_code : Operator → Ty → ℕ → List Instruction
+typed_code operator.List of n = i.Numbered numbered.List n ∷ []
+typed_code operator.Map of n = i.Numbered numbered.Map (n / 2) ∷ []
+typed_code operator.NewArray of n = i.Sized sized.Empty (full_text of) n ∷ []
+typed_code operator.ArrayOf of n = i.Sized sized.Filled (full_text (element_of of)) n ∷ []
+typed_code operator.Element of n = i.Typed typed.LoadElement (full_text of) ∷ []
+typed_code operator.PutElement of n = i.Typed typed.StoreElement (full_text of) ∷ []
+typed_code other of n = operator_code other
+
+-- how the operands of an operator are represented, and how what it gives is, where no type of a node tells
 abbrev pub operator_takes : Operator → Representation
-operator_takes operator.Equal = Boxed
-operator_takes operator.NotEqual = Boxed
-operator_takes operator.Same = Boxed
-operator_takes operator.NotSame = Boxed
-operator_takes operator.Concat = Boxed
-operator_takes other = Unboxed
+operator_takes (operator.Int o) = Unboxed
+operator_takes (operator.Long o) = Unboxed
+operator_takes (operator.Boolean o) = Unboxed
+operator_takes operator.NewArray = Unboxed
+operator_takes other = Boxed
+
+abbrev pub dynamic_gives : Op → Representation
+dynamic_gives o = if compares o then Unboxed else Boxed
 
 abbrev pub operator_gives : Operator → Representation
+operator_gives (operator.Def o) = dynamic_gives o
 operator_gives operator.Concat = Boxed
+operator_gives operator.List = Boxed
+operator_gives operator.Map = Boxed
+operator_gives operator.NewArray = Boxed
+operator_gives operator.ArrayOf = Boxed
+operator_gives operator.Iterate = Boxed
+operator_gives operator.Next = Boxed
 operator_gives other = Unboxed
 
 -- ---- casts
@@ -201,41 +253,71 @@ cast_gives other to representation = representation
 
 -- ---- strict operations
 
--- a call of a member leaves null where the member gives nothing
-abbrev pub member_code : Operation → List Instruction
-member_code (operation.Instance m) = i.Invoke m.text ∷ []
-member_code (operation.Static m) = i.Invoke m.text ∷ []
-member_code (operation.Constructor m) = i.New m.text ∷ []
-member_code (operation.Field m) = i.Field m.text ∷ []
-member_code other = []
+-- A call of so many parts, a receiver and its arguments. That of a member leaves null where the member gives nothing.
+abbrev pub member_code : Operation → ℕ → List Instruction
+member_code (operation.Instance m) n = i.Invoke m.text ∷ []
+member_code (operation.Static m) n = i.Invoke m.text ∷ []
+member_code (operation.Constructor m) n = i.New m.text ∷ []
+member_code (operation.Field m) n = i.Field m.text ∷ []
+member_code (operation.DefCall name) n = i.DefCall name (n - 1) ∷ []
+member_code (operation.DefName name) n = i.Quoted quoting.GetName name ∷ []
+member_code other n = []
 
 -- .. which is dropped
 abbrev pub without_null : Representation → List Instruction
 without_null Absent = i.Plain plain.Pop ∷ []
 without_null representation = []
 
--- an operation that gives a value of a type
-abbrev pub operation_code : Operation → Ty → List Instruction
-operation_code (operation.Operator o) of = operator_code o
-operation_code (operation.Cast c) of = cast_code c of
-operation_code (operation.InstanceOf is) of = i.Typed typed.IsA (full_text is) ∷ []
-operation_code (operation.Function k) of = i.Numbered numbered.Call k ∷ []
-operation_code (operation.Instance m) of = i.Invoke m.text ∷ without_null (representation_of of)
-operation_code (operation.Static m) of = i.Invoke m.text ∷ without_null (representation_of of)
-operation_code (operation.Constructor m) of = i.New m.text ∷ without_null (representation_of of)
-operation_code (operation.Field m) of = i.Field m.text ∷ without_null (representation_of of)
-operation_code other of = []
+-- an operation that gives a value of a type, of so many parts
+abbrev pub operation_code : Operation → Ty → ℕ → List Instruction
+operation_code (operation.Operator o) of n = typed_code o of n
+operation_code (operation.Cast c) of n = cast_code c of
+operation_code (operation.InstanceOf is) of n = i.Typed typed.IsA (full_text is) ∷ []
+operation_code (operation.Function k) of n = i.Numbered numbered.Call k ∷ []
+operation_code (operation.Instance m) of n = i.Invoke m.text ∷ without_null (representation_of of)
+operation_code (operation.Static m) of n = i.Invoke m.text ∷ without_null (representation_of of)
+operation_code (operation.Constructor m) of n = i.New m.text ∷ without_null (representation_of of)
+operation_code (operation.Field m) of n = i.Field m.text ∷ without_null (representation_of of)
+operation_code (operation.DefCall name) of n = i.DefCall name (n - 1) ∷ []
+operation_code (operation.DefName name) of n = i.Quoted quoting.GetName name ∷ []
+operation_code operation.DefIndex of n = i.Plain plain.GetIndex ∷ []
+operation_code other of n = []
+
+-- what reads a place of so many parts, if anything does
+abbrev pub read_code : Option Operation → Ty → ℕ → List Instruction
+read_code None of n = []
+read_code (Some read) of n = operation_code read of n
+
+-- what writes a value of a type at a place; what it gives is dropped
+abbrev pub write_code : Operation → Ty → List Instruction
+write_code (operation.Operator operator.PutElement) of = i.Typed typed.StoreElement (full_text of) ∷ []
+write_code (operation.Instance m) of = i.Invoke m.text ∷ i.Plain plain.Pop ∷ []
+write_code (operation.PutDefName name) of = i.Quoted quoting.PutName name ∷ []
+write_code operation.PutDefIndex of = i.Plain plain.PutIndex ∷ []
+write_code other of = []
 
 -- a value that is dropped
 abbrev pub pops : Representation → List Instruction
 pops Absent = []
 pops representation = i.Plain plain.Pop ∷ []
 
--- a value that is kept below a change of it, or behind it
-abbrev pub kept_before : Gives → List Instruction
-kept_before gives.Old = i.Plain plain.Dup ∷ []
-kept_before gives.New = []
+-- a copy of the value on the top, below so many parts of a place
+abbrev pub kept_under : ℕ → List Instruction
+kept_under zero = i.Plain plain.Dup ∷ []
+kept_under (suc zero) = i.Plain plain.DupX1 ∷ []
+kept_under (suc (suc n)) = i.Plain plain.DupX2 ∷ []
 
-abbrev pub kept_behind : Gives → List Instruction
-kept_behind gives.Old = []
-kept_behind gives.New = i.Plain plain.Dup ∷ []
+-- copies of the parts of a place
+abbrev pub copies : ℕ → List Instruction
+copies zero = []
+copies (suc zero) = i.Plain plain.Dup ∷ []
+copies (suc (suc n)) = i.Plain plain.Dup2 ∷ []
+
+-- a value that is kept below a change of it, or behind it, and below so many parts of its place
+abbrev pub kept_before : ℕ → Gives → List Instruction
+kept_before n gives.Old = kept_under n
+kept_before n gives.New = []
+
+abbrev pub kept_behind : ℕ → Gives → List Instruction
+kept_behind n gives.Old = []
+kept_behind n gives.New = kept_under n

@@ -6,7 +6,7 @@ use Rattle.pl_code.specs.declared.kinds.Plain.TheVariants as plain
 use Rattle.pl_code.specs.declared.kinds.Numbered.TheVariants as numbered
 use Rattle.pl_code.specs.declared.code.FunCode.{FunCode}
 use Rattle.pl_code.specs.declared.code.Instruction.TheVariants as i
-use Rattle.source_meaning.specs.Tree.{Stmt, Do, If, While, DoWhile, ForEach, Try, Block, Break, Continue, Return, Throw, Stmts, Finish, Then, Declare, Catches, NoCatch, Catch, Program, type_of}
+use Rattle.source_meaning.specs.Tree.{Stmt, Do, If, While, DoWhile, Try, Block, Break, Continue, Return, Throw, Stmts, Finish, Then, Declare, Catches, NoCatch, Catch, Program, type_of}
 use Rattle.compiler_relation.specs.Representation.{Representation, Unboxed, Boxed, Absent, representation_of}
 use Rattle.compiler_relation.specs.Stands.{Scope, At, ExprAt, all_fall, goes_on, end_expr, end_skip, end_update, end_test, end_last, end_value, end_returned, end_stmt, end_stmts, end_tried, end_caught, next_stmt, next_stmts, jumps_over, Jumps, no_jumps, HasLocal, SkipAt, DroppedAt, UpdateAt, TestAt, LastAt, ValueAt, ReturnedAt, StmtsAt, EndAt, traps_stmts}
 
@@ -36,7 +36,6 @@ abbrev mutual
       × LastAt funs f [] g (goes_on body) (end_stmts (suc p) body) test (end_stmt p (DoWhile body test))
       × At f [] (end_last (goes_on body) (end_stmts (suc p) body) test) (i.Int (pos 1))
       × At f [] (suc (end_last (goes_on body) (end_stmts (suc p) body) test)) (i.Numbered numbered.Loop (suc p))
-  StmtIn funs f k g n j p (ForEach x of element over body) = Unit {0}
   StmtIn funs f k g n j p (Try body catches) =
       StmtsIn funs f k g n j p body
       × SkipAt f [] (all_fall body) (end_stmts p body) (end_stmt p (Try body catches))

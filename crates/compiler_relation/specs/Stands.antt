@@ -1,6 +1,6 @@
 -- How a program becomes code: which instructions stand at which lines of a function, part by part. A scope has the names in sight, the
 -- newest first, each with its type and the number of its local. Lines and numbers of locals are threaded through the parts.
-use Rattle.std.specs.Prelude.{◌≡◌, ◌≢◌, ℕ, suc, ◌++◌, ◌||◌, Bool, true, false, List, [], ◌∷◌, map, length, Option, Some, None, slice_get, pos, if◌then◌else◌}
+use Rattle.std.specs.Prelude.{◌≡◌, ◌≢◌, ℕ, suc, ◌*◌, ◌/◌, ◌++◌, ◌||◌, Bool, true, false, List, [], ◌∷◌, map, length, Option, Some, None, slice_get, pos, if◌then◌else◌}
 use Rattle.std.specs.Str.{bytes_eq}
 use Rattle.pl_types.specs.declared.ty.Ty.{Ty}
 use Rattle.pl_types.specs.declared.ty.Ty.TheVariants as t
@@ -22,13 +22,18 @@ use Rattle.member_names.specs.Names.{text_of}
 use Rattle.typed_tree.specs.declared.operation.Member.{Member}
 use Rattle.typed_tree.specs.declared.operation.Operation.{Operation}
 use Rattle.typed_tree.specs.declared.operation.Operation.TheVariants as operation
+use Rattle.typed_tree.specs.declared.operation.Operator.{Operator}
+use Rattle.typed_tree.specs.declared.operation.Operator.TheVariants as operator
+use Rattle.arithmetic.specs.declared.operator.Op.{Op}
+use Rattle.arithmetic.specs.declared.operator.Op.TheVariants as op
+use Rattle.container_ops.specs.Types.{element_of}
 use Rattle.typed_tree.specs.declared.operation.Logical.{Logical}
 use Rattle.typed_tree.specs.declared.operation.Logical.TheVariants.{And, Or}
 use Rattle.typed_tree.specs.declared.operation.Target.TheVariants as target
 use Rattle.typed_tree.specs.declared.operation.Change.{Change}
 use Rattle.typed_tree.specs.declared.operation.Gives.{Gives}
 pub use Rattle.source_meaning.specs.Falls.{falls, all_fall, continues, any_continues}
-use Rattle.source_meaning.specs.Tree.{Name, Expr, Literal, Quoted, Local, Apply, Guarded, Logic, Conditional, Elvis, Assign, Modify, Lambda, Reference, NewReference, Exprs, None', One, Maybe, Missing, Given, Stmt, Do, If, While, DoWhile, ForEach, Try, Block, Break, Continue, Return, Throw, Stmts, Finish, Then, Declare, Catches, NoCatch, Catch, Variable, Fun, Program, Programs, type_of}
+use Rattle.source_meaning.specs.Tree.{Name, Expr, Literal, Quoted, Local, Apply, Guarded, Logic, Conditional, Elvis, Assign, Modify, Lambda, Reference, NewReference, Exprs, None', One, Maybe, Missing, Given, Stmt, Do, If, While, DoWhile, Try, Block, Break, Continue, Return, Throw, Stmts, Finish, Then, Declare, Catches, NoCatch, Catch, Variable, Fun, Program, Programs, type_of}
 use Rattle.object_values.specs.declared.object.Owner.{Owner}
 use Rattle.object_values.specs.declared.object.Owner.TheVariants.{Script, Prelude}
 use Rattle.run_state.specs.World.{has_loop_limit}
@@ -37,7 +42,7 @@ use Rattle.compiler_relation.specs.Representation.{Representation, Unboxed, Boxe
 use Rattle.pl_types.specs.declared.conversion.Cast.{Cast}
 use Rattle.pl_types.specs.declared.conversion.Cast.TheVariants as cast
 use Rattle.pl_types.specs.Texts.{is_known}
-use Rattle.compiler_relation.specs.Parts.{constant_code, text_code, default_code, operator_code, operator_takes, operator_gives, cast_code, cast_takes, cast_gives, operation_code, member_code, without_null, pops, kept_before, kept_behind}
+use Rattle.compiler_relation.specs.Parts.{constant_code, text_code, default_code, operator_code, operator_takes, operator_gives, cast_code, cast_takes, cast_gives, operation_code, read_code, write_code, member_code, without_null, pops, kept_under, copies, kept_before, kept_behind}
 
 pub record Entry : Type 0 where
   pub name : Name
@@ -73,12 +78,24 @@ end_all line (one ∷ more) = end_all (suc line) more
 
 -- ---- where a part's code ends
 
--- of a change of a variable of a type: where its right side begins, and the line of the write behind it
-abbrev pub change_first : Gives → Change → Ty → ℕ → ℕ
-change_first gives change of p = end_all (end_all (suc p) (kept_before gives)) (cast_code change.before of)
+-- how parts are represented
+abbrev pub representations : Exprs → List Representation
+representations None' = []
+representations (One a others) = representation_of (type_of a) ∷ representations others
 
-abbrev pub change_last : Gives → Change → Ty → ℕ → ℕ
-change_last gives change of q = end_all (end_all (end_all q (operator_code change.operator)) (cast_code change.after of)) (kept_behind gives)
+abbrev pub count : Exprs → ℕ
+count parts = length (representations parts)
+
+-- of a change of what is read, behind so many parts of its place: where its right side begins, and the line of the write behind it
+abbrev pub change_first : ℕ → Gives → Change → Ty → ℕ → ℕ
+change_first n gives change of q = end_all (end_all q (kept_before n gives)) (cast_code change.before of)
+
+abbrev pub change_last : ℕ → Gives → Change → Ty → ℕ → ℕ
+change_last n gives change of q = end_all (end_all (end_all q (operator_code change.operator)) (cast_code change.after of)) (kept_behind n gives)
+
+-- where a place is read whose parts stand before a line
+abbrev pub end_read : ℕ → Option Operation → Ty → ℕ → ℕ
+end_read n read of q = end_all (end_all q (copies n)) (read_code read of n)
 
 -- of an elvis: where its right side begins, behind the jumps and the null that is dropped
 abbrev pub elvis_right : ℕ → ℕ
@@ -89,14 +106,20 @@ abbrev mutual
   end_expr p (Literal at of c) = suc p
   end_expr p (Quoted at of text) = suc p
   end_expr p (Local at of x) = suc p
-  end_expr p (Apply at of o parts) = end_all (end_exprs p parts) (operation_code o of)
+  end_expr p (Apply at of o parts) = end_all (end_exprs p parts) (operation_code o of (count parts))
   end_expr p (Guarded at of o None') = p
-  end_expr p (Guarded at of o (One a others)) = end_all (end_all (end_exprs (suc (suc (end_expr p a))) others) (member_code o)) (without_null (representation_of of))
+  end_expr p (Guarded at of o (One a others)) = end_all (end_all (end_exprs (suc (suc (end_expr p a))) others) (member_code o (suc (count others)))) (without_null (representation_of of))
   end_expr p (Logic at of o left right) = suc (suc (end_expr (suc (end_expr p left)) right))
   end_expr p (Conditional at of c a b) = end_expr (suc (end_expr (suc (end_expr p c)) a)) b
   end_expr p (Elvis at of left right) = end_expr (elvis_right (end_expr p left)) right
-  end_expr p (Assign at of to parts value) = suc (suc (end_expr p value))
-  end_expr p (Modify at of to parts change right gives) = suc (change_last gives change of (end_expr (change_first gives change of p) right))
+  end_expr p (Assign at of (target.Local x) parts value) = suc (suc (end_expr p value))
+  end_expr p (Assign at of (target.Place read write) parts value) =
+      end_all (end_all (end_expr (end_exprs p parts) value) (kept_under (count parts))) (write_code write of)
+  end_expr p (Modify at of (target.Local x) parts change right gives) =
+      suc (change_last 0 gives change of (end_expr (change_first 0 gives change of (suc p)) right))
+  end_expr p (Modify at of (target.Place read write) parts change right gives) =
+      end_all (change_last (count parts) gives change of
+      (end_expr (change_first (count parts) gives change of (end_read (count parts) read of (end_exprs p parts))) right)) (write_code write of)
   end_expr p (Lambda at of interface function) = p
   end_expr p (Reference at of interface class name) = p
   end_expr p (NewReference at of interface made) = p
@@ -106,10 +129,6 @@ abbrev mutual
   end_exprs p (One a others) = end_exprs (end_expr p a) others
 
 -- ---- expressions
-
-abbrev pub representations : Exprs → List Representation
-representations None' = []
-representations (One a others) = representation_of (type_of a) ∷ representations others
 
 -- all parts are represented alike
 abbrev pub AllRepresented : Representation → List Representation → Type 0
@@ -143,16 +162,47 @@ pub record MemberFits (kind : MemberKind) (m : Member) (ks : List Representation
   pub parts : ks ≡ with_receiver kind (map representation_of member.params)
   pub gives : representation_of of ≡ representation_of member.result
 
--- of a call that a null receiver leaves out: the same, and it gives no number
-pub record GuardFits (o : Operation) (ks : List Representation) (of : Ty) : Type 0 where
-  pub member : Member
-  pub is : o ≡ operation.Instance member
-  pub fits : MemberFits kind.Instance member ks of
-  pub whole : representation_of of ≢ Unboxed
+-- ---- operators
+
+-- `==` and `!=` are no operators on values of any types
+abbrev pub IsDynamic : Op → Type 0
+IsDynamic op.Eq = ⊥
+IsDynamic op.Ne = ⊥
+IsDynamic o = Unit {0}
+
+abbrev pub HasCode : Operator → Type 0
+HasCode (operator.Def o) = IsDynamic o
+HasCode other = Unit {0}
+
+-- the type of elements that code reads, writes or puts into an array: one of the catalogue that has values
+pub record IsElement (of : Ty) : Type 0 where
+  pub known : is_known of ≡ true
+  pub present : representation_of of ≢ Absent
+
+-- what an operator of a node of a type asks for besides, of so many parts
+abbrev pub Asks : Operator → Ty → ℕ → Type 0
+Asks operator.Map of n = (2 * (n / 2)) ≡ n
+Asks operator.NewArray of n = is_known of ≡ true
+Asks other of n = HasCode other
+
+-- How the parts of an operator of a node of a type are represented, and what it gives. What writes an element gives nothing, so that it is
+-- no node.
+abbrev pub OperatorFits : Operator → List Representation → Ty → Type 0
+OperatorFits operator.ArrayOf ks of = AllRepresented (representation_of (element_of of)) ks × (representation_of of ≡ Boxed) × IsElement (element_of of)
+OperatorFits operator.Element ks of = (ks ≡ Boxed ∷ Unboxed ∷ []) × IsElement of
+OperatorFits operator.PutElement ks of = ⊥
+OperatorFits o ks of = AllRepresented (operator_takes o) ks × (representation_of of ≡ operator_gives o) × Asks o of (length ks)
+
+-- ---- operations
+
+-- a call has a receiver
+abbrev pub HasReceiver : List Representation → Type 0
+HasReceiver [] = ⊥
+HasReceiver (k ∷ ks) = Unit {0}
 
 -- how the parts of an operation are represented, and what it gives, which is of a type
 abbrev pub Fitting : Program → Operation → List Representation → Ty → Type 0
-Fitting funs (operation.Operator o) ks of = AllRepresented (operator_takes o) ks × (representation_of of ≡ operator_gives o)
+Fitting funs (operation.Operator o) ks of = OperatorFits o ks of
 Fitting funs (operation.Cast c) (given ∷ []) of = CastFits c of given (representation_of of)
 Fitting funs (operation.Cast c) other of = Unit {0}
 Fitting funs (operation.InstanceOf is) ks of = AllRepresented Boxed ks × (representation_of of ≡ Unboxed) × (is_known is ≡ true)
@@ -162,14 +212,59 @@ Fitting funs (operation.Instance m) ks of = MemberFits kind.Instance m ks of
 Fitting funs (operation.Static m) ks of = MemberFits kind.Static m ks of
 Fitting funs (operation.Constructor m) ks of = MemberFits kind.Constructor m ks of
 Fitting funs (operation.Field m) ks of = MemberFits kind.Field m ks of
-Fitting funs other ks of = Unit {0}
+Fitting funs (operation.DefCall name) ks of = HasReceiver ks × AllRepresented Boxed ks × (representation_of of ≡ Boxed)
+Fitting funs (operation.DefName name) ks of = AllRepresented Boxed ks × (representation_of of ≡ Boxed)
+Fitting funs operation.DefIndex ks of = AllRepresented Boxed ks × (representation_of of ≡ Boxed)
+Fitting funs other ks of = ⊥
 
--- A change of a variable of a type: its value is cast to what the operator takes, and what that gives back to what the variable holds.
+-- what a null receiver may leave out
+abbrev pub MayBeLeft : Operation → Type 0
+MayBeLeft (operation.Instance m) = Unit {0}
+MayBeLeft (operation.DefCall name) = Unit {0}
+MayBeLeft (operation.DefName name) = Unit {0}
+MayBeLeft other = ⊥
+
+-- a call that a null receiver leaves out gives no number
+pub record GuardFits (funs : Program) (o : Operation) (ks : List Representation) (of : Ty) : Type 0 where
+  pub sort : MayBeLeft o
+  pub fits : Fitting funs o ks of
+  pub whole : representation_of of ≢ Unboxed
+
+-- what reads a place, which a compound assignment has
+abbrev pub ReadFits : Program → Option Operation → List Representation → Ty → Type 0
+ReadFits funs None ks of = ⊥
+ReadFits funs (Some read) ks of = Fitting funs read ks of
+
+-- A member that writes takes the parts of its place, and behind them a value of a type. What it gives is dropped.
+pub record MemberWrites (m : Member) (ks : List Representation) (of : Ty) : Type 0 where
+  pub given : Ty
+  pub fits : MemberFits kind.Instance m (ks ++ representation_of of ∷ []) given
+
+abbrev pub WriteFits : Operation → List Representation → Ty → Type 0
+WriteFits (operation.Operator operator.PutElement) ks of = (ks ≡ Boxed ∷ Unboxed ∷ []) × (is_known of ≡ true)
+WriteFits (operation.Instance m) ks of = MemberWrites m ks of
+WriteFits (operation.PutDefName name) ks of = AllRepresented Boxed ks × (representation_of of ≡ Boxed)
+WriteFits operation.PutDefIndex ks of = AllRepresented Boxed ks × (representation_of of ≡ Boxed)
+WriteFits other ks of = ⊥
+
+abbrev pub AreOneOrTwo : List Representation → Type 0
+AreOneOrTwo (k ∷ []) = Unit {0}
+AreOneOrTwo (k ∷ j ∷ []) = Unit {0}
+AreOneOrTwo others = ⊥
+
+-- A place of one part or two, at which values of a type are written.
+pub record PlaceFits (write : Operation) (ks : List Representation) (of : Ty) : Type 0 where
+  pub present : representation_of of ≢ Absent
+  pub few : AreOneOrTwo ks
+  pub writes : WriteFits write ks of
+
+-- A change of a value of a type: it is cast to what the operator takes, and what that gives is cast back.
 pub record ChangeFits (change : Change) (of : Ty) (operand : Representation) : Type 0 where
   pub present : representation_of of ≢ Absent
   pub before : CastFits change.before of (representation_of of) (operator_takes change.operator)
   pub right : operand ≡ operator_takes change.operator
   pub after : CastFits change.after of (operator_gives change.operator) (representation_of of)
+  pub does : HasCode change.operator
 
 -- the value of the left side that settles the whole, and the jump to it
 abbrev pub settled : Logical → Instruction
@@ -190,16 +285,16 @@ abbrev mutual
   ExprAt funs f h g p (Quoted at of text) = At f h p (text_code text) × (representation_of of ≡ Boxed)
   ExprAt funs f h g p (Local at of x) = (y : Entry) × IsEntry g x y × (representation_of of ≡ representation_of y.of) × At f h p (i.Numbered numbered.Load y.local)
   ExprAt funs f h g p (Apply at of o parts) =
-      ExprsAt funs f h g p parts × AllAt f h (end_exprs p parts) (operation_code o of) × Fitting funs o (representations parts) of
+      ExprsAt funs f h g p parts × AllAt f h (end_exprs p parts) (operation_code o of (count parts)) × Fitting funs o (representations parts) of
   ExprAt funs f h g p (Guarded at of o None') = Unit {0}
   ExprAt funs f h g p (Guarded at of o (One a others)) =
       ExprAt funs f h g p a
       × At f h (end_expr p a) (i.Plain plain.Dup)
-      × At f h (suc (end_expr p a)) (i.Numbered numbered.IfNull (end_all (end_exprs (suc (suc (end_expr p a))) others) (member_code o)))
+      × At f h (suc (end_expr p a)) (i.Numbered numbered.IfNull (end_all (end_exprs (suc (suc (end_expr p a))) others) (member_code o (suc (count others)))))
       × ExprsAt funs f h g (suc (suc (end_expr p a))) others
-      × AllAt f h (end_exprs (suc (suc (end_expr p a))) others) (member_code o)
-      × AllAt f h (end_all (end_exprs (suc (suc (end_expr p a))) others) (member_code o)) (without_null (representation_of of))
-      × GuardFits o (representation_of (type_of a) ∷ representations others) of
+      × AllAt f h (end_exprs (suc (suc (end_expr p a))) others) (member_code o (suc (count others)))
+      × AllAt f h (end_all (end_exprs (suc (suc (end_expr p a))) others) (member_code o (suc (count others)))) (without_null (representation_of of))
+      × GuardFits funs o (representation_of (type_of a) ∷ representations others) of
   ExprAt funs f h g p (Logic at of o left right) =
       ExprAt funs f h g p left
       × At f h (end_expr p left) (settles o (suc (end_expr (suc (end_expr p left)) right)))
@@ -226,19 +321,43 @@ abbrev mutual
       ExprAt funs f h g p value
       × At f h (end_expr p value) (i.Plain plain.Dup)
       × ((y : Entry) × IsEntry g x y × (representation_of (type_of value) ≡ representation_of y.of) × (representation_of of ≡ representation_of y.of) × At f h (suc (end_expr p value)) (i.Numbered numbered.Store y.local))
-  ExprAt funs f h g p (Assign at of other parts value) = Unit {0}
+  ExprAt funs f h g p (Assign at of (target.Place read write) parts value) =
+      ExprsAt funs f h g p parts
+      × ExprAt funs f h g (end_exprs p parts) value
+      × AllAt f h (end_expr (end_exprs p parts) value) (kept_under (count parts))
+      × AllAt f h (end_all (end_expr (end_exprs p parts) value) (kept_under (count parts))) (write_code write of)
+      × (representation_of (type_of value) ≡ representation_of of)
+      × PlaceFits write (representations parts) of
   ExprAt funs f h g p (Modify at of (target.Local x) parts change right gives) =
       (y : Entry) × IsEntry g x y × (representation_of y.of ≡ representation_of of)
       × At f h p (i.Numbered numbered.Load y.local)
-      × AllAt f h (suc p) (kept_before gives)
-      × AllAt f h (end_all (suc p) (kept_before gives)) (cast_code change.before of)
-      × ExprAt funs f h g (change_first gives change of p) right
-      × AllAt f h (end_expr (change_first gives change of p) right) (operator_code change.operator)
-      × AllAt f h (end_all (end_expr (change_first gives change of p) right) (operator_code change.operator)) (cast_code change.after of)
-      × AllAt f h (end_all (end_all (end_expr (change_first gives change of p) right) (operator_code change.operator)) (cast_code change.after of)) (kept_behind gives)
-      × At f h (change_last gives change of (end_expr (change_first gives change of p) right)) (i.Numbered numbered.Store y.local)
+      × AllAt f h (suc p) (kept_before 0 gives)
+      × AllAt f h (end_all (suc p) (kept_before 0 gives)) (cast_code change.before of)
+      × ExprAt funs f h g (change_first 0 gives change of (suc p)) right
+      × AllAt f h (end_expr (change_first 0 gives change of (suc p)) right) (operator_code change.operator)
+      × AllAt f h (end_all (end_expr (change_first 0 gives change of (suc p)) right) (operator_code change.operator)) (cast_code change.after of)
+      × AllAt f h (end_all (end_all (end_expr (change_first 0 gives change of (suc p)) right) (operator_code change.operator)) (cast_code change.after of))
+      (kept_behind 0 gives)
+      × At f h (change_last 0 gives change of (end_expr (change_first 0 gives change of (suc p)) right)) (i.Numbered numbered.Store y.local)
       × ChangeFits change of (representation_of (type_of right))
-  ExprAt funs f h g p (Modify at of other parts change right gives) = Unit {0}
+  ExprAt funs f h g p (Modify at of (target.Place read write) parts change right gives) =
+      ExprsAt funs f h g p parts
+      × AllAt f h (end_exprs p parts) (copies (count parts))
+      × AllAt f h (end_all (end_exprs p parts) (copies (count parts))) (read_code read of (count parts))
+      × AllAt f h (end_read (count parts) read of (end_exprs p parts)) (kept_before (count parts) gives)
+      × AllAt f h (end_all (end_read (count parts) read of (end_exprs p parts)) (kept_before (count parts) gives)) (cast_code change.before of)
+      × ExprAt funs f h g (change_first (count parts) gives change of (end_read (count parts) read of (end_exprs p parts))) right
+      × AllAt f h (end_expr (change_first (count parts) gives change of (end_read (count parts) read of (end_exprs p parts))) right)
+      (operator_code change.operator)
+      × AllAt f h (end_all (end_expr (change_first (count parts) gives change of (end_read (count parts) read of (end_exprs p parts))) right)
+      (operator_code change.operator)) (cast_code change.after of)
+      × AllAt f h (end_all (end_all (end_expr (change_first (count parts) gives change of (end_read (count parts) read of (end_exprs p parts))) right)
+      (operator_code change.operator)) (cast_code change.after of)) (kept_behind (count parts) gives)
+      × AllAt f h (change_last (count parts) gives change of
+      (end_expr (change_first (count parts) gives change of (end_read (count parts) read of (end_exprs p parts))) right)) (write_code write of)
+      × ChangeFits change of (representation_of (type_of right))
+      × ReadFits funs read (representations parts) of
+      × PlaceFits write (representations parts) of
   ExprAt funs f h g p (Lambda at of interface function) = Unit {0}
   ExprAt funs f h g p (Reference at of interface class name) = Unit {0}
   ExprAt funs f h g p (NewReference at of interface made) = Unit {0}
@@ -299,7 +418,6 @@ abbrev mutual
   end_stmt p (If c a b) = end_stmts (end_skip (all_fall a) (end_stmts (suc (end_expr p c)) a)) b
   end_stmt p (While test update body) = suc (end_test (end_update (goes_on body) (end_stmts (suc p) body) update) test)
   end_stmt p (DoWhile body test) = suc (suc (end_last (goes_on body) (end_stmts (suc p) body) test))
-  end_stmt p (ForEach x of element over body) = p
   end_stmt p (Try body catches) = end_catches (end_skip (all_fall body) (end_stmts p body)) catches
   end_stmt p (Block body) = end_stmts p body
   end_stmt p Break = suc p
@@ -331,7 +449,6 @@ abbrev mutual
   next_stmt n (If c a b) = next_stmts (next_stmts n a) b
   next_stmt n (While test update body) = next_stmts n body
   next_stmt n (DoWhile body test) = next_stmts n body
-  next_stmt n (ForEach x of element over body) = n
   next_stmt n (Try body catches) = next_catches (next_stmts n body) catches
   next_stmt n (Block body) = next_stmts n body
   next_stmt n Break = n
@@ -366,7 +483,6 @@ abbrev mutual
   traps_stmt p (If c a b) = traps_stmts (suc (end_expr p c)) a ++ traps_stmts (end_skip (all_fall a) (end_stmts (suc (end_expr p c)) a)) b
   traps_stmt p (While test update body) = traps_stmts (suc p) body
   traps_stmt p (DoWhile body test) = traps_stmts (suc p) body
-  traps_stmt p (ForEach x of element over body) = []
   traps_stmt p (Try body catches) = traps_stmts p body ++ traps_catches p (end_tried p body) (end_tried p body) catches
   traps_stmt p (Block body) = traps_stmts p body
   traps_stmt p Break = []
@@ -448,7 +564,6 @@ abbrev mutual
       × LastAt funs f h g (goes_on body) (end_stmts (suc p) body) test (end_stmt p (DoWhile body test))
       × At f h (end_last (goes_on body) (end_stmts (suc p) body) test) (i.Int (pos 1))
       × At f h (suc (end_last (goes_on body) (end_stmts (suc p) body) test)) (i.Numbered numbered.Loop (suc p))
-  StmtAt funs f h k g n j p (ForEach x of element over body) = Unit {0}
   StmtAt funs f h k g n j p (Try body catches) =
       StmtsAt funs f (handlers_of (end_tried p body) catches ++ h) k g n j p body
       × SkipAt f (handlers_of (end_tried p body) catches ++ h) (all_fall body) (end_stmts p body) (end_stmt p (Try body catches))

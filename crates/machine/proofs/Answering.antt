@@ -9,7 +9,7 @@ use Rattle.code_meaning.specs.declared.word.Word.{Word}
 use Rattle.code_meaning.specs.declared.word.Word.TheVariants.{R}
 use Rattle.code_meaning.specs.Words.{unboxed}
 use Rattle.machine.specs.Rows.{bare}
-use Rattle.code_meaning.specs.Machine.{Frame, Ends, Stuck, to_line, on_outcome, on_thrown, unwind, Codes}
+use Rattle.code_meaning.specs.Machine.{Frame, Ends, Stuck, to_line, on_done, on_outcome, on_thrown, unwind, Codes}
 
 acts_given : (w : World) (value : Value) (store : Store) → acts_in w (Gives value store) ≡ Given value (with_store w store)
 unfolding acts_in
@@ -70,3 +70,14 @@ module _ (codes : Codes) (limits : Limits) (f : Frame) (below : List Frame) (w :
 
   pub filled_on : (old : World) → effect ≡ NoRoom → on_thrown codes limits (acts_in w effect) f below old ≡ Ends (Limited Room old)
   filled_on old e = ap (λ e. on_thrown codes limits (acts_in w e) f below old) e ∙ ap (λ o. on_thrown codes limits o f below old) (acts_full w)
+
+-- what is given and dropped
+module _ (codes : Codes) (limits : Limits) (f : Frame) (below : List Frame) (w : World) (stack : List Word) (effect : Effect) where
+  pub dropped : (old : World) (value : Value) (store : Store) → effect ≡ Gives value store → on_done codes limits (acts_in w effect) f below old stack ≡ to_line f below (with_store w store) (suc f.line) stack
+  dropped old value store e = ap (λ e. on_done codes limits (acts_in w e) f below old stack) e ∙ ap (λ o. on_done codes limits o f below old stack) (acts_given w value store)
+
+  pub dropped_threw : (old : World) (id : ℕ) (store : Store) → effect ≡ Throws id store → on_done codes limits (acts_in w effect) f below old stack ≡ unwind codes (f ∷ below) id (with_store w store)
+  dropped_threw old id store e = ap (λ e. on_done codes limits (acts_in w e) f below old stack) e ∙ ap (λ o. on_done codes limits o f below old stack) (acts_raised w id store)
+
+  pub dropped_filled : (old : World) → effect ≡ NoRoom → on_done codes limits (acts_in w effect) f below old stack ≡ Ends (Limited Room old)
+  dropped_filled old e = ap (λ e. on_done codes limits (acts_in w e) f below old stack) e ∙ ap (λ o. on_done codes limits o f below old stack) (acts_full w)

@@ -1,5 +1,5 @@
 -- A turn pays a tick, so that the turns of each frame and the ticks that are left stay within 64 bits together.
-use Rattle.std.proofs.Common.{◌≡◌, ℕ, ℤ, zero, suc, ◌+◌, ◌-◌, ◌<◌, ◌^◌, ◌||◌, Bool, true, false, List, [], ◌∷◌, Option, Some, None, refl, sym, subst, arith}
+use Rattle.std.proofs.Common.{◌≡◌, ℕ, ℤ, zero, suc, ◌+◌, ◌-◌, ◌*◌, ◌<◌, ◌^◌, ◌||◌, Bool, true, false, List, [], ◌∷◌, Option, Some, None, refl, sym, subst, arith}
 use Rattle.std.specs.Prelude.{slice_get, nat_lt, not, if◌then◌else◌}
 use Rattle.std.proofs.lemmas.Bool.{ltb-true}
 use Rattle.pl_types.specs.declared.ty.Ty.{Ty}
@@ -14,9 +14,14 @@ use Rattle.allowlist.specs.declared.member.MemberType.{MemberType}
 use Rattle.allowlist.specs.Index.{member_at}
 use Rattle.instruction_types.specs.Members.{method_of, constructor_of, field_of}
 use Rattle.member_calls.specs.Members.{does}
+use Rattle.container_ops.specs.Elements.{element_read, element_written, length_of}
+use Rattle.container_ops.specs.Loops.{has_more, iterated, next_element}
+use Rattle.container_ops.specs.Making.{array_filled, array_made, list_made, map_made}
+use Rattle.def_access.specs.Access.{Access, Calls, Acts, index_read, index_written, method_called, name_read, name_written}
+use Rattle.arithmetic.specs.declared.operator.Op.{Op}
 use Rattle.number_ops.specs.Outcomes.{effect, zero_divisor, null_error}
 use Rattle.number_ops.specs.Casts.{cast_at_run_time}
-use Rattle.number_ops.specs.Operators.{concatenated}
+use Rattle.number_ops.specs.Operators.{concatenated, is_unary, operate}
 use Rattle.number_ops.specs.Relations.{equal, thrown}
 use Rattle.pl_code.specs.declared.kinds.Plain.{Plain}
 use Rattle.pl_code.specs.declared.kinds.Plain.TheVariants as plain
@@ -26,6 +31,8 @@ use Rattle.pl_code.specs.declared.kinds.Quoting.{Quoting}
 use Rattle.pl_code.specs.declared.kinds.Quoting.TheVariants as quoting
 use Rattle.pl_code.specs.declared.kinds.Typed.{Typed}
 use Rattle.pl_code.specs.declared.kinds.Typed.TheVariants as typed
+use Rattle.pl_code.specs.declared.kinds.Sized.{Sized}
+use Rattle.pl_code.specs.declared.kinds.Sized.TheVariants as sized
 use Rattle.pl_code.specs.declared.kinds.Slot.{Slot}
 use Rattle.pl_code.specs.declared.code.FunCode.{FunCode}
 use Rattle.pl_code.specs.declared.code.Instruction.{Instruction}
@@ -34,10 +41,10 @@ use Rattle.run_state.specs.Calls.{suits_member, wrong_class}
 use Rattle.run_state.specs.World.{World, Limits, Outcome, Given, Raised, Full, acts_in, Counted, Counts, Passes, Ticks, Loop, Depth, allowed_in, pay_tick, take_turn, goes_deeper, enter, reach, reaches, pay_member}
 use Rattle.code_meaning.specs.declared.word.Word.{Word}
 use Rattle.code_meaning.specs.declared.word.Word.TheVariants.{I, J, R}
-use Rattle.code_meaning.specs.Members.{Receiving, Unfit, OnNull, Receives, Reads, count_of, given_as, received}
-use Rattle.code_meaning.specs.Words.{Calculation, NoRow, Calculates, boxed, calculation, unboxed}
-use Rattle.code_meaning.specs.Machine.{Codes, code_in, function_of, Frame, Config, Next, Goes, Ends, Stuck, Handlers, is_instance, lands, traps_of, unwind, on_top, on_int, on_reference, on_value, on_local, on_stack, on_words, to_line, take_words, copied, depth_of, is_written, on_outcome, on_thrown, on_calculation, gives_back, returns, returns_of, on_turn, on_enter, on_call, on_act, on_paid, on_tested, on_received, plain_act, numbered_act, quoted_act, typed_act, member_act, act, acts, lines_of, step, after}
-use Rattle.code_fit.proofs.Nexts.{int_holds, long_holds, type_holds, loops_hold, either_holds, null_holds}
+use Rattle.code_meaning.specs.Members.{Receiving, Unfit, OnNull, Receives, Reads, count_of, given_as, ints_in, received, references_in, taken, taken_alike}
+use Rattle.code_meaning.specs.Words.{Calculation, NoRow, Calculates, boxed, calculation, op_of_dynamic, unboxed}
+use Rattle.code_meaning.specs.Machine.{Codes, code_in, function_of, Frame, Config, Next, Goes, Ends, Stuck, Handlers, is_instance, lands, traps_of, unwind, on_top, on_int, on_reference, on_value, on_values, on_first, on_local, on_stack, on_words, to_line, take_words, copied, depth_of, is_written, on_outcome, on_done, on_found, on_found_paid, on_access, on_put, on_put_paid, on_write, dynamic_given, operator_act, sized_act, method_act, on_thrown, on_calculation, gives_back, returns, returns_of, on_turn, on_enter, on_call, on_act, on_paid, on_tested, on_received, plain_act, numbered_act, quoted_act, typed_act, member_act, act, acts, lines_of, step, after}
+use Rattle.code_fit.proofs.Nexts.{int_holds, long_holds, type_holds, ints_hold, loops_hold, chosen_holds, either_holds, null_holds}
 use Rattle.machine.specs.Fast.{Leads}
 use Rattle.machine.specs.Runs.{TurnsFit, CountsFit}
 
@@ -137,6 +144,14 @@ words_fit : (o : Option (List Word × List Word)) (next : List Word → List Wor
 words_fit None next k = tt
 words_fit (Some p) next k = k p.0 p.1
 
+values_fit : (o : Option (List Value)) (next : List Value → Next) → ((values : List Value) → NextFits (next values)) → NextFits (on_values o next)
+values_fit None next k = tt
+values_fit (Some values) next k = k values
+
+first_fits : (values : List Value) (next : Value → List Value → Next) → ((value : Value) (others : List Value) → NextFits (next value others)) → NextFits (on_first values next)
+first_fits [] next k = tt
+first_fits (value ∷ values) next k = k value values
+
 module _ (codes : Codes) (limits : Limits) where
   -- ---- what is thrown
 
@@ -178,6 +193,44 @@ module _ (codes : Codes) (limits : Limits) where
   thrown_fits (Given value w') f below w h e = tt
   thrown_fits (Raised id w') f below w h e = unwind_fits (f ∷ below) id w' (as_many w.ticks w'.ticks e (f ∷ below) h)
   thrown_fits Full f below w h e = tt
+
+  done_fits_on : (o : Outcome Value) (f : Frame) (below : List Frame) (w : World) (stack : List Word) → TurnsFit w.ticks (f ∷ below) → KeepsTicks w o → NextFits (on_done codes limits o f below w stack)
+  done_fits_on (Given value w') f below w stack h e = as_many w.ticks w'.ticks e (f ∷ below) h
+  done_fits_on (Raised id w') f below w stack h e = unwind_fits (f ∷ below) id w' (as_many w.ticks w'.ticks e (f ∷ below) h)
+  done_fits_on Full f below w stack h e = tt
+
+  done_fits : (e : Effect) (f : Frame) (below : List Frame) (w : World) (stack : List Word) → TurnsFit w.ticks (f ∷ below) → NextFits (on_done codes limits (acts_in w e) f below w stack)
+  done_fits e f below w stack h = done_fits_on (acts_in w e) f below w stack h (acting_keeps w e)
+
+  -- ---- what is found for a receiver when the code runs
+
+  found_fits : (o : Option Effect) (f : Frame) (below : List Frame) (w : World) (stack : List Word) → TurnsFit w.ticks (f ∷ below) → NextFits (on_found codes limits o f below w stack)
+  found_fits None f below w stack h = tt
+  found_fits (Some e) f below w stack h = effect_fits e R f below w stack h
+
+  found_paid_fits : (c : Counted) (number : ℕ) (arguments : List Value) (f : Frame) (below : List Frame) (w : World) (stack : List Word) → TurnsFit w.ticks (f ∷ below) → PaysTick w c
+      → NextFits (on_found_paid codes limits c number arguments f below stack)
+  found_paid_fits (Passes limit w') number arguments f below w stack h p = tt
+  found_paid_fits (Counts w') number arguments f below w stack h p =
+      found_fits (does limits.host number arguments w'.store) f below w' stack (lower w.ticks w'.ticks p (f ∷ below) h)
+
+  access_fits : (a : Access) (f : Frame) (below : List Frame) (w : World) (stack : List Word) → TurnsFit w.ticks (f ∷ below) → NextFits (on_access codes limits a f below w stack)
+  access_fits (Calls number arguments) f below w stack h = found_paid_fits (pay_member f.text number w) number arguments f below w stack h (member_pays f.text number w)
+  access_fits (Acts e) f below w stack h = effect_fits e R f below w stack h
+
+  put_fits : (o : Option Effect) (f : Frame) (below : List Frame) (w : World) (stack : List Word) → TurnsFit w.ticks (f ∷ below) → NextFits (on_put codes limits o f below w stack)
+  put_fits None f below w stack h = tt
+  put_fits (Some e) f below w stack h = done_fits e f below w stack h
+
+  put_paid_fits : (c : Counted) (number : ℕ) (arguments : List Value) (f : Frame) (below : List Frame) (w : World) (stack : List Word) → TurnsFit w.ticks (f ∷ below) → PaysTick w c
+      → NextFits (on_put_paid codes limits c number arguments f below stack)
+  put_paid_fits (Passes limit w') number arguments f below w stack h p = tt
+  put_paid_fits (Counts w') number arguments f below w stack h p =
+      put_fits (does limits.host number arguments w'.store) f below w' stack (lower w.ticks w'.ticks p (f ∷ below) h)
+
+  write_fits : (a : Access) (f : Frame) (below : List Frame) (w : World) (stack : List Word) → TurnsFit w.ticks (f ∷ below) → NextFits (on_write codes limits a f below w stack)
+  write_fits (Calls number arguments) f below w stack h = put_paid_fits (pay_member f.text number w) number arguments f below w stack h (member_pays f.text number w)
+  write_fits (Acts e) f below w stack h = done_fits e f below w stack h
 
   -- ---- members
 
@@ -250,6 +303,25 @@ module _ (codes : Codes) (limits : Limits) where
         → NextFits (on_top f.stack (λ upper rest. on_reference upper (λ b. on_top rest (λ lower stack. on_reference lower (λ a. next a b stack)))))
     on_two next k = top_fits f.stack _ (λ upper rest. reference_fits upper _ (λ b. top_fits rest _ (λ lower stack. reference_fits lower _ (λ a. k a b stack))))
 
+    on_three : (next : Value → Value → Value → List Word → Next) → ((a b c : Value) (stack : List Word) → NextFits (next a b c stack))
+        → NextFits (on_top f.stack (λ third more. on_reference third (λ c. on_top more (λ second rest. on_reference second (λ b. on_top rest (λ first stack. on_reference first (λ a. next a b c stack)))))))
+    on_three next k =
+        top_fits f.stack _ (λ third more. reference_fits third _ (λ c. top_fits more _ (λ second rest. reference_fits second _ (λ b.
+        top_fits rest _ (λ first stack. reference_fits first _ (λ a. k a b c stack))))))
+
+    on_place : (stack : List Word) (next : ℤ → Value → List Word → Next) → ((at : ℤ) (array : Value) (rest : List Word) → NextFits (next at array rest))
+        → NextFits (on_top stack (λ upper rest. on_int upper (λ at. on_top rest (λ lower stack. on_reference lower (λ array. next at array stack)))))
+    on_place stack next k = top_fits stack _ (λ upper rest. int_holds NextFits tt upper _ (λ at. top_fits rest _ (λ lower left. reference_fits lower _ (λ array. k at array left))))
+
+    -- what an effect of the store comes to, with a value that goes on the stack or is dropped
+    gives : (e : Effect) (word : Value → Word) (stack : List Word) → NextFits (on_outcome codes limits (acts_in w e) word f below w stack)
+    gives e word stack = effect_fits e word f below w stack here
+
+    dynamic_fits : (o : Op) → NextFits (operator_act codes limits o f below w)
+    dynamic_fits o =
+        top_fits f.stack _ (λ upper rest. reference_fits upper _ (λ b. chosen_holds NextFits (is_unary o) _ _ (gives (effect w.store (operate w.store.objects o b b)) (dynamic_given codes limits o) rest)
+        (top_fits rest _ (λ lower stack. reference_fits lower _ (λ a. gives (effect w.store (operate w.store.objects o a b)) (dynamic_given codes limits o) stack)))))
+
     on_number : (next : ℤ → List Word → Next) → ((a : ℤ) (stack : List Word) → NextFits (next a stack)) → NextFits (on_top f.stack (λ word stack. on_int word (λ a. next a stack)))
     on_number next k = top_fits f.stack _ (λ word stack. int_holds NextFits tt word _ (λ a. k a stack))
 
@@ -271,12 +343,12 @@ module _ (codes : Codes) (limits : Limits) where
     plain_fits plain.Concat = on_two _ (λ a b stack. effect_fits (effect w.store (concatenated w.store.objects a b)) R f below w stack here)
     plain_fits plain.Same = on_two _ (λ a b stack. here)
     plain_fits plain.Equal = on_two _ (λ a b stack. effect_fits (effect w.store (equal w.store.objects a b)) unboxed f below w stack here)
-    plain_fits plain.ArrayLength = tt
-    plain_fits plain.GetIndex = tt
-    plain_fits plain.PutIndex = tt
-    plain_fits plain.Iter = tt
-    plain_fits plain.Has = tt
-    plain_fits plain.Next = tt
+    plain_fits plain.ArrayLength = on_one _ (λ value stack. gives (length_of w.store value) unboxed stack)
+    plain_fits plain.GetIndex = on_two _ (λ receiver index stack. access_fits (index_read (allowed_in limits f.text) w.store receiver index) f below w stack here)
+    plain_fits plain.PutIndex = on_three _ (λ receiver index value stack. write_fits (index_written (allowed_in limits f.text) w.store receiver index value) f below w stack here)
+    plain_fits plain.Iter = on_one _ (λ value stack. gives (iterated w.store value) R stack)
+    plain_fits plain.Has = on_one _ (λ value stack. gives (has_more w.store value) unboxed stack)
+    plain_fits plain.Next = on_one _ (λ value stack. gives (next_element w.store value) R stack)
     plain_fits plain.Throw = on_one _ (λ value stack. thrown_fits (acts_in w (thrown w.store value)) f below w here (acting_keeps w (thrown w.store value)))
     plain_fits plain.Ret = return_fits (function_of codes f)
 
@@ -291,18 +363,28 @@ module _ (codes : Codes) (limits : Limits) where
         loops_hold NextFits tt codes limits (function_of codes f) _ (λ limited. on_number _ (λ a stack.
         either_holds NextFits a _ _ (turn_fits (take_turn limits limited f.turns w) k stack (turn_pays limits limited f.turns w)) here))
     numbered_fits numbered.Call k = call_fits (slice_get (code_in codes f.text) k) k
-    numbered_fits numbered.List k = tt
-    numbered_fits numbered.Map k = tt
+    numbered_fits numbered.List k = words_fit (take_words k f.stack []) _ (λ words stack. values_fit (references_in words) _ (λ items. gives (list_made w.store items) R stack))
+    numbered_fits numbered.Map k = words_fit (take_words (2 * k) f.stack []) _ (λ words stack. values_fit (references_in words) _ (λ parts. gives (map_made w.store parts) R stack))
 
     quoted_fits : (q : Quoting) (text : List ℕ) → NextFits (quoted_act codes limits q text f below w)
     quoted_fits quoting.Constant text = here
-    quoted_fits quoting.GetName text = tt
-    quoted_fits quoting.PutName text = tt
+    quoted_fits quoting.GetName name = on_one _ (λ receiver stack. access_fits (name_read (allowed_in limits f.text) w.store receiver name) f below w stack here)
+    quoted_fits quoting.PutName name = on_two _ (λ receiver value stack. write_fits (name_written (allowed_in limits f.text) w.store receiver name value) f below w stack here)
 
     typed_fits : (t : Typed) (of : Ty) → NextFits (typed_act codes limits t of f below w)
     typed_fits typed.IsA of = on_one _ (λ value stack. here)
-    typed_fits typed.LoadElement of = tt
-    typed_fits typed.StoreElement of = tt
+    typed_fits typed.LoadElement of = on_place f.stack _ (λ at array stack. gives (element_read w.store of array at) (given_as of) stack)
+    typed_fits typed.StoreElement of =
+        top_fits f.stack _ (λ third more. value_fits (taken of third) _ (λ value. on_place more _ (λ at array stack. done_fits (element_written w.store of array at value) f below w stack here)))
+
+    sized_fits : (s : Sized) (of : Ty) (n : ℕ) → NextFits (sized_act codes limits s of n f below w)
+    sized_fits sized.Filled elem n = words_fit (take_words n f.stack []) _ (λ words stack. values_fit (taken_alike elem words) _ (λ items. gives (array_filled w.store elem items) R stack))
+    sized_fits sized.Empty of n = words_fit (take_words n f.stack []) _ (λ words stack. ints_hold NextFits tt (ints_in words) _ (λ sizes. gives (array_made w.store of sizes) R stack))
+
+    method_fits : (name : List ℕ) (n : ℕ) → NextFits (method_act codes limits name n f below w)
+    method_fits name n =
+        words_fit (take_words (suc n) f.stack []) _ (λ words stack. values_fit (references_in words) _ (λ values. first_fits values _ (λ receiver arguments.
+        access_fits (method_called (allowed_in limits f.text) w.store receiver name arguments) f below w stack here)))
 
     act_fits_here : (instruction : Instruction) → NextFits (act codes limits instruction f below w)
     act_fits_here (i.Plain p) = plain_fits p
@@ -312,13 +394,13 @@ module _ (codes : Codes) (limits : Limits) where
     act_fits_here (i.Numbered n k) = numbered_fits n k
     act_fits_here (i.Boxing p) = top_fits f.stack _ (λ word stack. value_fits (boxed p word) _ (λ value. here))
     act_fits_here (i.Unboxing p way) = on_one _ (λ value stack. effect_fits (effect w.store (cast_at_run_time w.store.objects value (ty.Prim p) (is_written way))) unboxed f below w stack here)
-    act_fits_here (i.Dynamic o) = tt
+    act_fits_here (i.Dynamic o) = dynamic_fits (op_of_dynamic o)
     act_fits_here (i.Quoted q text) = quoted_fits q text
     act_fits_here (i.Cast to way) =
         type_holds NextFits tt (type_of_full to) _ (λ to. on_one _ (λ value stack. effect_fits (effect w.store (cast_at_run_time w.store.objects value to (is_written way))) R f below w stack here))
     act_fits_here (i.Typed t of) = type_holds NextFits tt (type_of_full of) _ (λ of. typed_fits t of)
-    act_fits_here (i.Sized t of n) = tt
-    act_fits_here (i.DefCall word n) = tt
+    act_fits_here (i.Sized s of n) = type_holds NextFits tt (type_of_full of) _ (λ of. sized_fits s of n)
+    act_fits_here (i.DefCall name n) = method_fits name n
     act_fits_here (i.Invoke method) = member_fits (method_of (allowed_in limits f.text) method)
     act_fits_here (i.New constructor) = member_fits (constructor_of (allowed_in limits f.text) constructor)
     act_fits_here (i.Field field) = member_fits (field_of (allowed_in limits f.text) field)

@@ -10,6 +10,7 @@ pub mod Returning
 pub mod Moving
 pub mod Reaching
 pub mod Given
+pub mod Accessing
 pub mod Handling
 pub mod Landing
 pub mod Linked

@@ -1,20 +1,22 @@
 -- What instructions name.
-use Rattle.std.proofs.Common.{◌≡◌, ℕ, List, Option, Some, None, option_map, refl, sym, ap, subst, ◌∙◌, slice_get}
+use Rattle.std.proofs.Common.{◌≡◌, ℕ, suc, List, [], Option, Some, None, option_map, refl, sym, ap, subst, ◌∙◌, slice_get}
 use Rattle.pl_types.specs.declared.ty.Ty.{Ty}
 use Rattle.pl_types.specs.Texts.{type_of_full}
 use Rattle.object_values.specs.declared.object.Object.{Object}
+use Rattle.object_heap.specs.Store.{Store}
+use Rattle.def_access.specs.Access.{method_called}
 use Rattle.instruction_types.specs.Members.{method_of, constructor_of, field_of}
 use Rattle.pl_code.specs.declared.code.Instruction.{Instruction}
 use Rattle.pl_code.specs.declared.code.Instruction.TheVariants as i
-use Rattle.pl_code.specs.declared.kinds.Quoting.{Quoting}
-use Rattle.pl_code.specs.declared.kinds.Quoting.TheVariants as quoting
+use Rattle.pl_code.specs.declared.kinds.Sized.{Sized}
 use Rattle.pl_code.specs.declared.kinds.Typed.{Typed}
 use Rattle.pl_code.specs.declared.kinds.Way.{Way}
 use Rattle.run_state.specs.World.{World, Limits, allowed_in}
-use Rattle.code_meaning.specs.Machine.{Frame, Next, act, typed_act, cast_act, member_act, on_type, is_written, code_in}
-use Rattle.machine.specs.Links.{Executable, instruction_at, link_at, link_of, type_link, member_link, text_link, type_in, member_in, text_in, lines_in}
-use Rattle.machine.specs.Rows.{text_act}
-use Rattle.machine.specs.Sparing.{InstructionSpares, MemberSpares, CastSpares, OnType, OnValue}
+use Rattle.code_meaning.specs.Members.{references_in}
+use Rattle.code_meaning.specs.Machine.{Codes, Frame, Next, act, on_access, on_first, on_values, on_words, take_words, sized_act, typed_act, cast_act, member_act, on_type, is_written, code_in}
+use Rattle.machine.specs.Links.{Executable, instruction_at, link_at, link_of, type_link, member_link, type_in, member_in, lines_in, text_link}
+use Rattle.machine.specs.Sparing.{InstructionSpares, MemberSpares, CastSpares, OnType, OnValue, TypedSpares}
+use Rattle.pl_code.specs.declared.kinds.Quoting.{Quoting}
 use Rattle.machine.specs.Seen.{codes_alone}
 use Rattle.object_values.specs.declared.object.Owner.{Owner}
 use Rattle.object_values.specs.declared.object.Owner.TheVariants.{Script, Prelude}
@@ -27,6 +29,19 @@ linked_type (Some of) = refl
 linked_member : (o : Option ℕ) → member_in (Some (member_link o)) ≡ o
 linked_member None = refl
 linked_member (Some number) = refl
+
+-- a call of a method by its name, with the members of a list
+abbrev pub called_by_list : Codes → Limits → AllowList → List ℕ → ℕ → Frame → List Frame → World → Next
+called_by_list codes limits list name n f below w =
+    on_words (take_words (suc n) f.stack []) (λ words stack. on_values (references_in words) (λ values. on_first values (λ receiver arguments.
+    on_access codes limits (method_called list w.store receiver name arguments) f below w stack)))
+
+-- an instruction stands in the script's text: the prelude has no code
+pub in_script : (e : Executable) (f : Frame) (line : Instruction) → instruction_at e f ≡ Some line → f.text ≡ Script
+in_script e f line there = by_text f.text there where
+  by_text : (text : Owner) → slice_get (lines_in (slice_get (code_in (codes_alone e.code.functions) text) f.fun)) f.line ≡ Some line → text ≡ Script
+  by_text Script is = refl
+  by_text Prelude is = absurd (cc)
 
 -- at an instruction in code whose members are those of the limits
 module _ (e : Executable) (limits : Limits) (line : Instruction) (f : Frame) (same : limits.allowed ≡ e.allow) (there : instruction_at e f ≡ Some line) where
@@ -44,6 +59,10 @@ module _ (e : Executable) (limits : Limits) (line : Instruction) (f : Frame) (sa
   unfolding link_of
   typed_names kind of is = ap type_in (names (i.Typed kind of) is) ∙ linked_type (type_of_full of)
 
+  sized_names : (kind : Sized) (of : List ℕ) (n : ℕ) → line ≡ i.Sized kind of n → type_in (link_at e f) ≡ type_of_full of
+  unfolding link_of
+  sized_names kind of n is = ap type_in (names (i.Sized kind of n) is) ∙ linked_type (type_of_full of)
+
   cast_names : (to : List ℕ) (way : Way) → line ≡ i.Cast to way → type_in (link_at e f) ≡ type_of_full to
   unfolding link_of
   cast_names to way is = ap type_in (names (i.Cast to way) is) ∙ linked_type (type_of_full to)
@@ -60,9 +79,9 @@ module _ (e : Executable) (limits : Limits) (line : Instruction) (f : Frame) (sa
   unfolding link_of
   field_names field is = ap member_in (names (i.Field field) is) ∙ linked_member (field_of limits.allowed field)
 
-  text_names : (kind : Quoting) (text : List ℕ) → line ≡ i.Quoted kind text → text_in (link_at e f) ≡ text_in (Some (text_link kind text))
+  pub text_names : (kind : Quoting) (text : List ℕ) → line ≡ i.Quoted kind text → link_at e f ≡ Some (text_link kind text)
   unfolding link_of
-  text_names kind text is = ap text_in (names (i.Quoted kind text) is)
+  text_names kind text is = names (i.Quoted kind text) is
 
   -- what such an instruction does is what its link makes of it
   module _ (below : List Frame) (w : World) where
@@ -72,16 +91,14 @@ module _ (e : Executable) (limits : Limits) (line : Instruction) (f : Frame) (sa
     pub typed_acts : (kind : Typed) (of : List ℕ) → line ≡ i.Typed kind of → acts line ≡ on_type (type_in (link_at e f)) (λ of. typed_act (codes_alone e.code.functions) limits kind of f below w)
     typed_acts kind of is = ap acts is ∙ ap (λ o. on_type o (λ of. typed_act (codes_alone e.code.functions) limits kind of f below w)) (sym (typed_names kind of is))
 
+    pub sized_acts : (kind : Sized) (of : List ℕ) (n : ℕ) → line ≡ i.Sized kind of n → acts line ≡ on_type (type_in (link_at e f)) (λ of. sized_act (codes_alone e.code.functions) limits kind of n f below w)
+    sized_acts kind of n is = ap acts is ∙ ap (λ o. on_type o (λ of. sized_act (codes_alone e.code.functions) limits kind of n f below w)) (sym (sized_names kind of n is))
+
+    pub called_acts : (name : List ℕ) (n : ℕ) → line ≡ i.DefCall name n → acts line ≡ called_by_list (codes_alone e.code.functions) limits limits.allowed name n f below w
+    called_acts name n is = ap acts is ∙ ap (λ (list : AllowList). called_by_list (codes_alone e.code.functions) limits list name n f below w) allows
+
     pub cast_acts : (to : List ℕ) (way : Way) → line ≡ i.Cast to way → acts line ≡ on_type (type_in (link_at e f)) (λ to. cast_act (codes_alone e.code.functions) limits to (is_written way) f below w)
     cast_acts to way is = ap acts is ∙ ap (λ o. on_type o (λ to. cast_act (codes_alone e.code.functions) limits to (is_written way) f below w)) (sym (cast_names to way is))
-
-    text_acts_so : (kind : Quoting) (text : List ℕ) → acts (i.Quoted kind text) ≡ text_act (text_in (Some (text_link kind text))) f below w
-    text_acts_so quoting.Constant text = refl
-    text_acts_so quoting.GetName text = refl
-    text_acts_so quoting.PutName text = refl
-
-    pub text_acts : (kind : Quoting) (text : List ℕ) → line ≡ i.Quoted kind text → acts line ≡ text_act (text_in (link_at e f)) f below w
-    text_acts kind text is = ap acts is ∙ text_acts_so kind text ∙ ap (λ o. text_act o f below w) (sym (text_names kind text is))
 
     pub method_acts : (method : List ℕ) → line ≡ i.Invoke method → acts line ≡ member_act (codes_alone e.code.functions) limits (member_in (link_at e f)) f below w
     method_acts method is = ap acts is ∙ ap (λ (list : AllowList). member_act (codes_alone e.code.functions) limits (method_of list method) f below w) allows ∙ ap (λ o. member_act (codes_alone e.code.functions) limits o f below w) (sym (method_names method is))
@@ -93,9 +110,15 @@ module _ (e : Executable) (limits : Limits) (line : Instruction) (f : Frame) (sa
     field_acts field is = ap acts is ∙ ap (λ (list : AllowList). member_act (codes_alone e.code.functions) limits (field_of list field) f below w) allows ∙ ap (λ o. member_act (codes_alone e.code.functions) limits o f below w) (sym (field_names field is))
 
   -- and it spares memory where that does
-  module _ (objects : List Object) where
+  module _ (store : Store) where
+    abbrev objects : List Object
+    objects = store.objects
+
     abbrev Sparing : Instruction → Type 0
-    Sparing line = InstructionSpares limits.allowed line f objects
+    Sparing line = InstructionSpares limits.allowed line f store
+
+    pub typed_spares : (kind : Typed) (of : List ℕ) → line ≡ i.Typed kind of → Sparing line → OnType (type_in (link_at e f)) (λ of. TypedSpares kind of f.stack store)
+    typed_spares kind of is h = subst (λ o. OnType o (λ of. TypedSpares kind of f.stack store)) (sym (typed_names kind of is)) (subst Sparing is h)
 
     pub cast_spares : (to : List ℕ) (way : Way) → line ≡ i.Cast to way → Sparing line → OnType (type_in (link_at e f)) (λ to. OnValue f.stack (CastSpares objects to (is_written way)))
     cast_spares to way is h = subst (λ o. OnType o (λ to. OnValue f.stack (CastSpares objects to (is_written way)))) (sym (cast_names to way is)) (subst Sparing is h)

@@ -46,7 +46,7 @@ module _ (allow : AllowList) where
   line_listed (i.Numbered kind n) = tt
   line_listed (i.Boxing p) = tt
   line_listed (i.Unboxing p way) = tt
-  line_listed (i.Sized kind of n) = tt
+  line_listed (i.Sized kind of n) = no_member (type_of_full of)
   line_listed (i.DefCall name n) = tt
   line_listed (i.Lambda interface n given) = tt
   line_listed (i.Ref interface of name) = tt

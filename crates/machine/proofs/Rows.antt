@@ -13,7 +13,8 @@ use Rattle.machine.specs.declared.configuration.Step.{Step}
 use Rattle.machine.specs.Frames.{Laid, with_stack}
 use Rattle.machine.specs.Seen.{int_of, long_of, Comes}
 use Rattle.machine.proofs.Calling.{as_well}
-use Rattle.machine.specs.Rows.{on_pair, on_references}
+use Rattle.code_meaning.specs.Members.{reference_in}
+use Rattle.machine.specs.Rows.{on_pair, on_place, on_references, on_three, on_triple}
 
 pub no_int : (stack : List Word) (row : ℤ → List Word → Next) → int_of stack ≡ None → on_top stack (λ word rest. on_int word (λ a. row a rest)) ≡ Stuck
 no_int [] row e = refl
@@ -119,3 +120,50 @@ from_pair old middle new upper lower e h over top between below next said c is =
     ∙ ap (λ f. on_references lower upper (λ a b. next a b f old.below new.top.stack)) (sym (ap (λ (f : Frame). with_stack f old.top.stack) (top ∙ ap (λ (f : Frame). with_stack f new.top.stack) over)))
     ∙ ap (λ fs. on_references lower upper (λ a b. next a b (with_stack new.top old.top.stack) fs new.top.stack)) (sym (below ∙ between)))
     is
+
+-- three references, the upper one last
+pub from_triple : (old third_off second_off new : Laid) (first second third : Word) → old.top.stack ≡ third ∷ third_off.top.stack → third_off.top.stack ≡ second ∷ second_off.top.stack → second_off.top.stack ≡ first ∷ new.top.stack
+    → third_off.top ≡ with_stack old.top third_off.top.stack → second_off.top ≡ with_stack third_off.top second_off.top.stack → new.top ≡ with_stack second_off.top new.top.stack
+    → third_off.below ≡ old.below → second_off.below ≡ third_off.below → new.below ≡ second_off.below
+    → (next : Value → Value → Value → Frame → List Frame → List Word → Next) (said : Step) (c : Configuration)
+    → Comes (on_three first second third (λ a b c. next a b c (with_stack new.top old.top.stack) new.below new.top.stack)) said c
+    → Comes (on_triple old.top.stack (λ a b c stack. next a b c old.top old.below stack)) said c
+from_triple old third_off second_off new first second third e h k top between over below below_then below_last next said c is =
+    as_well _ _ said c
+    (ap (λ s. on_triple s (λ a b c stack. next a b c old.top old.below stack)) e
+    ∙ ap (λ s. on_reference third (λ c. on_top s (λ second rest. on_reference second (λ b. on_top rest (λ first stack. on_reference first (λ a. next a b c old.top old.below stack)))))) h
+    ∙ ap (λ s. on_reference third (λ c. on_reference second (λ b. on_top s (λ first stack. on_reference first (λ a. next a b c old.top old.below stack))))) k
+    ∙ ap (λ f. on_three first second third (λ a b c. next a b c f old.below new.top.stack)) (sym (ap (λ (f : Frame). with_stack f old.top.stack) over ∙ ap (λ (f : Frame). with_stack f old.top.stack) between ∙ ap (λ (f : Frame). with_stack f old.top.stack) top))
+    ∙ ap (λ fs. on_three first second third (λ a b c. next a b c (with_stack new.top old.top.stack) fs new.top.stack)) (sym (below_last ∙ below_then ∙ below)))
+    is
+
+-- an index, and an array below it
+pub from_place : (old middle new : Laid) (at : ℤ) (lower : Word) → old.top.stack ≡ I at ∷ middle.top.stack → middle.top.stack ≡ lower ∷ new.top.stack
+    → middle.top ≡ with_stack old.top middle.top.stack → new.top ≡ with_stack middle.top new.top.stack → middle.below ≡ old.below → new.below ≡ middle.below
+    → (next : ℤ → Value → Frame → List Frame → List Word → Next) (said : Step) (c : Configuration)
+    → Comes (on_reference lower (λ array. next at array (with_stack new.top old.top.stack) new.below new.top.stack)) said c
+    → Comes (on_place old.top.stack (λ at array stack. next at array old.top old.below stack)) said c
+from_place old middle new at lower e h top over below between next said c is =
+    as_well _ _ said c
+    (ap (λ s. on_place s (λ at array stack. next at array old.top old.below stack)) e
+    ∙ ap (λ s. on_top s (λ lower stack. on_reference lower (λ array. next at array old.top old.below stack))) h
+    ∙ ap (λ f. on_reference lower (λ array. next at array f old.below new.top.stack)) (sym (ap (λ (f : Frame). with_stack f old.top.stack) over ∙ ap (λ (f : Frame). with_stack f old.top.stack) top))
+    ∙ ap (λ fs. on_reference lower (λ array. next at array (with_stack new.top old.top.stack) fs new.top.stack)) (sym (between ∙ below)))
+    is
+
+pub no_place : (stack : List Word) (next : ℤ → Value → List Word → Next) → int_of stack ≡ None → on_place stack next ≡ Stuck
+no_place stack next e = no_int stack (λ at rest. on_top rest (λ lower stack. on_reference lower (λ array. next at array stack))) e
+
+pub half_place : (stack : List Word) (at : ℤ) (next : ℤ → Value → List Word → Next) → stack ≡ I at ∷ [] → on_place stack next ≡ Stuck
+half_place stack at next e = ap (λ s. on_place s next) e
+
+-- a word that is moved as a reference, or is none
+pub is_reference : (word : Word) (value : Value) → reference_in word ≡ Some value → (next : Value → Next) → on_reference word next ≡ next value
+is_reference (I a) value e next = absurd (cc)
+is_reference (J a) value e next = absurd (cc)
+is_reference (R other) value e next = ap next (cc)
+
+pub no_reference : (word : Word) → reference_in word ≡ None → (next : Value → Next) → on_reference word next ≡ Stuck
+no_reference (I a) e next = refl
+no_reference (J a) e next = refl
+no_reference (R value) e next = absurd (cc)

@@ -1,6 +1,7 @@
 -- Operations on the heap that take no memory.
 use Rattle.object_heap.specs.declared.answer.Answer.{Answer}
 use Rattle.object_heap.specs.declared.answer.Answer.TheVariants as a
+use Rattle.container_ops.specs.Types.{MakesNothing, Spares}
 use Rattle.number_ops.specs.declared.outcome.Outcome.{Outcome}
 use Rattle.number_ops.specs.Outcomes.{NeedsMemory, WantsMemory}
 use Rattle.std.proofs.Common.{◌≡◌}
@@ -15,6 +16,12 @@ is_answered told (a.Value value) h none = tt
 is_answered told (a.Thrown id) h none = tt
 is_answered told a.Room h none = tt
 is_answered told a.NoMemory h none = none h
+
+pub is_spared : (store : Store) (effect : Effect) (answer : Answer) → Spares store effect answer → MakesNothing store effect → IsAnswered answer
+is_spared store effect (a.Value value) h none = tt
+is_spared store effect (a.Thrown id) h none = tt
+is_spared store effect a.Room h none = tt
+is_spared store effect a.NoMemory h none = h none
 
 has_memory : (old new : Store) (said : Step) → HasMemory said → OnlyToMake old new said
 has_memory old new step.Goes h = tt

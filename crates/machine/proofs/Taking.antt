@@ -1,7 +1,7 @@
 -- Words that are taken off the newest frame.
-use Rattle.std.proofs.Common.{◌≡◌, ℕ, suc, ◌+◌, ◌-◌, ◌<◌, List, [], ◌∷◌, Option, Some, sym, ap, ◌∙◌, arith}
+use Rattle.std.proofs.Common.{◌≡◌, ℕ, suc, ◌+◌, ◌-◌, ◌<◌, List, [], ◌∷◌, Option, Some, None, sym, ap, ◌∙◌, arith}
 use Rattle.code_meaning.specs.declared.word.Word.{Word}
-use Rattle.code_meaning.specs.Machine.{Frame, Next, take_words, on_words}
+use Rattle.code_meaning.specs.Machine.{Frame, Next, Stuck, take_words, on_words}
 use Rattle.machine.specs.declared.configuration.Configuration.{Configuration}
 use Rattle.machine.specs.declared.configuration.Step.{Step}
 use Rattle.machine.specs.Frames.{Laid, with_stack}
@@ -31,3 +31,8 @@ from_words n old new words e top below next said c h =
     (ap (λ o. on_words o (λ words stack. next words old.top old.below stack)) (sym e) ∙ ap (λ f. next words f old.below new.top.stack) (sym (restored old new top))
     ∙ ap (λ fs. next words (with_stack new.top old.top.stack) fs new.top.stack) (sym below))
     h
+
+-- there are too few
+pub too_few : (n : ℕ) (old : Laid) → None ≡ take_words n old.top.stack [] → (next : List Word → Frame → List Frame → List Word → Next)
+    → on_words (take_words n old.top.stack []) (λ words stack. next words old.top old.below stack) ≡ Stuck
+too_few n old e next = ap (λ o. on_words o (λ words stack. next words old.top old.below stack)) (sym e)

@@ -32,6 +32,7 @@ text_link other text = link.Nothing
 -- the type or the member that the text in an instruction names, or its units
 unfoldable pub link_of : AllowList → Instruction → Link
 link_of allow (i.Typed kind of) = type_link (type_of_full of)
+link_of allow (i.Sized kind of n) = type_link (type_of_full of)
 link_of allow (i.Cast to way) = type_link (type_of_full to)
 link_of allow (i.Invoke method) = member_link (method_of allow method)
 link_of allow (i.New constructor) = member_link (constructor_of allow constructor)

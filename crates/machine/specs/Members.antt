@@ -1,5 +1,5 @@
 -- What a member is called with, as the machine takes it off the stack.
-use Rattle.std.specs.Prelude.{Bool, true, false, List, ◌++◌, Option, Some, None}
+use Rattle.std.specs.Prelude.{ℤ, Bool, true, false, List, ◌++◌, Option, Some, None}
 use Rattle.object_values.specs.declared.value.Value.{Value}
 use Rattle.object_values.specs.declared.value.Value.TheVariants as v
 use Rattle.code_meaning.specs.Members.{Receiving, Unfit, OnNull, Receives, Reads}
@@ -22,6 +22,11 @@ filled false xs = None
 abbrev pub behind : List Value → Option (List Value) → Option (List Value)
 behind values None = None
 behind values (Some more) = Some (values ++ more)
+
+-- the same of numbers
+abbrev pub behind_ints : List ℤ → Option (List ℤ) → Option (List ℤ)
+behind_ints numbers None = None
+behind_ints numbers (Some more) = Some (numbers ++ more)
 
 abbrev pub is_null : Value → Bool
 is_null v.Null = true

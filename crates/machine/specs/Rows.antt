@@ -1,11 +1,16 @@
 -- What parts of an instruction come to.
-use Rattle.std.specs.Prelude.{◌≡◌, ℕ, suc, Bool, true, false, List, [], ◌∷◌, ◌++◌, map, Option, Some, None, option_map, find, pos}
+use Rattle.std.specs.Prelude.{◌≡◌, ◌<◌, ℕ, ℤ, suc, Bool, true, false, List, [], ◌∷◌, ◌++◌, map, Option, Some, None, option_map, find, pos}
 use Rattle.arithmetic.specs.declared.operator.Num.{Num}
 use Rattle.object_values.specs.declared.value.Value.{Value}
 use Rattle.object_values.specs.declared.value.Value.TheVariants as v
 use Rattle.object_heap.specs.declared.outcome.Which.{Which}
 use Rattle.pl_code.specs.declared.kinds.Slot.{Slot}
 use Rattle.pl_code.specs.declared.code.FunCode.{FunCode}
+use Rattle.def_access.specs.declared.accessed.Accessed.{Accessed}
+use Rattle.def_access.specs.declared.accessed.Accessed.TheVariants as accessed
+use Rattle.container_ops.specs.Elements.{length_of}
+use Rattle.container_ops.specs.Loops.{has_more, iterated, next_element}
+use Rattle.container_ops.specs.Making.{list_made, map_made}
 use Rattle.number_ops.specs.Operators.{concatenated}
 use Rattle.number_ops.specs.Outcomes.{effect}
 use Rattle.number_ops.specs.Relations.{equal, is_same}
@@ -13,9 +18,13 @@ use Rattle.run_state.specs.World.{World, Limits, Counted, Counts, Passes, acts_i
 use Rattle.code_meaning.specs.declared.word.Word.{Word}
 use Rattle.code_meaning.specs.declared.word.Word.TheVariants.{I, J, R}
 use Rattle.code_meaning.specs.Words.{bit, start_of, unboxed, Calculation, NoRow, Calculates}
-use Rattle.code_meaning.specs.Machine.{Frame, Next, Goes, Stuck, on_outcome, on_reference, on_top, to_line, Codes}
+use Rattle.code_meaning.specs.Machine.{Frame, Next, Goes, on_int, on_outcome, on_reference, on_top, to_line, Codes, Stuck}
 use Rattle.machine.specs.declared.references.Pairing.{Pairing}
 use Rattle.machine.specs.declared.references.Pairing.TheVariants as pairing
+use Rattle.machine.specs.declared.container_rows.Asked.{Asked}
+use Rattle.machine.specs.declared.container_rows.Asked.TheVariants as ask
+use Rattle.machine.specs.declared.container_rows.Collected.{Collected}
+use Rattle.machine.specs.declared.container_rows.Collected.TheVariants as collect
 use Rattle.machine.specs.declared.operators.Operated.{Operated}
 use Rattle.machine.specs.declared.operators.Operated.TheVariants as c
 use Rattle.machine.specs.declared.operands.Copying.{Copying}
@@ -91,6 +100,38 @@ abbrev pub paired : Codes → Limits → Pairing → Value → Value → Frame �
 paired codes limits pairing.Concat a b f below w stack = on_outcome codes limits (acts_in w (effect w.store (concatenated w.store.objects a b))) R f below w stack
 paired codes limits pairing.Equal a b f below w stack = on_outcome codes limits (acts_in w (effect w.store (equal w.store.objects a b))) unboxed f below w stack
 paired codes limits pairing.Same a b f below w stack = to_line f below w (suc f.line) (I (bit (is_same a b)) ∷ stack)
+
+-- ---- lists, maps, arrays and iterators
+
+-- what is asked of one reference
+abbrev pub asked : Codes → Limits → Asked → Value → Frame → List Frame → World → List Word → Next
+asked codes limits ask.Length value f below w stack = on_outcome codes limits (acts_in w (length_of w.store value)) unboxed f below w stack
+asked codes limits ask.Iterate value f below w stack = on_outcome codes limits (acts_in w (iterated w.store value)) R f below w stack
+asked codes limits ask.HasMore value f below w stack = on_outcome codes limits (acts_in w (has_more w.store value)) unboxed f below w stack
+asked codes limits ask.Next value f below w stack = on_outcome codes limits (acts_in w (next_element w.store value)) R f below w stack
+
+-- what is made of so many references
+abbrev pub collected : Codes → Limits → Collected → List Value → Frame → List Frame → World → List Word → Next
+collected codes limits collect.List items f below w stack = on_outcome codes limits (acts_in w (list_made w.store items)) R f below w stack
+collected codes limits collect.Map parts f below w stack = on_outcome codes limits (acts_in w (map_made w.store parts)) R f below w stack
+
+-- three references, and off a stack, the upper one last
+abbrev pub on_three : Word → Word → Word → (Value → Value → Value → Next) → Next
+on_three first second third next = on_reference third (λ c. on_reference second (λ b. on_reference first (λ a. next a b c)))
+
+abbrev pub on_triple : List Word → (Value → Value → Value → List Word → Next) → Next
+on_triple stack next =
+    on_top stack (λ third more. on_reference third (λ c. on_top more (λ second rest. on_reference second (λ b. on_top rest (λ first stack. on_reference first (λ a. next a b c stack))))))
+
+-- a member that is called has a number below this
+abbrev pub CallsWithin : Accessed → ℕ → Type 0
+CallsWithin (accessed.Calls number) room = number < room
+CallsWithin (accessed.CallsWith number first) room = number < room
+CallsWithin (accessed.Acts answer) room = Unit {0}
+
+-- an index, and an array below it
+abbrev pub on_place : List Word → (ℤ → Value → List Word → Next) → Next
+on_place stack next = on_top stack (λ upper rest. on_int upper (λ at. on_top rest (λ lower stack. on_reference lower (λ array. next at array stack))))
 
 -- ---- where an exception goes on
 

@@ -1,5 +1,5 @@
 -- Which instructions take no memory: they make no object and let none grow, throw no new exception, and neither make nor copy a text.
-use Rattle.std.specs.Prelude.{◌≡◌, ℕ, Bool, true, false, List, [], ◌∷◌, Option, Some, None, slice_get}
+use Rattle.std.specs.Prelude.{◌≡◌, ℕ, ℤ, Bool, true, false, List, [], ◌∷◌, Option, Some, None, slice_get}
 use Rattle.pl_types.specs.declared.ty.Ty.{Ty}
 use Rattle.pl_types.specs.declared.ty.Ty.TheVariants as ty
 use Rattle.pl_types.specs.Texts.{type_of_full}
@@ -9,6 +9,12 @@ use Rattle.allowlist.specs.declared.member.MemberType.{MemberType}
 use Rattle.object_values.specs.declared.value.Value.{Value}
 use Rattle.object_values.specs.declared.value.Value.TheVariants as v
 use Rattle.object_values.specs.declared.object.Object.{Object}
+use Rattle.object_heap.specs.Store.{Store}
+use Rattle.arithmetic.specs.declared.operator.Op.{Op}
+use Rattle.container_ops.specs.Elements.{element_read, length_of}
+use Rattle.container_ops.specs.Loops.{has_more, next_element}
+use Rattle.container_ops.specs.Types.{MakesNothing}
+use Rattle.number_ops.specs.Operators.{is_unary, operate}
 use Rattle.number_ops.specs.Outcomes as outcomes
 use Rattle.number_ops.specs.Casts.{cast_at_run_time}
 use Rattle.number_ops.specs.Relations.{equal, is_exception}
@@ -21,10 +27,14 @@ use Rattle.pl_code.specs.declared.kinds.Plain.{Plain}
 use Rattle.pl_code.specs.declared.kinds.Plain.TheVariants as plain
 use Rattle.pl_code.specs.declared.kinds.Numbered.{Numbered}
 use Rattle.pl_code.specs.declared.kinds.Numbered.TheVariants as numbered
+use Rattle.pl_code.specs.declared.kinds.Typed.{Typed}
+use Rattle.pl_code.specs.declared.kinds.Typed.TheVariants as typed
+use Rattle.machine.specs.declared.container_rows.Asked.{Asked}
+use Rattle.machine.specs.declared.container_rows.Asked.TheVariants as ask
 use Rattle.run_state.specs.Calls.{suits_member}
 use Rattle.code_meaning.specs.declared.word.Word.{Word}
-use Rattle.code_meaning.specs.declared.word.Word.TheVariants.{R}
-use Rattle.code_meaning.specs.Words.{Calculation, NoRow, Calculates, calculation}
+use Rattle.code_meaning.specs.declared.word.Word.TheVariants.{I, R}
+use Rattle.code_meaning.specs.Words.{Calculation, NoRow, Calculates, calculation, op_of_dynamic}
 use Rattle.code_meaning.specs.Members.{Receiving, Unfit, OnNull, Receives, Reads, count_of, received}
 use Rattle.code_meaning.specs.Machine.{Frame, Config, is_written, take_words, Codes, function_of}
 
@@ -98,6 +108,41 @@ abbrev pub MemberSpares : Option ℕ → List Word → List Object → Type 0
 MemberSpares None stack objects = Unit {0}
 MemberSpares (Some number) stack objects = CallSpares (take_words (count_of (member_at number)) stack []) (member_at number) number objects
 
+-- ---- lists, maps, arrays and iterators: what is given is there already, and no text
+
+abbrev pub AskSpares : Asked → Store → Value → Type 0
+AskSpares ask.Length store value = MakesNothing store (length_of store value)
+AskSpares ask.Iterate store value = ⊥
+AskSpares ask.HasMore store value = MakesNothing store (has_more store value)
+AskSpares ask.Next store value = MakesNothing store (next_element store value)
+
+abbrev pub OnInt : Word → (ℤ → Type 0) → Type 0
+OnInt (I a) holds = holds a
+OnInt word holds = Unit {0}
+
+-- what holds of an index, and of an array below it
+abbrev pub OnPlace : List Word → (ℤ → Value → Type 0) → Type 0
+OnPlace (upper ∷ lower ∷ stack) holds = OnInt upper (λ at. OnReference lower (λ array. holds at array))
+OnPlace stack holds = Unit {0}
+
+abbrev pub ElementSpares : Store → Ty → ℤ → Value → Type 0
+ElementSpares store of at array = MakesNothing store (element_read store of array at)
+
+-- ---- operators on values of any types
+
+abbrev pub OperationSpares : Op → List Object → Value → Value → Type 0
+OperationSpares o objects a b = outcomes.NeedsMemory (operate objects o a b) → ⊥
+
+-- of the one operand, or of both
+abbrev pub Whichever : Bool → Type 0 → Type 0 → Type 0
+Whichever true one two = one
+Whichever false one two = two
+
+abbrev pub OperatorSpares : Op → List Word → List Object → Type 0
+OperatorSpares o [] objects = Unit {0}
+OperatorSpares o (upper ∷ rest) objects =
+    OnReference upper (λ b. Whichever (is_unary o) (OperationSpares o objects b b) (OnValue rest (λ a. OperationSpares o objects a b)))
+
 -- ---- instructions
 
 abbrev pub CopySpares : Plain → List Word → Type 0
@@ -107,37 +152,54 @@ CopySpares plain.DupX1 stack = OneBare stack
 CopySpares plain.DupX2 stack = OneBare stack
 CopySpares other stack = Unit {0}
 
-abbrev pub PlainSpares : Plain → List Word → List Object → Type 0
-PlainSpares plain.Concat stack objects = ⊥
-PlainSpares plain.Equal stack objects = OnValues stack (EqualSpares objects)
-PlainSpares plain.Throw stack objects = OnValue stack (λ value. is_exception objects value ≡ true)
-PlainSpares other stack objects = CopySpares other stack
+abbrev pub PlainSpares : Plain → List Word → Store → Type 0
+PlainSpares plain.Concat stack store = ⊥
+PlainSpares plain.Equal stack store = OnValues stack (EqualSpares store.objects)
+PlainSpares plain.ArrayLength stack store = OnValue stack (AskSpares ask.Length store)
+PlainSpares plain.GetIndex stack store = ⊥
+PlainSpares plain.PutIndex stack store = ⊥
+PlainSpares plain.Iter stack store = ⊥
+PlainSpares plain.Has stack store = OnValue stack (AskSpares ask.HasMore store)
+PlainSpares plain.Next stack store = OnValue stack (AskSpares ask.Next store)
+PlainSpares plain.Throw stack store = OnValue stack (λ value. is_exception store.objects value ≡ true)
+PlainSpares other stack store = CopySpares other stack
 
 abbrev pub NumberedSpares : Numbered → ℕ → List Word → Type 0
 NumberedSpares numbered.Load k locals = LocalBare (slice_get locals k)
+NumberedSpares numbered.List k locals = ⊥
+NumberedSpares numbered.Map k locals = ⊥
 NumberedSpares other k locals = Unit {0}
 
--- an instruction in a frame, with these members and objects; one that has no row does nothing
-abbrev pub InstructionSpares : AllowList → Instruction → Frame → List Object → Type 0
-InstructionSpares allowed (i.Plain p) f objects = PlainSpares p f.stack objects
-InstructionSpares allowed (i.Arithmetic o width) f objects = NoZero (calculation o width f.stack)
-InstructionSpares allowed (i.Numbered n k) f objects = NumberedSpares n k f.locals
-InstructionSpares allowed (i.Unboxing p way) f objects = OnValue f.stack (CastSpares objects (ty.Prim p) (is_written way))
-InstructionSpares allowed (i.Cast to way) f objects = OnType (type_of_full to) (λ to. OnValue f.stack (CastSpares objects to (is_written way)))
-InstructionSpares allowed (i.Quoted kind text) f objects = ⊥
-InstructionSpares allowed (i.Invoke method) f objects = MemberSpares (method_of allowed method) f.stack objects
-InstructionSpares allowed (i.New constructor) f objects = MemberSpares (constructor_of allowed constructor) f.stack objects
-InstructionSpares allowed (i.Field field) f objects = MemberSpares (field_of allowed field) f.stack objects
-InstructionSpares allowed other f objects = Unit {0}
+abbrev pub TypedSpares : Typed → Ty → List Word → Store → Type 0
+TypedSpares typed.IsA of stack store = Unit {0}
+TypedSpares typed.LoadElement of stack store = OnPlace stack (ElementSpares store of)
+TypedSpares typed.StoreElement of stack store = ⊥
 
-abbrev pub LineSpares : AllowList → Option Instruction → Frame → List Object → Type 0
-LineSpares allowed None f objects = Unit {0}
-LineSpares allowed (Some instruction) f objects = InstructionSpares allowed instruction f objects
+-- an instruction in a frame, with these members and this store; one that has no row does nothing
+abbrev pub InstructionSpares : AllowList → Instruction → Frame → Store → Type 0
+InstructionSpares allowed (i.Plain p) f store = PlainSpares p f.stack store
+InstructionSpares allowed (i.Arithmetic o width) f store = NoZero (calculation o width f.stack)
+InstructionSpares allowed (i.Dynamic o) f store = OperatorSpares (op_of_dynamic o) f.stack store.objects
+InstructionSpares allowed (i.Numbered n k) f store = NumberedSpares n k f.locals
+InstructionSpares allowed (i.Unboxing p way) f store = OnValue f.stack (CastSpares store.objects (ty.Prim p) (is_written way))
+InstructionSpares allowed (i.Cast to way) f store = OnType (type_of_full to) (λ to. OnValue f.stack (CastSpares store.objects to (is_written way)))
+InstructionSpares allowed (i.Typed t of) f store = OnType (type_of_full of) (λ of. TypedSpares t of f.stack store)
+InstructionSpares allowed (i.Sized s of n) f store = ⊥
+InstructionSpares allowed (i.Quoted kind text) f store = ⊥
+InstructionSpares allowed (i.DefCall name n) f store = ⊥
+InstructionSpares allowed (i.Invoke method) f store = MemberSpares (method_of allowed method) f.stack store.objects
+InstructionSpares allowed (i.New constructor) f store = MemberSpares (constructor_of allowed constructor) f.stack store.objects
+InstructionSpares allowed (i.Field field) f store = MemberSpares (field_of allowed field) f.stack store.objects
+InstructionSpares allowed other f store = Unit {0}
 
-abbrev pub FunctionSpares : AllowList → Option FunCode → Frame → List Object → Type 0
-FunctionSpares allowed None f objects = Unit {0}
-FunctionSpares allowed (Some g) f objects = LineSpares allowed (slice_get g.lines f.line) f objects
+abbrev pub LineSpares : AllowList → Option Instruction → Frame → Store → Type 0
+LineSpares allowed None f store = Unit {0}
+LineSpares allowed (Some instruction) f store = InstructionSpares allowed instruction f store
+
+abbrev pub FunctionSpares : AllowList → Option FunCode → Frame → Store → Type 0
+FunctionSpares allowed None f store = Unit {0}
+FunctionSpares allowed (Some g) f store = LineSpares allowed (slice_get g.lines f.line) f store
 
 -- the next instruction takes no memory
 abbrev pub Spares : Codes → AllowList → Config → Type 0
-Spares codes allowed c = FunctionSpares allowed (function_of codes c.top) c.top c.world.store.objects
+Spares codes allowed c = FunctionSpares allowed (function_of codes c.top) c.top c.world.store

@@ -237,6 +237,7 @@ fn link_of(alloc: Global, allow: &Allow, line: &Instruction) -> Result<Link, All
 {
     match line {
         Instruction::Typed(_, of) => type_link(alloc, of),
+        Instruction::Sized(_, of, _) => type_link(alloc, of),
         Instruction::Cast(to, _) => type_link(alloc, to),
         Instruction::Invoke(method) => Ok(member_link(method_of(allow, method))),
         Instruction::New(constructor) => Ok(member_link(constructor_of(allow, constructor))),

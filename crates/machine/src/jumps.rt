@@ -8,6 +8,7 @@ ghost use Rattle.machine.specs.Memory.{CallFinds, HasMemory};
 
 use crate::calls::call;
 use crate::configuration::{Configuration, RunEnd, Step};
+use crate::container_rows::{Collected, collect};
 use crate::copies::copy_of;
 use crate::linked_code::LinkedCode;
 use crate::operands::pop_int;
@@ -52,8 +53,9 @@ pub fn numbered(
             Some(function) => repeat(run, code, limits, function.loops, number),
             None => Step::Stuck,
         },
+        Numbered::List => collect(run, code, limits, Collected::List, number as usize),
+        Numbered::Map => collect(run, code, limits, Collected::Map, 2 * number as usize),
         Numbered::Call => call(run, code, limits, number),
-        _ => Step::Stuck,
     }
 }
 

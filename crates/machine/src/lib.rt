@@ -1,11 +1,14 @@
 //! The machine that runs code: activations, which run for some instructions at a time.
 #![tactic(auto)]
 
+mod access_rows;
 mod activation;
 mod boxes;
 mod calls;
 mod configuration;
+mod container_rows;
 mod copies;
+mod dynamic_rows;
 mod executable;
 mod fast_calls;
 mod fast_path;
@@ -18,6 +21,7 @@ mod members;
 mod memory;
 mod operands;
 mod operators;
+mod parts;
 mod paying;
 mod reached;
 mod receiving;

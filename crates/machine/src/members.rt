@@ -96,7 +96,11 @@ fn words_of(frames: &mut Frames, taken: &mut Words, called: &MemberType) -> Resu
 }
 
 // So many words off the stack, the deepest on the top.
-fn take_words(frames: &mut Frames, count: usize, taken: &mut Words) -> Result<bool, AllocError>
+pub(crate) fn take_words(
+    frames: &mut Frames,
+    count: usize,
+    taken: &mut Words,
+) -> Result<bool, AllocError>
     ensures words { IfOk result (λ enough. beside frames.new.top.stack (filled enough taken.new.items) ≡ spec.take_words count frames.old.top.stack taken.old.items) }
     ensures memory { length taken.old.items + count ≤ taken.old.room → IsOk result }
     ensures room { (frames.new.count ≤ frames.old.count) × (frames.new.words ≡ frames.old.words) × (frames.new.depth ≡ frames.old.depth) × (taken.new.room ≡ taken.old.room) }

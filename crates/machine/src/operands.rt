@@ -1,5 +1,6 @@
 //! Instructions on the stack alone: constants, copies and casts of numbers.
-ghost use Rattle.std.specs.Prelude.{◌≡◌, ◌≤◌, ◌<◌, ◌+◌, ◌^◌, ◌∷◌, false, Some, None, MatchOption, suc};
+ghost use Rattle.std.specs.Prelude.{◌≡◌, ◌≤◌, ◌<◌, ◌+◌, ◌^◌, ◌∷◌, false, Some, None, MatchOption, length, suc};
+ghost use Rattle.object_values.specs.declared.object.Owner.TheVariants.{Script};
 ghost use Rattle.pl_code.specs.declared.kinds.Plain.TheVariants as plains;
 ghost use Rattle.code_meaning.specs.declared.word.Word.TheVariants.{I, J};
 ghost use Rattle.code_meaning.specs.Machine as spec;
@@ -10,8 +11,10 @@ ghost use Rattle.machine.specs.Rows.{Copies};
 ghost use Rattle.machine.specs.Sparing.{CopySpares, OneBare, PlainSpares, TwoBare, is_text};
 ghost use Rattle.machine.specs.Memory.{HasMemory, IsCopied};
 
+use crate::access_rows::{get_index, put_index};
 use crate::calls::ret;
 use crate::configuration::{Configuration, Step};
+use crate::container_rows::{Asked, ask};
 use crate::copies::copy_of;
 use crate::frames::Frames;
 use crate::linked_code::LinkedCode;
@@ -28,8 +31,10 @@ use std::mem::forget;
 #[inline(always)]
 #[tactic(auto, using(crate::proofs::Rows::no_int, crate::proofs::Rows::no_long))]
 pub fn plain(run: &mut Configuration, code: &LinkedCode, limits: &Rules<'_>, kind: Plain) -> Step
+    requires script { run.old.frames.top.text ≡ Script }
+    requires reached { length limits.now.allowed.members ≤ run.old.world.reached.room }
     ensures exact { Comes (plain_act (codes_alone code.now.functions) (limits_in limits.now) kind run.old.frames.top run.old.frames.below (world_of run.old.world)) result run.new }
-    ensures memory { PlainSpares kind run.old.frames.top.stack run.old.world.heap.objects → run.old.frames.count + 2 ≤ run.old.frames.words → suc run.old.frames.top.line < 2 ^ 64 → HasMemory result }
+    ensures memory { PlainSpares kind run.old.frames.top.stack run.old.world.heap → run.old.frames.count + 2 ≤ run.old.frames.words → suc run.old.frames.top.line < 2 ^ 64 → HasMemory result }
     ensures room { room_of run.new ≡ room_of run.old }
 {
     match kind {
@@ -59,6 +64,12 @@ pub fn plain(run: &mut Configuration, code: &LinkedCode, limits: &Rules<'_>, kin
         Plain::Equal => pair(run, code, limits, Pairing::Equal),
         Plain::Same => pair(run, code, limits, Pairing::Same),
         Plain::Throw => throw_top(run, code, limits),
+        Plain::ArrayLength => ask(run, code, limits, Asked::Length),
+        Plain::GetIndex => get_index(run, code, limits),
+        Plain::PutIndex => put_index(run, code, limits),
+        Plain::Iter => ask(run, code, limits, Asked::Iterate),
+        Plain::Has => ask(run, code, limits, Asked::HasMore),
+        Plain::Next => ask(run, code, limits, Asked::Next),
         _ => copy(run, kind),
     }
 }

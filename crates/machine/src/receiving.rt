@@ -148,8 +148,8 @@ fn take_arguments(params: &[Ty], words: &mut Words, values: &mut Values) -> Resu
     }
 }
 
-// An argument of a type: a number goes in the box of its primitive.
-fn taken(of: &Ty, word: Word) -> Option<Value>
+/// An argument of a type: a number goes in the box of its primitive.
+pub(crate) fn taken(of: &Ty, word: Word) -> Option<Value>
     ensures { result ≡ members.taken of.now word }
 {
     match of {
@@ -162,7 +162,8 @@ fn taken(of: &Ty, word: Word) -> Option<Value>
     }
 }
 
-fn reference_in(mut word: Word) -> Option<Value>
+/// The value of a word that is a reference.
+pub(crate) fn reference_in(mut word: Word) -> Option<Value>
     ensures { result ≡ members.reference_in word }
 {
     match &mut word {

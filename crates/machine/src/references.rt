@@ -1,13 +1,15 @@
 //! Texts, and what is asked of references: whether two are equal or one, their texts joined, and whether one is null.
-ghost use Rattle.std.specs.Prelude.{◌≡◌, ◌≤◌, ◌<◌, ◌^◌, List, Some, suc};
+ghost use Rattle.std.specs.Prelude.{◌≡◌, ◌≤◌, ◌<◌, ◌^◌, List, length, suc, Some};
+ghost use Rattle.object_values.specs.declared.object.Owner.TheVariants.{Script};
 ghost use Rattle.code_meaning.specs.declared.word.Word.{Word};
-ghost use Rattle.code_meaning.specs.Machine.{on_reference, on_top, if_null, to_line};
+ghost use Rattle.code_meaning.specs.Machine.{quoted_act, on_reference, on_top, if_null, to_line};
 ghost use Rattle.machine.specs.Seen.{Comes, room_of, with_stack, world_of, codes_alone, limits_in};
-ghost use Rattle.machine.specs.Links.{link_at, text_in};
+ghost use Rattle.machine.specs.Links.{link_at, text_in, text_link};
 ghost use Rattle.machine.specs.Sparing.{OnReference, OnValues};
 ghost use Rattle.machine.specs.Memory.{HasMemory, PairSpares};
 ghost use Rattle.machine.specs.Rows.{null_in, on_pair, on_references, paired, text_act};
 
+use crate::access_rows::{get_name, put_name};
 use crate::configuration::{Configuration, Step};
 use crate::executable::{Executable, Link};
 use crate::linked_code::LinkedCode;
@@ -16,10 +18,34 @@ use crate::throwing::{answered, answered_whole};
 use code_meaning::Word;
 use number_ops::{concatenate, equal, is_same};
 use object_values::Value;
+use pl_code::Quoting;
 use pl_units::UText;
+use plain_data::Text;
 
-/// Puts the text of the instruction on the stack, which is shared. No other instruction with a text is built.
-pub fn quoted(run: &mut Configuration, executable: &Executable) -> Step
+/// An instruction with a text: its constant, which was linked, is put on the stack and shared; an access by name looks its text up.
+pub fn quoted(
+    run: &mut Configuration,
+    executable: &Executable,
+    limits: &Rules<'_>,
+    kind: Quoting,
+    text: &Text,
+) -> Step
+    requires script { run.old.frames.top.text ≡ Script }
+    requires reached { length limits.now.allowed.members ≤ run.old.world.reached.room }
+    requires linked { link_at executable.now run.old.frames.top ≡ Some (text_link kind text.now) }
+    ensures exact { Comes (quoted_act (codes_alone executable.now.code.functions) (limits_in limits.now) kind text.now run.old.frames.top run.old.frames.below (world_of run.old.world)) result run.new }
+    ensures room { room_of run.new ≡ room_of run.old }
+{
+    let code = executable.linked();
+    match kind {
+        Quoting::Constant => linked_text(run, executable),
+        Quoting::GetName => get_name(run, code, limits, text.as_str()),
+        Quoting::PutName => put_name(run, code, limits, text.as_str()),
+    }
+}
+
+// Puts the text of the instruction on the stack, which is shared.
+fn linked_text(run: &mut Configuration, executable: &Executable) -> Step
     ensures exact { Comes (text_act (text_in (link_at executable.now run.old.frames.top)) run.old.frames.top run.old.frames.below (world_of run.old.world)) result run.new }
     ensures room { room_of run.new ≡ room_of run.old }
 {

@@ -7,8 +7,10 @@ ghost use Rattle.machine.specs.Seen.{Comes, configuration_of, room_of, world_of,
 ghost use Rattle.machine.specs.Sparing.{InstructionSpares, Spares};
 ghost use Rattle.machine.specs.Runs.{CountsFit};
 
+use crate::access_rows::call_method;
 use crate::boxes::{box_number, unbox};
 use crate::configuration::{Configuration, Step};
+use crate::dynamic_rows::dynamic;
 use crate::executable::Executable;
 use crate::jumps::numbered;
 use crate::members::named;
@@ -16,7 +18,7 @@ use crate::operands::plain;
 use crate::operators::arithmetic;
 use crate::references::quoted;
 use crate::rules::Rules;
-use crate::typed::{cast, typed};
+use crate::typed::{cast, sized_by_name, typed};
 use code_meaning::Word;
 use pl_code::Instruction;
 
@@ -37,6 +39,7 @@ pub fn step(run: &mut Configuration, executable: &Executable, limits: &Rules<'_>
 }
 
 #[inline(always)]
+#[tactic(auto, using(crate::proofs::Linked::in_script))]
 fn execute(
     run: &mut Configuration,
     executable: &Executable,
@@ -48,7 +51,7 @@ fn execute(
     requires counts { run.old.frames.top.turns + run.old.world.ticks < 2 ^ 64 }
     requires instruction { instruction_at executable.now run.old.frames.top ≡ Some instruction.now }
     ensures exact { Comes (act (codes_alone executable.now.code.functions) (limits_in limits.now) instruction.now run.old.frames.top run.old.frames.below (world_of run.old.world)) result run.new }
-    ensures memory { InstructionSpares limits.now.allowed instruction.now run.old.frames.top run.old.world.heap.objects → HasSpace (codes_alone executable.now.code.functions) limits.now.depth run.old → suc run.old.frames.top.line < 2 ^ 64 → HasMemory result }
+    ensures memory { InstructionSpares limits.now.allowed instruction.now run.old.frames.top run.old.world.heap → HasSpace (codes_alone executable.now.code.functions) limits.now.depth run.old → suc run.old.frames.top.line < 2 ^ 64 → HasMemory result }
     ensures room { room_of run.new ≡ room_of run.old }
 {
     let code = executable.linked();
@@ -60,8 +63,15 @@ fn execute(
         Instruction::Numbered(kind, number) => numbered(run, code, limits, *kind, *number),
         Instruction::Boxing(primitive) => box_number(run, *primitive),
         Instruction::Unboxing(primitive, way) => unbox(run, code, limits, *primitive, *way),
-        Instruction::Quoted(_, _) => quoted(run, executable),
+        Instruction::Dynamic(op) => dynamic(run, code, limits, *op),
+        Instruction::Quoted(kind, text) => quoted(run, executable, limits, *kind, text),
         Instruction::Typed(kind, _) => typed(run, executable, limits, *kind),
+        Instruction::Sized(kind, _, count) => {
+            sized_by_name(run, executable, limits, *kind, *count)
+        }
+        Instruction::DefCall(name, count) => {
+            call_method(run, code, limits, name.as_str(), *count)
+        }
         Instruction::Cast(_, way) => cast(run, executable, limits, *way),
         Instruction::Invoke(_) => named(run, executable, limits),
         Instruction::New(_) => named(run, executable, limits),

@@ -10,7 +10,7 @@ ghost use Rattle.code_meaning.specs.Words as words;
 ghost use Rattle.code_meaning.specs.declared.word.Word.{Word};
 ghost use Rattle.code_meaning.specs.declared.word.Word.TheVariants.{R};
 ghost use Rattle.code_meaning.specs.Machine as spec;
-ghost use Rattle.code_meaning.specs.Machine.{Next, on_outcome, on_reference, on_thrown, on_top, function_of};
+ghost use Rattle.code_meaning.specs.Machine.{Next, on_done, on_outcome, on_reference, on_thrown, on_top, function_of};
 ghost use Rattle.machine.specs.Seen.{Comes, room_of, with_stack, world_of, codes_alone, limits_in};
 ghost use Rattle.number_ops.specs.Relations.{is_exception};
 ghost use Rattle.machine.specs.Sparing.{OnReference, OnValue};
@@ -89,6 +89,28 @@ pub fn answered_as(
 {
     match answer {
         Answer::Value(value) => run.push(given_as(of, value)),
+        Answer::Thrown(id) => unwind(run, code, id),
+        Answer::Room => {
+            run.end = RunEnd::Limit(Which::Room);
+            Step::Ends
+        }
+        Answer::NoMemory => Step::NoMemory,
+    }
+}
+
+/// The same of an operation whose value is dropped.
+pub fn answered_done(
+    run: &mut Configuration,
+    code: &LinkedCode,
+    limits: &Rules<'_>,
+    answer: Answer,
+) -> Step
+    ensures exact { (effect : Effect) (old : Store) (stack : List Word) → Answers effect old run.old.world.heap answer → Comes (on_done (codes_alone code.now.functions) (limits_in limits.now) (acts_in (with_store (world_of run.old.world) old) effect) (with_stack run.old.frames.top stack) run.old.frames.below (with_store (world_of run.old.world) old) run.old.frames.top.stack) result run.new }
+    ensures memory { IsAnswered answer → run.old.frames.count < run.old.frames.words → suc run.old.frames.top.line < 2 ^ 64 → HasMemory result }
+    ensures room { room_of run.new ≡ room_of run.old }
+{
+    match answer {
+        Answer::Value(_value) => run.goes_on(),
         Answer::Thrown(id) => unwind(run, code, id),
         Answer::Room => {
             run.end = RunEnd::Limit(Which::Room);

@@ -7,21 +7,22 @@ ghost use Rattle.run_state.specs.World.{acts_in};
 ghost use Rattle.code_meaning.specs.Words as words;
 ghost use Rattle.code_meaning.specs.declared.word.Word.{Word};
 ghost use Rattle.code_meaning.specs.declared.word.Word.TheVariants.{I, R};
-ghost use Rattle.code_meaning.specs.Machine.{cast_act, typed_act, on_type, on_top, on_reference, on_outcome, to_line, is_written};
-ghost use Rattle.machine.specs.Sparing.{CastSpares, OnReference, OnType, OnValue};
+ghost use Rattle.code_meaning.specs.Machine.{cast_act, sized_act, typed_act, on_type, on_top, on_reference, on_outcome, to_line, is_written};
+ghost use Rattle.machine.specs.Sparing.{CastSpares, OnReference, OnType, OnValue, TypedSpares};
 ghost use Rattle.machine.specs.Links.{link_at, type_in};
 ghost use Rattle.machine.specs.Memory.{HasMemory};
 ghost use Rattle.machine.specs.Seen.{Comes, room_of, with_stack, world_of, codes_alone, limits_in};
 
 use crate::boxes::is_written;
 use crate::configuration::{Configuration, Step};
+use crate::container_rows::{load_element, sized, store_element};
 use crate::executable::{Executable, Link};
 use crate::linked_code::LinkedCode;
 use crate::rules::Rules;
 use crate::throwing::answered_whole;
 use code_meaning::Word;
 use number_ops::{is_instance, to_type};
-use pl_code::{Typed, Way};
+use pl_code::{Sized, Typed, Way};
 use pl_types::Ty;
 
 /// Casts the reference on the stack to the type that the instruction names.
@@ -76,6 +77,23 @@ fn cast_word(
     }
 }
 
+/// An instruction with the type that it names and a number.
+pub fn sized_by_name(
+    run: &mut Configuration,
+    executable: &Executable,
+    limits: &Rules<'_>,
+    kind: Sized,
+    count: u32,
+) -> Step
+    ensures exact { Comes (on_type (type_in (link_at executable.now run.old.frames.top)) (λ of. sized_act (codes_alone executable.now.code.functions) (limits_in limits.now) kind of count run.old.frames.top run.old.frames.below (world_of run.old.world))) result run.new }
+    ensures room { room_of run.new ≡ room_of run.old }
+{
+    match executable.link(&run.frames) {
+        Some(Link::Type(of)) => sized(run, executable.linked(), limits, kind, of, count as usize),
+        _ => Step::Stuck,
+    }
+}
+
 /// An instruction with the type that it names.
 pub fn typed(
     run: &mut Configuration,
@@ -84,7 +102,7 @@ pub fn typed(
     kind: Typed,
 ) -> Step
     ensures exact { Comes (on_type (type_in (link_at executable.now run.old.frames.top)) (λ of. typed_act (codes_alone executable.now.code.functions) (limits_in limits.now) kind of run.old.frames.top run.old.frames.below (world_of run.old.world))) result run.new }
-    ensures memory { run.old.frames.count ≤ run.old.frames.words → suc run.old.frames.top.line < 2 ^ 64 → HasMemory result }
+    ensures memory { OnType (type_in (link_at executable.now run.old.frames.top)) (λ of. TypedSpares kind of run.old.frames.top.stack run.old.world.heap) → run.old.frames.count ≤ run.old.frames.words → suc run.old.frames.top.line < 2 ^ 64 → HasMemory result }
     ensures room { room_of run.new ≡ room_of run.old }
 {
     match executable.link(&run.frames) {
@@ -101,12 +119,13 @@ fn typed_by(
     of: &Ty,
 ) -> Step
     ensures exact { Comes (typed_act (codes_alone code.now.functions) (limits_in limits.now) kind of.now run.old.frames.top run.old.frames.below (world_of run.old.world)) result run.new }
-    ensures memory { run.old.frames.count ≤ run.old.frames.words → suc run.old.frames.top.line < 2 ^ 64 → HasMemory result }
+    ensures memory { TypedSpares kind of.now run.old.frames.top.stack run.old.world.heap → run.old.frames.count ≤ run.old.frames.words → suc run.old.frames.top.line < 2 ^ 64 → HasMemory result }
     ensures room { room_of run.new ≡ room_of run.old }
 {
     match kind {
         Typed::IsA => instance(run, of),
-        _ => Step::Stuck,
+        Typed::LoadElement => load_element(run, code, limits, of),
+        Typed::StoreElement => store_element(run, code, limits, of),
     }
 }
 

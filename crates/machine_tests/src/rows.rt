@@ -12,7 +12,7 @@ pub struct Row {
 }
 
 /// The rows.
-pub const ROWS: [Row; 68] = [
+pub const ROWS: [Row; 87] = [
     // int s = 0; for (int i = 0; i < 5; i++) { s += i } s
     Row {
         listing: "painless 1\nfun 0 loop R - II\ni 0\nstore 0\ni 0\nstore 1\ngoto 13\nload 0\nload 1\nadd.i\nstore 0\nload 1\ni 1\nadd.i\nstore 1\nload 1\ni 5\nlt.i\nloop 5\nload 0\nbox int\nret\nend\n",
@@ -624,5 +624,172 @@ pub const ROWS: [Row; 68] = [
         ticks: 10,
         room: 1000,
         left: "loop; steps 12; ticks 5",
+    },
+    // an item of a list, from its end
+    Row {
+        listing: "painless 1\nfun 0 loop R - -\ni 7\nbox int\ni 9\nbox int\nlist 2\ni -1\nbox int\ngetidx\nret\nend\n",
+        loops: 100,
+        depth: 100,
+        ticks: 100,
+        room: 1000,
+        left: "int 9; steps 9; ticks 1",
+    },
+    // an element of an array
+    Row {
+        listing: "painless 1\nfun 0 loop I - -\ni 1\ni 2\ni 3\narray int 3\ni 1\naload int\nret\nend\n",
+        loops: 100,
+        depth: 100,
+        ticks: 100,
+        room: 1000,
+        left: "i 2; steps 7; ticks 0",
+    },
+    // one that was written, from its end
+    Row {
+        listing: "painless 1\nfun 0 loop J - R\ni 2\nnewarray long[] 1\nstore 0\nload 0\ni 1\nj 5\nastore long\nload 0\ni -1\naload long\nret\nend\n",
+        loops: 100,
+        depth: 100,
+        ticks: 100,
+        room: 1000,
+        left: "j 5; steps 11; ticks 0",
+    },
+    // the length of an array in an array
+    Row {
+        listing: "painless 1\nfun 0 loop I - -\ni 2\ni 3\nnewarray int[][] 2\ni 1\naload int[]\nalen\nret\nend\n",
+        loops: 100,
+        depth: 100,
+        ticks: 100,
+        room: 1000,
+        left: "i 3; steps 7; ticks 0",
+    },
+    // a size that is negative
+    Row {
+        listing: "painless 1\nfun 0 loop R - -\ni -1\nnewarray int[] 1\nret\nend\n",
+        loops: 100,
+        depth: 100,
+        ticks: 100,
+        room: 1000,
+        left: "thrown; steps 2; ticks 0",
+    },
+    // an element of an array of another type
+    Row {
+        listing: "painless 1\nfun 0 loop I - -\ni 1\nnewarray long[] 1\ni 0\naload int\nret\nend\n",
+        loops: 100,
+        depth: 100,
+        ticks: 100,
+        room: 1000,
+        left: "thrown; steps 4; ticks 0",
+    },
+    // and a value of another class that is written
+    Row {
+        listing: "painless 1\nfun 0 loop R - -\ni 1\nnewarray java.lang.String[] 1\ni 0\ni 5\nbox int\nastore java.lang.String\nnull\nret\nend\n",
+        loops: 100,
+        depth: 100,
+        ticks: 100,
+        room: 1000,
+        left: "thrown; steps 6; ticks 0",
+    },
+    // whether a list has more, and the length of a map
+    Row {
+        listing: "painless 1\nfun 0 loop I - -\nlist 0\nhas\nret\nend\n",
+        loops: 100,
+        depth: 100,
+        ticks: 100,
+        room: 1000,
+        left: "thrown; steps 2; ticks 0",
+    },
+    Row {
+        listing: "painless 1\nfun 0 loop I - -\nmap 0\nalen\nret\nend\n",
+        loops: 100,
+        depth: 100,
+        ticks: 100,
+        room: 1000,
+        left: "thrown; steps 2; ticks 0",
+    },
+    // int s = 0; for (def x : [1, 2]) { s += x } s
+    Row {
+        listing: "painless 1\nfun 0 loop I - RI\ni 1\nbox int\ni 2\nbox int\nlist 2\niter\nstore 0\ni 0\nstore 1\ngoto 16\nload 1\nload 0\nnext\nunbox int imp\nadd.i\nstore 1\nload 0\nhas\nloop 10\nload 1\nret\nend\n",
+        loops: 100,
+        depth: 100,
+        ticks: 100,
+        room: 1000,
+        left: "i 3; steps 33; ticks 2",
+    },
+    // a value under a key, which is a name
+    Row {
+        listing: "painless 1\nfun 0 loop R - -\ntext \"a\"\ni 1\nbox int\ntext \"b\"\ni 2\nbox int\nmap 2\ngetname \"b\"\nret\nend\n",
+        loops: 100,
+        depth: 100,
+        ticks: 100,
+        room: 1000,
+        left: "int 2; steps 9; ticks 1",
+    },
+    // a key that is not simple
+    Row {
+        listing: "painless 1\nfun 0 loop R - -\nlist 0\nnull\nmap 1\nret\nend\n",
+        loops: 100,
+        depth: 100,
+        ticks: 100,
+        room: 1000,
+        left: "thrown; steps 3; ticks 0",
+    },
+    // an item of a list that is written at an index, and read
+    Row {
+        listing: "painless 1\nfun 0 loop R - R\ni 7\nbox int\nlist 1\nstore 0\nload 0\ni 0\nbox int\ni 9\nbox int\nputidx\nload 0\ni 0\nbox int\ngetidx\nret\nend\n",
+        loops: 100,
+        depth: 100,
+        ticks: 100,
+        room: 1000,
+        left: "int 9; steps 15; ticks 2",
+    },
+    // a method by its name
+    Row {
+        listing: "painless 1\nfun 0 loop R - -\ntext \"abc\"\ni 1\nbox int\ni 3\nbox int\ndefcall substring 2\nret\nend\n",
+        loops: 100,
+        depth: 100,
+        ticks: 100,
+        room: 1000,
+        left: "text bc; steps 7; ticks 1",
+    },
+    // and one that is not there
+    Row {
+        listing: "painless 1\nfun 0 loop R - -\ntext \"abc\"\ndefcall nothing 0\nret\nend\n",
+        loops: 100,
+        depth: 100,
+        ticks: 100,
+        room: 1000,
+        left: "thrown; steps 2; ticks 0",
+    },
+    // operators on an Integer and a Long, two Integers, a text and an Integer, and null
+    Row {
+        listing: "painless 1\nfun 0 loop R - -\ni 1\nbox int\nj 2\nbox long\ndef.add\nret\nend\n",
+        loops: 100,
+        depth: 100,
+        ticks: 100,
+        room: 1000,
+        left: "long 3; steps 6; ticks 0",
+    },
+    Row {
+        listing: "painless 1\nfun 0 loop I - -\ni 1\nbox int\ni 2\nbox int\ndef.lt\nret\nend\n",
+        loops: 100,
+        depth: 100,
+        ticks: 100,
+        room: 1000,
+        left: "i 1; steps 6; ticks 0",
+    },
+    Row {
+        listing: "painless 1\nfun 0 loop R - -\ntext \"a\"\ni 2\nbox int\ndef.add\nret\nend\n",
+        loops: 100,
+        depth: 100,
+        ticks: 100,
+        room: 1000,
+        left: "text a2; steps 5; ticks 0",
+    },
+    Row {
+        listing: "painless 1\nfun 0 loop R - -\nnull\ndef.neg\nret\nend\n",
+        loops: 100,
+        depth: 100,
+        ticks: 100,
+        room: 1000,
+        left: "thrown; steps 2; ticks 0",
     },
 ];

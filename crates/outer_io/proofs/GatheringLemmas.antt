@@ -1,6 +1,7 @@
 -- How the pieces of a line are put together.
-use Rattle.std.proofs.Common.{◌≡◌, ℕ, ◌+◌, ◌-◌, ◌≤◌, List, ◌∷◌, ◌++◌, length, take, drop, sym, ap, ◌∙◌, subst, arith, length-take}
+use Rattle.std.proofs.Common.{◌≡◌, ◌≢◌, ℕ, ◌+◌, ◌-◌, ◌≤◌, List, [], ◌∷◌, ◌++◌, length, take, drop, refl, sym, ap, ◌∙◌, subst, arith, length-take}
 use Rattle.std.specs.Prelude.{Option, Vec}
+use Rattle.std.proofs.lemmas.List.Elements.{All-head, All-tail}
 use Rattle.std.specs.declared.alloc.Global.{Global}
 use Rattle.outer_io.specs.Lines.{newline, IsUnbroken}
 use Rattle.outer_io.specs.Reading.{Intake}
@@ -36,3 +37,11 @@ gathers_open old new items pending before line to is after unbroken holds same =
       holds = subst (λ l. Holds line (before ++ l)) (sym is) holds;
       same = same;
     }
+
+-- bytes in which a newline stands are not without one
+pub broken : (bytes : List ℕ) (place : ℕ) → BreaksAt bytes place → IsUnbroken bytes → ⊥
+broken bytes place breaks unbroken =
+    broken_behind (take place bytes) (drop (place + 1) bytes) (subst IsUnbroken breaks.parts unbroken) where
+      broken_behind : (front behind : List ℕ) → IsUnbroken (front ++ newline ∷ behind) → ⊥
+      broken_behind [] behind all = All-head (λ byte. byte ≢ newline) newline behind all refl
+      broken_behind (byte ∷ front) behind all = broken_behind front behind (All-tail (λ b. b ≢ newline) byte (front ++ newline ∷ behind) all)

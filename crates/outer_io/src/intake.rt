@@ -1,6 +1,6 @@
 //! What is taken from a source, piece by piece, and not given out yet.
 
-ghost use Rattle.std.specs.Prelude.{◌≡◌, ℕ, ◌+◌, ◌≤◌, List, [], ◌++◌, true, false, IfOk, IfSome, IfNone};
+ghost use Rattle.std.specs.Prelude.{◌≡◌, ◌↔◌, IsTrue, ℕ, ◌+◌, ◌≤◌, List, [], ◌++◌, true, false, IfOk, IfSome, IfNone};
 ghost use Rattle.outer_io.specs.Faults.{HasCause};
 ghost use Rattle.outer_io.specs.Lines.{IsUnbroken};
 ghost use Rattle.outer_io.specs.Gathering.{BreaksAt, Holds, Gathers, Refills};
@@ -75,6 +75,18 @@ impl Intake {
         ensures within { self.now.taken ≤ self.now.limit }
     {
         self.ended
+    }
+
+    /// Whether there is a newline among the bytes that are not given out yet.
+    pub(crate) fn has_line(&self) -> bool
+        ensures { IsTrue result ↔ (IsUnbroken self.now.pending → ⊥) }
+    {
+        let (_, behind) = self.piece.split_at(self.from);
+        let (pending, _) = behind.split_at(self.to - self.from);
+        match newline_in(pending) {
+            Some(_place) => true,
+            None => false,
+        }
     }
 
     /// Moves the bytes that are not given out yet behind a line so far, up to a newline, which is

@@ -3,7 +3,7 @@
 ghost use Rattle.std.specs.Prelude.{◌≡◌, ◌↔◌, ℕ, ◌≤◌, List, [], ◌++◌, map, false, is_err, IsTrue, IfOk, OnOk, IfSome};
 ghost use Rattle.outer_io.specs.Faults.{HasCause};
 ghost use Rattle.outer_io.specs.Gathering.{Holds, Gives, GivesLast};
-ghost use Rattle.outer_io.specs.Lines.{lines_of, input_line};
+ghost use Rattle.outer_io.specs.Lines.{IsUnbroken, lines_of, input_line};
 ghost use Rattle.outer_io.specs.Reading.{Reads};
 ghost use Rattle.outer_io.specs.Runs.{shown, GivesLines};
 
@@ -86,6 +86,13 @@ impl LineReader {
             intake,
             failed: false,
         })
+    }
+
+    /// Whether a line lies in what was taken already, so that [`LineReader::next`] gives it and asks the source for nothing.
+    pub fn has_line(&self) -> bool
+        ensures { IsTrue result ↔ (IsUnbroken self.now.intake.pending → ⊥) }
+    {
+        self.intake.has_line()
     }
 
     /// The next line. Each line whose newline was taken is given before any error that comes of

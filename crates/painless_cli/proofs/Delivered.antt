@@ -1,112 +1,41 @@
--- What a run leaves in its sink.
-use Rattle.std.proofs.Common.{◌≡◌, ℕ, ◌<◌, ◌≤◌, inl, inr, List, [], length, replicate, Option, None, Some, IfSome, Bool, true, false, Result, Ok, Err, refl, sym, ap, subst, append-nil, suc, arith}
-use Rattle.std.proofs.lemmas.List.{length-replicate}
-use Rattle.std.specs.Io.KnownBytes.{Appends}
-use Rattle.outer_io.specs.Front.{AppendsFront}
-use Rattle.painless_cli.specs.declared.status.Status.{Status}
-use Rattle.painless_cli.specs.declared.status.Status.TheVariants as s
-use Rattle.pl_types.specs.declared.refusal.Refusal.{Refusal}
-use Rattle.object_values.specs.declared.value.Value.{Value}
-use Rattle.run_state.specs.World.{End}
-use Rattle.json_replies.specs.Replies.{is_error}
-use Rattle.painless_cli.proofs.Once.{same_name}
-use Rattle.painless_cli.specs.Script.{Means}
-use Rattle.painless_cli.specs.Whole.{Told, reply_to, status_of, told_of, silent, TellsScript, TellsFile, IsEval, Tells, file_limit}
-use Rattle.painless_cli.specs.Delivers.{Delivers}
+-- What is delivered of the words.
+use Rattle.std.proofs.Common.{◌≡◌, ℕ, List, Option, Some, None, refl, sym, subst}
+use Rattle.command_parts.specs.declared.status.Status.{Status}
+use Rattle.command_parts.specs.declared.status.Status.TheVariants as s
+use Rattle.command_parts.specs.Delivers.{Delivers}
+use Rattle.command_parts.specs.DeliversOver.{DeliversOver}
+use Rattle.command_parts.specs.Told.{silent}
+use Rattle.command_parts.proofs.Delivering.{nothing, some_input, delivers_over}
+use Rattle.eval_command.specs.Evaluation.{TellsFile}
+use Rattle.job_commands.specs.Checking.{TellsCheck}
+use Rattle.painless_cli.specs.declared.words.Command.{Command}
+use Rattle.painless_cli.specs.declared.words.Command.TheVariants as c
+use Rattle.painless_cli.specs.Whole.{Call, call_of, TellsNamed, TellsTakenNamed, TellsCall, TellsTakenCall, Tells, TellsTaken}
 
-pub nothing : (old : Option (List ℕ)) → Appends old old []
-nothing None = tt
-nothing (Some xs) = sym (append-nil xs)
+-- what is told of a call is told of its words
+pub words_deliver : (words : List (List ℕ)) (content : List ℕ → Option (List ℕ)) (call : Option Call) (status : Status) (left left' old new : Option (List ℕ)) → call_of words ≡ call
+    → DeliversOver (TellsCall call content) (TellsTakenCall call content) status left left' old new → DeliversOver (Tells words content) (TellsTaken words content) status left left' old new
+words_deliver words content call status left left' old new is h =
+    subst (λ (k : Option Call). DeliversOver (TellsCall k content) (TellsTakenCall k content) status left left' old new) (sym is) h
 
--- nothing is a front of whatever was to be written
-pub no_front : (old : Option (List ℕ)) (bytes : List ℕ) → AppendsFront old old bytes
-no_front old bytes = record { front = []; behind = bytes; parts = refl; appended = nothing old }
+-- nothing is told of words that are no command
+pub usage_delivers : (words : List (List ℕ)) (content : List ℕ → Option (List ℕ)) (status : Status) (left old : Option (List ℕ)) → status ≡ s.Usage → call_of words ≡ None
+    → DeliversOver (Tells words content) (TellsTaken words content) status left left old old
+usage_delivers words content status left old ends is =
+    let i = some_input left in
+    subst (λ (t : Status). DeliversOver (Tells words content) (TellsTaken words content) t left left old old) (sym ends)
+    (words_deliver words content None s.Usage left left old old is (i.0, i.1, silent s.Usage, refl, refl, nothing old))
 
--- the same is delivered under what tells the same
-pub delivers_same : (tells others : Told → Type 0) → ((told : Told) → tells told → others told) → ((told : Told) → others told → tells told)
-    → (status : Status) (old new : Option (List ℕ)) → Delivers tells status old new → Delivers others status old new
-delivers_same tells others to from s.Done old new h = (h.0, to h.0 h.1, h.2, h.3)
-delivers_same tells others to from s.SomeErrors old new h = (h.0, to h.0 h.1, h.2, h.3)
-delivers_same tells others to from s.Refused old new h = (h.0, to h.0 h.1, h.2, h.3)
-delivers_same tells others to from s.Usage old new h = (h.0, to h.0 h.1, h.2, h.3)
-delivers_same tells others to from s.FileAbsent old new h = (h.0, to h.0 h.1, h.2, h.3)
-delivers_same tells others to from s.FileLong old new h = (h.0, to h.0 h.1, h.2, h.3)
-delivers_same tells others to from s.WriteFault old new h = (h.0, to h.0 h.1, h.2)
-delivers_same tells others to from s.NoMemory old new h = λ told k. h told (from told k)
-delivers_same tells others to from s.FileFault old new h = h
-delivers_same tells others to from s.ReadFault old new h = h
-delivers_same tells others to from s.InputLong old new h = h
+-- ---- each command
 
--- Files may tell no content; then there is some content that shows an answer.
+module _ (content : List ℕ → Option (List ℕ)) (name : List ℕ) (command : Command) (status : Status) (left left' old new : Option (List ℕ)) where
+  -- what a command delivers is delivered of its name
+  named_delivers : (k : Command) → command ≡ k → DeliversOver (TellsNamed k name content) (TellsTakenNamed k name content) status left left' old new
+      → DeliversOver (TellsNamed command name content) (TellsTakenNamed command name content) status left left' old new
+  named_delivers k is h = subst (λ (k : Command). DeliversOver (TellsNamed k name content) (TellsTakenNamed k name content) status left left' old new) (sym is) h
 
-pub some_content : (known : Option (List ℕ → Option (List ℕ))) → (content : List ℕ → Option (List ℕ)) × IfSome known (λ k. k ≡ content)
-some_content None = (λ _. None, tt)
-some_content (Some k) = (k, refl)
+  pub eval_delivers : command ≡ c.Eval → Delivers (TellsFile (content name)) status old new → DeliversOver (TellsNamed command name content) (TellsTakenNamed command name content) status left left' old new
+  eval_delivers is h = named_delivers c.Eval is (delivers_over (TellsFile (content name)) (TellsNamed c.Eval name content) (TellsTakenNamed c.Eval name content) (λ input told k. k) (λ input told k. k) status left left' old new h)
 
--- the file of a name holds what was found
-pub shown : (known : Option (List ℕ → Option (List ℕ))) (name : List ℕ) (found : Option (List ℕ)) → IfSome known (λ k. k name ≡ found)
-    → (content : List ℕ → Option (List ℕ)) × IfSome known (λ k. k ≡ content) × (content name ≡ found)
-shown None name found h = (λ _. found, tt, refl)
-shown (Some k) name found h = (k, refl, h)
-
-long_list : (n : ℕ) → (bytes : List ℕ) × (n < length bytes)
-long_list n = (replicate (suc n) 0, rw length-replicate (omega arith))
-
--- the file of a name is too long
-pub shown_long : (known : Option (List ℕ → Option (List ℕ))) (name : List ℕ) → IfSome known (λ k. (bytes : List ℕ) × (k name ≡ Some bytes) × (file_limit < length bytes))
-    → (content : List ℕ → Option (List ℕ)) × IfSome known (λ k. k ≡ content) × ((bytes : List ℕ) × (content name ≡ Some bytes) × (file_limit < length bytes))
-shown_long None name h = let long = long_list file_limit in (λ _. Some long.0, tt, (long.0, refl, long.1))
-shown_long (Some k) name h = (k, refl, h)
-
-delivers_reply : (script : List ℕ) (end : End Value) (old new : Option (List ℕ)) → Means script (Ok end) → Appends old new (told_of (Ok end)).bytes
-    → (error : Bool) → is_error (reply_to end) ≡ error → Delivers (TellsScript script) (status_of error) old new
-delivers_reply script end old new m appended true is = (told_of (Ok end), (Ok end, m, refl), ap status_of is, appended)
-delivers_reply script end old new m appended false is = (told_of (Ok end), (Ok end, m, refl), ap status_of is, appended)
-
-delivers_answer : (script : List ℕ) (answer : Result (End Value) Refusal) (old new : Option (List ℕ)) → Means script answer → Appends old new (told_of answer).bytes
-    → Delivers (TellsScript script) (told_of answer).status old new
-delivers_answer script (Ok end) old new m appended = delivers_reply script end old new m appended (is_error (reply_to end)) refl
-delivers_answer script (Err refusal) old new m appended = (told_of (Err refusal), (Err refusal, m, refl), refl, appended)
-
--- what is told of a script was written whole
-pub delivers_told : (script : List ℕ) (told : Told) (old new : Option (List ℕ)) → TellsScript script told → Appends old new told.bytes → Delivers (TellsScript script) told.status old new
-delivers_told script told old new h appended =
-    subst (λ (t : Told). Delivers (TellsScript script) t.status old new) (sym h.2)
-    (delivers_answer script h.0 old new h.1 (subst (λ (t : Told). Appends old new t.bytes) h.2 appended))
-
--- a front of all that could be told was written
-pub front_of_told : (old new : Option (List ℕ)) (told told' : Told) → told ≡ told' → AppendsFront old new told'.bytes → AppendsFront old new told.bytes
-front_of_told old new told told' e h = subst (λ (t : Told). AppendsFront old new t.bytes) (sym e) h
-
--- The words are the command and a name, and the files hold something under it.
-
--- what is told of the words is what is told of the file
-pub delivers_eval : (words : List (List ℕ)) (content : List ℕ → Option (List ℕ)) (name : List ℕ) (status : Status) (old new : Option (List ℕ)) → IsEval words name
-    → Delivers (TellsFile (content name)) status old new → Delivers (Tells words content) status old new
-delivers_eval words content name status old new is =
-    delivers_same (TellsFile (content name)) (Tells words content) (λ told h. inl (name, is, h)) back status old new where
-      back : (told : Told) → Tells words content told → TellsFile (content name) told
-      back told (inl (other, at, h)) = subst (λ (n : List ℕ). TellsFile (content n) told) (same_name words name other is at) h
-      back told (inr (other, h)) = absurd (other name is)
-
--- the file is short enough, and its script is told of
-pub delivers_script : (found : Option (List ℕ)) (script : List ℕ) (status : Status) (old new : Option (List ℕ)) → found ≡ Some script → length script ≤ file_limit
-    → Delivers (TellsScript script) status old new → Delivers (TellsFile found) status old new
-delivers_script found script status old new is short h =
-    subst (λ (f : Option (List ℕ)). Delivers (TellsFile f) status old new) (sym is)
-    (delivers_same (TellsScript script) (TellsFile (Some script)) (λ told k. inr (short, k)) back status old new h) where
-      back : (told : Told) → TellsFile (Some script) told → TellsScript script told
-      back told (inl (long, k)) = absurd (omega arith)
-      back told (inr (small, k)) = k
-
--- nothing is told of a file that is not there
-pub absent_told : (found : Option (List ℕ)) (old : Option (List ℕ)) → found ≡ None → Delivers (TellsFile found) s.FileAbsent old old
-absent_told found old is = (silent s.FileAbsent, subst (λ (f : Option (List ℕ)). TellsFile f (silent s.FileAbsent)) (sym is) refl, refl, nothing old)
-
--- .. nor of one that is too long
-pub long_told : (found : Option (List ℕ)) (bytes : List ℕ) (old : Option (List ℕ)) → found ≡ Some bytes → file_limit < length bytes → Delivers (TellsFile found) s.FileLong old old
-long_told found bytes old is long = (silent s.FileLong, subst (λ (f : Option (List ℕ)). TellsFile f (silent s.FileLong)) (sym is) (inl (long, refl)), refl, nothing old)
-
--- .. nor of words that are no command
-pub usage_told : (words : List (List ℕ)) (content : List ℕ → Option (List ℕ)) (old : Option (List ℕ)) → ((name : List ℕ) → IsEval words name → ⊥) → Delivers (Tells words content) s.Usage old old
-usage_told words content old none = (silent s.Usage, inr (none, refl), refl, nothing old)
+  pub check_delivers : command ≡ c.Check → Delivers (TellsCheck content name) status old new → DeliversOver (TellsNamed command name content) (TellsTakenNamed command name content) status left left' old new
+  check_delivers is h = named_delivers c.Check is (delivers_over (TellsCheck content name) (TellsNamed c.Check name content) (TellsTakenNamed c.Check name content) (λ input told k. k) (λ input told k. k) status left left' old new h)

@@ -1,6 +1,2 @@
 pub mod Delivered
 pub mod Once
-pub mod Runs
-pub mod Utf8
-pub mod TwoWords
-pub mod Some

@@ -1,49 +1,37 @@
--- Each stage has one answer, and so one thing is told.
-use Rattle.std.proofs.Common.{◌≡◌, ℕ, List, [], ◌∷◌, codes, Option, None, Some, Ok, Err, inl, inr, sym, subst, ◌∙◌, ap, arith}
-use Rattle.object_values.specs.declared.value.Value.{Value}
-use Rattle.allowlist.specs.Allow.{full_list}
-use Rattle.run_state.specs.World.{End}
-use Rattle.typed_tree.specs.declared.program.Program.{Program}
-use Rattle.script_engine.specs.Programs.{IsProgramOf}
-use Rattle.script_engine.specs.Laws.{TextsAreAnsweredOnce, ProgramsEndOnce}
-use Rattle.script_engine.proofs.Texts.{Once, then_once}
-use Rattle.painless_cli.specs.Script.{Decodes, eval_types, eval_limits, eval_world, RunsProgram, MeansText, Means}
-use Rattle.painless_cli.specs.Whole.{told_of, TellsScript, TellsFile, IsEval, Tells}
-use Rattle.painless_cli.proofs.Utf8.{decodes_text, decodes_refused}
+-- One thing is told of the words, and something is.
+use Rattle.std.proofs.Common.{◌≡◌, ℕ, List, Option, Some, None, refl, sym, ◌∙◌}
+use Rattle.command_parts.specs.declared.status.Status.TheVariants as s
+use Rattle.command_parts.specs.Told.{Told, silent}
+use Rattle.script_engine.specs.Laws.{TextsAreAnswered, TextsAreAnsweredOnce, ProgramsEnd, ProgramsEndOnce}
+use Rattle.eval_command.proofs.Once.{file_once}
+use Rattle.eval_command.proofs.Some.{file_some}
+use Rattle.job_commands.proofs.Telling.{check_once, check_some, run_once, run_some}
+use Rattle.painless_cli.specs.declared.words.Command.{Command}
+use Rattle.painless_cli.specs.declared.words.Command.TheVariants as c
+use Rattle.painless_cli.specs.Whole.{Call, call_of, TellsNamed, TellsCall, Tells}
 
-decodes_once : (bytes : List ℕ) → Once (Decodes bytes)
-decodes_once bytes (Ok text) b h k = decodes_text bytes text h b k
-decodes_once bytes (Err refusal) b h k = decodes_refused bytes refusal h b k
+module _ (texts : TextsAreAnsweredOnce) (ends : ProgramsEndOnce) (content : List ℕ → Option (List ℕ)) (input : List ℕ) where
+  named_once : (command : Command) (name : List ℕ) (a b : Told) → TellsNamed command name content input a → TellsNamed command name content input b → a ≡ b
+  named_once c.Eval name a b h k = file_once texts ends (content name) a b h k
+  named_once c.Check name a b h k = check_once texts content name a b h k
+  named_once c.Run name a b h k = run_once ends texts content name input a b h k
 
-pub same_name : (words : List (List ℕ)) (name other : List ℕ) → IsEval words name → IsEval words other → other ≡ name
-same_name words name other a b = same (sym b ∙ a) where
-  same : codes "eval" ∷ other ∷ [] ≡ codes "eval" ∷ name ∷ [] → other ≡ name
-  same e = cc
+  call_once : (call : Option Call) (a b : Told) → TellsCall call content input a → TellsCall call content input b → a ≡ b
+  call_once None a b h k = h ∙ sym k
+  call_once (Some call) a b h k = named_once call.command call.name a b h k
 
-module _ (texts : TextsAreAnsweredOnce) (ends : ProgramsEndOnce) where
-  runs_once : (p : Program) → Once (RunsProgram p)
-  runs_once p a b (end, runs, is) (other, others, is_other) =
-      is ∙ ap (λ (x : End Value). Ok x) (ends p eval_limits [] eval_world end other runs others) ∙ sym is_other
+  pub tells_once : (words : List (List ℕ)) (a b : Told) → Tells words content input a → Tells words content input b → a ≡ b
+  tells_once words = call_once (call_of words)
 
-  pub text_once : (text : List ℕ) → Once (MeansText text)
-  text_once text = then_once (IsProgramOf full_list eval_types text) RunsProgram (texts full_list eval_types text) runs_once
+module _ (texts : TextsAreAnswered) (ends : ProgramsEnd) (content : List ℕ → Option (List ℕ)) (input : List ℕ) where
+  named_some : (command : Command) (name : List ℕ) → (told : Told) × TellsNamed command name content input told
+  named_some c.Eval name = file_some texts ends (content name)
+  named_some c.Check name = check_some texts content name
+  named_some c.Run name = run_some ends texts content name input
 
-  means_once : (script : List ℕ) → Once (Means script)
-  means_once script = then_once (Decodes script) MeansText (decodes_once script) text_once
+  call_some : (call : Option Call) → (told : Told) × TellsCall call content input told
+  call_some None = (silent s.Usage, refl)
+  call_some (Some call) = named_some call.command call.name
 
-  script_once : (script : List ℕ) → Once (TellsScript script)
-  script_once script a b h k = h.2 ∙ ap told_of (means_once script h.0 k.0 h.1 k.1) ∙ sym k.2
-
-  file_once : (found : Option (List ℕ)) → Once (TellsFile found)
-  file_once None a b h k = h ∙ sym k
-  file_once (Some script) a b (inl h) (inl k) = h.1 ∙ sym k.1
-  file_once (Some script) a b (inl h) (inr k) = absurd (omega arith)
-  file_once (Some script) a b (inr h) (inl k) = absurd (omega arith)
-  file_once (Some script) a b (inr h) (inr k) = script_once script a b h.1 k.1
-
-  pub tells_once : (words : List (List ℕ)) (content : List ℕ → Option (List ℕ)) → Once (Tells words content)
-  tells_once words content a b (inl (name, is, h)) (inl (other, at, k)) =
-      file_once (content name) a b h (subst (λ (n : List ℕ). TellsFile (content n) b) (same_name words name other is at) k)
-  tells_once words content a b (inl (name, is, h)) (inr (none, k)) = absurd (none name is)
-  tells_once words content a b (inr (none, h)) (inl (name, is, k)) = absurd (none name is)
-  tells_once words content a b (inr (none, h)) (inr (others, k)) = h ∙ sym k
+  pub tells_some : (words : List (List ℕ)) → (told : Told) × Tells words content input told
+  tells_some words = call_some (call_of words)

@@ -1,6 +1,2 @@
-pub mod Script
 pub mod Whole
-pub mod Told
-pub mod Outcomes
-pub mod Delivers
-pub mod Process
+pub mod Words

@@ -1,65 +1,64 @@
--- What the program is to write, and how it is to end: from the words and from what the files hold.
-use Rattle.std.specs.Prelude.{◌≡◌, ℕ, ◌≤◌, ◌<◌, List, [], ◌∷◌, Bool, if◌then◌else◌, Option, Some, None, Result, Ok, Err, ◌⊎◌, length, codes}
-use Rattle.pl_types.specs.declared.refusal.Refusal.{Refusal}
-use Rattle.painless_cli.specs.declared.status.Status.{Status}
-use Rattle.painless_cli.specs.declared.status.Status.TheVariants as s
-use Rattle.serde_json.specs.Data.{Data}
-use Rattle.object_values.specs.declared.value.Value.{Value}
-use Rattle.object_heap.specs.declared.outcome.Which.{Which}
-use Rattle.object_heap.specs.declared.outcome.Which.TheVariants as which
-use Rattle.object_heap.specs.declared.outcome.End.TheVariants as e
-use Rattle.run_state.specs.World.{Limit, Loop, Depth, Ticks, Room, End, Result as Gives, Uncaught, Limited}
-use Rattle.json_replies.specs.Replies.{is_error, line_of, refusal_of, reply_of}
-use Rattle.painless_cli.specs.Script.{Means}
+-- What the program is to write, and how it is to end: from the words, from what the files hold, and from the input.
+use Rattle.std.specs.Prelude.{◌≡◌, ℕ, List, [], ◌∷◌, Option, Some, None, codes, if◌then◌else◌}
+use Rattle.std.specs.Str.{bytes_eq}
+use Rattle.command_parts.specs.declared.status.Status.TheVariants as s
+use Rattle.command_parts.specs.Told.{Told, silent}
+use Rattle.eval_command.specs.Evaluation.{TellsFile}
+use Rattle.job_commands.specs.Checking.{TellsCheck}
+use Rattle.job_commands.specs.Running.{TellsRun, TellsRunTaken}
+use Rattle.painless_cli.specs.declared.words.Command.{Command}
+use Rattle.painless_cli.specs.declared.words.Command.TheVariants as c
 
--- how a run ends, and the bytes that it writes
-pub record Told : Type 0 where
-  pub status : Status
-  pub bytes : List ℕ
+-- a command with its word
+pub record Call : Type 0 where
+  pub command : Command
+  pub name : List ℕ
 
--- the end with nothing written
-abbrev pub silent : Status → Told
-silent status = record { status = status; bytes = [] }
+abbrev pub command_named : List ℕ → Option Command
+command_named word =
+    if bytes_eq word (codes "eval")
+    then Some c.Eval
+    else if bytes_eq word (codes "check") then Some c.Check else if bytes_eq word (codes "run") then Some c.Run else None
 
-abbrev pub which_of : Limit → Which
-which_of Loop = which.Loop
-which_of Depth = which.Depth
-which_of Ticks = which.Ticks
-which_of Room = which.Room
+abbrev pub called : Option Command → List ℕ → Option Call
+called (Some command) name = Some (record { command = command; name = name })
+called None name = None
 
--- the reply to an end
-abbrev pub reply_to : End Value → Data
-reply_to (Gives value w) = reply_of (e.Value value) w.store.objects
-reply_to (Uncaught id w) = reply_of (e.Thrown id) w.store.objects
-reply_to (Limited limit w) = reply_of (e.Limit (which_of limit)) w.store.objects
+-- the words are a command and its one word, or none
+abbrev pub call_of : List (List ℕ) → Option Call
+call_of [] = None
+call_of (word ∷ []) = None
+call_of (word ∷ name ∷ []) = called (command_named word) name
+call_of (word ∷ name ∷ other ∷ words) = None
 
-abbrev pub status_of : Bool → Status
-status_of error = if error then s.SomeErrors else s.Done
+abbrev pub TellsNamed : Command → List ℕ → (List ℕ → Option (List ℕ)) → List ℕ → Told → Type 0
+TellsNamed c.Eval name content input told = TellsFile (content name) told
+TellsNamed c.Check name content input told = TellsCheck content name told
+TellsNamed c.Run name content input told = TellsRun content name input told
 
--- what is told of what a script comes to: its reply, or its refusal
-abbrev pub told_of : Result (End Value) Refusal → Told
-told_of (Ok end) = record { status = status_of (is_error (reply_to end)); bytes = line_of (reply_to end) }
-told_of (Err refusal) = record { status = s.Refused; bytes = line_of (refusal_of refusal) }
+abbrev pub TellsCall : Option Call → (List ℕ → Option (List ℕ)) → List ℕ → Told → Type 0
+TellsCall (Some call) content input told = TellsNamed call.command call.name content input told
+TellsCall None content input told = told ≡ silent s.Usage
 
--- what is told of a script's bytes
-abbrev pub TellsScript : List ℕ → Told → Type 0
-TellsScript script told = (answer : Result (End Value) Refusal) × Means script answer × (told ≡ told_of answer)
+-- what is told of the words, over files with this content and an input of these bytes
+abbrev pub Tells : List (List ℕ) → (List ℕ → Option (List ℕ)) → List ℕ → Told → Type 0
+Tells words content input told = TellsCall (call_of words) content input told
 
--- the most bytes that a file may have
-abbrev pub file_limit : ℕ
-file_limit = 1048576
+-- ---- what is told of bytes that were taken of the input before it failed
 
--- what is told of a script's file, where there is one
-abbrev pub TellsFile : Option (List ℕ) → Told → Type 0
-TellsFile None told = told ≡ silent s.FileAbsent
-TellsFile (Some script) told = ((file_limit < length script) × (told ≡ silent s.FileLong)) ⊎ ((length script ≤ file_limit) × TellsScript script told)
+abbrev pub TellsTakenNamed : Command → List ℕ → (List ℕ → Option (List ℕ)) → List ℕ → Told → Type 0
+TellsTakenNamed c.Eval name content front told = ⊥
+TellsTakenNamed c.Check name content front told = ⊥
+TellsTakenNamed c.Run name content front told = TellsRunTaken content name front told
 
--- the words are the command and the name of a file
-abbrev pub IsEval : List (List ℕ) → List ℕ → Type 0
-IsEval words name = words ≡ codes "eval" ∷ name ∷ []
+abbrev pub TellsTakenCall : Option Call → (List ℕ → Option (List ℕ)) → List ℕ → Told → Type 0
+TellsTakenCall (Some call) content front told = TellsTakenNamed call.command call.name content front told
+TellsTakenCall None content front told = ⊥
 
--- what is told of the words, over files with this content
-abbrev pub Tells : List (List ℕ) → (List ℕ → Option (List ℕ)) → Told → Type 0
-Tells words content told =
-    ((name : List ℕ) × IsEval words name × TellsFile (content name) told)
-    ⊎ (((name : List ℕ) → IsEval words name → ⊥) × (told ≡ silent s.Usage))
+abbrev pub TellsTaken : List (List ℕ) → (List ℕ → Option (List ℕ)) → List ℕ → Told → Type 0
+TellsTaken words content front told = TellsTakenCall (call_of words) content front told
+
+-- the words call this command
+abbrev pub IsCallOf : Command → Option Call → Type 0
+IsCallOf command (Some call) = call.command ≡ command
+IsCallOf command None = ⊥

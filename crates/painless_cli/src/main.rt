@@ -2,23 +2,20 @@
 #![tactic(auto)]
 
 mod laws;
-mod reply;
 mod report;
-mod script;
-mod status;
 mod top;
 mod words;
 
+use command_parts::Status;
 pub use laws::{one_thing_is_told, painless_surely};
 use outer_io::{StdFiles, StdSink, StdSource};
 pub use report::Report;
-pub use status::Status;
 use std::alloc::AllocError;
 use std::process::ExitCode;
 use std::rt::Env;
 use std::{env, io};
 pub use top::painless;
-pub use words::words_behind;
+pub use words::{Command, words_behind};
 
 /// All words with which the process was called, the program's name first.
 fn all_words(rt: &(impl Env + AllocGlobal)) -> io::Result<Vec<String>> {

@@ -1,6 +1,6 @@
 //! What is known of a run when it is over.
 
-use crate::status::Status;
+use command_parts::Status;
 
 /// What a run came to, beside what it wrote.
 #[derive(Drop)]

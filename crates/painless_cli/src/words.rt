@@ -1,6 +1,18 @@
 //! The words of a process.
-ghost use Rattle.std.specs.Prelude.{◌≡◌, map, string_bytes};
-ghost use Rattle.painless_cli.specs.Process.{words_behind};
+ghost use Rattle.std.specs.Prelude.{◌≡◌, map, option_map, string_bytes};
+ghost use Rattle.painless_cli.specs.Whole.{called, call_of, command_named};
+ghost use Rattle.painless_cli.specs.Words.{words_behind};
+
+/// A command, which has one word behind it.
+#[derive(Clone, Copy)]
+pub enum Command {
+    /// Runs the script in a file.
+    Eval,
+    /// Compiles the script of a job.
+    Check,
+    /// Runs the script of a job over the input.
+    Run,
+}
 
 /// The words behind the program's name, which comes first.
 pub fn words_behind(all: &[String]) -> &[String]
@@ -9,5 +21,30 @@ pub fn words_behind(all: &[String]) -> &[String]
     match all {
         [] => all,
         [_, words @ ..] => words,
+    }
+}
+
+/// The command of a name.
+fn command_named(word: &str) -> Option<Command>
+    ensures { result ≡ command_named word.now }
+{
+    match word {
+        "eval" => Some(Command::Eval),
+        "check" => Some(Command::Check),
+        "run" => Some(Command::Run),
+        _ => None,
+    }
+}
+
+/// The command that the words call, and its one word.
+pub(crate) fn call_of(words: &[String]) -> Option<(Command, &str)>
+    ensures { option_map (λ call. record { command = call.0; name = call.1.now }) result ≡ call_of (map string_bytes words.now) }
+{
+    match words {
+        [word, name] => match command_named(word.as_str()) {
+            Some(command) => Some((command, name.as_str())),
+            None => None,
+        },
+        _ => None,
     }
 }

@@ -27,7 +27,7 @@ use Rattle.number_ops.specs.declared.outcome.Outcome.TheVariants as outcome
 use Rattle.number_ops.specs.declared.outcome.Raised.{Raised}
 use Rattle.number_ops.specs.declared.casts.Casted.TheVariants.{To, Refused}
 use Rattle.number_ops.specs.Casts.{number_as, only_unit, char_given, to_primitive, to_layer, given, of_null, cast_at_run_time}
-use Rattle.number_ops.specs.Names.{cannot_cast, cast_message}
+use Rattle.number_ops.specs.Names.{cannot_cast}
 use Rattle.number_ops.specs.Operators.{number_in, is_null}
 use Rattle.number_ops.specs.Order.{found_of}
 use Rattle.number_ops.specs.Outcomes.{effect, class_raised, says, null_error, zero_divisor}
@@ -55,7 +55,7 @@ pays : (l : Ty-F Ty) (o : Option Store) (next : Store → Effect) → ((store : 
 pays l None next h = tt
 pays l (Some store) next h = h store
 
-thrown_has : (l : Ty-F Ty) (store : Store) (class : ℕ) (message : Option (List ℕ)) → LayerHas l (throws store class message)
+pub thrown_has : (l : Ty-F Ty) (store : Store) (class : ℕ) (message : Option (List ℕ)) → LayerHas l (throws store class message)
 thrown_has l store class message = pays l (paid store (store.objects ++ o.Exc class message ∷ []) 0) (λ paid. Throws (length store.objects) paid) (λ paid. tt)
 
 says_has : (l : Ty-F Ty) (store : Store) (raised : Raised) (message : List ℕ) → LayerHas l (effect store (says raised message))
@@ -81,7 +81,7 @@ pub made_has : (of : Ty) (x : Effect) → of ≡ string → EffectHas of x
 made_has of x is = made (out-Ty of) x (λ value. text_has of value is)
 
 -- what acts on the store and may give any value
-abbrev IsActs : Operated → Type 0
+abbrev pub IsActs : Operated → Type 0
 IsActs (Acts x) = Unit {0}
 IsActs other = ⊥
 
@@ -132,7 +132,7 @@ OutcomeHas p (outcome.Gives value) = HasPrimitive p value
 OutcomeHas p (outcome.Throws raised message) = Unit {0}
 OutcomeHas p other = ⊥
 
-outcome_has : (p : Primitive) (store : Store) (o : Outcome) → OutcomeHas p o → LayerHas (Ty-F.Prim p) (effect store o)
+pub outcome_has : (p : Primitive) (store : Store) (o : Outcome) → OutcomeHas p o → LayerHas (Ty-F.Prim p) (effect store o)
 outcome_has p store (outcome.Gives value) h = h
 outcome_has p store (outcome.Makes text) h = absurd h
 outcome_has p store (outcome.Throws raised message) h = thrown_has (Ty-F.Prim p) store (class_raised raised) message

@@ -1,7 +1,10 @@
 pub mod Values
 pub mod Effects
+pub mod Defs
 pub mod Operations
 pub mod Members
+pub mod Containers
+pub mod Accesses
 pub mod Scopes
 pub mod Never
 pub mod Enough

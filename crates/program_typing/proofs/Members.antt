@@ -1,12 +1,13 @@
 -- Calls of members: something is sent to a member, and what comes of it is of the member's type.
-use Rattle.std.proofs.Common.{◌≡◌, ℕ, zero, suc, Bool, true, false, not, ◌&&◌, List, [], ◌∷◌, map, Option, Some, None, is_some, refl, sym, ap, ◌∙◌, subst, slice_get, if◌then◌else◌}
+use Rattle.std.proofs.Common.{◌≡◌, ℕ, zero, suc, Bool, true, false, List, [], ◌∷◌, Option, Some, None, is_some, refl, sym, ◌∙◌, subst, slice_get, if◌then◌else◌}
 use Rattle.std.specs.List.{list_all}
-use Rattle.std.proofs.lemmas.Bool.{and_parts, and_from, or_left}
+use Rattle.std.proofs.lemmas.Bool.{and_parts, or_left}
 use Rattle.pl_types.specs.Host.{HostMeaning}
 use Rattle.pl_types.specs.declared.primitive.Primitive.{Primitive}
 use Rattle.pl_types.specs.declared.primitive.Primitive.TheVariants as prim
 use Rattle.pl_types.specs.declared.ty.Ty.{Ty, out-Ty}
 use Rattle.pl_types.specs.declared.ty.Ty.TheOpen.{Ty-F}
+use Rattle.pl_types.specs.declared.ty.Ty.TheVariants as t
 use Rattle.allowlist.specs.declared.member.MemberKind.{MemberKind}
 use Rattle.allowlist.specs.declared.member.MemberKind.TheVariants as kind
 use Rattle.allowlist.specs.declared.member.MemberType.{MemberType}
@@ -23,14 +24,15 @@ use Rattle.member_calls.specs.Types.{ActGives}
 use Rattle.member_calls.proofs.Doing.{built_act}
 use Rattle.member_calls.proofs.Types.{act_gives}
 use Rattle.source_meaning.specs.Operating.{in_box}
-use Rattle.source_meaning.specs.Members.{passed_layer, passed, before, passed_all, Sending, Unsent, OnNull, Sends, Reads, sends, sends_to, sent_by, sent}
+use Rattle.source_meaning.specs.Members.{passed_layer, passed, before, passed_all, Sending, Unsent, OnNull, Sends, sends, sends_to, sent_by, sent}
 use Rattle.program_typing.specs.Types.{HasPrimitive, HasLayer, HaveAll}
 use Rattle.program_typing.specs.Agreeing.{is_primitive_layer, TakesTypes}
+use Rattle.program_typing.proofs.Defs.{def_effect}
 use Rattle.program_typing.proofs.Effects.{LayerHas, EffectHas, made}
 
 -- ---- arguments
 
-abbrev IsThere : {A : Type 0} → Option A → Type 0
+abbrev pub IsThere : {A : Type 0} → Option A → Type 0
 IsThere None = ⊥
 IsThere (Some a) = Unit {0}
 
@@ -42,7 +44,7 @@ box_there prim.Char value h = subst (λ value. IsThere (in_box prim.Char value))
 box_there prim.Int value h = subst (λ value. IsThere (in_box prim.Int value)) (sym h.1) tt
 box_there prim.Long value h = subst (λ value. IsThere (in_box prim.Long value)) (sym h.1) tt
 
-passed_there : (l : Ty-F Ty) (value : Value) → HasLayer l value → IsThere (passed_layer l value)
+pub passed_there : (l : Ty-F Ty) (value : Value) → HasLayer l value → IsThere (passed_layer l value)
 passed_there Ty-F.Void value h = tt
 passed_there Ty-F.Null value h = tt
 passed_there Ty-F.Def value h = tt
@@ -50,7 +52,7 @@ passed_there (Ty-F.Prim p) value h = box_there p value h
 passed_there (Ty-F.Class class) value h = tt
 passed_there (Ty-F.Array of) value h = tt
 
-both_there : (first : Option Value) (rest : Option (List Value)) → IsThere first → IsThere rest → IsThere (before first rest)
+pub both_there : (first : Option Value) (rest : Option (List Value)) → IsThere first → IsThere rest → IsThere (before first rest)
 both_there None rest x y = absurd x
 both_there (Some value) None x y = absurd y
 both_there (Some value) (Some values) x y = tt
@@ -114,7 +116,7 @@ is_sent number member sort ofs values is sorted x h =
 
 -- ---- what comes of it
 
-of_primitive : (p : Primitive) (value : Value) → is_primitive p value ≡ true → HasPrimitive p value
+pub of_primitive : (p : Primitive) (value : Value) → is_primitive p value ≡ true → HasPrimitive p value
 of_primitive prim.Boolean v.Null h = cc
 of_primitive prim.Boolean (v.Bool a) h = (a, refl)
 of_primitive prim.Boolean (v.Byte a) h = cc
@@ -195,6 +197,14 @@ pub member_comes : (host : HostMeaning) (number : ℕ) (member : MemberType) (ar
     → Comes member.result (does host number arguments store)
 member_comes host number member arguments store is built =
     comes member.result (does host number arguments store) (built_act host number arguments store ∙ or_left _ _ built) (act_gives host number member arguments store is)
+
+def_comes_of : (o : Option Effect) → is_some o ≡ true → Comes t.Def o
+def_comes_of None is = cc
+def_comes_of (Some effect) is = record { effect = effect; is = refl; has = def_effect t.Def effect refl }
+
+-- and what any member gives is of type def
+pub def_comes : (host : HostMeaning) (number : ℕ) (arguments : List Value) (store : Store) → is_built number ≡ true → Comes t.Def (does host number arguments store)
+def_comes host number arguments store built = def_comes_of (does host number arguments store) (built_act host number arguments store ∙ or_left _ _ built)
 
 -- null is of each type that is no primitive
 pub null_has : (l : Ty-F Ty) → is_primitive_layer l ≡ false → HasLayer l v.Null

@@ -1,6 +1,6 @@
 -- At a bound that is enough, a well-formed program never comes to More: each turn and each call is paid by a tick, and a tick is worth
 -- more than any function is large.
-use Rattle.std.proofs.Common.{◌≡◌, ℕ, zero, suc, ◌+◌, ◌≤◌, ◌||◌, Bool, true, false, not, List, [], ◌∷◌, Option, Some, refl, sym, subst, arith}
+use Rattle.std.proofs.Common.{◌≡◌, ℕ, zero, suc, ◌+◌, ◌≤◌, ◌||◌, Bool, true, false, not, List, [], ◌∷◌, ◌++◌, Option, Some, None, refl, sym, subst, arith}
 use Rattle.std.specs.Prelude.{◌-◌, slice_get, nat_lt, if◌then◌else◌}
 use Rattle.std.proofs.lemmas.Bool.{ltb-true}
 use Rattle.std.proofs.lemmas.Option.{get_or_from_slice_get}
@@ -20,6 +20,8 @@ use Rattle.object_heap.specs.Store.{Store}
 use Rattle.typed_tree.specs.declared.operation.Member.{Member}
 use Rattle.typed_tree.specs.declared.operation.Operation.{Operation}
 use Rattle.typed_tree.specs.declared.operation.Operation.TheVariants as operation
+use Rattle.typed_tree.specs.declared.operation.Operator.{Operator}
+use Rattle.typed_tree.specs.declared.operation.Operator.TheVariants as operator
 use Rattle.typed_tree.specs.declared.operation.Logical.{Logical}
 use Rattle.typed_tree.specs.declared.operation.Logical.TheVariants.{And, Or}
 use Rattle.typed_tree.specs.declared.operation.Target.{Target}
@@ -30,18 +32,22 @@ use Rattle.typed_tree.specs.declared.operation.Gives.TheVariants as gives
 use Rattle.number_ops.specs.Operators.{is_null}
 use Rattle.number_ops.specs.Relations.{thrown}
 use Rattle.run_state.specs.Calls.{suits_member}
-use Rattle.run_state.specs.World.{World, Limits, Loop, Depth, Ticks, acts_in, Counted, Counts, Passes, pay_tick, has_loop_limit, take_turn, goes_deeper, enter, reach, reaches, pay_member}
+use Rattle.run_state.specs.World.{World, Limits, Loop, Depth, Ticks, acts_in, Counted, Counts, Passes, pay_tick, allowed_in, has_loop_limit, take_turn, goes_deeper, enter, reach, reaches, pay_member}
 use Rattle.member_calls.specs.Members.{is_built, does}
-use Rattle.source_meaning.specs.Tree.{Name, Expr, Literal, Quoted, Local, Apply, Guarded, Logic, Conditional, Elvis, Assign, Modify, Lambda, Reference, NewReference, Exprs, None', One, Maybe, Missing, Given as Present, Stmt, Do, If, While, DoWhile, ForEach, Try, Block, Break, Continue, Return, Throw, Stmts, Finish, Then, Declare, Catches, NoCatch, Catch, Variable, Fun, Programs, functions_in, type_of}
+use Rattle.def_access.specs.Access.{Access, Calls as Finds, Acts as Does, index_read, index_written, name_read, name_written, method_called}
+use Rattle.source_meaning.specs.Tree.{Name, Expr, Literal, Quoted, Local, Apply, Guarded, Logic, Conditional, Elvis, Assign, Modify, Lambda, Reference, NewReference, Exprs, None', One, Maybe, Missing, Given as Present, Stmt, Do, If, While, DoWhile, Try, Block, Break, Continue, Return, Throw, Stmts, Finish, Then, Declare, Catches, NoCatch, Catch, Variable, Fun, Programs, functions_in, type_of}
 use Rattle.source_meaning.specs.Operating.{Operated, Meaningless, Gives as Gives_it, Acts}
 use Rattle.source_meaning.specs.Members.{Sending, Unsent, OnNull, Sends, Reads, sent}
-use Rattle.source_meaning.specs.Meaning.{State, Env, Place, Out, Done, Thrown, Over, More, Flow, Normal, Broke, Continued, Returned, bind, leave, found, effect, operated, choose, given_by, goes_next, goes_again, is_of_class, back, Meaning, entered, called, acted, paid, tested, member_called, member_applied, of_member, applied, logic, modified, expr_of, exprs_of, value_if, turned, done_turn, caught, handled, stmt_of, value_or, stmts_of, layer, meaning}
-use Rattle.program_typing.specs.Types.{Has, HaveAll}
-use Rattle.program_typing.specs.Agreeing.{Scope, IsVariable, boolean, types_of, Calls, MemberAgrees, Applies, Changes, ExprAgrees, ExprsAgree, TestAgrees, UpdateAgrees, BeginAgrees, ReturnAgrees, StmtAgrees, StmtsAgree, CatchesAgree, scope_of, FunAgrees, WellFormed, known_in}
+use Rattle.source_meaning.specs.Meaning.{State, Env, Place, Out, Done, Thrown, Over, More, Flow, Normal, Broke, Continued, Returned, bind, leave, found, effect, operated, choose, given_by, goes_next, goes_again, is_of_class, back, Meaning, entered, called, acted, paid, tested, member_called, member_applied, of_member, accessed, method_applied, name_applied, name_put, index_applied, index_put, applied, logic, changed, modified, written, modified_at, expr_of, exprs_of, value_if, turned, done_turn, caught, handled, stmt_of, value_or, stmts_of, layer, meaning}
+use Rattle.program_typing.specs.Types.{Has, HaveAll, TakesReference, TakesReferences, PutsElement}
+use Rattle.program_typing.specs.Agreeing.{Scope, IsVariable, boolean, types_of, Calls, MemberAgrees, FindsMethod, Applies, Changes, Writes, Reads as IsReadBy, ExprAgrees, ExprsAgree, TestAgrees, UpdateAgrees, BeginAgrees, ReturnAgrees, StmtAgrees, StmtsAgree, CatchesAgree, scope_of, FunAgrees, WellFormed, known_in}
 use Rattle.program_typing.specs.Enough.{expr_size, exprs_size, maybe_size, stmt_size, stmts_size, catches_size}
 use Rattle.program_typing.proofs.Values.{has_flag, nothing_has, is_flag, text_has, class_has, constant_has, default_has}
-use Rattle.program_typing.proofs.Effects.{EffectHas, OperatedHas, null_throws, wrong_throws}
-use Rattle.program_typing.proofs.Members.{IsSent, is_sent, Comes, member_comes, null_has}
+use Rattle.program_typing.proofs.Accesses.{IsOfBuilt, index_read_built, index_written_built, name_read_built, name_written_built, method_called_built}
+use Rattle.program_typing.proofs.Containers.{writes_act, takes_to_fit}
+use Rattle.program_typing.proofs.Defs.{def_effect}
+use Rattle.program_typing.proofs.Effects.{EffectHas, OperatedHas, IsActs, null_throws, wrong_throws}
+use Rattle.program_typing.proofs.Members.{IsSent, is_sent, Comes, member_comes, def_comes, null_has}
 use Rattle.program_typing.proofs.Operations.{takes_fit, casts_fit, begins_fit}
 use Rattle.program_typing.proofs.Scopes.{Bound, reads, writes, leaves, enters}
 
@@ -128,6 +134,19 @@ operated_ends : (of : Ty) (g : Scope) (s : State) (e : Env) (x : Operated) → O
 operated_ends of g s e Meaningless x b = absurd x
 operated_ends of g s e (Gives_it value) x b = done x b (omega arith)
 operated_ends of g s e (Acts a) x b = acts_end of g s e a x b
+
+-- .. of what is written, whose value is dropped
+dropped_ends : (g : Scope) (s : State) (e : Env) (x : Operated) → IsActs x → Bound g e → Ends Any g s.world.ticks (operated x s e)
+dropped_ends g s e Meaningless x b = absurd x
+dropped_ends g s e (Gives_it value) x b = absurd x
+dropped_ends g s e (Acts a) x b = throws_end g s e a b
+
+-- a value behind others
+have_behind : (ofs : List Ty) (of : Ty) (values : List Value) (value : Value) → HaveAll ofs values → Has of value → HaveAll (ofs ++ of ∷ []) (values ++ value ∷ [])
+have_behind [] of [] value h g = (g, tt)
+have_behind [] of (other ∷ values) value h g = absurd h
+have_behind (first ∷ ofs) of [] value h g = absurd h
+have_behind (first ∷ ofs) of (other ∷ values) value h g = (h.0, have_behind ofs of values value h.1 g)
 
 given_has : (given : Gives) (of : Ty) (old new : Value) → Has of old → Has of new → Has of (given_by given old new)
 given_has gives.Old of old new x y = x
@@ -270,11 +289,70 @@ module _ (funs : Programs) (limits : Limits) (formed : (text : Owner) → WellFo
         (subst (λ member. Ends (Has x.member.result) g s.world.ticks (member_called funs limits m (sent member values) c.number member d s e)) (sym at)
         (sending_ends (sent x.member values) c.number x.member d s e g x.is x.built (is_sent c.number x.member sort ofs values x.is x.sort x.takes h) b)))
 
+    -- ---- what is found for a receiver when the script runs
+
+    accessed_ends : (a : Access) (d : Place) (s : State) (e : Env) (g : Scope) → IsOfBuilt a → Bound g e → Ends (Has t.Def) g s.world.ticks (accessed funs limits m a d s e)
+    accessed_ends (Finds number arguments) d s e g x b =
+        paid_ends (pay_member d.text number s.world) number arguments t.Def s e g (member_costs d.text number s.world) (λ store. def_comes limits.host number arguments store x) b
+    accessed_ends (Does given) d s e g x b = acts_end t.Def g s e given (def_effect t.Def given refl) b
+
+    methods_end : (name : Name) (ofs : List Ty) (values : List Value) (d : Place) (s : State) (e : Env) (g : Scope) → FindsMethod ofs → HaveAll ofs values → Bound g e
+        → Ends (Has t.Def) g s.world.ticks (method_applied funs limits m name values d s e)
+    methods_end name [] values d s e g x h b = absurd x
+    methods_end name (of ∷ ofs) [] d s e g x h b = absurd h
+    methods_end name (of ∷ ofs) (receiver ∷ arguments) d s e g x h b =
+        let allow = allowed_in limits d.text in
+        accessed_ends (method_called allow s.world.store receiver name arguments) d s e g (method_called_built allow s.world.store receiver name arguments) b
+
+    names_end : (name : Name) (ofs : List Ty) (values : List Value) (d : Place) (s : State) (e : Env) (g : Scope) → TakesReference ofs → HaveAll ofs values → Bound g e
+        → Ends (Has t.Def) g s.world.ticks (name_applied funs limits m name values d s e)
+    names_end name [] values d s e g x h b = absurd x
+    names_end name (of ∷ []) [] d s e g x h b = absurd h
+    names_end name (of ∷ []) (receiver ∷ []) d s e g x h b =
+        let allow = allowed_in limits d.text in
+        accessed_ends (name_read allow s.world.store receiver name) d s e g (name_read_built allow s.world.store receiver name) b
+    names_end name (of ∷ []) (receiver ∷ other ∷ values) d s e g x h b = absurd h.1
+    names_end name (of ∷ other ∷ ofs) values d s e g x h b = absurd x
+
+    put_names_end : (name : Name) (ofs : List Ty) (values : List Value) (new : Value) (d : Place) (s : State) (e : Env) (g : Scope) → TakesReference ofs → HaveAll ofs values → Bound g e
+        → Ends (Has t.Def) g s.world.ticks (name_put funs limits m name (values ++ new ∷ []) d s e)
+    put_names_end name [] values new d s e g x h b = absurd x
+    put_names_end name (of ∷ []) [] new d s e g x h b = absurd h
+    put_names_end name (of ∷ []) (receiver ∷ []) new d s e g x h b =
+        let allow = allowed_in limits d.text in
+        accessed_ends (name_written allow s.world.store receiver name new) d s e g (name_written_built allow s.world.store receiver name new) b
+    put_names_end name (of ∷ []) (receiver ∷ other ∷ values) new d s e g x h b = absurd h.1
+    put_names_end name (of ∷ other ∷ ofs) values new d s e g x h b = absurd x
+
+    indexes_end : (ofs : List Ty) (values : List Value) (d : Place) (s : State) (e : Env) (g : Scope) → TakesReferences ofs → HaveAll ofs values → Bound g e
+        → Ends (Has t.Def) g s.world.ticks (index_applied funs limits m values d s e)
+    indexes_end [] values d s e g x h b = absurd x
+    indexes_end (of ∷ []) values d s e g x h b = absurd x
+    indexes_end (of ∷ at ∷ []) [] d s e g x h b = absurd h
+    indexes_end (of ∷ at ∷ []) (receiver ∷ []) d s e g x h b = absurd h.1
+    indexes_end (of ∷ at ∷ []) (receiver ∷ index ∷ []) d s e g x h b =
+        let allow = allowed_in limits d.text in
+        accessed_ends (index_read allow s.world.store receiver index) d s e g (index_read_built allow s.world.store receiver index) b
+    indexes_end (of ∷ at ∷ []) (receiver ∷ index ∷ other ∷ values) d s e g x h b = absurd h.1.1
+    indexes_end (of ∷ at ∷ other ∷ ofs) values d s e g x h b = absurd x
+
+    put_indexes_end : (ofs : List Ty) (values : List Value) (new : Value) (d : Place) (s : State) (e : Env) (g : Scope) → TakesReferences ofs → HaveAll ofs values → Bound g e
+        → Ends (Has t.Def) g s.world.ticks (index_put funs limits m (values ++ new ∷ []) d s e)
+    put_indexes_end [] values new d s e g x h b = absurd x
+    put_indexes_end (of ∷ []) values new d s e g x h b = absurd x
+    put_indexes_end (of ∷ at ∷ []) [] new d s e g x h b = absurd h
+    put_indexes_end (of ∷ at ∷ []) (receiver ∷ []) new d s e g x h b = absurd h.1
+    put_indexes_end (of ∷ at ∷ []) (receiver ∷ index ∷ []) new d s e g x h b =
+        let allow = allowed_in limits d.text in
+        accessed_ends (index_written allow s.world.store receiver index new) d s e g (index_written_built allow s.world.store receiver index new) b
+    put_indexes_end (of ∷ at ∷ []) (receiver ∷ index ∷ other ∷ values) new d s e g x h b = absurd h.1.1
+    put_indexes_end (of ∷ at ∷ other ∷ ofs) values new d s e g x h b = absurd x
+
     -- ---- operations
 
     applied_ends : (o : Operation) (ofs : List Ty) (of : Ty) (values : List Value) (d : Place) (s : State) (e : Env) (g : Scope) → Applies (known_in funs limits d.text) o ofs of → HaveAll ofs values → Bound g e
         → cost s.world.ticks ≤ n → Ends (Has of) g s.world.ticks (applied funs limits m o d s e of values)
-    applied_ends (operation.Operator o) ofs of values d s e g x h b c = operated_ends of g s e _ (takes_fit o ofs of values s.world.store x h) b
+    applied_ends (operation.Operator o) ofs of values d s e g x h b c = operated_ends of g s e _ (takes_to_fit o ofs of values s.world.store x h) b
     applied_ends (operation.Cast k) [] of values d s e g x h b c = absurd x
     applied_ends (operation.Cast k) (from ∷ []) of [] d s e g x h b c = absurd h
     applied_ends (operation.Cast k) (from ∷ []) of (value ∷ []) d s e g x h b c = operated_ends of g s e _ (casts_fit k from of value s.world.store x h.0) b
@@ -291,9 +369,14 @@ module _ (funs : Programs) (limits : Limits) (formed : (text : Owner) → WellFo
     applied_ends (operation.Constructor member) ofs of values d s e g x h b c = member_ends kind.Constructor member ofs of values d s e g x h b
     applied_ends (operation.Field member) ofs of values d s e g x h b c = member_ends kind.Field member ofs of values d s e g x h b
     applied_ends (operation.Host member) ofs of values d s e g x h b c = absurd x
-    applied_ends (operation.DefCall name) ofs of values d s e g x h b c = absurd x
-    applied_ends (operation.DefName name) ofs of values d s e g x h b c = absurd x
-    applied_ends operation.DefIndex ofs of values d s e g x h b c = absurd x
+    applied_ends (operation.DefCall name) ofs of values d s e g x h b c =
+        subst (λ of. Ends (Has of) g s.world.ticks (method_applied funs limits m name values d s e)) (sym x.1) (methods_end name ofs values d s e g x.0 h b)
+    applied_ends (operation.DefName name) ofs of values d s e g x h b c =
+        subst (λ of. Ends (Has of) g s.world.ticks (name_applied funs limits m name values d s e)) (sym x.1) (names_end name ofs values d s e g x.0 h b)
+    applied_ends (operation.PutDefName name) ofs of values d s e g x h b c = absurd x
+    applied_ends operation.DefIndex ofs of values d s e g x h b c =
+        subst (λ of. Ends (Has of) g s.world.ticks (index_applied funs limits m values d s e)) (sym x.1) (indexes_end ofs values d s e g x.0 h b)
+    applied_ends operation.PutDefIndex ofs of values d s e g x h b c = absurd x
 
     -- ---- expressions
 
@@ -311,37 +394,73 @@ module _ (funs : Programs) (limits : Limits) (formed : (text : Owner) → WellFo
         → Ends (Has of) g s.world.ticks (m.expr d s e a)
     of_type a of d s e g x is b c = subst (λ of. Ends (Has of) g s.world.ticks (m.expr d s e a)) is (ih.expr a d s e g x b c)
 
+    -- what is read of a target, changed
+    changed_ends : (of : Ty) (change : Change) (right : Expr) (old : Value) (d : Place) (s : State) (e : Env) (g : Scope)
+        → Changes change of (type_of right) → ExprAgrees (known_in funs limits d.text) g right → Has of old → Bound g e → cost s.world.ticks + expr_size right ≤ n
+        → Ends (Has of) g s.world.ticks (changed funs limits m of change d s e right old)
+    changed_ends of change right old d s e g z a h b c =
+        then' (operated_ends z.left g s e _ (begins_fit change.before of z.left old s.world.store z.known z.before h) b) (λ l s' e h' b k.
+        then' (ih.expr right d s' e g a b (lesser _ _ _ n k c)) (λ r s e hr b k.
+        then' (operated_ends z.result g s e _ (takes_fit change.operator (z.left ∷ type_of right ∷ []) z.result (l ∷ r ∷ []) s.world.store z.does (h', (hr, tt))) b) (λ result s e hx b k.
+        operated_ends of g s e _ (casts_fit change.after z.result of result s.world.store z.after hx) b)))
+
+    -- ---- writes
+
+    element_ends : (o : Operator) (ofs : List Ty) (of : Ty) (values : List Value) (new given : Value) (d : Place) (s : State) (e : Env) (g : Scope) → PutsElement o ofs of → HaveAll ofs values
+        → Has of new → Has of given → Bound g e → Ends (Has of) g s.world.ticks (written funs limits m (operation.Operator o) d s e of values new given)
+    element_ends operator.PutElement ofs of values new given d s e g x h hn hg b =
+        then' (dropped_ends g s e _ (writes_act ofs of values new s.world.store x h hn) b) (λ dropped s e h b k. done hg b (omega arith))
+    element_ends other ofs of values new given d s e g x h hn hg b = absurd x
+
+    written_ends : (write : Operation) (ofs : List Ty) (of : Ty) (values : List Value) (new given : Value) (d : Place) (s : State) (e : Env) (g : Scope)
+        → Writes (known_in funs limits d.text) write ofs of → HaveAll ofs values → Has of new → Has of given → Bound g e
+        → Ends (Has of) g s.world.ticks (written funs limits m write d s e of values new given)
+    written_ends (operation.Operator o) ofs of values new given d s e g x h hn hg b = element_ends o ofs of values new given d s e g x h hn hg b
+    written_ends (operation.Instance member) ofs of values new given d s e g x h hn hg b =
+        then' (member_ends kind.Instance member (ofs ++ of ∷ []) x.given (values ++ new ∷ []) d s e g x.agrees (have_behind ofs of values new h hn) b) (λ dropped s e h b k. done hg b (omega arith))
+    written_ends (operation.PutDefName name) ofs of values new given d s e g x h hn hg b =
+        then' (put_names_end name ofs values new d s e g x.0 h b) (λ dropped s e h b k. done hg b (omega arith))
+    written_ends operation.PutDefIndex ofs of values new given d s e g x h hn hg b =
+        then' (put_indexes_end ofs values new d s e g x.0 h b) (λ dropped s e h b k. done hg b (omega arith))
+    written_ends other ofs of values new given d s e g x h hn hg b = absurd x
+
     assigns_end : (at : ℕ) (of : Ty) (to : Target) (parts : Exprs) (value : Expr) (d : Place) (s : State) (e : Env) (g : Scope) → ExprAgrees (known_in funs limits d.text) g (Assign at of to parts value) → Bound g e
-        → cost s.world.ticks + expr_size value ≤ n → Ends (Has of) g s.world.ticks (expr_of funs limits m d s e (Assign at of to parts value))
+        → cost s.world.ticks + (exprs_size parts + expr_size value) ≤ n → Ends (Has of) g s.world.ticks (expr_of funs limits m d s e (Assign at of to parts value))
     assigns_end at of (target.Local x) parts value d s e g a b c =
-        then' (of_type value of d s e g a.0 a.2 b c) (λ new s e h b k.
+        then' (of_type value of d s e g a.0 a.2 b (omega (arith, c))) (λ new s e h b k.
         done h (writes g e x a.1.variable new a.1.is (subst (λ of. Has of new) a.1.has h) b) (omega arith))
-    assigns_end at of target.Element parts value d s e g a b c = absurd a
-    assigns_end at of (target.Members read write) parts value d s e g a b c = absurd a
-    assigns_end at of target.DefIndex parts value d s e g a b c = absurd a
-    assigns_end at of (target.DefName name) parts value d s e g a b c = absurd a
+    assigns_end at of (target.Place read write) parts value d s e g a b c =
+        then' (ih.exprs parts d s e g a.0 b (omega (arith, c))) (λ values s' e h b k.
+        then' (of_type value of d s' e g a.1 a.2 b (lesser _ s.world.ticks _ n k (omega (arith, c)))) (λ new s e hn b k.
+        written_ends write (types_of parts) of values new new d s e g a.4 h hn hn b))
 
     modified_ends : (x : Name) (of : Ty) (change : Change) (right : Expr) (given : Gives) (old : Value) (d : Place) (s : State) (e : Env) (g : Scope)
         → IsVariable g x of → Changes change of (type_of right) → ExprAgrees (known_in funs limits d.text) g right → Has of old → Bound g e → cost s.world.ticks + expr_size right ≤ n
         → Ends (Has of) g s.world.ticks (modified funs limits m x of change d s e right given old)
     modified_ends x of change right given old d s e g y z a h b c =
-        then' (operated_ends z.left g s e _ (begins_fit change.before of z.left old s.world.store z.known z.before h) b) (λ l s' e h' b k.
-        then' (ih.expr right d s' e g a b (lesser _ _ _ n k c)) (λ r s e hr b k.
-        then' (operated_ends z.result g s e _ (takes_fit change.operator (z.left ∷ type_of right ∷ []) z.result (l ∷ r ∷ []) s.world.store z.does (h', (hr, tt))) b) (λ result s e hx b k.
-        then' (operated_ends of g s e _ (casts_fit change.after z.result of result s.world.store z.after hx) b) (λ new s e hn b k.
-        done (given_has given of old new h hn) (writes g e x y.variable new y.is (subst (λ of. Has of new) y.has hn) b) (omega arith)))))
+        then' (changed_ends of change right old d s e g z a h b c) (λ new s e hn b k.
+        done (given_has given of old new h hn) (writes g e x y.variable new y.is (subst (λ of. Has of new) y.has hn) b) (omega arith))
+
+    modified_at_ends : (read : Option Operation) (write : Operation) (ofs : List Ty) (of : Ty) (change : Change) (right : Expr) (given : Gives) (values : List Value) (d : Place) (s : State) (e : Env)
+        (g : Scope) → IsReadBy (known_in funs limits d.text) read ofs of → Writes (known_in funs limits d.text) write ofs of → Changes change of (type_of right)
+        → ExprAgrees (known_in funs limits d.text) g right → HaveAll ofs values → Bound g e → cost s.world.ticks + expr_size right ≤ n
+        → Ends (Has of) g s.world.ticks (modified_at funs limits m read write of change d s e values right given)
+    modified_at_ends None write ofs of change right given values d s e g x y z a h b c = absurd x
+    modified_at_ends (Some read) write ofs of change right given values d s e g x y z a h b c =
+        then' (applied_ends read ofs of values d s e g x h b (omega (arith, c))) (λ old s' e ho b k.
+        then' (changed_ends of change right old d s' e g z a ho b (lesser _ s.world.ticks _ n k c)) (λ new s e hn b k.
+        written_ends write ofs of values new (given_by given old new) d s e g y h hn (given_has given of old new ho hn) b))
 
     changes_end : (at : ℕ) (of : Ty) (to : Target) (parts : Exprs) (change : Change) (right : Expr) (given : Gives) (d : Place) (s : State) (e : Env) (g : Scope)
-        → ExprAgrees (known_in funs limits d.text) g (Modify at of to parts change right given) → Bound g e → cost s.world.ticks + expr_size right ≤ n
+        → ExprAgrees (known_in funs limits d.text) g (Modify at of to parts change right given) → Bound g e → cost s.world.ticks + (exprs_size parts + expr_size right) ≤ n
         → Ends (Has of) g s.world.ticks (expr_of funs limits m d s e (Modify at of to parts change right given))
     changes_end at of (target.Local x) parts change right given d s e g a b c =
         let old = reads g e x a.1.variable a.1.is b in
         then' (found_ends (Has of) g s e _ old.value old.is (subst (λ of. Has of old.value) (sym a.1.has) old.has) b) (λ value s' e h b k.
-        modified_ends x of change right given value d s' e g a.1 a.2 a.0 h b (lesser _ _ _ n k c))
-    changes_end at of target.Element parts change right given d s e g a b c = absurd a
-    changes_end at of (target.Members read write) parts change right given d s e g a b c = absurd a
-    changes_end at of target.DefIndex parts change right given d s e g a b c = absurd a
-    changes_end at of (target.DefName name) parts change right given d s e g a b c = absurd a
+        modified_ends x of change right given value d s' e g a.1 a.2 a.0 h b (lesser _ s.world.ticks _ n k (omega (arith, c))))
+    changes_end at of (target.Place read write) parts change right given d s e g a b c =
+        then' (ih.exprs parts d s e g a.0 b (omega (arith, c))) (λ values s' e h b k.
+        modified_at_ends read write (types_of parts) of change right given values d s' e g a.4 a.5 a.2 a.1 h b (lesser _ s.world.ticks _ n k (omega (arith, c))))
 
     expr_ends : (x : Expr) (d : Place) (s : State) (e : Env) (g : Scope) → ExprAgrees (known_in funs limits d.text) g x → Bound g e → cost s.world.ticks + expr_size x ≤ suc n
         → Ends (Has (type_of x)) g s.world.ticks (expr_of funs limits m d s e x)
@@ -358,7 +477,7 @@ module _ (funs : Programs) (limits : Limits) (formed : (text : Owner) → WellFo
         then' (ih.expr x d s e g a.0 b (omega (arith, c))) (λ value s' e h b k.
         unless (is_null value)
         (then' (ih.exprs others d s' e g a.1 b (lesser _ s.world.ticks _ n k (omega (arith, c)))) (λ values s'' e hs b k'.
-        applied_ends o (type_of x ∷ types_of others) of (value ∷ values) d s'' e g (subst (λ o. Applies (known_in funs limits d.text) o (type_of x ∷ types_of others) of) (sym a.2.is) a.2.agrees) (h, hs) b
+        applied_ends o (type_of x ∷ types_of others) of (value ∷ values) d s'' e g a.2.agrees (h, hs) b
         (omega (arith, lesser s''.world.ticks s.world.ticks 0 n (omega (arith, k, k')) (omega (arith, c))))))
         (done (null_has (out-Ty of) a.2.whole) b (omega arith)))
     expr_ends (Logic at of o left right) d s e g a b c =
@@ -469,7 +588,6 @@ module _ (funs : Programs) (limits : Limits) (formed : (text : Owner) → WellFo
         (turned_ends (take_turn limits (has_loop_limit d.text) s'.turns s'.world) test update body d s' e g of looped (turn_costs limits (has_loop_limit d.text) s'.turns s'.world) a b (lesser _ s.world.ticks _ (suc n) k c))
         (done tt b (omega arith)))
     stmt_ends (DoWhile body test) d s e g of looped a b c = done_ends (take_turn limits (has_loop_limit d.text) s.turns s.world) body test d s e g of looped (turn_costs limits (has_loop_limit d.text) s.turns s.world) a b c
-    stmt_ends (ForEach x to element over body) d s e g of looped a b c = absurd a
     stmt_ends (Try body catches) d s e g of looped a b c =
         record { by = handled_ends catches d g of looped s.world.ticks _ a.1 (omega (arith, c)) (ih.stmts body d s e g of looped a.0 b (omega (arith, c))).by }
     stmt_ends (Block body) d s e g of looped a b c = ih.stmts body d s e g of looped a b (omega (arith, c))
@@ -524,7 +642,6 @@ module _ (funs : Programs) (limits : Limits) (formed : (text : Owner) → WellFo
   some_stmt (If c a b) = omega arith
   some_stmt (While test update body) = omega arith
   some_stmt (DoWhile body test) = omega arith
-  some_stmt (ForEach x of element over body) = omega arith
   some_stmt (Try body catches) = omega arith
   some_stmt (Block body) = omega arith
   some_stmt Break = omega arith

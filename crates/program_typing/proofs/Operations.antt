@@ -28,6 +28,7 @@ use Rattle.source_meaning.specs.Operating.{Operated, of_ints, of_longs, of_flags
 use Rattle.program_typing.specs.Types.{HasPrimitive, Has, HaveAll, IsReference, Gives, of_one, of_two, right_side, of_one_flag, of_two_flags, TakesNumbers, TakesFlags, TakesReferences, Takes, Converts, Keeps, Same, References, string, Casts}
 use Rattle.program_typing.specs.Agreeing.{IsKnownBefore}
 use Rattle.program_typing.proofs.Values.{bare, dressed, has_flag, has_int, has_long, is_flag, is_int, is_long, truth_has, reference_has}
+use Rattle.program_typing.proofs.Defs.{defs_fit}
 use Rattle.program_typing.proofs.Effects.{EffectHas, OperatedHas, OutcomeHas, throws_has, primitive_has, divides, made_has, text_acts, equal_has, unequal_has, cast_has}
 
 -- ---- operators
@@ -271,7 +272,7 @@ pub takes_fit : (o : Operator) (ofs : List Ty) (of : Ty) (values : List Value) (
 takes_fit (operator.Int o) ofs of values store x h = ints_fit o ofs of values store x h
 takes_fit (operator.Long o) ofs of values store x h = longs_fit o ofs of values store x h
 takes_fit (operator.Boolean o) ofs of values store x h = flags_fit o ofs of values store x h
-takes_fit (operator.Def o) ofs of values store x h = absurd x
+takes_fit (operator.Def o) ofs of values store x h = defs_fit o ofs of values store x.0 x.1 h
 takes_fit operator.Equal ofs of values store x h = references_fit operator.Equal ofs of values store (λ a b. equal_has of store a b x.1) x.0 h
 takes_fit operator.NotEqual ofs of values store x h = references_fit operator.NotEqual ofs of values store (λ a b. unequal_has of store a b x.1) x.0 h
 takes_fit operator.Same ofs of values store x h = references_fit operator.Same ofs of values store (λ a b. has_flag of (is_same a b) x.1) x.0 h
@@ -282,7 +283,11 @@ takes_fit operator.Map ofs of values store x h = absurd x
 takes_fit operator.NewArray ofs of values store x h = absurd x
 takes_fit operator.ArrayOf ofs of values store x h = absurd x
 takes_fit operator.Element ofs of values store x h = absurd x
+takes_fit operator.PutElement ofs of values store x h = absurd x
 takes_fit operator.Length ofs of values store x h = absurd x
+takes_fit operator.Iterate ofs of values store x h = absurd x
+takes_fit operator.HasNext ofs of values store x h = absurd x
+takes_fit operator.Next ofs of values store x h = absurd x
 
 -- ---- casts
 

@@ -1,6 +1,6 @@
 -- Programs whose parts agree: each name that is read or written is in sight, each part has the type that its node asks for, and each
 -- jump is in a loop. What is not built agrees with nothing.
-use Rattle.std.specs.Prelude.{◌≡◌, ℕ, Bool, true, false, List, [], ◌∷◌, map, Option, Some, None, slice_get, if◌then◌else◌}
+use Rattle.std.specs.Prelude.{◌≡◌, ℕ, Bool, true, false, List, [], ◌∷◌, ◌++◌, map, Option, Some, None, slice_get, if◌then◌else◌}
 use Rattle.std.specs.Str.{bytes_eq}
 use Rattle.pl_types.specs.declared.primitive.Primitive.TheVariants as prim
 use Rattle.pl_types.specs.declared.ty.Ty.{Ty}
@@ -15,6 +15,7 @@ use Rattle.allowlist.specs.declared.member.MemberType.{MemberType}
 use Rattle.allowlist.specs.Allow.{AllowList, flag}
 use Rattle.allowlist.specs.Catalogue.{catalogue}
 use Rattle.member_calls.specs.Members.{is_built}
+use Rattle.listing_parts.specs.Names.{is_word}
 use Rattle.member_names.specs.Names.{text_of}
 use Rattle.typed_tree.specs.declared.operation.Member.{Member}
 use Rattle.typed_tree.specs.declared.operation.Operation.{Operation}
@@ -24,8 +25,8 @@ use Rattle.typed_tree.specs.declared.operation.Change.{Change}
 use Rattle.object_values.specs.declared.object.Owner.{Owner}
 use Rattle.object_values.specs.declared.object.Owner.TheVariants.{Script, Prelude}
 use Rattle.run_state.specs.World.{Limits, allowed_in}
-use Rattle.source_meaning.specs.Tree.{Name, Expr, Literal, Quoted, Local, Apply, Guarded, Logic, Conditional, Elvis, Assign, Modify, Lambda, Reference, NewReference, Exprs, None', One, Maybe, Missing, Given, Stmt, Do, If, While, DoWhile, ForEach, Try, Block, Break, Continue, Return, Throw, Stmts, Finish, Then, Declare, Catches, NoCatch, Catch, Variable, Fun, Program, Programs, functions_in, type_of}
-use Rattle.program_typing.specs.Types.{HasValues, IsReference, IsNamed, IsGiven, string, IsOf, Takes, Casts}
+use Rattle.source_meaning.specs.Tree.{Name, Expr, Literal, Quoted, Local, Apply, Guarded, Logic, Conditional, Elvis, Assign, Modify, Lambda, Reference, NewReference, Exprs, None', One, Maybe, Missing, Given, Stmt, Do, If, While, DoWhile, Try, Block, Break, Continue, Return, Throw, Stmts, Finish, Then, Declare, Catches, NoCatch, Catch, Variable, Fun, Program, Programs, functions_in, type_of}
+use Rattle.program_typing.specs.Types.{HasValues, IsReference, AreReferences, IsNamed, IsGiven, string, IsOf, Takes, TakesReference, TakesReferences, TakesTo, PutsElement, Casts}
 
 -- the names in sight, the newest first
 abbrev pub Scope : Type 0
@@ -97,8 +98,13 @@ pub record MemberAgrees (funs : Known) (kind : MemberKind) (m : Member) (ofs : L
   pub receiver : ReceiverIsOf kind member.owner ofs
   pub gives : of ≡ member.result
 
+-- a call whose member is found when the script runs: of a reference, with references. Code names the member by a word.
+abbrev pub FindsMethod : List Ty → Type 0
+FindsMethod [] = ⊥
+FindsMethod (receiver ∷ ofs) = IsReference receiver × AreReferences ofs
+
 abbrev pub Applies : Known → Operation → List Ty → Ty → Type 0
-Applies funs (operation.Operator o) ofs of = Takes o ofs of
+Applies funs (operation.Operator o) ofs of = TakesTo o ofs of
 Applies funs (operation.Cast c) (from ∷ []) of = Casts c from of
 Applies funs (operation.InstanceOf is) (from ∷ []) of = IsReference from × IsNamed is × (of ≡ boolean)
 Applies funs (operation.Function number) ofs of = Calls funs number ofs of
@@ -106,6 +112,9 @@ Applies funs (operation.Instance m) ofs of = MemberAgrees funs kind.Instance m o
 Applies funs (operation.Static m) ofs of = MemberAgrees funs kind.Static m ofs of
 Applies funs (operation.Constructor m) ofs of = MemberAgrees funs kind.Constructor m ofs of
 Applies funs (operation.Field m) ofs of = MemberAgrees funs kind.Field m ofs of
+Applies funs (operation.DefCall name) ofs of = FindsMethod ofs × (of ≡ t.Def) × (is_word name ≡ true)
+Applies funs (operation.DefName name) ofs of = TakesReference ofs × (of ≡ t.Def)
+Applies funs operation.DefIndex ofs of = TakesReferences ofs × (of ≡ t.Def)
 Applies funs other ofs of = ⊥
 
 -- a cast that does not ask for a type when the script runs
@@ -114,7 +123,7 @@ IsKnownBefore cast.Implicit = ⊥
 IsKnownBefore cast.Explicit = ⊥
 IsKnownBefore other = Unit {0}
 
--- a variable's value is cast, changed by a right side, and cast back
+-- what is read of a target is cast, changed by a right side, and cast back
 pub record Changes (change : Change) (of right : Ty) : Type 0 where
   pub left : Ty
   pub result : Ty
@@ -123,12 +132,43 @@ pub record Changes (change : Change) (of right : Ty) : Type 0 where
   pub does : Takes change.operator (left ∷ right ∷ []) result
   pub after : Casts change.after result of
 
+-- what a null receiver may leave out
+abbrev pub IsGuarded : Operation → Type 0
+IsGuarded (operation.Instance m) = Unit {0}
+IsGuarded (operation.DefCall name) = Unit {0}
+IsGuarded (operation.DefName name) = Unit {0}
+IsGuarded other = ⊥
+
 -- a call that a null receiver leaves out gives no number
 pub record Guards (funs : Known) (o : Operation) (ofs : List Ty) (of : Ty) : Type 0 where
-  pub member : Member
-  pub is : o ≡ operation.Instance member
-  pub agrees : MemberAgrees funs kind.Instance member ofs of
+  pub sort : IsGuarded o
+  pub agrees : Applies funs o ofs of
   pub whole : is_primitive of ≡ false
+
+-- ---- places, which one operation reads and another writes
+
+-- a member that writes a place takes the place's parts and the value; what it gives is dropped
+pub record Sets (funs : Known) (m : Member) (ofs : List Ty) (of : Ty) : Type 0 where
+  pub given : Ty
+  pub agrees : MemberAgrees funs kind.Instance m (ofs ++ of ∷ []) given
+
+-- an operation writes a value of a type at a place whose parts are of these types
+abbrev pub Writes : Known → Operation → List Ty → Ty → Type 0
+Writes funs (operation.Operator o) ofs of = PutsElement o ofs of
+Writes funs (operation.Instance m) ofs of = Sets funs m ofs of
+Writes funs (operation.PutDefName name) ofs of = TakesReference ofs × IsReference of
+Writes funs operation.PutDefIndex ofs of = TakesReferences ofs × IsReference of
+Writes funs other ofs of = ⊥
+
+abbrev pub Reads : Known → Option Operation → List Ty → Ty → Type 0
+Reads funs None ofs of = ⊥
+Reads funs (Some read) ofs of = Applies funs read ofs of
+
+-- a place has one part or two
+abbrev pub IsPlace : List Ty → Type 0
+IsPlace (a ∷ []) = Unit {0}
+IsPlace (a ∷ b ∷ []) = Unit {0}
+IsPlace others = ⊥
 
 abbrev mutual
   pub ExprAgrees : Known → Scope → Expr → Type 0
@@ -144,9 +184,11 @@ abbrev mutual
       ExprAgrees funs g c × ExprAgrees funs g a × ExprAgrees funs g b × (type_of c ≡ boolean) × (type_of a ≡ of) × (type_of b ≡ of)
   ExprAgrees funs g (Elvis at of left right) = ExprAgrees funs g left × ExprAgrees funs g right × (type_of left ≡ of) × (type_of right ≡ of) × IsReference of
   ExprAgrees funs g (Assign at of (target.Local x) parts value) = ExprAgrees funs g value × IsVariable g x of × (type_of value ≡ of)
-  ExprAgrees funs g (Assign at of other parts value) = ⊥
+  ExprAgrees funs g (Assign at of (target.Place read write) parts value) =
+      ExprsAgree funs g parts × ExprAgrees funs g value × (type_of value ≡ of) × IsPlace (types_of parts) × Writes funs write (types_of parts) of
   ExprAgrees funs g (Modify at of (target.Local x) parts change right gives) = ExprAgrees funs g right × IsVariable g x of × Changes change of (type_of right)
-  ExprAgrees funs g (Modify at of other parts change right gives) = ⊥
+  ExprAgrees funs g (Modify at of (target.Place read write) parts change right gives) =
+      ExprsAgree funs g parts × ExprAgrees funs g right × Changes change of (type_of right) × IsPlace (types_of parts) × Reads funs read (types_of parts) of × Writes funs write (types_of parts) of
   ExprAgrees funs g (Lambda at of interface function) = ⊥
   ExprAgrees funs g (Reference at of interface class name) = ⊥
   ExprAgrees funs g (NewReference at of interface made) = ⊥
@@ -182,7 +224,6 @@ abbrev mutual
   StmtAgrees funs of looped g (If c a b) = ExprAgrees funs g c × (type_of c ≡ boolean) × StmtsAgree funs of looped g a × StmtsAgree funs of looped g b
   StmtAgrees funs of looped g (While test update body) = TestAgrees funs g test × UpdateAgrees funs g update × StmtsAgree funs of true g body
   StmtAgrees funs of looped g (DoWhile body test) = StmtsAgree funs of true g body × TestAgrees funs g test
-  StmtAgrees funs of looped g (ForEach x element cast over body) = ⊥
   StmtAgrees funs of looped g (Try body catches) = StmtsAgree funs of looped g body × CatchesAgree funs of looped g catches
   StmtAgrees funs of looped g (Block body) = StmtsAgree funs of looped g body
   StmtAgrees funs of looped g Break = looped ≡ true

@@ -3,7 +3,7 @@ use Rattle.std.specs.Prelude.{◌≡◌, ℕ, suc, ◌+◌, ◌*◌, ◌≤◌, 
 use Rattle.object_values.specs.declared.value.Value.{Value}
 use Rattle.object_values.specs.declared.object.Owner.TheVariants.{Script}
 use Rattle.run_state.specs.World.{World, Limits}
-use Rattle.source_meaning.specs.Tree.{Expr, Literal, Quoted, Local, Apply, Guarded, Logic, Conditional, Elvis, Assign, Modify, Lambda, Reference, NewReference, Exprs, None', One, Maybe, Missing, Given, Stmt, Do, If, While, DoWhile, ForEach, Try, Block, Break, Continue, Return, Throw, Stmts, Finish, Then, Declare, Catches, NoCatch, Catch, Fun, Program, Programs}
+use Rattle.source_meaning.specs.Tree.{Expr, Literal, Quoted, Local, Apply, Guarded, Logic, Conditional, Elvis, Assign, Modify, Lambda, Reference, NewReference, Exprs, None', One, Maybe, Missing, Given, Stmt, Do, If, While, DoWhile, Try, Block, Break, Continue, Return, Throw, Stmts, Finish, Then, Declare, Catches, NoCatch, Catch, Fun, Program, Programs}
 use Rattle.source_meaning.specs.Meaning.{Env, Flow, Out, Done, Thrown, Over, More, entry, Returned, Normal, Broke, Continued, meaning}
 use Rattle.pl_types.specs.declared.ty.Ty.{Ty}
 use Rattle.program_typing.specs.Types.{Has, HaveAll}
@@ -41,7 +41,6 @@ abbrev mutual
   stmt_size (If c a b) = suc (expr_size c + (stmts_size a + stmts_size b))
   stmt_size (While test update body) = suc (maybe_size test + (maybe_size update + stmts_size body))
   stmt_size (DoWhile body test) = suc (stmts_size body + maybe_size test)
-  stmt_size (ForEach x of element over body) = suc (expr_size over + stmts_size body)
   stmt_size (Try body catches) = suc (stmts_size body + catches_size catches)
   stmt_size (Block body) = suc (stmts_size body)
   stmt_size Break = 1

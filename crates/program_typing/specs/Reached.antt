@@ -1,6 +1,6 @@
 -- Programs in which each statement is reached: none stands behind one that does not fall.
 use Rattle.std.specs.Prelude.{◌≡◌, ℕ, Bool, true, false, Some, slice_get}
-use Rattle.source_meaning.specs.Tree.{Stmt, Do, If, While, DoWhile, ForEach, Try, Block, Break, Continue, Return, Throw, Stmts, Finish, Then, Declare, Catches, NoCatch, Catch, Fun, Program}
+use Rattle.source_meaning.specs.Tree.{Stmt, Do, If, While, DoWhile, Try, Block, Break, Continue, Return, Throw, Stmts, Finish, Then, Declare, Catches, NoCatch, Catch, Fun, Program}
 use Rattle.source_meaning.specs.Falls.{falls}
 
 -- what may stand behind a statement that falls, or does not
@@ -16,7 +16,6 @@ abbrev mutual
   StmtReached (If c a b) = StmtsReached a × StmtsReached b
   StmtReached (While test update body) = StmtsReached body
   StmtReached (DoWhile body test) = StmtsReached body
-  StmtReached (ForEach x of element over body) = StmtsReached body
   StmtReached (Try body catches) = StmtsReached body × CatchesReached catches
   StmtReached (Block body) = StmtsReached body
   StmtReached Break = Unit {0}

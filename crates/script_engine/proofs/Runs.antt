@@ -18,7 +18,8 @@ use Rattle.run_state.specs.World.{World, Limit, End, Result, Uncaught, Limited}
 use Rattle.typed_tree.specs.declared.program.Program.{Program}
 use Rattle.source_meaning.specs.Programs.{fun_of, program_of}
 use Rattle.source_meaning.specs.Tree.{Variable, Fun}
-use Rattle.source_meaning.specs.Meaning.{Env, Out, Done, Thrown, Over, More, Flow, Normal, Broke, Continued, Returned, entry, returned, default_of, default_of_layer, default_of_primitive, meaning}
+use Rattle.container_ops.specs.Types.{default_of, default_of_layer, default_of_primitive}
+use Rattle.source_meaning.specs.Meaning.{Env, Out, Done, Thrown, Over, More, Flow, Normal, Broke, Continued, Returned, entry, returned, meaning}
 use Rattle.object_values.specs.declared.object.Owner.TheVariants.{Script as script_text}
 use Rattle.program_typing.specs.Types.{Has, HasLayer, HasPrimitive, HaveAll}
 use Rattle.program_typing.specs.Agreeing.{known, types_in, WellFormed}

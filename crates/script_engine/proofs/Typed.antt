@@ -8,7 +8,7 @@ use Rattle.allowlist.specs.Allow.{AllowList}
 use Rattle.object_values.specs.declared.object.Object.{Object}
 use Rattle.object_values.specs.declared.object.Owner.TheVariants.{Script as script_text}
 use Rattle.object_values.specs.declared.value.Value.{Value}
-use Rattle.object_heap.specs.Fits.{kinds, is_primitive, Rules, Fits}
+use Rattle.object_heap.specs.Fits.{kinds, is_primitive, Rules, Every, Fits}
 use Rattle.object_heap.specs.Objects.{Kind}
 use Rattle.object_heap.specs.Store.{Store}
 use Rattle.object_heap.specs.declared.outcome.End as left_end
@@ -71,25 +71,25 @@ ends_of rules start g of (Thrown id s e) h = tt
 ends_of rules start g of (Over limit w) h = tt
 ends_of rules start g of More h = tt
 
-ends_in : (rules : Rules) (p : Program) (limits : Limits) → AreWellFormed (alone p) limits → (bound : ℕ) (w : World) (args : List Value) → Fits rules w.store.objects
+ends_in : (rules : Rules) (p : Program) (limits : Limits) → AreWellFormed (alone p) limits → (bound : ℕ) (w : World) (args : List Value) → rules.typed ≡ Every → Fits rules w.store.objects
     → AreTyped w.store.objects (types_in (fun_of p.main).params) args → (e : Option Env) → entry (fun_of p.main).params args [] ≡ e
     → EndsTyped (fun_of p.main).result (end_in p limits bound (fun_of p.main) e w)
-ends_in rules p limits formed bound w args f h None entered = tt
-ends_in rules p limits formed bound w args f h (Some e) entered =
+ends_in rules p limits formed bound w args every f h None entered = tt
+ends_in rules p limits formed bound w args every f h (Some e) entered =
     let main = fun_of p.main in
-    ends_of rules w.store.objects (scope_of main.params []) main.result _ (results_are_typed rules (alone p) limits bound formed main refl w args f h e entered)
+    ends_of rules w.store.objects (scope_of main.params []) main.result _ (results_are_typed rules (alone p) limits bound every formed main refl w args f h e entered)
 
 -- the run of a well-formed program
 formed_gives : (rules : Rules) (allow : AllowList) (p : Program) → WellFormed (known allow (program_of p)) → (limits : Limits) → limits.allowed ≡ allow → (args : List Value) (w : World) (end : End Value)
-    → Fits rules w.store.objects → AreTyped w.store.objects (types_in (fun_of p.main).params) args → RunsTo p limits args w end → EndIsOf (fun_of p.main).result end
-formed_gives rules allow p formed limits allowed args w end f h run =
+    → rules.typed ≡ Every → Fits rules w.store.objects → AreTyped w.store.objects (types_in (fun_of p.main).params) args → RunsTo p limits args w end → EndIsOf (fun_of p.main).result end
+formed_gives rules allow p formed limits allowed args w end every f h run =
     let held = with_no_prelude p limits (subst (λ list. WellFormed (known list (program_of p))) (sym allowed) formed) in
-    subst (EndsTyped (fun_of p.main).result) run.is (ends_in rules p limits held run.bound w args f h (entry (fun_of p.main).params args []) refl)
+    subst (EndsTyped (fun_of p.main).result) run.is (ends_in rules p limits held run.bound w args every f h (entry (fun_of p.main).params args []) refl)
 
 pub programs_are_typed : ProgramsAreTyped
-programs_are_typed rules allow context text p good is limits allowed args w end f h run =
+programs_are_typed rules allow context text p good is limits allowed args w end every f h run =
     let args_typed : AreTyped w.store.objects (types_in (fun_of p.main).params) args = subst (λ xs. AreTyped w.store.objects (types_in xs) args) (sym (variables_from allow context text p is)) h in
-    subst (λ of. EndIsOf of end) (result_from allow context text p is) (formed_gives rules allow p (formed_from allow context text p good is) limits allowed args w end f args_typed run)
+    subst (λ of. EndIsOf of end) (result_from allow context text p is) (formed_gives rules allow p (formed_from allow context text p good is) limits allowed args w end every f args_typed run)
 
 -- ---- its script
 
@@ -98,12 +98,12 @@ seen_typed of o left (l.Value value) h = h
 seen_typed of o left (l.Thrown id) h = tt
 seen_typed of o left (l.Limit which) h = tt
 
-pub scripts_give : (rules : Rules) (script : Script) (store : Store) (args : List Value) (limits : run_limits) (o : Outcome) → Fits rules store.objects → RunsAsItsProgram script store args limits o
+pub scripts_give : (rules : Rules) (script : Script) (store : Store) (args : List Value) (limits : run_limits) (o : Outcome) → rules.typed ≡ Every → Fits rules store.objects → RunsAsItsProgram script store args limits o
     → GivesTyped script store args o
-scripts_give rules script store args limits o f runs allow context p is h =
+scripts_give rules script store args limits o every f runs allow context p is h =
     let ran = runs allow context p is (all_have store.objects (types_in (map variable_of context.variables)) args (all_are store.objects (types_in (map variable_of context.variables)) args h)) in
     let main = fun_of p.main in
     let args_typed : AreTyped store.objects (types_in main.params) args = subst (λ xs. AreTyped store.objects (types_in xs) args) (sym is.variables) h in
-    let of_main = formed_gives rules allow p is.formed (limits_of limits allow) refl args (world_at store limits) (end_seen o.end (world_left o ran.left)) f args_typed ran.ends in
+    let of_main = formed_gives rules allow p is.formed (limits_of limits allow) refl args (world_at store limits) (end_seen o.end (world_left o ran.left)) every f args_typed ran.ends in
     let of_context = subst (λ of. EndIsOf of (end_seen o.end (world_left o ran.left))) is.result of_main in
     subst (λ of. ValueIsOf of o.heap.objects o.end) (sym is.kept) (seen_typed context.result o ran.left o.end of_context)

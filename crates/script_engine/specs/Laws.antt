@@ -2,7 +2,7 @@
 use Rattle.std.specs.Prelude.{◌≡◌, ℕ, List, map, Result, Ok}
 use Rattle.pl_types.specs.declared.refusal.Refusal.{Refusal}
 use Rattle.object_values.specs.declared.value.Value.{Value}
-use Rattle.object_heap.specs.Fits.{Rules, Fits, ValueFits, AllFit}
+use Rattle.object_heap.specs.Fits.{Rules, Every, Fits, ValueFits, AllFit}
 use Rattle.run_fit.specs.Worlds.{EndFits, count_in}
 use Rattle.allowlist.specs.Allow.{AllowList}
 use Rattle.run_state.specs.World.{World, Limits, End}
@@ -41,10 +41,10 @@ abbrev pub ProgramsFit : Type 0
 ProgramsFit = (rules : Rules) (p : Program) (limits : Limits) (args : List Value) (w : World) (end : End Value) → Fits rules w.store.objects → AllFit (count_in w) args → RunsTo p limits args w end
     → EndFits ValueFits rules w.store.objects end
 
--- .. And where the arguments are of the types of the context's variables, what is given is of the context's result type in the store that is
--- left.
+-- .. And where the objects fit by the rules of a program, and the arguments are of the types of the context's variables, what is given is of
+-- the context's result type in the store that is left.
 abbrev pub ProgramsAreTyped : Type 0
 ProgramsAreTyped =
     (rules : Rules) (allow : AllowList) (context : ContextTypes) (text : List ℕ) (p : Program) → IsContext context → IsProgramOf allow context text (Ok p)
-    → (limits : Limits) → limits.allowed ≡ allow → (args : List Value) (w : World) (end : End Value) → Fits rules w.store.objects → HasVariables w.store.objects context args
+    → (limits : Limits) → limits.allowed ≡ allow → (args : List Value) (w : World) (end : End Value) → rules.typed ≡ Every → Fits rules w.store.objects → HasVariables w.store.objects context args
     → RunsTo p limits args w end → EndIsOf context.result end

@@ -1,7 +1,7 @@
 //! Runs of scripts.
 
 ghost use Rattle.std.specs.Prelude.{◌≡◌, IfOk, IsOk, List, Some, length, slice_get};
-ghost use Rattle.object_heap.specs.Fits.{AllFit, Fits, Rules};
+ghost use Rattle.object_heap.specs.Fits.{AllFit, Every, Fits, Rules};
 ghost use Rattle.object_values.specs.declared.object.Object.{Object};
 ghost use Rattle.machine.specs.Fitting.{NowFits};
 ghost use Rattle.script_engine.specs.Fitting.{LeavesFit};
@@ -211,9 +211,9 @@ impl Script {
         // Where the heap and the arguments fit, so do the heap and the end that are left, by the same rules: those of the code, and those of
         // the program. A number that is thrown is an exception's, and each object is still there, of its kind and of its class.
         ensures heap { (rules : Rules) → Fits rules heap.objects → AllFit (length heap.objects) args.items → IfOk result (LeavesFit rules heap.objects) }
-        // Where the heap fits and each argument is of its variable's type in it, the value that is given is of the result's type in what is
+        // Where the heap fits by the rules of a program and each argument is of its variable's type in it, the value that is given is of the result's type in what is
         // left.
-        ensures typed { (rules : Rules) → Fits rules heap.objects → IfOk result (GivesTyped self.now heap args.items) }
+        ensures typed { (rules : Rules) → rules.typed ≡ Every → Fits rules heap.objects → IfOk result (GivesTyped self.now heap args.items) }
     {
         let memory = RunMemory::new(heap.alloc());
         let ScriptRun {
@@ -241,7 +241,7 @@ impl Script {
         ensures program { IfOk result (λ ran. RunsAsItsProgram self.now heap args.items limits ran.outcome) }
         // As of [`Script::run`].
         ensures heap { (rules : Rules) → Fits rules heap.objects → AllFit (length heap.objects) args.items → IfOk result (λ ran. LeavesFit rules heap.objects ran.outcome) }
-        ensures typed { (rules : Rules) → Fits rules heap.objects → IfOk result (λ ran. GivesTyped self.now heap args.items ran.outcome) }
+        ensures typed { (rules : Rules) → rules.typed ≡ Every → Fits rules heap.objects → IfOk result (λ ran. GivesTyped self.now heap args.items ran.outcome) }
     {
         programs_end();
         let activation = self.start_in(memory, heap, args, limits)?;

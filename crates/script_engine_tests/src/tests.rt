@@ -1,14 +1,23 @@
 //! Scripts from their texts to their outcomes.
 
+mod allowed;
+mod arrays;
 mod boxes;
 mod catches;
 mod containers;
+mod dynamic;
+mod elements;
+mod literals;
 mod operands;
 mod operators;
+mod pair_tables;
+mod pairs;
+mod places;
 mod references;
 mod rows;
 mod running;
 
+use pairs::{all_casts_end, all_pairs_end};
 use running::{Compiler, USUAL, all_cells_end, all_end};
 use std::test::Fail;
 
@@ -137,6 +146,92 @@ fn containers_end_within_bounds(rt: HostRuntime) -> Result<(), Fail> {
     let compiler = Compiler::new(rt.alloc())?;
     for (bounds, table) in containers::BOUNDED {
         all_end(&rt, &compiler, bounds, table)?;
+    }
+    Ok(())
+}
+
+#[test]
+fn literals_arrays_and_places_end(rt: HostRuntime) -> Result<(), Fail> {
+    let compiler = Compiler::new(rt.alloc())?;
+    for table in [
+        literals::LISTS,
+        literals::MAPS,
+        literals::SETS,
+        arrays::MADE,
+        arrays::READ,
+        arrays::WRITTEN,
+        arrays::RELATED,
+        places::ITEMS,
+        places::KEYS,
+        places::PROPERTIES,
+        places::ONCE,
+        places::ELEMENTS,
+    ] {
+        all_end(&rt, &compiler, USUAL, table)?;
+    }
+    Ok(())
+}
+
+#[test]
+fn loops_over_elements_end(rt: HostRuntime) -> Result<(), Fail> {
+    let compiler = Compiler::new(rt.alloc())?;
+    for table in [elements::OVER, elements::LEFT, elements::CHANGED] {
+        all_end(&rt, &compiler, USUAL, table)?;
+    }
+    Ok(())
+}
+
+#[test]
+fn elements_end_within_bounds(rt: HostRuntime) -> Result<(), Fail> {
+    let compiler = Compiler::new(rt.alloc())?;
+    for (bounds, table) in [literals::BOUNDED, arrays::BOUNDED, elements::LIMITED] {
+        all_end(&rt, &compiler, bounds, table)?;
+    }
+    Ok(())
+}
+
+#[test]
+fn values_of_any_type_end(rt: HostRuntime) -> Result<(), Fail> {
+    let compiler = Compiler::new(rt.alloc())?;
+    for table in [
+        dynamic::OPERATORS,
+        dynamic::CALLS,
+        dynamic::ACCESSES,
+        dynamic::INDEXES,
+        dynamic::REACHED,
+        pair_tables::INSTANCES,
+    ] {
+        all_end(&rt, &compiler, USUAL, table)?;
+    }
+    Ok(())
+}
+
+#[test]
+fn pairs_of_values_end(rt: HostRuntime) -> Result<(), Fail> {
+    let compiler = Compiler::new(rt.alloc())?;
+    all_pairs_end(&rt, &compiler, pair_tables::PAIRS)?;
+    all_casts_end(&rt, &compiler, pair_tables::CASTS)?;
+    all_cells_end(&rt, &compiler, pair_tables::STEPS)?;
+    Ok(())
+}
+
+/// Allowlist files, and scripts under them.
+const ALLOWED: [(&str, &str); 2] = [
+    (
+        "class java.util.List {\n  def get(int)\n}\n",
+        allowed::GET_OF_LISTS,
+    ),
+    (
+        "class java.util.Collection {\n  int size()\n}\nclass java.util.Map {\n  def get(def)\n}\nclass java.util.List {\n  def set(int, def)\n}\n",
+        allowed::PARENTS,
+    ),
+];
+
+#[test]
+fn what_is_left_out_is_not_found(rt: HostRuntime) -> Result<(), Fail> {
+    for (file, table) in ALLOWED {
+        let compiler = Compiler::reading(rt.alloc(), file)?;
+        all_end(&rt, &compiler, USUAL, table)?;
     }
     Ok(())
 }

@@ -49,6 +49,17 @@ impl Drop for Bound {
     }
 }
 
+impl Bound {
+    /// The store and the values of the variables.
+    pub fn into_parts(self) -> (Heap, Elements<Value>)
+        ensures heap { result.0 ≡ self.heap }
+        ensures args { result.1 ≡ self.args }
+    {
+        let Bound { heap, args } = self;
+        (heap, args)
+    }
+}
+
 /// The doc values of a document, and its score where the context has one.
 struct Search {
     doc: FieldDoc,

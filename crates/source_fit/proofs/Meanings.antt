@@ -1,5 +1,5 @@
 -- Each expression and each statement keeps a run within its rules.
-use Rattle.std.proofs.Common.{◌≡◌, ℕ, zero, suc, ◌≤◌, Bool, true, false, List, [], ◌∷◌, Option, Some, None, sym, subst, arith}
+use Rattle.std.proofs.Common.{◌≡◌, ℕ, zero, suc, ◌≤◌, Bool, true, false, List, [], ◌∷◌, ◌++◌, Option, Some, None, sym, subst, arith}
 use Rattle.std.specs.Prelude.{slice_get, length, if◌then◌else◌}
 use Rattle.pl_types.specs.declared.ty.Ty.{Ty}
 use Rattle.allowlist.specs.Allow.{flag}
@@ -29,17 +29,19 @@ use Rattle.run_state.specs.Calls.{suits_member, wrong_class}
 use Rattle.run_state.specs.World.{World, Limits, Outcome, Given, Raised, Full, acts_in, Counted, Counts, Passes, allowed_in, has_loop_limit, take_turn, enter, pay_member}
 use Rattle.run_fit.specs.Laws.{DoneFits}
 use Rattle.run_fit.specs.Worlds.{WorldFits, count_in, OutcomeFits}
+use Rattle.run_fit.proofs.Containers.{AccessFits, index_read_fits, index_written_fits, name_read_fits, name_written_fits, method_called_fits}
 use Rattle.run_fit.proofs.Counted.{SameStore, turn_keeps, call_keeps, member_keeps}
 use Rattle.run_fit.proofs.Effects.{outcomes_fit, members_fit, throwing_fits}
-use Rattle.run_fit.proofs.Values.{value_grows}
-use Rattle.source_meaning.specs.Tree.{Name, Expr, Literal, Quoted, Local, Apply, Guarded, Logic, Conditional, Elvis, Assign, Modify, Lambda, Reference, NewReference, Exprs, None', One, Maybe, Missing, Given as Present, Stmt, Do, If, While, DoWhile, ForEach, Try, Block, Break, Continue, Return, Throw, Stmts, Finish, Then, Declare, Catches, NoCatch, Catch, Fun, Programs, functions_in}
-use Rattle.source_meaning.specs.Operating.{Operated, Meaningless, Gives, Acts, operates, casts}
+use Rattle.run_fit.proofs.Values.{value_grows, values_grow}
+use Rattle.def_access.specs.Access.{Access, Calls, Acts as Does, index_read, index_written, name_read, name_written, method_called}
+use Rattle.source_meaning.specs.Tree.{Name, Expr, Literal, Quoted, Local, Apply, Guarded, Logic, Conditional, Elvis, Assign, Modify, Lambda, Reference, NewReference, Exprs, None', One, Maybe, Missing, Given as Present, Stmt, Do, If, While, DoWhile, Try, Block, Break, Continue, Return, Throw, Stmts, Finish, Then, Declare, Catches, NoCatch, Catch, Fun, Programs, functions_in}
+use Rattle.source_meaning.specs.Operating.{Operated, Meaningless, Gives, Acts, operates, operates_to, casts}
 use Rattle.source_meaning.specs.Members.{Sending, Unsent, OnNull, Sends, Reads, sent}
-use Rattle.source_meaning.specs.Meaning.{State, Env, Place, Out, Done, Thrown, Over, More, Flow, Normal, Broke, Continued, Returned, bind, leave, lookup, entry, found, effect, operated, choose, goes_next, goes_again, is_of_class, returned, back, Meaning, entered, called, acted, paid, tested, member_called, member_applied, of_member, applied, logic, modified, expr_of, exprs_of, value_if, turned, done_turn, caught, handled, stmt_of, value_or, stmts_of, layer, meaning}
+use Rattle.source_meaning.specs.Meaning.{State, Env, Place, Out, Done, Thrown, Over, More, Flow, Normal, Broke, Continued, Returned, bind, leave, lookup, entry, found, effect, operated, choose, goes_next, goes_again, is_of_class, returned, back, Meaning, entered, called, acted, paid, tested, member_called, member_applied, of_member, accessed, method_applied, name_applied, name_put, index_applied, index_put, applied, logic, changed, modified, written, modified_at, given_by, expr_of, exprs_of, value_if, turned, done_turn, caught, handled, stmt_of, value_or, stmts_of, layer, meaning}
 use Rattle.source_fit.specs.Laws.{MeaningFits, MeaningsFit}
 use Rattle.source_fit.specs.Outs.{EnvFits, StateFits, FlowFits, OutFits}
 use Rattle.run_fit.proofs.Values.{MadeFits}
-use Rattle.source_fit.proofs.Values.{env_grows, older_fits, lookup_fits, assigned_fits, EntryFits, entry_fits, constant_fits, default_fits, returned_fits, given_by_fits, SendingFits, sent_fits, OperatedFits, operates_fit, cast_fits}
+use Rattle.source_fit.proofs.Values.{env_grows, older_fits, lookup_fits, assigned_fits, EntryFits, entry_fits, constant_fits, default_fits, returned_fits, given_by_fits, behind_fits, SendingFits, sent_fits, OperatedFits, operates_fit, operates_to_fit, cast_fits}
 
 abbrev Any : ℕ → Value → Type 0
 Any count value = Unit {0}
@@ -213,10 +215,49 @@ module _ (rules : Rules) (before : List Object) where
     members : (x : Member) (values : List Value) (d : Place) (s : State) (e : Env) → Here s e → AllFit (count_in s.world) values → Keeps ValueFits (count_in s.world) (of_member funs limits m x values d s e)
     members x values d s e h f = allowed_members (flag (allowed_in limits d.text).members x.number) x.number values d s e h f
 
+    -- ---- what is found for a receiver when the script runs
+
+    accesses : (a : Access) (d : Place) (s : State) (e : Env) → Here s e → AccessFits rules before s.world a → Keeps ValueFits (count_in s.world) (accessed funs limits m a d s e)
+    accesses (Calls number arguments) d s e h f = pays (pay_member d.text number s.world) number arguments s e h f (member_keeps d.text number s.world)
+    accesses (Does given) d s e h f = effect_fits (acts_in s.world given) s e h f
+
+    methods : (name : Name) (values : List Value) (d : Place) (s : State) (e : Env) → Here s e → AllFit (count_in s.world) values → Keeps ValueFits (count_in s.world) (method_applied funs limits m name values d s e)
+    methods name [] d s e h f = record { by = tt }
+    methods name (receiver ∷ arguments) d s e h f =
+        accesses (method_called (allowed_in limits d.text) s.world.store receiver name arguments) d s e h (method_called_fits rules before s.world h.0 (allowed_in limits d.text) receiver name arguments f)
+
+    names : (name : Name) (values : List Value) (d : Place) (s : State) (e : Env) → Here s e → AllFit (count_in s.world) values → Keeps ValueFits (count_in s.world) (name_applied funs limits m name values d s e)
+    names name [] d s e h f = record { by = tt }
+    names name (receiver ∷ []) d s e h f =
+        accesses (name_read (allowed_in limits d.text) s.world.store receiver name) d s e h (name_read_fits rules before s.world h.0 (allowed_in limits d.text) receiver name f.0)
+    names name (receiver ∷ value ∷ values) d s e h f = record { by = tt }
+
+    put_names : (name : Name) (values : List Value) (d : Place) (s : State) (e : Env) → Here s e → AllFit (count_in s.world) values → Keeps ValueFits (count_in s.world) (name_put funs limits m name values d s e)
+    put_names name [] d s e h f = record { by = tt }
+    put_names name (receiver ∷ []) d s e h f = record { by = tt }
+    put_names name (receiver ∷ value ∷ []) d s e h f =
+        accesses (name_written (allowed_in limits d.text) s.world.store receiver name value) d s e h (name_written_fits rules before s.world h.0 (allowed_in limits d.text) receiver name value f)
+    put_names name (receiver ∷ value ∷ other ∷ values) d s e h f = record { by = tt }
+
+    indexes : (values : List Value) (d : Place) (s : State) (e : Env) → Here s e → AllFit (count_in s.world) values → Keeps ValueFits (count_in s.world) (index_applied funs limits m values d s e)
+    indexes [] d s e h f = record { by = tt }
+    indexes (receiver ∷ []) d s e h f = record { by = tt }
+    indexes (receiver ∷ index ∷ []) d s e h f =
+        accesses (index_read (allowed_in limits d.text) s.world.store receiver index) d s e h (index_read_fits rules before s.world h.0 (allowed_in limits d.text) receiver index f)
+    indexes (receiver ∷ index ∷ other ∷ values) d s e h f = record { by = tt }
+
+    put_indexes : (values : List Value) (d : Place) (s : State) (e : Env) → Here s e → AllFit (count_in s.world) values → Keeps ValueFits (count_in s.world) (index_put funs limits m values d s e)
+    put_indexes [] d s e h f = record { by = tt }
+    put_indexes (receiver ∷ []) d s e h f = record { by = tt }
+    put_indexes (receiver ∷ index ∷ []) d s e h f = record { by = tt }
+    put_indexes (receiver ∷ index ∷ value ∷ []) d s e h f =
+        accesses (index_written (allowed_in limits d.text) s.world.store receiver index value) d s e h (index_written_fits rules before s.world h.0 (allowed_in limits d.text) receiver index value f)
+    put_indexes (receiver ∷ index ∷ value ∷ other ∷ values) d s e h f = record { by = tt }
+
     -- ---- expressions
 
     applies : (o : Operation) (d : Place) (s : State) (e : Env) (of : Ty) (values : List Value) → Here s e → AllFit (count_in s.world) values → Keeps ValueFits (count_in s.world) (applied funs limits m o d s e of values)
-    applies (operation.Operator o) d s e of values h f = operated_fits (operates o values s.world.store) s e h (operates_fit rules before s.world h.0 o values)
+    applies (operation.Operator o) d s e of values h f = operated_fits (operates_to o of values s.world.store) s e h (operates_to_fit rules before s.world h.0 o of values f)
     applies (operation.Cast c) d s e of [] h f = record { by = tt }
     applies (operation.Cast c) d s e of (a ∷ []) h f = operated_fits (casts c of a s.world.store) s e h (cast_fits rules before s.world h.0 c of a f.0)
     applies (operation.Cast c) d s e of (a ∷ b ∷ values) h f = record { by = tt }
@@ -229,40 +270,61 @@ module _ (rules : Rules) (before : List Object) where
     applies (operation.Constructor member) d s e of values h f = members member values d s e h f
     applies (operation.Field member) d s e of values h f = members member values d s e h f
     applies (operation.Host member) d s e of values h f = record { by = tt }
-    applies (operation.DefCall name) d s e of values h f = record { by = tt }
-    applies (operation.DefName name) d s e of values h f = record { by = tt }
-    applies operation.DefIndex d s e of values h f = record { by = tt }
+    applies (operation.DefCall name) d s e of values h f = methods name values d s e h f
+    applies (operation.DefName name) d s e of values h f = names name values d s e h f
+    applies (operation.PutDefName name) d s e of values h f = put_names name values d s e h f
+    applies operation.DefIndex d s e of values h f = indexes values d s e h f
+    applies operation.PutDefIndex d s e of values h f = put_indexes values d s e h f
 
     logic_keeps : (o : Logical) (d : Place) (s : State) (e : Env) (value : Value) (right : Expr) → Here s e → Keeps ValueFits (count_in s.world) (logic funs limits m o d s e value right)
     logic_keeps And d s e value right h = chosen value (expr_ih right d s e h) (done h tt)
     logic_keeps Or d s e value right h = chosen value (done h tt) (expr_ih right d s e h)
 
-    modifies : (x : Name) (of : Ty) (change : Change) (d : Place) (s : State) (e : Env) (right : Expr) (given : Given_by) (old : Value) → Here s e → ValueFits (count_in s.world) old
-        → Keeps ValueFits (count_in s.world) (modified funs limits m x of change d s e right given old)
-    modifies x of change d s e right given old h f =
+    -- what is read of a target, changed
+    changed_keeps : (of : Ty) (change : Change) (d : Place) (s : State) (e : Env) (right : Expr) (old : Value) → Here s e → ValueFits (count_in s.world) old
+        → Keeps ValueFits (count_in s.world) (changed funs limits m of change d s e right old)
+    changed_keeps of change d s e right old h f =
         then' {good = ValueFits} (operated_fits (casts change.before of old s.world.store) s e h (cast_fits rules before s.world h.0 change.before of old f)) (λ left s1 e1 h1 n1 g1.
         then' {good = ValueFits} (expr_ih right d s1 e1 h1) (λ value s2 e2 h2 n2 g2.
         then' {good = ValueFits} (operated_fits (operates change.operator (left ∷ value ∷ []) s2.world.store) s2 e2 h2 (operates_fit rules before s2.world h2.0 change.operator (left ∷ value ∷ []))) (λ result s3 e3 h3 n3 g3.
-        then' {good = ValueFits} (operated_fits (casts change.after of result s3.world.store) s3 e3 h3 (cast_fits rules before s3.world h3.0 change.after of result g3)) (λ new s4 e4 h4 n4 g4.
-        done (h4.0, assigned_fits (count_in s4.world) e4 x new h4.1 g4)
-        (given_by_fits (count_in s4.world) given old new (value_grows (count_in s.world) (count_in s4.world) (omega (arith, n1, n2, n3, n4)) old f) g4)))))
+        operated_fits (casts change.after of result s3.world.store) s3 e3 h3 (cast_fits rules before s3.world h3.0 change.after of result g3))))
+
+    modifies : (x : Name) (of : Ty) (change : Change) (d : Place) (s : State) (e : Env) (right : Expr) (given : Given_by) (old : Value) → Here s e → ValueFits (count_in s.world) old
+        → Keeps ValueFits (count_in s.world) (modified funs limits m x of change d s e right given old)
+    modifies x of change d s e right given old h f =
+        then' {good = ValueFits} (changed_keeps of change d s e right old h f) (λ new s1 e1 h1 n1 g1.
+        done (h1.0, assigned_fits (count_in s1.world) e1 x new h1.1 g1) (given_by_fits (count_in s1.world) given old new (value_grows (count_in s.world) (count_in s1.world) n1 old f) g1))
+
+    -- what a write gives is dropped
+    writes : (write : Operation) (d : Place) (s : State) (e : Env) (of : Ty) (parts : List Value) (new given : Value) → Here s e → AllFit (count_in s.world) parts → ValueFits (count_in s.world) new
+        → ValueFits (count_in s.world) given → Keeps ValueFits (count_in s.world) (written funs limits m write d s e of parts new given)
+    writes write d s e of parts new given h f g k =
+        then' {good = ValueFits} (applies write d s e of (parts ++ new ∷ []) h (behind_fits (count_in s.world) parts new f g)) (λ dropped s1 e1 h1 n1 g1.
+        done h1 (value_grows (count_in s.world) (count_in s1.world) n1 given k))
+
+    modifies_at : (read : Option Operation) (write : Operation) (of : Ty) (change : Change) (d : Place) (s : State) (e : Env) (parts : List Value) (right : Expr) (given : Given_by) → Here s e
+        → AllFit (count_in s.world) parts → Keeps ValueFits (count_in s.world) (modified_at funs limits m read write of change d s e parts right given)
+    modifies_at None write of change d s e parts right given h f = record { by = tt }
+    modifies_at (Some read) write of change d s e parts right given h f =
+        then' {good = ValueFits} (applies read d s e of parts h f) (λ old s1 e1 h1 n1 g1.
+        then' {good = ValueFits} (changed_keeps of change d s1 e1 right old h1 g1) (λ new s2 e2 h2 n2 g2.
+        writes write d s2 e2 of parts new (given_by given old new) h2 (values_grow (count_in s.world) (count_in s2.world) (omega (arith, n1, n2)) parts f) g2
+        (given_by_fits (count_in s2.world) given old new (value_grows (count_in s1.world) (count_in s2.world) n2 old g1) g2)))
 
     assigns : (at : ℕ) (of : Ty) (to : Target) (parts : Exprs) (value : Expr) (d : Place) (s : State) (e : Env) → Here s e
         → Keeps ValueFits (count_in s.world) (expr_of funs limits m d s e (Assign at of to parts value))
     assigns at of (target.Local x) parts value d s e h = then' {good = ValueFits} (expr_ih value d s e h) (λ value s e h n f. done (h.0, assigned_fits (count_in s.world) e x value h.1 f) f)
-    assigns at of target.Element parts value d s e h = record { by = tt }
-    assigns at of (target.Members read write) parts value d s e h = record { by = tt }
-    assigns at of target.DefIndex parts value d s e h = record { by = tt }
-    assigns at of (target.DefName name) parts value d s e h = record { by = tt }
+    assigns at of (target.Place read write) parts value d s e h =
+        then' {good = AllFit} (exprs_ih parts d s e h) (λ values s1 e1 h1 n1 f1.
+        then' {good = ValueFits} (expr_ih value d s1 e1 h1) (λ new s2 e2 h2 n2 f2.
+        writes write d s2 e2 of values new new h2 (values_grow (count_in s1.world) (count_in s2.world) n2 values f1) f2 f2))
 
     changes : (at : ℕ) (of : Ty) (to : Target) (parts : Exprs) (change : Change) (right : Expr) (given : Given_by) (d : Place) (s : State) (e : Env) → Here s e
         → Keeps ValueFits (count_in s.world) (expr_of funs limits m d s e (Modify at of to parts change right given))
     changes at of (target.Local x) parts change right given d s e h =
         then' {good = ValueFits} (found_fits (lookup e x) s e h (lookup_fits (count_in s.world) e x h.1)) (λ old s e h n f. modifies x of change d s e right given old h f)
-    changes at of target.Element parts change right given d s e h = record { by = tt }
-    changes at of (target.Members read write) parts change right given d s e h = record { by = tt }
-    changes at of target.DefIndex parts change right given d s e h = record { by = tt }
-    changes at of (target.DefName name) parts change right given d s e h = record { by = tt }
+    changes at of (target.Place read write) parts change right given d s e h =
+        then' {good = AllFit} (exprs_ih parts d s e h) (λ values s1 e1 h1 n1 f1. modifies_at read write of change d s1 e1 values right given h1 f1)
 
     expr_keeps : (t : Expr) (d : Place) (s : State) (e : Env) → Here s e → Keeps ValueFits (count_in s.world) (expr_of funs limits m d s e t)
     expr_keeps (Literal at of c) d s e h = done h (constant_fits (count_in s.world) c)
@@ -333,7 +395,6 @@ module _ (rules : Rules) (before : List Object) where
         chosen value (turns_keep (take_turn limits (has_loop_limit d.text) s.turns s.world) d s e test update body h (turn_keeps limits (has_loop_limit d.text) s.turns s.world)) (done h tt))
     stmt_keeps (DoWhile body test) d s e h =
         done_turns_keep (take_turn limits (has_loop_limit d.text) s.turns s.world) d s e body test h (turn_keeps limits (has_loop_limit d.text) s.turns s.world)
-    stmt_keeps (ForEach x of element over body) d s e h = record { by = tt }
     stmt_keeps (Try body catches) d s e h = record { by = handles catches d (count_in s.world) _ (ih.stmts body d s e h) }
     stmt_keeps (Block body) d s e h = stmts_ih body d s e h
     stmt_keeps Break d s e h = done h tt

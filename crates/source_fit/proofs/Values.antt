@@ -1,5 +1,5 @@
 -- Values of names, of operators, of casts and of arguments that fit.
-use Rattle.std.proofs.Common.{ℕ, ℤ, ◌≤◌, Bool, true, false, List, [], ◌∷◌, Option, Some, None}
+use Rattle.std.proofs.Common.{ℕ, ℤ, ◌≤◌, Bool, true, false, List, [], ◌∷◌, ◌++◌, Option, Some, None}
 use Rattle.std.specs.Prelude.{if◌then◌else◌}
 use Rattle.std.specs.Str.{bytes_eq}
 use Rattle.pl_types.specs.declared.primitive.Primitive.{Primitive}
@@ -16,7 +16,9 @@ use Rattle.allowlist.specs.declared.member.MemberType.{MemberType}
 use Rattle.object_values.specs.declared.object.Object.{Object}
 use Rattle.object_values.specs.declared.value.Value.{Value}
 use Rattle.object_values.specs.declared.value.Value.TheVariants as v
+use Rattle.object_heap.specs.Effects.{Effect}
 use Rattle.object_heap.specs.Fits.{Rules, ValueFits, AllFit}
+use Rattle.object_heap.specs.Store.{Store}
 use Rattle.arithmetic.specs.declared.operator.Op.{Op}
 use Rattle.arithmetic.specs.declared.operator.Num.{Num}
 use Rattle.arithmetic.specs.declared.operator.Num.TheVariants as num
@@ -29,18 +31,22 @@ use Rattle.typed_tree.specs.declared.operation.Operator.TheVariants as operator
 use Rattle.number_ops.specs.declared.outcome.Outcome.{Outcome as Told}
 use Rattle.number_ops.specs.declared.outcome.Outcome.TheVariants as told
 use Rattle.number_ops.specs.Casts.{cast_at_run_time}
-use Rattle.number_ops.specs.Operators.{of_result, compares, truth_in, boxed, is_null}
+use Rattle.number_ops.specs.Operators.{of_result, compares, truth_in, boxed, is_null, is_unary, operate}
 use Rattle.number_ops.specs.Outcomes.{effect, says, zero_divisor}
 use Rattle.number_ops.specs.Relations.{equal}
+use Rattle.container_ops.specs.Types.{default_of, default_of_layer, default_of_primitive}
+use Rattle.container_ops.specs.Elements.{length_of}
+use Rattle.container_ops.specs.Loops.{iterated, has_more, next_element}
 use Rattle.run_state.specs.World.{World, acts_in}
 use Rattle.run_fit.specs.Laws.{ToldFits}
 use Rattle.run_fit.specs.Worlds.{WorldFits, count_in, OutcomeFits}
 use Rattle.run_fit.proofs.Effects.{outcomes_fit, casts_fit, concatenation_fits, equality_fits, equal_fits}
+use Rattle.run_fit.proofs.Containers.{list_fits, map_fits, filled_fits as filled_array_fits, array_fits, element_fits, written_fits as element_written_fits, length_fits, iterated_fits, has_fits, next_fits, operate_fits}
 use Rattle.run_fit.proofs.Values.{value_grows, MadeFits, AllMadeFit, by_primitive}
 use Rattle.source_meaning.specs.Tree.{Name, Variable}
 use Rattle.source_meaning.specs.Members.{Sending, Unsent, OnNull, Sends, Reads, passed_layer, passed_all, before as joined, sends, sends_to, sent_by, sent}
-use Rattle.source_meaning.specs.Meaning.{Env, Flow, Normal, Broke, Continued, Returned, lookup, assigned, entry, older, default_of, default_of_layer, default_of_primitive, given_by, returned}
-use Rattle.source_meaning.specs.Operating.{Operated, Meaningless, Gives, Acts, value_of, number_given, number_operated, of_ints, of_longs, operands_of, of_flags, flag_operated, negated, of_references, reference_operated, operates, from_int_to, from_long_to, from_byte_to, from_short_to, from_char_to, from_flag_to, number_cast, in_box, box_if, gives_if, text_if, unwrapped, casts}
+use Rattle.source_meaning.specs.Meaning.{Env, Flow, Normal, Broke, Continued, Returned, lookup, assigned, entry, older, given_by, returned}
+use Rattle.source_meaning.specs.Operating.{Operated, Meaningless, Gives, Acts, value_of, number_given, number_operated, of_ints, of_longs, operands_of, of_flags, flag_operated, negated, of_references, reference_operated, of_any, passed_alike, ints_of, made_of, filled_of, read_at, written_if, written_at, of_one_value, operates, operates_to, from_int_to, from_long_to, from_byte_to, from_short_to, from_char_to, from_flag_to, number_cast, in_box, box_if, gives_if, text_if, unwrapped, casts}
 use Rattle.source_fit.specs.Outs.{EnvFits, FlowFits}
 
 -- ---- names
@@ -113,6 +119,11 @@ returned_fits n of (Returned value) f = f
 pub given_by_fits : (n : ℕ) (given : Given_by) (old new : Value) → ValueFits n old → ValueFits n new → ValueFits n (given_by given old new)
 given_by_fits n gives.Old old new f g = f
 given_by_fits n gives.New old new f g = g
+
+-- a value behind others
+pub behind_fits : (n : ℕ) (values : List Value) (value : Value) → AllFit n values → ValueFits n value → AllFit n (values ++ value ∷ [])
+behind_fits n [] value f g = (g, tt)
+behind_fits n (first ∷ values) value f g = (f.0, behind_fits n values value f.1 g)
 
 -- ---- operators and casts
 
@@ -208,6 +219,10 @@ passed_all_fits n [] (value ∷ values) f = tt
 passed_all_fits n (of ∷ ofs) [] f = tt
 passed_all_fits n (of ∷ ofs) (value ∷ values) f = joined_fits n _ _ (passed_layer_fits n (out-Ty of) value f.0) (passed_all_fits n ofs values f.1)
 
+passed_alike_fits : (n : ℕ) (of : Ty) (values : List Value) → AllFit n values → AllMadeFit n (passed_alike of values)
+passed_alike_fits n of [] f = tt
+passed_alike_fits n of (value ∷ values) f = joined_fits n _ _ (passed_layer_fits n (out-Ty of) value f.0) (passed_alike_fits n of values f.1)
+
 abbrev pub SendingFits : ℕ → Sending → Type 0
 SendingFits n Unsent = Unit {0}
 SendingFits n OnNull = Unit {0}
@@ -275,11 +290,67 @@ module _ (rules : Rules) (before : List Object) (w : World) (h : WorldFits rules
   reference_operated_fits o (a ∷ b ∷ []) = references_fit o a b
   reference_operated_fits o (a ∷ b ∷ c ∷ values) = tt
 
+  any_fits : (o : Op) (values : List Value) → OperatedFits (of_any o values w.store)
+  any_fits o [] = tt
+  any_fits o (a ∷ []) = either (is_unary o)
+    where
+      either : (unary : Bool) → OperatedFits (if unary then Acts (effect w.store (operate w.store.objects o a a)) else Meaningless)
+      either true = operate_fits rules before w h o a a
+      either false = tt
+  any_fits o (a ∷ b ∷ []) = either (is_unary o)
+    where
+      either : (unary : Bool) → OperatedFits (if unary then Meaningless else Acts (effect w.store (operate w.store.objects o a b)))
+      either true = tt
+      either false = operate_fits rules before w h o a b
+  any_fits o (a ∷ b ∷ c ∷ values) = tt
+
   pub operates_fit : (o : Operator) (values : List Value) → OperatedFits (operates o values w.store)
   operates_fit (operator.Int o) values = number_operated_fits o (of_ints o (operands_of values))
   operates_fit (operator.Long o) values = number_operated_fits o (of_longs o (operands_of values))
   operates_fit (operator.Boolean o) values = flags_fit (of_flags o (operands_of values))
+  operates_fit (operator.Def o) values = any_fits o values
   operates_fit o values = reference_operated_fits o values
+
+  -- ---- lists, maps, arrays and iterators
+
+  made_fits : (sizes : Option (List ℤ)) (of : Ty) → OperatedFits (made_of sizes of w.store)
+  made_fits None of = tt
+  made_fits (Some sizes) of = array_fits rules before w h of sizes
+
+  filled_fits : (items : Option (List Value)) (elem : Ty) → AllMadeFit (count_in w) items → OperatedFits (filled_of items elem w.store)
+  filled_fits None elem f = tt
+  filled_fits (Some items) elem f = filled_array_fits rules before w h elem items f
+
+  read_fits : (of : Ty) (values : List Value) → OperatedFits (read_at of values w.store)
+  read_fits of (array ∷ v.Int at ∷ []) = element_fits rules before w h of array at
+  read_fits of values = tt
+
+  written_if_fits : (of : Ty) (array : Value) (at : ℤ) (value : Option Value) → MadeFits (count_in w) value → OperatedFits (written_if of array at value w.store)
+  written_if_fits of array at None f = tt
+  written_if_fits of array at (Some value) f = element_written_fits rules before w h of array at value f
+
+  written_fits : (of : Ty) (values : List Value) → AllFit (count_in w) values → OperatedFits (written_at of values w.store)
+  written_fits of (array ∷ v.Int at ∷ value ∷ []) f = written_if_fits of array at _ (passed_layer_fits (count_in w) (out-Ty of) value f.1.1.0)
+  written_fits of values f = tt
+
+  one_fits : (does : Store → Value → Effect) (values : List Value) → ((value : Value) → OutcomeFits rules before (count_in w) (acts_in w (does w.store value)))
+      → OperatedFits (of_one_value does values w.store)
+  one_fits does [] k = tt
+  one_fits does (value ∷ []) k = k value
+  one_fits does (value ∷ other ∷ values) k = tt
+
+  pub operates_to_fit : (o : Operator) (of : Ty) (values : List Value) → AllFit (count_in w) values → OperatedFits (operates_to o of values w.store)
+  operates_to_fit operator.List of values f = list_fits rules before w h values f
+  operates_to_fit operator.Map of values f = map_fits rules before w h values f
+  operates_to_fit operator.NewArray of values f = made_fits (ints_of values) of
+  operates_to_fit operator.ArrayOf of values f = filled_fits _ _ (passed_alike_fits (count_in w) _ values f)
+  operates_to_fit operator.Element of values f = read_fits of values
+  operates_to_fit operator.PutElement of values f = written_fits of values f
+  operates_to_fit operator.Length of values f = one_fits length_of values (λ value. length_fits rules before w h value)
+  operates_to_fit operator.Iterate of values f = one_fits iterated values (λ value. iterated_fits rules before w h value)
+  operates_to_fit operator.HasNext of values f = one_fits has_more values (λ value. has_fits rules before w h value)
+  operates_to_fit operator.Next of values f = one_fits next_element values (λ value. next_fits rules before w h value)
+  operates_to_fit o of values f = operates_fit o values
 
   gives_if_fits : (value : Option Value) → MadeFits (count_in w) value → OperatedFits (gives_if value)
   gives_if_fits None f = tt

@@ -1,5 +1,5 @@
 -- A greater bound gives the same, where it is not More.
-use Rattle.std.proofs.Common.{ℕ, zero, suc, ◌≤◌, List, [], ◌∷◌, Option, Some, None, refl, sym, ap, subst, arith}
+use Rattle.std.proofs.Common.{ℕ, zero, suc, ◌≤◌, List, [], ◌∷◌, ◌++◌, Option, Some, None, refl, sym, ap, subst, arith}
 use Rattle.std.specs.Prelude.{slice_get, Bool, true, false, if◌then◌else◌}
 use Rattle.number_ops.specs.Operators.{is_null}
 use Rattle.pl_types.specs.declared.ty.Ty.{Ty}
@@ -15,9 +15,9 @@ use Rattle.typed_tree.specs.declared.operation.Target.TheVariants as target
 use Rattle.typed_tree.specs.declared.operation.Change.{Change}
 use Rattle.typed_tree.specs.declared.operation.Gives.{Gives}
 use Rattle.run_state.specs.World.{Limits, Counted, Counts, Passes, has_loop_limit, take_turn, enter}
-use Rattle.source_meaning.specs.Tree.{Name, Expr, Literal, Quoted, Local, Apply, Guarded, Logic, Conditional, Elvis, Assign, Modify, Lambda, Reference, NewReference, Exprs, None', One, Maybe, Missing, Given as Present, Stmt, Do, If, While, DoWhile, ForEach, Try, Block, Break, Continue, Return, Throw, Stmts, Finish, Then, Declare, Catches, NoCatch, Catch, Fun, Programs, functions_in}
+use Rattle.source_meaning.specs.Tree.{Name, Expr, Literal, Quoted, Local, Apply, Guarded, Logic, Conditional, Elvis, Assign, Modify, Lambda, Reference, NewReference, Exprs, None', One, Maybe, Missing, Given as Present, Stmt, Do, If, While, DoWhile, Try, Block, Break, Continue, Return, Throw, Stmts, Finish, Then, Declare, Catches, NoCatch, Catch, Fun, Programs, functions_in}
 use Rattle.source_meaning.specs.Operating.{casts}
-use Rattle.source_meaning.specs.Meaning.{State, Env, Place, Out, Done, Thrown, Over, More, Flow, Normal, Broke, Continued, Returned, bind, leave, entry, found, operated, choose, goes_next, goes_again, is_of_class, back, lookup, Meaning, entered, called, of_member, applied, logic, modified, expr_of, exprs_of, value_if, turned, done_turn, caught, handled, stmt_of, value_or, stmts_of, layer, meaning}
+use Rattle.source_meaning.specs.Meaning.{State, Env, Place, Out, Done, Thrown, Over, More, Flow, Normal, Broke, Continued, Returned, bind, leave, entry, found, operated, choose, goes_next, goes_again, is_of_class, back, lookup, given_by, Meaning, entered, called, of_member, applied, logic, changed, modified, written, modified_at, expr_of, exprs_of, value_if, turned, done_turn, caught, handled, stmt_of, value_or, stmts_of, layer, meaning}
 use Rattle.source_meaning.specs.Laws.{Stays, Extends}
 
 -- the same as a record, so that what stands on either side is found
@@ -125,32 +125,45 @@ module _ (funs : Programs) (limits : Limits) where
     applies (operation.Host member) d s e of values = same
     applies (operation.DefCall name) d s e of values = same
     applies (operation.DefName name) d s e of values = same
+    applies (operation.PutDefName name) d s e of values = same
     applies operation.DefIndex d s e of values = same
+    applies operation.PutDefIndex d s e of values = same
 
     logic_grows : (o : Logical) (d : Place) (s : State) (e : Env) (value : Value) (right : Expr) → Up (logic funs limits m o d s e value right) (logic funs limits m' o d s e value right)
     logic_grows And d s e value right = chosen value (ih.expr right d s e) same
     logic_grows Or d s e value right = chosen value same (ih.expr right d s e)
 
+    changed_grows : (of : Ty) (change : Change) (d : Place) (s : State) (e : Env) (right : Expr) (old : Value)
+        → Up (changed funs limits m of change d s e right old) (changed funs limits m' of change d s e right old)
+    changed_grows of change d s e right old =
+        then' {o = operated (casts change.before of old s.world.store) s e} same (λ left s e. then' (ih.expr right d s e) (λ value s e. same))
+
     modifies : (x : Name) (of : Ty) (change : Change) (d : Place) (s : State) (e : Env) (right : Expr) (given : Gives) (old : Value)
         → Up (modified funs limits m x of change d s e right given old) (modified funs limits m' x of change d s e right given old)
-    modifies x of change d s e right given old =
-        then' {o = operated (casts change.before of old s.world.store) s e} same (λ left s e. then' (ih.expr right d s e) (λ value s e. same))
+    modifies x of change d s e right given old = then' (changed_grows of change d s e right old) (λ new s e. same)
+
+    writes : (write : Operation) (d : Place) (s : State) (e : Env) (of : Ty) (parts : List Value) (new given : Value)
+        → Up (written funs limits m write d s e of parts new given) (written funs limits m' write d s e of parts new given)
+    writes write d s e of parts new given = then' (applies write d s e of (parts ++ new ∷ [])) (λ dropped s e. same)
+
+    modifies_at : (read : Option Operation) (write : Operation) (of : Ty) (change : Change) (d : Place) (s : State) (e : Env) (parts : List Value) (right : Expr) (given : Gives)
+        → Up (modified_at funs limits m read write of change d s e parts right given) (modified_at funs limits m' read write of change d s e parts right given)
+    modifies_at None write of change d s e parts right given = same
+    modifies_at (Some read) write of change d s e parts right given =
+        then' (applies read d s e of parts) (λ old s e.
+        then' (changed_grows of change d s e right old) (λ new s e. writes write d s e of parts new (given_by given old new)))
 
     assigns : (at : ℕ) (of : Ty) (to : Target) (parts : Exprs) (value : Expr) (d : Place) (s : State) (e : Env)
         → Up (expr_of funs limits m d s e (Assign at of to parts value)) (expr_of funs limits m' d s e (Assign at of to parts value))
     assigns at of (target.Local x) parts value d s e = then' (ih.expr value d s e) (λ value s e. same)
-    assigns at of target.Element parts value d s e = same
-    assigns at of (target.Members read write) parts value d s e = same
-    assigns at of target.DefIndex parts value d s e = same
-    assigns at of (target.DefName name) parts value d s e = same
+    assigns at of (target.Place read write) parts value d s e =
+        then' (ih.exprs parts d s e) (λ values s e. then' (ih.expr value d s e) (λ value s e. writes write d s e of values value value))
 
     changes : (at : ℕ) (of : Ty) (to : Target) (parts : Exprs) (change : Change) (right : Expr) (given : Gives) (d : Place) (s : State) (e : Env)
         → Up (expr_of funs limits m d s e (Modify at of to parts change right given)) (expr_of funs limits m' d s e (Modify at of to parts change right given))
     changes at of (target.Local x) parts change right given d s e = then' {o = found (lookup e x) s e} same (λ old s e. modifies x of change d s e right given old)
-    changes at of target.Element parts change right given d s e = same
-    changes at of (target.Members read write) parts change right given d s e = same
-    changes at of target.DefIndex parts change right given d s e = same
-    changes at of (target.DefName name) parts change right given d s e = same
+    changes at of (target.Place read write) parts change right given d s e =
+        then' (ih.exprs parts d s e) (λ values s e. modifies_at read write of change d s e values right given)
 
     expr_grows : (t : Expr) (d : Place) (s : State) (e : Env) → Up (expr_of funs limits m d s e t) (expr_of funs limits m' d s e t)
     expr_grows (Literal at of c) d s e = same
@@ -208,7 +221,6 @@ module _ (funs : Programs) (limits : Limits) where
     stmt_grows (While test update body) d s e =
         then' (value_grows test (v.Bool true) d s e) (λ value s e. chosen value (turns_grow (take_turn limits (has_loop_limit d.text) s.turns s.world) d s e test update body) same)
     stmt_grows (DoWhile body test) d s e = dones_grow (take_turn limits (has_loop_limit d.text) s.turns s.world) d s e body test
-    stmt_grows (ForEach x of element over body) d s e = same
     stmt_grows (Try body catches) d s e = record { by = handles catches d _ _ (ih.stmts body d s e).by }
     stmt_grows (Block body) d s e = ih.stmts body d s e
     stmt_grows Break d s e = same

@@ -1,6 +1,6 @@
 -- How statements are left: whether what stands behind them is reached, and whether a `continue` of their own is.
 use Rattle.std.specs.Prelude.{◌||◌, ◌&&◌, Bool, true, false}
-use Rattle.source_meaning.specs.Tree.{Stmt, Do, If, While, DoWhile, ForEach, Try, Block, Break, Continue, Return, Throw, Stmts, Finish, Then, Declare, Catches, NoCatch, Catch}
+use Rattle.source_meaning.specs.Tree.{Stmt, Do, If, While, DoWhile, Try, Block, Break, Continue, Return, Throw, Stmts, Finish, Then, Declare, Catches, NoCatch, Catch}
 
 abbrev mutual
   pub falls : Stmt → Bool
@@ -8,7 +8,6 @@ abbrev mutual
   falls (If c a b) = all_fall a || all_fall b
   falls (While test update body) = true
   falls (DoWhile body test) = true
-  falls (ForEach x of element over body) = true
   falls (Try body catches) = all_fall body || any_falls catches
   falls (Block body) = all_fall body
   falls Break = false
@@ -31,7 +30,6 @@ abbrev mutual
   continues (If c a b) = any_continues a || any_continues b
   continues (While test update body) = false
   continues (DoWhile body test) = false
-  continues (ForEach x of element over body) = false
   continues (Try body catches) = any_continues body || catches_continue catches
   continues (Block body) = any_continues body
   continues Break = false

@@ -1,12 +1,9 @@
 -- What a typed program means, at a bound on the depth of the recursion: a meaning is a record of functions, and each is made of the
 -- one that is one less. At 0, and where something is meaningless (a name that is not bound, a value that is not of its type), it is
 -- More, which claims nothing.
-use Rattle.std.specs.Prelude.{ℕ, zero, suc, Bool, true, false, List, [], ◌∷◌, Option, Some, None, slice_get, pos, if◌then◌else◌}
+use Rattle.std.specs.Prelude.{ℕ, zero, suc, Bool, true, false, List, [], ◌∷◌, ◌++◌, Option, Some, None, slice_get, if◌then◌else◌}
 use Rattle.std.specs.Str.{bytes_eq}
-use Rattle.pl_types.specs.declared.primitive.Primitive.{Primitive}
-use Rattle.pl_types.specs.declared.primitive.Primitive.TheVariants as prim
-use Rattle.pl_types.specs.declared.ty.Ty.{Ty, out-Ty}
-use Rattle.pl_types.specs.declared.ty.Ty.TheOpen.{Ty-F}
+use Rattle.pl_types.specs.declared.ty.Ty.{Ty}
 use Rattle.pl_types.specs.Classes.{class_is_below}
 use Rattle.object_values.specs.declared.object.Object.{Object}
 use Rattle.object_values.specs.declared.object.Object.TheVariants as o
@@ -24,7 +21,7 @@ use Rattle.typed_tree.specs.declared.operation.Gives.{Gives as Given_by}
 use Rattle.typed_tree.specs.declared.operation.Gives.TheVariants as gives
 use Rattle.run_state.specs.Calls.{suits_member, wrong_class}
 use Rattle.run_state.specs.World.{World, Limits, Limit, Room, Outcome, Given, Raised, Full, acts_in, Counted, Counts, Passes, allowed_in, has_loop_limit, take_turn, enter, pay_member}
-use Rattle.source_meaning.specs.Tree.{Name, Expr, Literal, Quoted, Local, Apply, Guarded, Logic, Conditional, Elvis, Assign, Modify, Lambda, Reference, NewReference, Exprs, None', One, Maybe, Missing, Given as Present, Stmt, Do, If, While, DoWhile, ForEach, Try, Block, Break, Continue, Return, Throw, Stmts, Finish, Then, Declare, Catches, NoCatch, Catch, Variable, Fun, Programs, functions_in}
+use Rattle.source_meaning.specs.Tree.{Name, Expr, Literal, Quoted, Local, Apply, Guarded, Logic, Conditional, Elvis, Assign, Modify, Lambda, Reference, NewReference, Exprs, None', One, Maybe, Missing, Given as Present, Stmt, Do, If, While, DoWhile, Try, Block, Break, Continue, Return, Throw, Stmts, Finish, Then, Declare, Catches, NoCatch, Catch, Variable, Fun, Programs, functions_in}
 use Rattle.number_ops.specs.Operators.{is_null}
 use Rattle.number_ops.specs.Relations.{is_instance, thrown}
 use Rattle.pl_units.specs.Utf16.{units}
@@ -34,8 +31,10 @@ use Rattle.allowlist.specs.declared.member.MemberType.{MemberType}
 use Rattle.allowlist.specs.Index.{member_at}
 use Rattle.object_heap.specs.Effects.{Effect}
 use Rattle.member_calls.specs.Members.{does}
+use Rattle.def_access.specs.Access.{Access, Calls, Acts as Does, index_read, index_written, name_read, name_written, method_called}
+pub use Rattle.container_ops.specs.Types.{default_of}
 use Rattle.source_meaning.specs.Members.{Sending, Unsent, OnNull, Sends, Reads, sent}
-use Rattle.source_meaning.specs.Operating.{Operated, Meaningless, Gives, Acts, value_of, operates, casts}
+use Rattle.source_meaning.specs.Operating.{Operated, Meaningless, Gives, Acts, value_of, operates, operates_to, casts}
 
 -- the world, and how many turns this frame has had
 pub record State : Type 0 where
@@ -99,22 +98,6 @@ entry [] [] e = Some e
 entry (x ∷ xs) (value ∷ values) e = entry xs values (record { name = x.name; value = value } ∷ e)
 entry [] (value ∷ values) e = None
 entry (x ∷ xs) [] e = None
-
--- false, 0 and null
-abbrev pub default_of_primitive : Primitive → Value
-default_of_primitive prim.Boolean = v.Bool false
-default_of_primitive prim.Byte = v.Byte (pos 0)
-default_of_primitive prim.Short = v.Short (pos 0)
-default_of_primitive prim.Char = v.Char 0
-default_of_primitive prim.Int = v.Int (pos 0)
-default_of_primitive prim.Long = v.Long (pos 0)
-
-abbrev pub default_of_layer : Ty-F Ty → Value
-default_of_layer (Ty-F.Prim p) = default_of_primitive p
-default_of_layer other = v.Null
-
-abbrev pub default_of : Ty → Value
-default_of of = default_of_layer (out-Ty of)
 
 pub record Meaning : Type 0 where
   pub expr : Place → State → Env → Expr → Out Value
@@ -226,9 +209,34 @@ module _ (funs : Programs) (limits : Limits) (m : Meaning) where
   abbrev pub of_member : Member → List Value → Place → State → Env → Out Value
   of_member m values d s e = member_applied (flag (allowed_in limits d.text).members m.number) m.number values d s e
 
-  -- a strict operation on values, which gives one of a type
+  -- what is found for a receiver when the script runs
+  abbrev pub accessed : Access → Place → State → Env → Out Value
+  accessed (Calls number arguments) d s e = paid (pay_member d.text number s.world) number arguments s e
+  accessed (Does given) d s e = effect (acts_in s.world given) s e
+
+  abbrev pub method_applied : Name → List Value → Place → State → Env → Out Value
+  method_applied name [] d s e = More
+  method_applied name (receiver ∷ arguments) d s e = accessed (method_called (allowed_in limits d.text) s.world.store receiver name arguments) d s e
+
+  abbrev pub name_applied : Name → List Value → Place → State → Env → Out Value
+  name_applied name (receiver ∷ []) d s e = accessed (name_read (allowed_in limits d.text) s.world.store receiver name) d s e
+  name_applied name values d s e = More
+
+  abbrev pub name_put : Name → List Value → Place → State → Env → Out Value
+  name_put name (receiver ∷ value ∷ []) d s e = accessed (name_written (allowed_in limits d.text) s.world.store receiver name value) d s e
+  name_put name values d s e = More
+
+  abbrev pub index_applied : List Value → Place → State → Env → Out Value
+  index_applied (receiver ∷ index ∷ []) d s e = accessed (index_read (allowed_in limits d.text) s.world.store receiver index) d s e
+  index_applied values d s e = More
+
+  abbrev pub index_put : List Value → Place → State → Env → Out Value
+  index_put (receiver ∷ index ∷ value ∷ []) d s e = accessed (index_written (allowed_in limits d.text) s.world.store receiver index value) d s e
+  index_put values d s e = More
+
+  -- a strict operation on values, of a node of a type
   abbrev pub applied : Operation → Place → State → Env → Ty → List Value → Out Value
-  applied (operation.Operator o) d s e of values = operated (operates o values s.world.store) s e
+  applied (operation.Operator o) d s e of values = operated (operates_to o of values s.world.store) s e
   applied (operation.Cast c) d s e of (value ∷ []) = operated (casts c of value s.world.store) s e
   applied (operation.InstanceOf of) d s e given (value ∷ []) = Done (v.Bool (is_instance s.world.store.objects value of)) s e
   applied (operation.Function k) d s e of values = called (slice_get (functions_in funs d.text) k) d s e values
@@ -236,20 +244,40 @@ module _ (funs : Programs) (limits : Limits) (m : Meaning) where
   applied (operation.Static m) d s e of values = of_member m values d s e
   applied (operation.Constructor m) d s e of values = of_member m values d s e
   applied (operation.Field m) d s e of values = of_member m values d s e
+  applied (operation.DefCall name) d s e of values = method_applied name values d s e
+  applied (operation.DefName name) d s e of values = name_applied name values d s e
+  applied (operation.PutDefName name) d s e of values = name_put name values d s e
+  applied operation.DefIndex d s e of values = index_applied values d s e
+  applied operation.PutDefIndex d s e of values = index_put values d s e
   applied other d s e of values = More
 
   abbrev pub logic : Logical → Place → State → Env → Value → Expr → Out Value
   logic And d s e left right = choose left (m.expr d s e right) (Done (v.Bool false) s e)
   logic Or d s e left right = choose left (Done (v.Bool true) s e) (m.expr d s e right)
 
-  -- A compound assignment to a variable of a type: the variable is read, its value cast, the right side taken, the operator done, and what
-  -- it gives cast and written. The first cast is no run-time cast of a reference, which would ask for a type.
-  abbrev pub modified : Name → Ty → Change → Place → State → Env → Expr → Given_by → Value → Out Value
-  modified x of change d s e right given old =
+  -- What is read of a target of a type is cast, the right side taken, the operator done, and what it gives cast. The first cast is no
+  -- run-time cast of a reference, which would ask for a type.
+  abbrev pub changed : Ty → Change → Place → State → Env → Expr → Value → Out Value
+  changed of change d s e right old =
       bind (operated (casts change.before of old s.world.store) s e) (λ left s e.
       bind (m.expr d s e right) (λ value s e.
       bind (operated (operates change.operator (left ∷ value ∷ []) s.world.store) s e) (λ result s e.
-      bind (operated (casts change.after of result s.world.store) s e) (λ new s e. Done (given_by given old new) s (assigned e x new)))))
+      operated (casts change.after of result s.world.store) s e)))
+
+  -- a compound assignment to a variable
+  abbrev pub modified : Name → Ty → Change → Place → State → Env → Expr → Given_by → Value → Out Value
+  modified x of change d s e right given old = bind (changed of change d s e right old) (λ new s e. Done (given_by given old new) s (assigned e x new))
+
+  -- a write of a value at a place, behind the values of the place's parts; it gives what the assignment gives
+  abbrev pub written : Operation → Place → State → Env → Ty → List Value → Value → Value → Out Value
+  written write d s e of parts new given = bind (applied write d s e of (parts ++ new ∷ [])) (λ dropped s e. Done given s e)
+
+  -- a compound assignment to a place: its parts are taken once
+  abbrev pub modified_at : Option Operation → Operation → Ty → Change → Place → State → Env → List Value → Expr → Given_by → Out Value
+  modified_at None write of change d s e parts right given = More
+  modified_at (Some read) write of change d s e parts right given =
+      bind (applied read d s e of parts) (λ old s e.
+      bind (changed of change d s e right old) (λ new s e. written write d s e of parts new (given_by given old new)))
 
   abbrev pub expr_of : Place → State → Env → Expr → Out Value
   expr_of d s e (Literal at of c) = Done (value_of c) s e
@@ -263,9 +291,11 @@ module _ (funs : Programs) (limits : Limits) (m : Meaning) where
   expr_of d s e (Conditional at of c a b) = bind (m.expr d s e c) (λ value s e. choose value (m.expr d s e a) (m.expr d s e b))
   expr_of d s e (Elvis at of left right) = bind (m.expr d s e left) (λ value s e. unless_null value (Done value s e) (m.expr d s e right))
   expr_of d s e (Assign at of (target.Local x) parts value) = bind (m.expr d s e value) (λ value s e. Done value s (assigned e x value))
-  expr_of d s e (Assign at of other parts value) = More
+  expr_of d s e (Assign at of (target.Place read write) parts value) =
+      bind (m.exprs d s e parts) (λ values s e. bind (m.expr d s e value) (λ value s e. written write d s e of values value value))
   expr_of d s e (Modify at of (target.Local x) parts change right given) = bind (found (lookup e x) s e) (λ old s e. modified x of change d s e right given old)
-  expr_of d s e (Modify at of other parts change right given) = More
+  expr_of d s e (Modify at of (target.Place read write) parts change right given) =
+      bind (m.exprs d s e parts) (λ values s e. modified_at read write of change d s e values right given)
   expr_of d s e (Lambda at of interface function) = More
   expr_of d s e (Reference at of interface class name) = More
   expr_of d s e (NewReference at of interface made) = More
@@ -312,7 +342,6 @@ module _ (funs : Programs) (limits : Limits) (m : Meaning) where
   stmt_of d s e (While test update body) =
       bind (value_if test (v.Bool true) d s e) (λ value s e. choose value (turned (take_turn limits (has_loop_limit d.text) s.turns s.world) d s e test update body) (Done Normal s e))
   stmt_of d s e (DoWhile body test) = done_turn (take_turn limits (has_loop_limit d.text) s.turns s.world) d s e body test
-  stmt_of d s e (ForEach x of element over body) = More
   stmt_of d s e (Try body catches) = handled d catches (m.stmts d s e body)
   stmt_of d s e (Block body) = m.stmts d s e body
   stmt_of d s e Break = Done Broke s e

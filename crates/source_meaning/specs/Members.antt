@@ -1,25 +1,12 @@
 -- The arguments of a member's call, as the member takes them.
 use Rattle.std.specs.Prelude.{Option, Some, None, List, [], ◌∷◌, if◌then◌else◌}
-use Rattle.pl_types.specs.declared.ty.Ty.{Ty, out-Ty}
-use Rattle.pl_types.specs.declared.ty.Ty.TheOpen.{Ty-F}
+use Rattle.pl_types.specs.declared.ty.Ty.{Ty}
 use Rattle.allowlist.specs.declared.member.MemberKind.{MemberKind}
 use Rattle.allowlist.specs.declared.member.MemberKind.TheVariants as kind
 use Rattle.allowlist.specs.declared.member.MemberType.{MemberType}
 use Rattle.object_values.specs.declared.value.Value.{Value}
 use Rattle.number_ops.specs.Operators.{is_null}
-use Rattle.source_meaning.specs.Operating.{in_box}
-
--- an argument of a type: a primitive goes in its box
-abbrev pub passed_layer : Ty-F Ty → Value → Option Value
-passed_layer (Ty-F.Prim p) value = in_box p value
-passed_layer other value = Some value
-
-abbrev pub passed : Ty → Value → Option Value
-passed of value = passed_layer (out-Ty of) value
-
-abbrev pub before : Option Value → Option (List Value) → Option (List Value)
-before (Some value) (Some values) = Some (value ∷ values)
-before value values = None
+pub use Rattle.source_meaning.specs.Operating.{passed_layer, passed, before}
 
 abbrev pub passed_all : List Ty → List Value → Option (List Value)
 passed_all [] [] = Some []

@@ -1,13 +1,14 @@
 -- What operators and casts come to where the types of their operands are known before the script runs. Nothing, where an operand is not
 -- of its type, which no typed program meets, or the operation is not built.
-use Rattle.std.specs.Prelude.{ℕ, Bool, not, true, false, Option, Some, None, List, [], ◌∷◌, pos, ℤ}
+use Rattle.std.specs.Prelude.{ℕ, Bool, not, true, false, Option, Some, None, List, [], ◌∷◌, pos, ℤ, option_map, if◌then◌else◌}
 use Rattle.std.specs.Int.{w8, w16, w32, w64}
 use Rattle.pl_types.specs.declared.primitive.Primitive.{Primitive}
 use Rattle.pl_types.specs.declared.primitive.Primitive.TheVariants as prim
 use Rattle.pl_types.specs.declared.classes.TheConstants.{STRING}
 use Rattle.pl_types.specs.declared.conversion.Cast.{Cast}
 use Rattle.pl_types.specs.declared.conversion.Cast.TheVariants as cast
-use Rattle.pl_types.specs.declared.ty.Ty.{Ty}
+use Rattle.pl_types.specs.declared.ty.Ty.{Ty, out-Ty}
+use Rattle.pl_types.specs.declared.ty.Ty.TheOpen.{Ty-F}
 use Rattle.pl_types.specs.declared.ty.Ty.TheVariants as t
 use Rattle.object_values.specs.declared.value.Value.{Value}
 use Rattle.object_values.specs.declared.value.Value.TheVariants as v
@@ -25,6 +26,11 @@ use Rattle.number_ops.specs.declared.outcome.Outcome.TheVariants as outcome
 use Rattle.number_ops.specs.Casts.{cast_at_run_time}
 use Rattle.number_ops.specs.Outcomes.{effect, zero_divisor}
 use Rattle.number_ops.specs.Relations.{equal, is_same}
+use Rattle.number_ops.specs.Operators.{operate, is_unary}
+use Rattle.container_ops.specs.Types.{element_of}
+use Rattle.container_ops.specs.Making.{list_made, map_made, array_filled, array_made}
+use Rattle.container_ops.specs.Elements.{element_read, element_written, length_of}
+use Rattle.container_ops.specs.Loops.{iterated, has_more, next_element}
 use Rattle.typed_tree.specs.declared.operation.Constant.{Constant}
 use Rattle.typed_tree.specs.declared.operation.Constant.TheVariants as constant
 use Rattle.typed_tree.specs.declared.operation.Operator.{Operator}
@@ -189,13 +195,96 @@ abbrev pub reference_operated : Operator → List Value → Store → Operated
 reference_operated o (a ∷ b ∷ []) store = of_references o a b store
 reference_operated o others store = Meaningless
 
+-- ---- operands of any types
+
+-- an operator of one operand, or of two
+abbrev pub of_any : Op → List Value → Store → Operated
+of_any o (a ∷ []) store = if is_unary o then Acts (effect store (operate store.objects o a a)) else Meaningless
+of_any o (a ∷ b ∷ []) store = if is_unary o then Meaningless else Acts (effect store (operate store.objects o a b))
+of_any o values store = Meaningless
+
+-- ---- values in boxes
+
+-- A value of a primitive type in its box. (A box holds a number of its type.)
+abbrev pub in_box : Primitive → Value → Option Value
+in_box prim.Boolean (v.Bool flag) = Some (v.Bool flag)
+in_box prim.Byte (v.Byte a) = Some (v.Byte (wrapped w8 a))
+in_box prim.Short (v.Short a) = Some (v.Short (wrapped w16 a))
+in_box prim.Char (v.Char unit) = Some (v.Char (low_bits 16 (pos unit)))
+in_box prim.Int (v.Int a) = Some (v.Int a)
+in_box prim.Long (v.Long a) = Some (v.Long a)
+in_box p value = None
+
+-- a value as a member takes it, or an array has it, of a type: a primitive goes in its box
+abbrev pub passed_layer : Ty-F Ty → Value → Option Value
+passed_layer (Ty-F.Prim p) value = in_box p value
+passed_layer other value = Some value
+
+abbrev pub passed : Ty → Value → Option Value
+passed of value = passed_layer (out-Ty of) value
+
+abbrev pub before : Option Value → Option (List Value) → Option (List Value)
+before (Some value) (Some values) = Some (value ∷ values)
+before value values = None
+
+-- values of one type
+abbrev pub passed_alike : Ty → List Value → Option (List Value)
+passed_alike of [] = Some []
+passed_alike of (value ∷ values) = before (passed of value) (passed_alike of values)
+
+-- ---- lists, maps, arrays and iterators, by the type of the node
+
+abbrev pub ints_of : List Value → Option (List ℤ)
+ints_of [] = Some []
+ints_of (v.Int a ∷ values) = option_map (λ others. a ∷ others) (ints_of values)
+ints_of (value ∷ values) = None
+
+abbrev pub made_of : Option (List ℤ) → Ty → Store → Operated
+made_of None of store = Meaningless
+made_of (Some sizes) of store = Acts (array_made store of sizes)
+
+abbrev pub filled_of : Option (List Value) → Ty → Store → Operated
+filled_of None elem store = Meaningless
+filled_of (Some items) elem store = Acts (array_filled store elem items)
+
+abbrev pub read_at : Ty → List Value → Store → Operated
+read_at of (array ∷ v.Int at ∷ []) store = Acts (element_read store of array at)
+read_at of values store = Meaningless
+
+abbrev pub written_if : Ty → Value → ℤ → Option Value → Store → Operated
+written_if of array at None store = Meaningless
+written_if of array at (Some value) store = Acts (element_written store of array at value)
+
+abbrev pub written_at : Ty → List Value → Store → Operated
+written_at of (array ∷ v.Int at ∷ value ∷ []) store = written_if of array at (passed of value) store
+written_at of values store = Meaningless
+
+abbrev pub of_one_value : (Store → Value → Effect) → List Value → Store → Operated
+of_one_value does (value ∷ []) store = Acts (does store value)
+of_one_value does values store = Meaningless
+
 -- ---- all operators
 
 abbrev pub operates : Operator → List Value → Store → Operated
 operates (operator.Int o) values store = number_operated o (of_ints o (operands_of values)) store
 operates (operator.Long o) values store = number_operated o (of_longs o (operands_of values)) store
 operates (operator.Boolean o) values store = flag_operated (of_flags o (operands_of values))
+operates (operator.Def o) values store = of_any o values store
 operates other values store = reference_operated other values store
+
+-- an operator of a node of a type, which says what is made, and as what elements are read and written
+abbrev pub operates_to : Operator → Ty → List Value → Store → Operated
+operates_to operator.List of values store = Acts (list_made store values)
+operates_to operator.Map of values store = Acts (map_made store values)
+operates_to operator.NewArray of values store = made_of (ints_of values) of store
+operates_to operator.ArrayOf of values store = filled_of (passed_alike (element_of of) values) (element_of of) store
+operates_to operator.Element of values store = read_at of values store
+operates_to operator.PutElement of values store = written_at of values store
+operates_to operator.Length of values store = of_one_value length_of values store
+operates_to operator.Iterate of values store = of_one_value iterated values store
+operates_to operator.HasNext of values store = of_one_value has_more values store
+operates_to operator.Next of values store = of_one_value next_element values store
+operates_to other of values store = operates other values store
 
 -- ---- casts between the number types (Java Language Specification, 5.1.2 and 5.1.3): what widens keeps its number, and what narrows its
 -- low bits
@@ -240,16 +329,6 @@ number_cast prim.Char to (v.Char unit) = from_char_to to unit
 number_cast prim.Int to (v.Int a) = from_int_to to a
 number_cast prim.Long to (v.Long a) = from_long_to to a
 number_cast from to value = None
-
--- A value of a primitive type in its box. (A box holds a number of its type.)
-abbrev pub in_box : Primitive → Value → Option Value
-in_box prim.Boolean (v.Bool flag) = Some (v.Bool flag)
-in_box prim.Byte (v.Byte a) = Some (v.Byte (wrapped w8 a))
-in_box prim.Short (v.Short a) = Some (v.Short (wrapped w16 a))
-in_box prim.Char (v.Char unit) = Some (v.Char (low_bits 16 (pos unit)))
-in_box prim.Int (v.Int a) = Some (v.Int a)
-in_box prim.Long (v.Long a) = Some (v.Long a)
-in_box p value = None
 
 abbrev pub box_if : Primitive → Option Value → Option Value
 box_if p None = None

@@ -11,7 +11,7 @@ use Rattle.typed_tree.specs.declared.statement.StatementNode.TheFolds.{fold-Type
 use Rattle.typed_tree.specs.declared.program.Named.{Named}
 use Rattle.typed_tree.specs.declared.program.TypedFunction.{TypedFunction}
 use Rattle.typed_tree.specs.declared.program.Program as typed
-use Rattle.source_meaning.specs.Tree.{Expr, Literal, Quoted, Local, Apply, Guarded, Logic, Conditional, Elvis, Assign, Modify, Lambda, Reference, NewReference, Exprs, None', One, Maybe, Missing, Given, Stmt, Do, If, While, DoWhile, ForEach, Try, Block, Break, Continue, Return, Throw, Stmts, Finish, Then, Declare, Catches, NoCatch, Catch, Variable, Fun, Program}
+use Rattle.source_meaning.specs.Tree.{Expr, Literal, Quoted, Local, Apply, Guarded, Logic, Conditional, Elvis, Assign, Modify, Lambda, Reference, NewReference, Exprs, None', One, Maybe, Missing, Given, Stmt, Do, If, While, DoWhile, Try, Block, Break, Continue, Return, Throw, Stmts, Finish, Then, Declare, Catches, NoCatch, Catch, Variable, Fun, Program}
 
 -- ---- expressions
 
@@ -89,7 +89,6 @@ node_before (StatementNode-F.Block statements) rest = Then (Block (in_row statem
 node_before (StatementNode-F.If condition then otherwise) rest = Then (If (expr_of condition) (alone then) (alone_if otherwise)) rest
 node_before (StatementNode-F.Loop first condition update body) rest = Then (begun first (While (maybe_of condition) (maybe_of update) (alone_if body))) rest
 node_before (StatementNode-F.Do body condition) rest = Then (DoWhile (alone body) (maybe_of condition)) rest
-node_before (StatementNode-F.ForEach name of element over body) rest = Then (ForEach name of element (expr_of over) (alone body)) rest
 node_before (StatementNode-F.Try body catches) rest = Then (Try (alone body) (caught_in_row catches)) rest
 node_before StatementNode-F.Break rest = Then Break rest
 node_before StatementNode-F.Continue rest = Then Continue rest

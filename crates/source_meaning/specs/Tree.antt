@@ -3,7 +3,6 @@ use Rattle.std.specs.Prelude.{ℕ, List, Option}
 use Rattle.pl_types.specs.declared.ty.Ty.{Ty}
 use Rattle.object_values.specs.declared.object.Owner.{Owner}
 use Rattle.object_values.specs.declared.object.Owner.TheVariants as owner
-use Rattle.pl_types.specs.declared.conversion.Cast.{Cast}
 use Rattle.typed_tree.specs.declared.operation.Constant.{Constant}
 use Rattle.typed_tree.specs.declared.operation.Operation.{Operation}
 use Rattle.typed_tree.specs.declared.operation.Logical.{Logical}
@@ -49,8 +48,6 @@ mutual
     While : (test update : Maybe) (body : Stmts) → Stmt
     -- the turn, and the test behind it
     DoWhile : (body : Stmts) (test : Maybe) → Stmt
-    -- a variable over the elements of a value, each cast to its type
-    ForEach : (name : Name) (of : Ty) (element : Cast) (over : Expr) (body : Stmts) → Stmt
     Try : (body : Stmts) (catches : Catches) → Stmt
     Block : (body : Stmts) → Stmt
     Break Continue : Stmt

@@ -1,6 +1,6 @@
 -- Each expression and each statement gives values of their types, and keeps those of the names.
-use Rattle.std.proofs.Common.{◌≡◌, ℕ, zero, suc, ◌==◌, Bool, true, false, List, [], ◌∷◌, Option, Some, None, refl, sym, ap, ◌∙◌, subst}
-use Rattle.std.specs.Prelude.{slice_get, if◌then◌else◌}
+use Rattle.std.proofs.Common.{◌≡◌, ℕ, zero, suc, ◌==◌, Bool, true, false, List, [], ◌∷◌, ◌++◌, Option, Some, None, refl, sym, ap, ◌∙◌, subst}
+use Rattle.std.specs.Prelude.{slice_get, length, if◌then◌else◌}
 use Rattle.std.proofs.lemmas.Bool.{or_right}
 use Rattle.std.proofs.lemmas.Option.{get_or_from_slice_get}
 use Rattle.pl_types.specs.declared.classes.TheConstants.{OBJECT}
@@ -20,7 +20,7 @@ use Rattle.object_values.specs.declared.object.Owner.TheVariants.{Script, Prelud
 use Rattle.object_values.specs.declared.value.Value.{Value}
 use Rattle.object_values.specs.declared.value.Value.TheVariants as v
 use Rattle.object_heap.specs.Effects.{Effect}
-use Rattle.object_heap.specs.Fits.{kind_is_of, Rules, Fits, ThrownFits}
+use Rattle.object_heap.specs.Fits.{kind_is_of, Rules, Every, Fits, AllFit, ThrownFits}
 use Rattle.object_heap.specs.Objects.{kind_of}
 use Rattle.object_heap.specs.Parts.{asked}
 use Rattle.object_heap.specs.Store.{Store}
@@ -41,19 +41,22 @@ use Rattle.member_calls.specs.Members.{is_built, does}
 use Rattle.run_state.specs.World.{World, Limits, Outcome, Given, Raised, Full, acts_in, Counted, Counts, Passes, allowed_in, has_loop_limit, take_turn, enter, pay_member}
 use Rattle.run_fit.specs.Worlds.{WorldFits, count_in, OutcomeFits}
 use Rattle.run_fit.proofs.Counted.{SameStore, turn_keeps, call_keeps, member_keeps}
-use Rattle.run_fit.proofs.Effects.{beginnings_fit, throwing_fits}
+use Rattle.run_fit.proofs.Containers.{AccessFits, index_read_fits, index_written_fits, name_read_fits, name_written_fits, method_called_fits}
+use Rattle.run_fit.proofs.Effects.{beginnings_fit, members_fit, throwing_fits}
 use Rattle.run_fit.proofs.Leaving.{there_trans}
-use Rattle.source_meaning.specs.Tree.{Name, Expr, Literal, Quoted, Local, Apply, Guarded, Logic, Conditional, Elvis, Assign, Modify, Lambda, Reference, NewReference, Exprs, None', One, Maybe, Missing, Given as Present, Stmt, Do, If, While, DoWhile, ForEach, Try, Block, Break, Continue, Return, Throw, Stmts, Finish, Then, Declare, Catches, NoCatch, Catch, Variable, Fun, Programs, functions_in, type_of}
-use Rattle.source_meaning.specs.Operating.{Operated, Meaningless, Gives, Acts, operates, casts}
+use Rattle.def_access.specs.Access.{Access, Calls as Finds, Acts as Does, index_read, index_written, name_read, name_written, method_called}
+use Rattle.source_meaning.specs.Tree.{Name, Expr, Literal, Quoted, Local, Apply, Guarded, Logic, Conditional, Elvis, Assign, Modify, Lambda, Reference, NewReference, Exprs, None', One, Maybe, Missing, Given as Present, Stmt, Do, If, While, DoWhile, Try, Block, Break, Continue, Return, Throw, Stmts, Finish, Then, Declare, Catches, NoCatch, Catch, Variable, Fun, Programs, functions_in, type_of}
+use Rattle.source_meaning.specs.Operating.{Operated, Meaningless, Gives, Acts, operates, operates_to, casts}
 use Rattle.source_meaning.specs.Members.{Sending, Unsent, OnNull, Sends, Reads, sent_by, sent}
-use Rattle.source_meaning.specs.Meaning.{State, Env, Place, Out, Done, Thrown, Over, More, Flow, Normal, Broke, Continued, Returned, bind, leave, lookup, entry, found, effect, operated, choose, goes_next, goes_again, is_of_class, returned, back, Meaning, entered, called, acted, paid, tested, member_called, member_applied, of_member, applied, logic, modified, expr_of, exprs_of, value_if, turned, done_turn, caught, handled, stmt_of, value_or, stmts_of, layer, meaning}
-use Rattle.program_typing.specs.Agreeing.{Scope, IsVariable, boolean, types_of, Calls, TakesTypes, ReceiverIsOf, MemberAgrees, Applies, Changes, ExprAgrees, ExprsAgree, TestAgrees, UpdateAgrees, BeginAgrees, ReturnAgrees, StmtAgrees, StmtsAgree, CatchesAgree, scope_of, FunAgrees, WellFormed, AreWellFormed, known_in}
+use Rattle.source_meaning.specs.Meaning.{State, Env, Place, Out, Done, Thrown, Over, More, Flow, Normal, Broke, Continued, Returned, bind, leave, lookup, entry, found, effect, operated, choose, goes_next, goes_again, is_of_class, returned, back, Meaning, entered, called, acted, paid, tested, member_called, member_applied, of_member, accessed, method_applied, name_applied, name_put, index_applied, index_put, applied, logic, changed, modified, written, modified_at, given_by, expr_of, exprs_of, value_if, turned, done_turn, caught, handled, stmt_of, value_or, stmts_of, layer, meaning}
+use Rattle.program_typing.specs.Agreeing.{Scope, IsVariable, boolean, types_of, Calls, TakesTypes, ReceiverIsOf, MemberAgrees, Applies, Changes, Writes, Reads as IsReadBy, ExprAgrees, ExprsAgree, TestAgrees, UpdateAgrees, BeginAgrees, ReturnAgrees, StmtAgrees, StmtsAgree, CatchesAgree, scope_of, FunAgrees, WellFormed, AreWellFormed, known_in}
 use Rattle.value_typing.proofs.Calls.{typed_calls_pass}
 use Rattle.source_typing.specs.Outs.{IsTyped, AreTyped, EnvTyped, StateTyped, FlowTyped, OutTyped}
 use Rattle.source_typing.specs.Laws.{MeaningTyped, MeaningsAreTyped, ResultsAreTyped}
-use Rattle.source_typing.proofs.Values.{typed_grows, env_grows, MadeTyped, object_typed, lookup_typed, assigned_typed, older_typed, EntryTyped, entry_typed, null_typed, constant_typed, text_typed, flag_typed, default_typed, nothing_typed, returned_typed, given_by_typed}
-use Rattle.source_typing.proofs.Operations.{OutcomeIs, OperatedIs, null_is, operates_is, casts_is, begins_is}
-use Rattle.source_typing.proofs.Members.{Taken, SendingTyped, sent_typed, DoneIs, member_is}
+use Rattle.source_fit.proofs.Values.{OperatedFits, operates_to_fit}
+use Rattle.source_typing.proofs.Values.{typed_grows, all_grow, env_grows, all_there, typed_behind, MadeTyped, object_typed, lookup_typed, assigned_typed, older_typed, EntryTyped, entry_typed, null_typed, constant_typed, text_typed, flag_typed, default_typed, nothing_typed, returned_typed, given_by_typed}
+use Rattle.source_typing.proofs.Operations.{OutcomeIs, outcome_is, def_typed, OperatedIs, null_is, operates_is, node_is, casts_is, begins_is}
+use Rattle.source_typing.proofs.Members.{Taken, SendingTyped, sent_typed, DoneIs, found_is, member_is}
 
 abbrev Any : List Object → Value → Type 0
 Any objects value = Unit {0}
@@ -178,7 +181,7 @@ module _ (rules : Rules) where
   moved : {A : Type 0} (good : List Object → A → Type 0) (g : Scope) (w after : World) (o : Out A) → after.store ≡ w.store → Keeps good after.store.objects g o → Keeps good w.store.objects g o
   moved good g w after o is x = subst (λ (y : Store). Keeps good y.objects g o) is x
 
-  module _ (funs : Programs) (limits : Limits) (formed : (text : Owner) → WellFormed (known_in funs limits text)) (m : Meaning)
+  module _ (every : rules.typed ≡ Every) (funs : Programs) (limits : Limits) (formed : (text : Owner) → WellFormed (known_in funs limits text)) (m : Meaning)
       (ih : MeaningTyped rules funs limits m) where
     expr_ih : (x : Expr) (d : Place) (s : State) (e : Env) (g : Scope) → ExprAgrees (known_in funs limits d.text) g x → Here g s e → Keeps (Of (type_of x)) s.world.store.objects g (m.expr d s e x)
     expr_ih x d s e g a h = record { by = ih.expr x d s e g a h }
@@ -275,11 +278,70 @@ module _ (rules : Rules) where
         subst (λ (of : Ty). Keeps (Of of) s.world.store.objects g (of_member funs limits m x values d s e)) gives
         (allowed_members (flag (allowed_in limits d.text).members x.number) x.number values d s e g h a.built sending')
 
+    -- ---- what is found for a receiver when the script runs, which is of type def
+
+    found_pays : (c : Counted) (number : ℕ) (arguments : List Value) (s : State) (e : Env) (g : Scope) → Here g s e → AllFit (count_in s.world) arguments → SameStore s.world c
+        → Keeps (Of t.Def) s.world.store.objects g (paid funs limits m c number arguments s e)
+    found_pays (Passes limit w) number arguments s e g h f p = record { by = passes_on s.world w p h.0 }
+    found_pays (Counts w) number arguments s e g h f p =
+        let here = same_state s.world w s.turns s.turns g e p h in
+        moved (Of t.Def) g s.world w _ p
+        (acts t.Def (does limits.host number arguments w.store) (record { world = w; turns = s.turns }) e g here
+        (found_is rules w.store.objects w (does limits.host number arguments w.store)
+        (members_fit rules w.store.objects w limits.host number arguments (begun w here.0) (subst (λ (x : Store). AllFit (length x.objects) arguments) (sym p) f))))
+
+    accesses : (a : Access) (d : Place) (s : State) (e : Env) (g : Scope) → Here g s e → AccessFits rules s.world.store.objects s.world a → Keeps (Of t.Def) s.world.store.objects g (accessed funs limits m a d s e)
+    accesses (Finds number arguments) d s e g h f = found_pays (pay_member d.text number s.world) number arguments s e g h f (member_keeps d.text number s.world)
+    accesses (Does given) d s e g h f =
+        effect_typed t.Def (acts_in s.world given) s e g h (outcome_is rules s.world.store.objects (count_in s.world) t.Def (acts_in s.world given) f (def_typed (acts_in s.world given)))
+
+    methods : (name : Name) (values : List Value) (d : Place) (s : State) (e : Env) (g : Scope) → Here g s e → AllFit (count_in s.world) values
+        → Keeps (Of t.Def) s.world.store.objects g (method_applied funs limits m name values d s e)
+    methods name [] d s e g h f = record { by = tt }
+    methods name (receiver ∷ arguments) d s e g h f =
+        accesses (method_called (allowed_in limits d.text) s.world.store receiver name arguments) d s e g h
+        (method_called_fits rules s.world.store.objects s.world (begun s.world h.0) (allowed_in limits d.text) receiver name arguments f)
+
+    names : (name : Name) (values : List Value) (d : Place) (s : State) (e : Env) (g : Scope) → Here g s e → AllFit (count_in s.world) values
+        → Keeps (Of t.Def) s.world.store.objects g (name_applied funs limits m name values d s e)
+    names name [] d s e g h f = record { by = tt }
+    names name (receiver ∷ []) d s e g h f =
+        accesses (name_read (allowed_in limits d.text) s.world.store receiver name) d s e g h (name_read_fits rules s.world.store.objects s.world (begun s.world h.0) (allowed_in limits d.text) receiver name f.0)
+    names name (receiver ∷ value ∷ values) d s e g h f = record { by = tt }
+
+    put_names : (name : Name) (values : List Value) (d : Place) (s : State) (e : Env) (g : Scope) → Here g s e → AllFit (count_in s.world) values
+        → Keeps (Of t.Def) s.world.store.objects g (name_put funs limits m name values d s e)
+    put_names name [] d s e g h f = record { by = tt }
+    put_names name (receiver ∷ []) d s e g h f = record { by = tt }
+    put_names name (receiver ∷ value ∷ []) d s e g h f =
+        accesses (name_written (allowed_in limits d.text) s.world.store receiver name value) d s e g h
+        (name_written_fits rules s.world.store.objects s.world (begun s.world h.0) (allowed_in limits d.text) receiver name value f)
+    put_names name (receiver ∷ value ∷ other ∷ values) d s e g h f = record { by = tt }
+
+    indexes : (values : List Value) (d : Place) (s : State) (e : Env) (g : Scope) → Here g s e → AllFit (count_in s.world) values
+        → Keeps (Of t.Def) s.world.store.objects g (index_applied funs limits m values d s e)
+    indexes [] d s e g h f = record { by = tt }
+    indexes (receiver ∷ []) d s e g h f = record { by = tt }
+    indexes (receiver ∷ index ∷ []) d s e g h f =
+        accesses (index_read (allowed_in limits d.text) s.world.store receiver index) d s e g h
+        (index_read_fits rules s.world.store.objects s.world (begun s.world h.0) (allowed_in limits d.text) receiver index f)
+    indexes (receiver ∷ index ∷ other ∷ values) d s e g h f = record { by = tt }
+
+    put_indexes : (values : List Value) (d : Place) (s : State) (e : Env) (g : Scope) → Here g s e → AllFit (count_in s.world) values
+        → Keeps (Of t.Def) s.world.store.objects g (index_put funs limits m values d s e)
+    put_indexes [] d s e g h f = record { by = tt }
+    put_indexes (receiver ∷ []) d s e g h f = record { by = tt }
+    put_indexes (receiver ∷ index ∷ []) d s e g h f = record { by = tt }
+    put_indexes (receiver ∷ index ∷ value ∷ []) d s e g h f =
+        accesses (index_written (allowed_in limits d.text) s.world.store receiver index value) d s e g h
+        (index_written_fits rules s.world.store.objects s.world (begun s.world h.0) (allowed_in limits d.text) receiver index value f)
+    put_indexes (receiver ∷ index ∷ value ∷ other ∷ values) d s e g h f = record { by = tt }
+
     -- ---- expressions
 
     applies : (o : Operation) (ofs : List Ty) (of : Ty) (values : List Value) (d : Place) (s : State) (e : Env) (g : Scope) → Applies (known_in funs limits d.text) o ofs of
         → Here g s e → AreTyped s.world.store.objects ofs values → Keeps (Of of) s.world.store.objects g (applied funs limits m o d s e of values)
-    applies (operation.Operator o) ofs of values d s e g a h x = operated_typed of (operates o values s.world.store) s e g h (operates_is rules s.world h.0 o ofs of values a x)
+    applies (operation.Operator o) ofs of values d s e g a h x = operated_typed of (operates_to o of values s.world.store) s e g h (node_is rules s.world h.0 o ofs of values every a x)
     applies (operation.Cast c) [] of values d s e g a h x = absurd a
     applies (operation.Cast c) (from ∷ []) of [] d s e g a h x = absurd x
     applies (operation.Cast c) (from ∷ []) of (value ∷ []) d s e g a h x = operated_typed of (casts c of value s.world.store) s e g h (casts_is rules s.world h.0 c from of value a x.0)
@@ -297,48 +359,91 @@ module _ (rules : Rules) where
     applies (operation.Constructor member) ofs of values d s e g a h x = members kind.Constructor member ofs of values d s e g a h x
     applies (operation.Field member) ofs of values d s e g a h x = members kind.Field member ofs of values d s e g a h x
     applies (operation.Host member) ofs of values d s e g a h x = absurd a
-    applies (operation.DefCall name) ofs of values d s e g a h x = absurd a
-    applies (operation.DefName name) ofs of values d s e g a h x = absurd a
-    applies operation.DefIndex ofs of values d s e g a h x = absurd a
+    applies (operation.DefCall name) ofs of values d s e g a h x =
+        subst (λ (of : Ty). Keeps (Of of) s.world.store.objects g (method_applied funs limits m name values d s e)) (sym a.1) (methods name values d s e g h (all_there s.world.store.objects ofs values x))
+    applies (operation.DefName name) ofs of values d s e g a h x =
+        subst (λ (of : Ty). Keeps (Of of) s.world.store.objects g (name_applied funs limits m name values d s e)) (sym a.1) (names name values d s e g h (all_there s.world.store.objects ofs values x))
+    applies (operation.PutDefName name) ofs of values d s e g a h x = absurd a
+    applies operation.DefIndex ofs of values d s e g a h x =
+        subst (λ (of : Ty). Keeps (Of of) s.world.store.objects g (index_applied funs limits m values d s e)) (sym a.1) (indexes values d s e g h (all_there s.world.store.objects ofs values x))
+    applies operation.PutDefIndex ofs of values d s e g a h x = absurd a
 
     logic_typed : (o : Logical) (of : Ty) (value : Value) (right : Expr) (d : Place) (s : State) (e : Env) (g : Scope) → of ≡ boolean → type_of right ≡ of → ExprAgrees (known_in funs limits d.text) g right
         → Here g s e → Keeps (Of of) s.world.store.objects g (logic funs limits m o d s e value right)
     logic_typed And of value right d s e g is same a h = chosen value (expr_of_type right of d s e g same a h) (done h (flag_typed s.world.store.objects of false is))
     logic_typed Or of value right d s e g is same a h = chosen value (done h (flag_typed s.world.store.objects of true is)) (expr_of_type right of d s e g same a h)
 
-    modifies : (x : Name) (of : Ty) (change : Change) (right : Expr) (given : Given_by) (old : Value) (d : Place) (s : State) (e : Env) (g : Scope) → IsVariable g x of
-        → ExprAgrees (known_in funs limits d.text) g right → Changes change of (type_of right) → Here g s e → IsTyped s.world.store.objects of old
-        → Keeps (Of of) s.world.store.objects g (modified funs limits m x of change d s e right given old)
-    modifies x of change right given old d s e g v a k h f =
+    -- what is read of a target, changed
+    changed_typed : (of : Ty) (change : Change) (right : Expr) (old : Value) (d : Place) (s : State) (e : Env) (g : Scope) → ExprAgrees (known_in funs limits d.text) g right
+        → Changes change of (type_of right) → Here g s e → IsTyped s.world.store.objects of old → Keeps (Of of) s.world.store.objects g (changed funs limits m of change d s e right old)
+    changed_typed of change right old d s e g a k h f =
         then' (operated_typed k.left (casts change.before of old s.world.store) s e g h (begins_is rules s.world h.0 change.before of k.left old k.known k.before f)) (λ left s1 e1 h1 n1 f1.
         then' (expr_ih right d s1 e1 g a h1) (λ value s2 e2 h2 n2 f2.
         let left2 = typed_grows s1.world.store.objects s2.world.store.objects n2 k.left left f1 in
         then' (operated_typed k.result (operates change.operator (left ∷ value ∷ []) s2.world.store) s2 e2 g h2
         (operates_is rules s2.world h2.0 change.operator (k.left ∷ type_of right ∷ []) k.result (left ∷ value ∷ []) k.does (left2, (f2, tt)))) (λ result s3 e3 h3 n3 f3.
-        then' (operated_typed of (casts change.after of result s3.world.store) s3 e3 g h3 (casts_is rules s3.world h3.0 change.after k.result of result k.after f3)) (λ new s4 e4 h4 n4 f4.
-        let there = there_trans s.world.store.objects s1.world.store.objects s4.world.store.objects n1
-        (there_trans s1.world.store.objects s2.world.store.objects s4.world.store.objects n2 (there_trans s2.world.store.objects s3.world.store.objects s4.world.store.objects n3 n4)) in
-        done (h4.0, assigned_typed s4.world.store.objects g e4 x of new v f4 h4.1)
-        (given_by_typed s4.world.store.objects given of old new (typed_grows s.world.store.objects s4.world.store.objects there of old f) f4)))))
+        operated_typed of (casts change.after of result s3.world.store) s3 e3 g h3 (casts_is rules s3.world h3.0 change.after k.result of result k.after f3))))
+
+    modifies : (x : Name) (of : Ty) (change : Change) (right : Expr) (given : Given_by) (old : Value) (d : Place) (s : State) (e : Env) (g : Scope) → IsVariable g x of
+        → ExprAgrees (known_in funs limits d.text) g right → Changes change of (type_of right) → Here g s e → IsTyped s.world.store.objects of old
+        → Keeps (Of of) s.world.store.objects g (modified funs limits m x of change d s e right given old)
+    modifies x of change right given old d s e g v a k h f =
+        then' (changed_typed of change right old d s e g a k h f) (λ new s1 e1 h1 n1 f1.
+        done (h1.0, assigned_typed s1.world.store.objects g e1 x of new v f1 h1.1)
+        (given_by_typed s1.world.store.objects given of old new (typed_grows s.world.store.objects s1.world.store.objects n1 of old f) f1))
+
+    -- ---- writes, what they give being dropped
+
+    dropped : (o : Operated) (s : State) (e : Env) (g : Scope) (h : Here g s e) → OperatedFits rules s.world.store.objects s.world (begun s.world h.0) o → Keeps Any s.world.store.objects g (operated o s e)
+    dropped Meaningless s e g h x = record { by = tt }
+    dropped (Gives value) s e g h x = done h tt
+    dropped (Acts given) s e g h x = record { by = thrown_by (acts_in s.world given) s e g h x }
+
+    writes : (write : Operation) (ofs : List Ty) (of : Ty) (values : List Value) (new given : Value) (d : Place) (s : State) (e : Env) (g : Scope) → Writes (known_in funs limits d.text) write ofs of
+        → Here g s e → AreTyped s.world.store.objects ofs values → IsTyped s.world.store.objects of new → IsTyped s.world.store.objects of given
+        → Keeps (Of of) s.world.store.objects g (written funs limits m write d s e of values new given)
+    writes (operation.Operator o) ofs of values new given d s e g a h x n k =
+        let all = all_there s.world.store.objects (ofs ++ of ∷ []) (values ++ new ∷ []) (typed_behind s.world.store.objects ofs of values new x n) in
+        then' (dropped (operates_to o of (values ++ new ∷ []) s.world.store) s e g h (operates_to_fit rules s.world.store.objects s.world (begun s.world h.0) o of (values ++ new ∷ []) all)) (λ value s1 e1 h1 n1 f1.
+        done h1 (typed_grows s.world.store.objects s1.world.store.objects n1 of given k))
+    writes (operation.Instance member) ofs of values new given d s e g a h x n k =
+        then' (members kind.Instance member (ofs ++ of ∷ []) a.given (values ++ new ∷ []) d s e g a.agrees h (typed_behind s.world.store.objects ofs of values new x n)) (λ value s1 e1 h1 n1 f1.
+        done h1 (typed_grows s.world.store.objects s1.world.store.objects n1 of given k))
+    writes (operation.PutDefName name) ofs of values new given d s e g a h x n k =
+        then' (put_names name (values ++ new ∷ []) d s e g h (all_there s.world.store.objects (ofs ++ of ∷ []) (values ++ new ∷ []) (typed_behind s.world.store.objects ofs of values new x n))) (λ value s1 e1 h1 n1 f1.
+        done h1 (typed_grows s.world.store.objects s1.world.store.objects n1 of given k))
+    writes operation.PutDefIndex ofs of values new given d s e g a h x n k =
+        then' (put_indexes (values ++ new ∷ []) d s e g h (all_there s.world.store.objects (ofs ++ of ∷ []) (values ++ new ∷ []) (typed_behind s.world.store.objects ofs of values new x n))) (λ value s1 e1 h1 n1 f1.
+        done h1 (typed_grows s.world.store.objects s1.world.store.objects n1 of given k))
+    writes other ofs of values new given d s e g a h x n k = absurd a
+
+    modifies_at : (read : Option Operation) (write : Operation) (ofs : List Ty) (of : Ty) (change : Change) (right : Expr) (given : Given_by) (values : List Value) (d : Place) (s : State) (e : Env) (g : Scope)
+        → IsReadBy (known_in funs limits d.text) read ofs of → Writes (known_in funs limits d.text) write ofs of → ExprAgrees (known_in funs limits d.text) g right → Changes change of (type_of right)
+        → Here g s e → AreTyped s.world.store.objects ofs values → Keeps (Of of) s.world.store.objects g (modified_at funs limits m read write of change d s e values right given)
+    modifies_at None write ofs of change right given values d s e g r w a k h x = absurd r
+    modifies_at (Some read) write ofs of change right given values d s e g r w a k h x =
+        then' (applies read ofs of values d s e g r h x) (λ old s1 e1 h1 n1 f1.
+        then' (changed_typed of change right old d s1 e1 g a k h1 f1) (λ new s2 e2 h2 n2 f2.
+        let there = there_trans s.world.store.objects s1.world.store.objects s2.world.store.objects n1 n2 in
+        writes write ofs of values new (given_by given old new) d s2 e2 g w h2 (all_grow s.world.store.objects s2.world.store.objects there ofs values x) f2
+        (given_by_typed s2.world.store.objects given of old new (typed_grows s1.world.store.objects s2.world.store.objects n2 of old f1) f2)))
 
     assigns : (at : ℕ) (of : Ty) (to : Target) (parts : Exprs) (value : Expr) (d : Place) (s : State) (e : Env) (g : Scope) → ExprAgrees (known_in funs limits d.text) g (Assign at of to parts value)
         → Here g s e → Keeps (Of of) s.world.store.objects g (expr_of funs limits m d s e (Assign at of to parts value))
     assigns at of (target.Local x) parts value d s e g a h =
         then' (expr_of_type value of d s e g a.2 a.0 h) (λ value s e h n f. done (h.0, assigned_typed s.world.store.objects g e x of value a.1 f h.1) f)
-    assigns at of target.Element parts value d s e g a h = absurd a
-    assigns at of (target.Members read write) parts value d s e g a h = absurd a
-    assigns at of target.DefIndex parts value d s e g a h = absurd a
-    assigns at of (target.DefName name) parts value d s e g a h = absurd a
+    assigns at of (target.Place read write) parts value d s e g a h =
+        then' (exprs_ih parts d s e g a.0 h) (λ values s1 e1 h1 n1 f1.
+        then' (expr_of_type value of d s1 e1 g a.2 a.1 h1) (λ new s2 e2 h2 n2 f2.
+        writes write (types_of parts) of values new new d s2 e2 g a.4 h2 (all_grow s1.world.store.objects s2.world.store.objects n2 (types_of parts) values f1) f2 f2))
 
     changes : (at : ℕ) (of : Ty) (to : Target) (parts : Exprs) (change : Change) (right : Expr) (given : Given_by) (d : Place) (s : State) (e : Env) (g : Scope)
         → ExprAgrees (known_in funs limits d.text) g (Modify at of to parts change right given) → Here g s e
         → Keeps (Of of) s.world.store.objects g (expr_of funs limits m d s e (Modify at of to parts change right given))
     changes at of (target.Local x) parts change right given d s e g a h =
         then' (found_typed of (lookup e x) s e g h (lookup_typed s.world.store.objects g e x of a.1 h.1)) (λ old s e h n f. modifies x of change right given old d s e g a.1 a.0 a.2 h f)
-    changes at of target.Element parts change right given d s e g a h = absurd a
-    changes at of (target.Members read write) parts change right given d s e g a h = absurd a
-    changes at of target.DefIndex parts change right given d s e g a h = absurd a
-    changes at of (target.DefName name) parts change right given d s e g a h = absurd a
+    changes at of (target.Place read write) parts change right given d s e g a h =
+        then' (exprs_ih parts d s e g a.0 h) (λ values s1 e1 h1 n1 f1. modifies_at read write (types_of parts) of change right given values d s1 e1 g a.4 a.5 a.1 a.2 h1 f1)
 
     expr_keeps : (x : Expr) (d : Place) (s : State) (e : Env) (g : Scope) → ExprAgrees (known_in funs limits d.text) g x → Here g s e
         → Keeps (Of (type_of x)) s.world.store.objects g (expr_of funs limits m d s e x)
@@ -350,8 +455,7 @@ module _ (rules : Rules) where
     expr_keeps (Guarded at of o (One x others)) d s e g a h =
         then' (expr_ih x d s e g a.0 h) (λ value s1 e1 h1 n1 f1. either (is_null value)
         (then' (exprs_ih others d s1 e1 g a.1 h1) (λ values s2 e2 h2 n2 f2.
-        applies o (type_of x ∷ types_of others) of (value ∷ values) d s2 e2 g
-        (subst (λ (o : Operation). Applies (known_in funs limits d.text) o (type_of x ∷ types_of others) of) (sym a.2.is) a.2.agrees) h2
+        applies o (type_of x ∷ types_of others) of (value ∷ values) d s2 e2 g a.2.agrees h2
         (typed_grows s1.world.store.objects s2.world.store.objects n2 (type_of x) value f1, f2)))
         (done h1 (null_typed s1.world.store.objects of a.2.whole)))
     expr_keeps (Logic at of o left right) d s e g a h =
@@ -452,7 +556,6 @@ module _ (rules : Rules) where
         chosen value (turns_keep (take_turn limits (has_loop_limit d.text) s.turns s.world) test update body d s e g of looped a h (turn_keeps limits (has_loop_limit d.text) s.turns s.world)) (done h tt))
     stmt_keeps (DoWhile body test) d s e g of looped a h =
         done_turns_keep (take_turn limits (has_loop_limit d.text) s.turns s.world) body test d s e g of looped a h (turn_keeps limits (has_loop_limit d.text) s.turns s.world)
-    stmt_keeps (ForEach x to element over body) d s e g of looped a h = absurd a
     stmt_keeps (Try body catches) d s e g of looped a h =
         record { by = handles catches d g of looped s.world.store.objects (m.stmts d s e body) a.1 (ih.stmts body d s e g of looped a.0 h) }
     stmt_keeps (Block body) d s e g of looped a h = stmts_ih body d s e g of looped a h
@@ -493,20 +596,20 @@ formed_in funs limits h Script = h.script
 formed_in funs limits h Prelude = h.prelude
 
 pub meanings_are_typed : MeaningsAreTyped
-meanings_are_typed rules funs limits zero a = record {
+meanings_are_typed rules funs limits zero every a = record {
   expr = λ x d s e g a h. tt;
   exprs = λ x d s e g a h. tt;
   stmt = λ x d s e g of looped a h. tt;
   stmts = λ x d s e g of looped a h. tt;
 }
-meanings_are_typed rules funs limits (suc n) a =
-    deeper rules funs limits (formed_in funs limits a) (meaning funs limits n) (meanings_are_typed rules funs limits n a)
+meanings_are_typed rules funs limits (suc n) every a =
+    deeper rules every funs limits (formed_in funs limits a) (meaning funs limits n) (meanings_are_typed rules funs limits n every a)
 
 entered_typed : (objects : List Object) (g : Scope) (o : Option Env) (e : Env) → o ≡ Some e → EntryTyped objects g o → EnvTyped objects g e
 entered_typed objects g o e is h = subst (EntryTyped objects g) is h
 
 pub results_are_typed : ResultsAreTyped
-results_are_typed rules funs limits bound a main is w arguments f h e entered =
+results_are_typed rules funs limits bound every a main is w arguments f h e entered =
     let fun = a.script.each 0 main is in
-    (meanings_are_typed rules funs limits bound a).stmts main.body (record { text = Script; depth = 0 }) (record { world = w; turns = 0 }) e (scope_of main.params []) main.result false fun.body
+    (meanings_are_typed rules funs limits bound every a).stmts main.body (record { text = Script; depth = 0 }) (record { world = w; turns = 0 }) e (scope_of main.params []) main.result false fun.body
     (f, entered_typed w.store.objects (scope_of main.params []) _ e entered (entry_typed w.store.objects main.params arguments [] [] h tt))

@@ -29,7 +29,7 @@ use Rattle.value_typing.proofs.Kept.{kept_is_typed}
 use Rattle.value_typing.proofs.Members.{members_keep_types}
 use Rattle.source_typing.specs.Outs.{IsTyped, AreTyped}
 use Rattle.source_typing.proofs.Values.{all_there, all_are, MadeTyped}
-use Rattle.source_typing.proofs.Operations.{MadeOf, box_made, OutcomeIs, outcome_is}
+use Rattle.source_typing.proofs.Operations.{MadeOf, box_made, OutcomeIs, outcome_is, def_typed}
 
 -- ---- arguments
 
@@ -154,6 +154,11 @@ DoneIs rules start of w (Some e) = OutcomeIs rules start of (acts_in w e)
 done_is : (rules : Rules) (start : List Object) (of : Ty) (w : World) (o : Option Effect) → DoneFits rules start w o → ActIsOf of o → DoneIs rules start of w o
 done_is rules start of w None f h = tt
 done_is rules start of w (Some e) f h = outcome_is rules start (count_in w) of (acts_in w e) f (effect_types of w e h)
+
+-- whatever it is, it is of type def
+pub found_is : (rules : Rules) (start : List Object) (w : World) (o : Option Effect) → DoneFits rules start w o → DoneIs rules start t.Def w o
+found_is rules start w None f = tt
+found_is rules start w (Some e) f = outcome_is rules start (count_in w) t.Def (acts_in w e) f (def_typed (acts_in w e))
 
 pub member_is : (rules : Rules) (w : World) (host : HostMeaning) (number : ℕ) (values : List Value) → Fits rules w.store.objects → is_built number ≡ true
     → Taken w.store.objects (member_at number).kind (member_at number).owner (member_at number).params values

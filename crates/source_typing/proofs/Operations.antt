@@ -1,5 +1,6 @@
 -- What operators and casts come to is of its type in the store that they leave.
-use Rattle.std.proofs.Common.{◌≡◌, ℕ, ℤ, Bool, true, false, List, [], ◌∷◌, Option, Some, None, refl, sym, subst}
+use Rattle.std.proofs.Common.{◌≡◌, ℕ, ℤ, Bool, true, false, List, [], ◌∷◌, Option, Some, None, refl, sym, ap, ◌∙◌, subst}
+use Rattle.std.specs.Prelude.{if◌then◌else◌}
 use Rattle.std.proofs.lemmas.Bool.{and_parts}
 use Rattle.pl_types.specs.declared.classes.TheConstants.{STRING}
 use Rattle.pl_types.specs.declared.conversion.Cast.{Cast}
@@ -13,33 +14,43 @@ use Rattle.object_values.specs.declared.object.Object.{Object}
 use Rattle.object_values.specs.declared.value.Value.{Value}
 use Rattle.object_values.specs.declared.value.Value.TheVariants as v
 use Rattle.object_heap.specs.Effects.{Effect, Gives as Gives_value, Throws, NoRoom}
-use Rattle.object_heap.specs.Fits.{kinds, Rules, Fits, ThrownFits, is_primitive}
+use Rattle.object_heap.specs.Fits.{kinds, Rules, Fits, ThrownFits, Typed, Every, layer_asked, is_primitive}
 use Rattle.object_heap.specs.Objects.{Kind}
+use Rattle.object_heap.specs.Store.{Store}
+use Rattle.container_ops.specs.Types.{element_of}
+use Rattle.container_ops.specs.Making.{list_made, map_made, array_filled}
+use Rattle.container_ops.specs.Elements.{length_of}
+use Rattle.container_ops.specs.Loops.{iterated, has_more, next_element}
 use Rattle.typed_tree.specs.declared.operation.Operator.{Operator}
 use Rattle.typed_tree.specs.declared.operation.Operator.TheVariants as operator
 use Rattle.arithmetic.specs.declared.operator.Op.{Op}
+use Rattle.arithmetic.specs.declared.operator.Op.TheVariants as op
 use Rattle.number_ops.specs.declared.outcome.Outcome.{Outcome as Told}
 use Rattle.number_ops.specs.declared.outcome.Outcome.TheVariants as told
 use Rattle.number_ops.specs.Casts.{cast_at_run_time}
+use Rattle.number_ops.specs.Operators.{compares, is_unary, operate}
 use Rattle.number_ops.specs.Outcomes.{effect, null_error}
 use Rattle.run_state.specs.World.{World, Outcome, Given, Raised, Full, acts_in}
 use Rattle.run_fit.specs.Worlds.{WorldFits, count_in, OutcomeFits}
 use Rattle.run_fit.proofs.Effects.{beginnings_fit, outcomes_fit}
 use Rattle.run_fit.proofs.Values.{by_primitive}
-use Rattle.source_meaning.specs.Operating.{Operated, Meaningless, Gives, Acts, operates, reference_operated, from_int_to, from_long_to, from_byte_to, from_short_to, from_char_to, from_flag_to, number_cast, in_box, box_if, gives_if, unwrapped, text_if, casts}
-use Rattle.source_fit.proofs.Values.{OperatedFits, operates_fit, cast_fits}
-use Rattle.program_typing.specs.Types.{HasPrimitive, HasLayer, HaveAll, Gives as GivesType, of_one, of_two, of_one_flag, of_two_flags, TakesNumbers, TakesFlags, Takes, IsGiven, Keeps, Same, References, Casts, string}
+use Rattle.source_meaning.specs.Operating.{Operated, Meaningless, Gives, Acts, operates, operates_to, reference_operated, of_any, passed_alike, ints_of, made_of, filled_of, read_at, of_one_value, from_int_to, from_long_to, from_byte_to, from_short_to, from_char_to, from_flag_to, number_cast, in_box, box_if, gives_if, unwrapped, text_if, casts}
+use Rattle.source_fit.proofs.Values.{OperatedFits, operates_fit, operates_to_fit, cast_fits}
+use Rattle.program_typing.specs.Types.{HasPrimitive, HasLayer, HaveAll, Gives as GivesType, of_one, of_two, of_one_flag, of_two_flags, TakesNumbers, TakesFlags, def_given, Takes, TakesElement, TakesTo, IsGiven, Keeps, Same, References, Casts, string}
 use Rattle.program_typing.specs.Agreeing.{IsKnownBefore}
+use Rattle.program_typing.proofs.Containers.{element_is, takes_to_fit}
 use Rattle.program_typing.proofs.Effects.{EffectHas, OperatedHas}
 use Rattle.program_typing.proofs.Operations.{takes_fit, casts_fit}
 use Rattle.program_typing.proofs.Values.{bare}
 use Rattle.value_typing.specs.Typing.{is_typed_layer, is_typed, are_typed, OutcomeTyped}
 use Rattle.value_typing.proofs.Casts.{casts_give_types, texts_give_types}
+use Rattle.value_typing.proofs.Containers.{containers_give_types}
 use Rattle.value_typing.proofs.Effects.{in_world, settled}
 use Rattle.value_typing.proofs.Kept.{kept_is_typed, boxed_is_typed}
+use Rattle.value_typing.proofs.Operators.{comparisons_give_flags}
 use Rattle.source_typing.specs.Outs.{IsTyped, AreTyped, OperatedTyped}
-use Rattle.source_typing.specs.Laws.{OperatorsGiveTypes, CastsGiveStaticTypes}
-use Rattle.source_typing.proofs.Values.{all_are, primitive_typed, of_primitive}
+use Rattle.source_typing.specs.Laws.{OperatorsGiveTypes, NodesGiveTypes, CastsGiveStaticTypes}
+use Rattle.source_typing.proofs.Values.{all_there, all_are, primitive_typed, of_primitive}
 
 -- ---- outcomes
 
@@ -157,6 +168,12 @@ flags_give o (a ∷ []) of h = gives_primitive (of_one_flag o) of h.1
 flags_give o (a ∷ b ∷ []) of h = gives_primitive (of_two_flags o) of h.2
 flags_give o (a ∷ b ∷ c ∷ ofs) of h = absurd h
 
+pub def_typed : (o : Outcome Value) → OutcomeTyped t.Def o
+unfolding out-Ty denote.Hole.Carrier.out
+def_typed (Given value w) = refl
+def_typed (Raised id w) = tt
+def_typed Full = tt
+
 module _ (w : World) where
   -- where it comes to a value, one of a type
   abbrev Types : Ty → Operated → Type 0
@@ -186,6 +203,36 @@ module _ (w : World) where
   texts_types (a ∷ b ∷ []) = texts_give_types w a b
   texts_types (a ∷ b ∷ c ∷ values) = tt
 
+  -- operands whose types are found when the script runs
+  def_types : (of : Ty) (o : Outcome Value) → t.Def ≡ of → OutcomeTyped of o
+  def_types of o is = subst (λ (of : Ty). OutcomeTyped of o) is (def_typed o)
+
+  flag_types : (of : Ty) (o : Op) (a b : Value) → compares o ≡ true → t.Prim prim.Boolean ≡ of → OutcomeTyped of (acts_in w (effect w.store (operate w.store.objects o a b)))
+  flag_types of o a b c is = subst (λ (of : Ty). OutcomeTyped of (acts_in w (effect w.store (operate w.store.objects o a b)))) is (comparisons_give_flags w o a b c)
+
+  given_types : (o : Op) (of : Ty) (a b : Value) → def_given o ≡ Some of → OutcomeTyped of (acts_in w (effect w.store (operate w.store.objects o a b)))
+  given_types op.Lt of a b g = flag_types of op.Lt a b refl cc
+  given_types op.Le of a b g = flag_types of op.Le a b refl cc
+  given_types op.Gt of a b g = flag_types of op.Gt a b refl cc
+  given_types op.Ge of a b g = flag_types of op.Ge a b refl cc
+  given_types op.Eq of a b g = cc
+  given_types op.Ne of a b g = cc
+  given_types other of a b g = def_types of _ cc
+
+  any_types : (o : Op) (of : Ty) (values : List Value) → def_given o ≡ Some of → Types of (of_any o values w.store)
+  any_types o of [] g = tt
+  any_types o of (a ∷ []) g = either (is_unary o)
+    where
+      either : (unary : Bool) → Types of (if unary then Acts (effect w.store (operate w.store.objects o a a)) else Meaningless)
+      either true = given_types o of a a g
+      either false = tt
+  any_types o of (a ∷ b ∷ []) g = either (is_unary o)
+    where
+      either : (unary : Bool) → Types of (if unary then Meaningless else Acts (effect w.store (operate w.store.objects o a b)))
+      either true = tt
+      either false = given_types o of a b g
+  any_types o of (a ∷ b ∷ c ∷ values) g = tt
+
   operator_types : (o : Operator) (ofs : List Ty) (of : Ty) (values : List Value) → Takes o ofs of → are_typed w.store.objects ofs values ≡ true → Types of (operates o values w.store)
   operator_types (operator.Int o) ofs of values x h =
       same_types of _ (numbers_give prim.Int o ofs of x) (takes_fit (operator.Int o) ofs of values w.store x (all_have w.store.objects ofs values h))
@@ -193,7 +240,7 @@ module _ (w : World) where
       same_types of _ (numbers_give prim.Long o ofs of x) (takes_fit (operator.Long o) ofs of values w.store x (all_have w.store.objects ofs values h))
   operator_types (operator.Boolean o) ofs of values x h =
       same_types of _ (flags_give o ofs of x) (takes_fit (operator.Boolean o) ofs of values w.store x (all_have w.store.objects ofs values h))
-  operator_types (operator.Def o) ofs of values x h = absurd x
+  operator_types (operator.Def o) ofs of values x h = any_types o of values x.1
   operator_types operator.Equal ofs of values x h = same_types of _ (prim.Boolean, x.1) (takes_fit operator.Equal ofs of values w.store x (all_have w.store.objects ofs values h))
   operator_types operator.NotEqual ofs of values x h = same_types of _ (prim.Boolean, x.1) (takes_fit operator.NotEqual ofs of values w.store x (all_have w.store.objects ofs values h))
   operator_types operator.Same ofs of values x h = same_types of _ (prim.Boolean, x.1) (takes_fit operator.Same ofs of values w.store x (all_have w.store.objects ofs values h))
@@ -204,7 +251,63 @@ module _ (w : World) where
   operator_types operator.NewArray ofs of values x h = absurd x
   operator_types operator.ArrayOf ofs of values x h = absurd x
   operator_types operator.Element ofs of values x h = absurd x
+  operator_types operator.PutElement ofs of values x h = absurd x
   operator_types operator.Length ofs of values x h = absurd x
+  operator_types operator.Iterate ofs of values x h = absurd x
+  operator_types operator.HasNext ofs of values x h = absurd x
+  operator_types operator.Next ofs of values x h = absurd x
+
+  -- ---- lists, maps, arrays and iterators
+
+  made_types : (of : Ty) (sizes : Option (List ℤ)) → Types of (made_of sizes of w.store)
+  made_types of None = tt
+  made_types of (Some sizes) = containers_give_types.arrays w of sizes
+
+  filled_types : (of elem : Ty) (items : Option (List Value)) → of ≡ t.Array elem → Types of (filled_of items (element_of of) w.store)
+  filled_types of elem None is = tt
+  filled_types of elem (Some items) is =
+      let own : t.Array (element_of of) ≡ of = ap t.Array (ap element_of is ∙ element_is elem) ∙ sym is in
+      subst (λ (given : Ty). OutcomeTyped given (acts_in w (array_filled w.store (element_of of) items))) own (containers_give_types.filled w (element_of of) items)
+
+  one_types : (does : Store → Value → Effect) (of : Ty) (values : List Value) → ((value : Value) → OutcomeTyped of (acts_in w (does w.store value))) → Types of (of_one_value does values w.store)
+  one_types does of [] k = tt
+  one_types does of (value ∷ []) k = k value
+  one_types does of (value ∷ other ∷ values) k = tt
+
+  module _ (rules : Rules) (f : Fits rules w.store.objects) (every : rules.typed ≡ Every) where
+    element_types : (ofs : List Ty) (of : Ty) (values : List Value) → TakesElement ofs of → are_typed w.store.objects ofs values ≡ true → Types of (read_at of values w.store)
+    element_types [] of values x h = absurd x
+    element_types (a ∷ []) of values x h = absurd x
+    element_types (a ∷ b ∷ []) of (array ∷ v.Int at ∷ []) x h =
+        let typed = (and_parts (is_typed w.store.objects a array) (are_typed w.store.objects (b ∷ []) (v.Int at ∷ [])) h).0 in
+        containers_give_types.elements rules w of array at f (subst (λ (typed : Typed). layer_asked typed (out-Ty of) ≡ true) (sym every) refl)
+        (subst (λ (a : Ty). is_typed w.store.objects a array ≡ true) x.0 typed)
+    element_types (a ∷ b ∷ []) of values x h = tt
+    element_types (a ∷ b ∷ c ∷ ofs) of values x h = absurd x
+
+    node_types : (o : Operator) (ofs : List Ty) (of : Ty) (values : List Value) → TakesTo o ofs of → are_typed w.store.objects ofs values ≡ true → Types of (operates_to o of values w.store)
+    node_types operator.List ofs of values x h = subst (λ (of : Ty). OutcomeTyped of (acts_in w (list_made w.store values))) (sym x.1) (containers_give_types.lists w values)
+    node_types operator.Map ofs of values x h = subst (λ (of : Ty). OutcomeTyped of (acts_in w (map_made w.store values))) (sym x.1) (containers_give_types.maps w values)
+    node_types operator.NewArray ofs of values x h = made_types of (ints_of values)
+    node_types operator.ArrayOf ofs of values x h = filled_types of x.0 (passed_alike (element_of of) values) x.1
+    node_types operator.Element ofs of values x h = element_types ofs of values x h
+    node_types operator.PutElement ofs of values x h = absurd x
+    node_types operator.Length ofs of values x h =
+        one_types length_of of values (λ value. subst (λ (of : Ty). OutcomeTyped of (acts_in w (length_of w.store value))) (sym x.1) (containers_give_types.lengths w value))
+    node_types operator.Iterate ofs of values x h =
+        one_types iterated of values (λ value. subst (λ (of : Ty). OutcomeTyped of (acts_in w (iterated w.store value))) (sym x.1) (containers_give_types.iterators w value))
+    node_types operator.HasNext ofs of values x h =
+        one_types has_more of values (λ value. subst (λ (of : Ty). OutcomeTyped of (acts_in w (has_more w.store value))) (sym x.1) (containers_give_types.more w value))
+    node_types operator.Next ofs of values x h = one_types next_element of values (λ value. def_types of (acts_in w (next_element w.store value)) (sym x.1))
+    node_types (operator.Int o) ofs of values x h = operator_types (operator.Int o) ofs of values x h
+    node_types (operator.Long o) ofs of values x h = operator_types (operator.Long o) ofs of values x h
+    node_types (operator.Boolean o) ofs of values x h = operator_types (operator.Boolean o) ofs of values x h
+    node_types (operator.Def o) ofs of values x h = operator_types (operator.Def o) ofs of values x h
+    node_types operator.Equal ofs of values x h = operator_types operator.Equal ofs of values x h
+    node_types operator.NotEqual ofs of values x h = operator_types operator.NotEqual ofs of values x h
+    node_types operator.Same ofs of values x h = operator_types operator.Same ofs of values x h
+    node_types operator.NotSame ofs of values x h = operator_types operator.NotSame ofs of values x h
+    node_types operator.Concat ofs of values x h = operator_types operator.Concat ofs of values x h
 
   -- ---- casts
 
@@ -264,6 +367,10 @@ pub operators_give_types : OperatorsGiveTypes
 operators_give_types w o ofs of values x h =
     comes_to w of (operates o values w.store) (takes_fit o ofs of values w.store x (all_have w.store.objects ofs values h)) (operator_types w o ofs of values x h)
 
+pub nodes_give_types : NodesGiveTypes
+nodes_give_types rules w o ofs of values every f x h =
+    comes_to w of (operates_to o of values w.store) (takes_to_fit o ofs of values w.store x (all_have w.store.objects ofs values h)) (node_types w rules f every o ofs of values x h)
+
 pub casts_give_static_types : CastsGiveStaticTypes
 casts_give_static_types w c from to value x h =
     comes_to w to (casts c to value w.store) (casts_fit c from to value w.store x (layer_has (kinds w.store.objects) (out-Ty from) value h)) (cast_types w c from to value x h)
@@ -293,6 +400,12 @@ module _ (rules : Rules) (w : World) (f : Fits rules w.store.objects) where
 
   pub operates_is : (o : Operator) (ofs : List Ty) (of : Ty) (values : List Value) → Takes o ofs of → AreTyped w.store.objects ofs values → OperatedIs of (operates o values w.store)
   operates_is o ofs of values x h = operated_is of (operates o values w.store) (operates_fit rules w.store.objects w here o values) (operator_types w o ofs of values x (all_are w.store.objects ofs values h))
+
+  -- what an operator of a node of a type comes to
+  pub node_is : (o : Operator) (ofs : List Ty) (of : Ty) (values : List Value) → rules.typed ≡ Every → TakesTo o ofs of → AreTyped w.store.objects ofs values → OperatedIs of (operates_to o of values w.store)
+  node_is o ofs of values every x h =
+      operated_is of (operates_to o of values w.store) (operates_to_fit rules w.store.objects w here o of values (all_there w.store.objects ofs values h))
+      (node_types w rules f every o ofs of values x (all_are w.store.objects ofs values h))
 
   pub casts_is : (c : Cast) (from to : Ty) (value : Value) → Casts c from to → IsTyped w.store.objects from value → OperatedIs to (casts c to value w.store)
   casts_is c from to value x h = operated_is to (casts c to value w.store) (cast_fits rules w.store.objects w here c to value h.there) (cast_types w c from to value x h.is)

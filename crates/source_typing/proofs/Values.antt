@@ -1,5 +1,5 @@
 -- Values of names, and values that are given at once, are of their types; and they stay so as objects are added.
-use Rattle.std.proofs.Common.{◌≡◌, ℕ, Bool, true, false, List, [], ◌∷◌, length, Option, Some, None, refl, sym, ap, subst}
+use Rattle.std.proofs.Common.{◌≡◌, ℕ, Bool, true, false, List, [], ◌∷◌, ◌++◌, length, Option, Some, None, refl, sym, ap, subst}
 use Rattle.std.specs.Prelude.{slice_get, if◌then◌else◌}
 use Rattle.std.specs.Str.{bytes_eq}
 use Rattle.pl_types.specs.declared.primitive.Primitive.{Primitive}
@@ -21,7 +21,8 @@ use Rattle.run_fit.proofs.Leaving.{there_count}
 use Rattle.run_fit.proofs.Values.{value_grows}
 use Rattle.source_meaning.specs.Tree.{Name, Variable}
 use Rattle.source_meaning.specs.Operating.{value_of}
-use Rattle.source_meaning.specs.Meaning.{Env, Flow, Normal, Broke, Continued, Returned, lookup, assigned, older, entry, default_of, default_of_layer, given_by, returned}
+use Rattle.container_ops.specs.Types.{default_of, default_of_layer}
+use Rattle.source_meaning.specs.Meaning.{Env, Flow, Normal, Broke, Continued, Returned, lookup, assigned, older, entry, given_by, returned}
 use Rattle.source_fit.proofs.Values.{constant_fits, default_fits}
 use Rattle.program_typing.specs.Types.{is_reference_layer, IsOf, string}
 use Rattle.program_typing.specs.Agreeing.{Scope, IsVariable, variable_of, types_in, scope_of, is_primitive_layer}
@@ -63,6 +64,14 @@ all_are objects [] [] h = refl
 all_are objects [] (value ∷ values) h = absurd h
 all_are objects (of ∷ ofs) [] h = absurd h
 all_are objects (of ∷ ofs) (value ∷ values) h = and_from _ _ h.0.is (all_are objects ofs values h.1)
+
+-- a value behind others
+pub typed_behind : (objects : List Object) (ofs : List Ty) (of : Ty) (values : List Value) (value : Value) → AreTyped objects ofs values → IsTyped objects of value
+    → AreTyped objects (ofs ++ of ∷ []) (values ++ value ∷ [])
+typed_behind objects [] of [] value h g = (g, tt)
+typed_behind objects [] of (other ∷ values) value h g = absurd h
+typed_behind objects (first ∷ ofs) of [] value h g = absurd h
+typed_behind objects (first ∷ ofs) of (other ∷ values) value h g = (h.0, typed_behind objects ofs of values value h.1 g)
 
 -- ---- names
 

@@ -6,12 +6,12 @@ use Rattle.pl_types.specs.declared.conversion.Cast.{Cast}
 use Rattle.typed_tree.specs.declared.operation.Operator.{Operator}
 use Rattle.object_values.specs.declared.object.Owner.TheVariants.{Script}
 use Rattle.object_values.specs.declared.value.Value.{Value}
-use Rattle.object_heap.specs.Fits.{Rules, Fits}
+use Rattle.object_heap.specs.Fits.{Rules, Every, Fits}
 use Rattle.run_state.specs.World.{World, Limits}
 use Rattle.source_meaning.specs.Tree.{Expr, Exprs, Stmt, Stmts, Fun, Programs, type_of}
-use Rattle.source_meaning.specs.Operating.{operates, casts}
+use Rattle.source_meaning.specs.Operating.{operates, operates_to, casts}
 use Rattle.source_meaning.specs.Meaning.{State, Env, Place, Meaning, entry, meaning}
-use Rattle.program_typing.specs.Types.{Takes, Casts}
+use Rattle.program_typing.specs.Types.{Takes, TakesTo, Casts}
 use Rattle.value_typing.specs.Typing.{is_typed, are_typed}
 use Rattle.program_typing.specs.Agreeing.{Scope, types_of, types_in, scope_of, ExprAgrees, ExprsAgree, StmtAgrees, StmtsAgree, AreWellFormed, known_in}
 use Rattle.source_typing.specs.Outs.{OperatedTyped, IsTyped, AreTyped, StateTyped, FlowTyped, OutTyped}
@@ -21,6 +21,12 @@ abbrev pub OperatorsGiveTypes : Type 0
 OperatorsGiveTypes =
     (w : World) (o : Operator) (ofs : List Ty) (of : Ty) (values : List Value) → Takes o ofs of → are_typed w.store.objects ofs values ≡ true
     → OperatedTyped w of (operates o values w.store)
+
+-- and so is what an operator comes to of a node of a type, in a store that fits by the rules of a program
+abbrev pub NodesGiveTypes : Type 0
+NodesGiveTypes =
+    (rules : Rules) (w : World) (o : Operator) (ofs : List Ty) (of : Ty) (values : List Value) → rules.typed ≡ Every → Fits rules w.store.objects → TakesTo o ofs of
+    → are_typed w.store.objects ofs values ≡ true → OperatedTyped w of (operates_to o of values w.store)
 
 abbrev pub CastsGiveStaticTypes : Type 0
 CastsGiveStaticTypes =
@@ -37,15 +43,15 @@ pub record MeaningTyped (rules : Rules) (funs : Programs) (limits : Limits) (m :
   pub stmts : (x : Stmts) (d : Place) (s : State) (e : Env) (g : Scope) (of : Ty) (looped : Bool) → StmtsAgree (known_in funs limits d.text) of looped g x → StateTyped rules g s e
       → OutTyped (FlowTyped of) rules s.world.store.objects g (m.stmts d s e x)
 
--- at every bound
+-- At every bound, where the store fits by the rules of a program: each element of an array is of its element type.
 abbrev pub MeaningsAreTyped : Type 0
-MeaningsAreTyped = (rules : Rules) (funs : Programs) (limits : Limits) (bound : ℕ) → AreWellFormed funs limits → MeaningTyped rules funs limits (meaning funs limits bound)
+MeaningsAreTyped = (rules : Rules) (funs : Programs) (limits : Limits) (bound : ℕ) → rules.typed ≡ Every → AreWellFormed funs limits → MeaningTyped rules funs limits (meaning funs limits bound)
 
 -- A main script, on arguments of its parameters' types in a store that fits, returns a value of its result's type in the store that it
 -- leaves.
 abbrev pub ResultsAreTyped : Type 0
 ResultsAreTyped =
-    (rules : Rules) (funs : Programs) (limits : Limits) (bound : ℕ) → AreWellFormed funs limits → (main : Fun) → slice_get funs.script 0 ≡ Some main
+    (rules : Rules) (funs : Programs) (limits : Limits) (bound : ℕ) → rules.typed ≡ Every → AreWellFormed funs limits → (main : Fun) → slice_get funs.script 0 ≡ Some main
     → (w : World) (arguments : List Value) → Fits rules w.store.objects → AreTyped w.store.objects (types_in main.params) arguments
     → (e : Env) → entry main.params arguments [] ≡ Some e
     → OutTyped (FlowTyped main.result) rules w.store.objects (scope_of main.params [])

@@ -33,7 +33,7 @@ twice (Err r) f = refl
 pub function_by : (allow : AllowList) (hs : List Header) (f : Function) (h : Header)
     → function_of allow hs f h ≡ bind (steps_of allow hs false (out-Block f.body).statements (function_start h)) (λ ys. finished f h ys)
 function_by allow hs f h =
-    ap (λ (x : Braces). bind (ran x.steps (function_start h)) (λ whole. finished f h whole.0)) (fold_out-Block (Doing Part) (Doing Step) Reading (Doing Step) Seen Doer Braces (Doing Caught) Doer Seen (Ty → Doing TypedVariable) (argument_step allow hs) (body_step allow hs) (expression_step allow hs) (first_step allow hs) (lambda_step allow hs) (statement_step allow hs) (block_step allow hs) (catch_step allow hs) (declaration_step allow hs) (entry_step allow hs) (variable_step allow hs) f.body)
+    ap (λ (x : Braces). bind (ran x.steps (function_start h)) (λ whole. finished f h whole.0)) (fold_out-Block (Doing Part) (Doing Step) Reading (Doing Step) Seen Doer Braces (Doing Caught) Doer (Doing (Part × Part)) (Ty → Doing TypedVariable) (argument_step allow hs) (body_step allow hs) (expression_step allow hs) (first_step allow hs) (lambda_step allow hs) (statement_step allow hs) (block_step allow hs) (catch_step allow hs) (declaration_step allow hs) (entry_step allow hs) (variable_step allow hs) f.body)
     ∙ twice (ran (statements false false (map (doer allow hs) (out-Block f.body).statements)) (function_start h)) (finished f h)
 
 pub main_by : (context : ContextTypes) (allow : AllowList) (hs : List Header) (all : List Statement) → main_of allow context hs all ≡ bind (steps_of allow hs true all (main_start context)) (λ ys. Ok (main context ys))

@@ -120,8 +120,7 @@ fn main_script(
 ) -> Result<TypedFunction, Fail>
     ensures { Keeps (spec.main_of allow.now context.now headers.now tree.now.statements) result }
 {
-    let x = main(alloc, allow, context, headers.as_slice(), tree)?;
-    Ok(x)
+    main(alloc, allow, context, headers.as_slice(), tree)
 }
 
 /// The program of a script, by the variables and the result of a context, and by the members that the allowlist has.

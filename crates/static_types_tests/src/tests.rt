@@ -59,6 +59,17 @@ fn catches_are_typed_or_refused(rt: HostRuntime) -> Result<(), TestFail> {
 }
 
 #[test]
+fn elements_are_typed_or_refused(rt: HostRuntime) -> Result<(), TestFail> {
+    let reader = Reader::new(rt.alloc(), Wanted::Number)?;
+    are_typed(&rt, &reader, &rows::TYPED_ELEMENTS);
+    are_refused(&rt, &reader, &rows::ELEMENTS);
+    are_refused(&rt, &reader, &rows::CONTAINERS);
+    are_refused(&rt, &reader, &rows::LOOPS);
+    are_refused(&rt, &reader, &rows::DYNAMIC);
+    Ok(())
+}
+
+#[test]
 fn contexts_may_want_no_result(rt: HostRuntime) -> Result<(), TestFail> {
     let reader = Reader::new(rt.alloc(), Wanted::Nothing)?;
     are_typed(&rt, &reader, &rows::TYPED_WITHOUT_RESULT);

@@ -101,13 +101,6 @@ impl TypedStatement {
             StatementNode::Do { body, condition } => {
                 body.nodes().saturating_add(nodes_if_any(condition))
             }
-            StatementNode::ForEach {
-                name: _,
-                of: _,
-                element: _,
-                over,
-                body,
-            } => over.nodes().saturating_add(body.nodes()),
             StatementNode::Try { body, catches } => {
                 body.nodes().saturating_add(nodes_of_catches(catches))
             }

@@ -46,10 +46,18 @@ pub enum Operator {
     NewArray,
     /// An array of the node's type with the parts as its elements.
     ArrayOf,
-    /// An element of an array: the array, and an int.
+    /// An element of an array, which is of the node's type: the array, and an int.
     Element,
+    /// Writes an element of an array, which is of the node's type: the array, an int, and the value.
+    PutElement,
     /// The length of an array.
     Length,
+    /// An iterator over an array, an Iterable, or a value whose type is found when the script runs.
+    Iterate,
+    /// Whether an iterator has an element left.
+    HasNext,
+    /// The next element of an iterator.
+    Next,
 }
 
 /// A member that a script calls or reads.
@@ -92,8 +100,12 @@ pub enum Operation {
     DefCall(Text),
     /// An access by name that is found when the script runs.
     DefName(Text),
-    /// An element of a value whose type is found when the script runs: the value, and the index.
+    /// Writes what a name means that is found when the script runs: the value, and what is written.
+    PutDefName(Text),
+    /// An index in brackets of a value whose type is found when the script runs: the value, and the index.
     DefIndex,
+    /// Writes at such an index: the value, the index, and what is written.
+    PutDefIndex,
 }
 
 impl Drop for Operation {
@@ -110,7 +122,9 @@ impl Drop for Operation {
             Operation::Host(_member) => {}
             Operation::DefCall(_name) => {}
             Operation::DefName(_name) => {}
+            Operation::PutDefName(_name) => {}
             Operation::DefIndex => {}
+            Operation::PutDefIndex => {}
         }
     }
 }
@@ -128,27 +142,22 @@ pub enum Logical {
 pub enum Target {
     /// A variable; it has no parts.
     Local(Text),
-    /// An element of an array: the array, and an int.
-    Element,
-    /// What members read and write: the receiver, and an index or a key where they take one. A plain assignment reads nothing.
-    Members { read: Option<Member>, write: Member },
-    /// An element of a value whose type is found when the script runs: the value, and the index.
-    DefIndex,
-    /// An access by name that is found when the script runs.
-    DefName(Text),
+    /// What one operation reads and another writes. Both take the target's parts, and the second behind them the value that is
+    /// written; what it gives is dropped. A plain assignment reads nothing.
+    Place {
+        read: Option<Operation>,
+        write: Operation,
+    },
 }
 
 impl Drop for Target {
     fn drop(self) {
         match self {
             Target::Local(_name) => {}
-            Target::Element => {}
-            Target::Members {
+            Target::Place {
                 read: _read,
                 write: _write,
             } => {}
-            Target::DefIndex => {}
-            Target::DefName(_name) => {}
         }
     }
 }

@@ -4,7 +4,7 @@ ghost use Rattle.std.specs.Prelude.{◌≡◌, ◌≤◌, max, IfOk};
 ghost use Rattle.typed_tree.specs.declared.statement.TypedStatement.{size-TypedStatement};
 
 use crate::typed::Typed;
-use pl_types::{Cast, Ty};
+use pl_types::Ty;
 use plain_data::{Items, Subtree, Text};
 use std::alloc::{AllocError, Global};
 
@@ -28,7 +28,8 @@ pub enum StatementNode {
         otherwise: Option<Subtree<TypedStatement>>,
     },
     /// A `while` or a `for`: what is done first, the test before each turn, the turn, and what is done behind it. There is no test
-    /// where it is missing in the script, or is the literal `true`.
+    /// where it is missing in the script, or is the literal `true`. A loop over elements is a `for` that declares an iterator under a
+    /// name that no script has (Java Language Specification, 14.14.2).
     Loop {
         first: Option<Subtree<TypedStatement>>,
         condition: Option<Subtree<Typed>>,
@@ -39,15 +40,6 @@ pub enum StatementNode {
     Do {
         body: Subtree<TypedStatement>,
         condition: Option<Subtree<Typed>>,
-    },
-    /// A loop over the elements of an array, of an Iterable, or of a value whose type is found when the script runs. Each element is
-    /// cast to the variable's type.
-    ForEach {
-        name: Text,
-        of: Ty,
-        element: Cast,
-        over: Subtree<Typed>,
-        body: Subtree<TypedStatement>,
     },
     Try {
         body: Subtree<TypedStatement>,
@@ -142,13 +134,6 @@ impl Drop for TypedStatement {
                 StatementNode::Do {
                     body,
                     condition: _condition,
-                } => body,
-                StatementNode::ForEach {
-                    name: _name,
-                    of: _of,
-                    element: _,
-                    over: _over,
-                    body,
                 } => body,
                 StatementNode::Try {
                     body,

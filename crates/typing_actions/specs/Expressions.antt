@@ -10,6 +10,7 @@ use Rattle.typing_rules.specs.Rules.Types.{type_of}
 use Rattle.typing_rules.specs.Rules.Nodes as nodes
 use Rattle.typing_rules.specs.Rules.Literals as literals
 use Rattle.typing_rules.specs.Rules.Casts as casts
+use Rattle.typing_rules.specs.Rules.Containers as containers
 use Rattle.typing_rules.specs.Rules.Operators as operators
 use Rattle.typing_rules.specs.Rules.Places as places
 use Rattle.typing_rules.specs.Rules.Calls as calls
@@ -48,6 +49,20 @@ instance_of at of c = one c.parts (λ x rest. with_part c rest (bind (type_of of
 
 abbrev pub bracketed : ℕ → Config → Out Config
 bracketed at c = one c.parts (λ x rest. Ok (put_part c rest (nodes.bracketed at x)))
+
+-- a list, and a map, of what stands above a height
+abbrev pub list : ℕ → ℕ → Config → Out Config
+list at height c = above height c.parts (λ xs rest. with_part c rest (containers.list_of at xs))
+
+abbrev pub map_ : ℕ → ℕ → Config → Out Config
+map_ at height c = above height c.parts (λ xs rest. with_part c rest (containers.map_of at xs))
+
+-- an array of a type that was looked at before, of the sizes or of the elements above a height
+abbrev pub array : ℕ → TypeName → ℕ → Config → Out Config
+array at of height c = above height c.parts (λ xs rest. with_part c rest (bind (type_of of) (λ t. containers.array_of at t xs)))
+
+abbrev pub array_with : ℕ → TypeName → ℕ → Config → Out Config
+array_with at of height c = above height c.parts (λ xs rest. with_part c rest (bind (type_of of) (λ t. containers.array_with at t xs)))
 
 -- a cast that is written, to a type that was looked at before
 abbrev pub asked : ℕ → TypeName → Config → Out Config

@@ -1,17 +1,20 @@
 -- Acts on statements.
 use Rattle.std.specs.Prelude.{ℕ, Bool, true, false, List, ◌∷◌, Option, Some, None, Ok}
+use Rattle.pl_types.specs.declared.ty.Ty.{Ty}
 use Rattle.pl_types.specs.declared.ty.Ty.TheVariants as ty
 use Rattle.pl_tree.specs.declared.tree.Spelled.{Spelled}
 use Rattle.pl_tree.specs.declared.tree.TypeName.{TypeName}
 use Rattle.typed_tree.specs.declared.typed.Typed.{Typed}
+use Rattle.typing_rules.specs.declared.part.Part.{Part}
 use Rattle.typing_rules.specs.declared.part.Step.{Step}
 use Rattle.typing_rules.specs.Outcomes.{Out, bind}
 use Rattle.typing_rules.specs.State.{declared}
 use Rattle.typing_rules.specs.Rules.Types.{type_of, caught_class}
 use Rattle.typing_rules.specs.Rules.Casts.{cast_to}
+use Rattle.typing_rules.specs.Rules.Loops as loops
 use Rattle.typing_rules.specs.Rules.Statements as rules
 use Rattle.typing_actions.specs.declared.config.Config.{Config}
-use Rattle.typing_actions.specs.Stacks.{stuck, one, two, above, with_step, with_test}
+use Rattle.typing_actions.specs.Stacks.{stuck, one, two, three, above, with_step, with_test}
 
 -- the test of an `if`
 abbrev pub test : Config → Out Config
@@ -87,6 +90,22 @@ step_if true ys f = one ys (λ y rest. f (Some y) rest)
 abbrev pub whole_loop : ℕ → Bool → Bool → Config → Out Config
 whole_loop at has_first has_body c = two c.tests (λ test update tests. step_if has_body c.steps (λ body below. step_if has_first below (λ first rest.
     Ok (record c { tests = tests; steps = rules.loop_of at first test update body ∷ rest }))))
+
+-- How a loop over elements begins: the declarations of its iterator and of its variable are there, and the variable is in sight.
+abbrev pub each_begun : ℕ → Spelled → Ty → Part → Config → Out Config
+each_begun at name to x c = bind (loops.each_of at name.spelling to x c.state) (λ e. bind (declared name.at name.spelling to c.state) (λ s.
+    Ok (record c { steps = e.element ∷ e.first ∷ c.steps; state = s })))
+
+abbrev pub each : ℕ → Spelled → TypeName → Config → Out Config
+each at name of c = one c.parts (λ x rest. bind (type_of of) (λ to. each_begun at name to x (record c { parts = rest })))
+
+-- the same of a variable of type def
+abbrev pub each_def : ℕ → Spelled → Config → Out Config
+each_def at name c = one c.parts (λ x rest. each_begun at name ty.Def x (record c { parts = rest }))
+
+-- a loop over elements, with its body
+abbrev pub each_loop : ℕ → Config → Out Config
+each_loop at c = three c.steps (λ first element body rest. Ok (record c { steps = loops.each_loop at first element body ∷ rest }))
 
 abbrev pub do_loop : ℕ → Config → Out Config
 do_loop at c = one c.tests (λ test tests. one c.steps (λ body rest. Ok (record c { tests = tests; steps = rules.do_of at body test ∷ rest })))

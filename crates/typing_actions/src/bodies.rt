@@ -34,10 +34,10 @@ pub fn enter(config: &mut Config)
 }
 
 /// A type, which is only looked at.
-pub fn look_at(_config: &Config, of: &TypeName) -> Result<(), Fail>
+pub fn look_at(alloc: Global, _config: &Config, of: &TypeName) -> Result<(), Fail>
     ensures { KeepsIn (spec.look_at of.now _config.now) result _config.now }
 {
-    match type_of(of) {
+    match type_of(alloc, of) {
         Ok(_) => Ok(()),
         Err(fail) => Err(fail),
     }
@@ -61,6 +61,6 @@ pub fn declare_of(
 ) -> Result<(), Fail>
     ensures { KeepsIn (spec.declare_of name.now of.now config.old) result config.new }
 {
-    let of = type_of(of)?;
+    let of = type_of(alloc, of)?;
     declare(alloc, config, name, of)
 }

@@ -11,7 +11,7 @@ use pl_types::Fail;
 use plain_data::Text;
 use std::alloc::Global;
 use typing_rules::Header;
-use typing_rules::rules::{calls, casts, literals, operators, places, types};
+use typing_rules::rules::{calls, casts, containers, literals, operators, places, types};
 
 /// An integer literal.
 pub fn integer(alloc: Global, config: &mut Config, at: u32, spelling: &Text) -> Result<(), Fail>
@@ -106,7 +106,7 @@ pub fn instance_of(alloc: Global, config: &mut Config, at: u32, of: &TypeName) -
     ensures { KeepsIn (spec.instance_of at of.now config.old) result config.new }
 {
     let x = config.take_part()?;
-    let of = types::type_of(of)?;
+    let of = types::type_of(alloc, of)?;
     config.put_part(operators::instance_of(alloc, at, x, &of))
 }
 
@@ -118,12 +118,58 @@ pub fn bracketed(config: &mut Config, at: u32) -> Result<(), Fail>
     put(&mut config.parts, x.bracketed(at))
 }
 
+/// A list of the elements above a height.
+pub fn list(alloc: Global, config: &mut Config, at: u32, height: usize) -> Result<(), Fail>
+    ensures { KeepsIn (spec.list at height config.old) result config.new }
+{
+    let given = take_up(alloc, &mut config.parts, height)?;
+    config.put_part(containers::list_of(alloc, at, given))
+}
+
+/// A map of the keys and values above a height.
+pub fn map(alloc: Global, config: &mut Config, at: u32, height: usize) -> Result<(), Fail>
+    ensures { KeepsIn (spec.map_ at height config.old) result config.new }
+{
+    let given = take_up(alloc, &mut config.parts, height)?;
+    config.put_part(containers::map_of(alloc, at, given))
+}
+
+/// An array of the sizes above a height.
+pub fn array(
+    alloc: Global,
+    config: &mut Config,
+    at: u32,
+    of: &TypeName,
+    height: usize,
+) -> Result<(), Fail>
+    ensures { KeepsIn (spec.array at of.now height config.old) result config.new }
+{
+    let given = take_up(alloc, &mut config.parts, height)?;
+    let of = types::type_of(alloc, of)?;
+    config.put_part(containers::array_of(alloc, at, of, given))
+}
+
+/// An array of the elements above a height.
+pub fn array_with(
+    alloc: Global,
+    config: &mut Config,
+    at: u32,
+    of: &TypeName,
+    height: usize,
+) -> Result<(), Fail>
+    ensures { KeepsIn (spec.array_with at of.now height config.old) result config.new }
+{
+    let given = take_up(alloc, &mut config.parts, height)?;
+    let of = types::type_of(alloc, of)?;
+    config.put_part(containers::array_with(alloc, at, of, given))
+}
+
 /// A cast that is written.
 pub fn asked(alloc: Global, config: &mut Config, at: u32, of: &TypeName) -> Result<(), Fail>
     ensures { KeepsIn (spec.asked at of.now config.old) result config.new }
 {
     let x = config.take_part()?;
-    let to = types::type_of(of)?;
+    let to = types::type_of(alloc, of)?;
     config.put_part(casts::asked(alloc, at, &to, x))
 }
 

@@ -12,8 +12,8 @@ use pl_types::{Fail, Refusal, Ty, rules};
 use plain_data::{Items, Text};
 use plain_stack::Stack;
 use std::alloc::Global;
-use typing_rules::rules::{casts, statements, types};
-use typing_rules::{Form, Step};
+use typing_rules::rules::{casts, loops, statements, types};
+use typing_rules::{Form, Part, Step};
 
 /// The test of an `if`.
 pub fn test(alloc: Global, config: &mut Config) -> Result<(), Fail>
@@ -65,7 +65,7 @@ pub fn initial(alloc: Global, config: &mut Config, of: &TypeName) -> Result<(), 
     ensures { KeepsIn (spec.initial of.now config.old) result config.new }
 {
     let x = config.take_part()?;
-    let to = types::type_of(of)?;
+    let to = types::type_of(alloc, of)?;
     config.put_test(casts::cast_to(alloc, &to, x))
 }
 
@@ -79,7 +79,7 @@ pub fn variable(
     ensures { KeepsIn (spec.variable name.now of.now config.old) result config.new }
 {
     let value = take_top(&mut config.tests)?;
-    let to = types::type_of(of)?;
+    let to = types::type_of(alloc, of)?;
     put_given(
         &mut config.variables,
         statements::variable_of(alloc, name, &to, value, &mut config.state),
@@ -205,6 +205,57 @@ pub fn whole_loop(
     let body = take_if(&mut config.steps, has_body)?;
     let first = take_if(&mut config.steps, has_first)?;
     config.put_built(statements::loop_of(alloc, at, first, test, update, body))
+}
+
+/// How a loop over the elements of a value begins.
+fn each_begun(
+    alloc: Global,
+    config: &mut Config,
+    at: u32,
+    name: &Spelled,
+    to: Ty,
+    x: Part,
+) -> Result<(), Fail>
+    ensures { KeepsIn (spec.each_begun at name.now to x config.old) result config.new }
+{
+    let each = loops::each_of(alloc, at, &name.spelling, &to, x, &config.state)?;
+    let (first, element) = each.into_steps();
+    config.state.declare(alloc, name.at, &name.spelling, to)?;
+    put(&mut config.steps, first)?;
+    put(&mut config.steps, element)
+}
+
+/// The same, with a variable of a type that was looked at before.
+pub fn each(
+    alloc: Global,
+    config: &mut Config,
+    at: u32,
+    name: &Spelled,
+    of: &TypeName,
+) -> Result<(), Fail>
+    ensures { KeepsIn (spec.each at name.now of.now config.old) result config.new }
+{
+    let x = config.take_part()?;
+    let to = types::type_of(alloc, of)?;
+    each_begun(alloc, config, at, name, to, x)
+}
+
+/// The same, with a variable of type def.
+pub fn each_def(alloc: Global, config: &mut Config, at: u32, name: &Spelled) -> Result<(), Fail>
+    ensures { KeepsIn (spec.each_def at name.now config.old) result config.new }
+{
+    let x = config.take_part()?;
+    each_begun(alloc, config, at, name, Ty::Def, x)
+}
+
+/// A loop over elements, whose body is typed.
+pub fn each_loop(alloc: Global, config: &mut Config, at: u32) -> Result<(), Fail>
+    ensures { KeepsIn (spec.each_loop at config.old) result config.new }
+{
+    let body = take_top(&mut config.steps)?;
+    let element = take_top(&mut config.steps)?;
+    let first = take_top(&mut config.steps)?;
+    config.put_step(loops::each_loop(alloc, at, first, element, body))
 }
 
 /// A `do`.

@@ -48,6 +48,8 @@ pub fn does(alloc: Global, config: &mut Config, act: Act) -> Result<(), Fail>
         Act::Choice(at) => expressions::choice(alloc, config, at),
         Act::Elvis(at) => expressions::elvis(alloc, config, at),
         Act::Bracketed(at) => expressions::bracketed(config, at),
+        Act::List(at, height) => expressions::list(alloc, config, at, height),
+        Act::Map(at, height) => expressions::map(alloc, config, at, height),
         Act::Fixed => places::fixed(config),
         Act::Assign(at, operator) => places::assign(alloc, config, at, operator),
         Act::Step(at, step, gives) => places::step(alloc, config, at, step, gives),
@@ -80,6 +82,7 @@ pub fn does_statement(alloc: Global, config: &mut Config, act: StatementAct) -> 
             statements::whole_loop(alloc, config, at, has_first, has_body)
         },
         StatementAct::DoLoop(at) => statements::do_loop(alloc, config, at),
+        StatementAct::EachLoop(at) => statements::each_loop(alloc, config, at),
         StatementAct::Try(at, height) => statements::whole_try(alloc, config, at, height),
         StatementAct::Close(height) => {
             bodies::close(config, height);
@@ -135,7 +138,7 @@ pub fn does_word<'a>(
         WordItem::Text(at, spelling) => expressions::text(alloc, config, at, spelling),
         WordItem::Name(at, spelling) => expressions::local(alloc, config, at, spelling),
         WordItem::Written(at, spelling) => places::written(alloc, config, at, spelling),
-        WordItem::TypeOf(of) => bodies::look_at(config, of),
+        WordItem::TypeOf(of) => bodies::look_at(alloc, config, of),
         WordItem::Asked(at, of) => expressions::asked(alloc, config, at, of),
         WordItem::InstanceOf(at, of) => expressions::instance_of(alloc, config, at, of),
         WordItem::MethodCalled(at, access, name, height) => {
@@ -146,6 +149,19 @@ pub fn does_word<'a>(
         }
         WordItem::Made(at, of, height) => members::made(alloc, allow, config, at, of, height),
         WordItem::Read(at, access, name) => members::read(alloc, allow, config, at, access, name),
+        WordItem::Numbered(at, access, digits) => {
+            members::numbered(alloc, allow, config, at, access, digits)
+        }
+        WordItem::Indexed(at) => members::indexed(alloc, allow, config, at),
+        WordItem::ArrayMade(at, of, height) => expressions::array(alloc, config, at, of, height),
+        WordItem::ArrayFilled(at, of, height) => {
+            expressions::array_with(alloc, config, at, of, height)
+        }
+        WordItem::WrittenName(at, by, name) => places::named(alloc, allow, config, by, at, name),
+        WordItem::WrittenNumber(at, by, digits) => {
+            places::numbered(alloc, allow, config, by, at, digits)
+        }
+        WordItem::WrittenIndex(at, by) => places::indexed(alloc, allow, config, by, at),
         WordItem::Field(at, access, of, name) => {
             members::field(alloc, allow, config, at, access, of, name)
         }
@@ -165,6 +181,8 @@ pub fn does_binding<'a>(
     match binding {
         BindingItem::CastInitial(of) => statements::initial(alloc, config, of),
         BindingItem::Declare(name, of) => statements::variable(alloc, config, name, of),
+        BindingItem::Each(at, name, of) => statements::each(alloc, config, at, name, of),
+        BindingItem::EachDef(at, name) => statements::each_def(alloc, config, at, name),
         BindingItem::Named(name, of) => bodies::declare_of(alloc, config, name, of),
         BindingItem::NamedDef(name) => bodies::declare(alloc, config, name, Ty::Def),
         BindingItem::Catching(of, name) => statements::catching(alloc, config, of, name),

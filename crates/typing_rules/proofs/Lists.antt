@@ -13,7 +13,7 @@ use Rattle.typing_rules.specs.declared.part.Part.{Part}
 use Rattle.typing_rules.specs.declared.part.Step.{Step}
 use Rattle.typing_rules.specs.Outcomes.{Out, Keeps, KeepsIn, bind}
 use Rattle.typing_rules.specs.Rules.Calls.{arguments}
-use Rattle.typing_rules.specs.Rules.Casts.{cast_to}
+use Rattle.typing_rules.specs.Rules.Casts.{cast_to, cast_each}
 use Rattle.typing_rules.specs.Rules.Members.{cast_all}
 use Rattle.typing_rules.specs.Rules.Statements.{statements_of}
 
@@ -85,6 +85,33 @@ pub next_parameter_fails : (whole : Out (List Typed)) (casts done : List Typed) 
 next_parameter_fails whole casts done ps i p xs e told is below item fails =
     told_as whole e told (fails_by whole (behind casts (cast_all (p.of ∷ []) xs)) (λ zs. behind zs (arguments (drop (suc i) ps) (drop 1 xs))) e done
     (is ∙ ap (λ (l : List Named). behind casts (arguments l xs)) (drop-cons ps i p below ∙ ap (λ (q : Named). q ∷ drop (suc i) ps) (sym item)) ∙ one_parameter casts p (drop (suc i) ps) xs) fails)
+
+-- the next part of those that are left, which is the last
+turned : (left : List Part) (x : Part) → reverse (left ++ x ∷ []) ≡ x ∷ reverse left
+turned left x = grind (arith, common_steps)
+
+one_part : (casts : List Typed) (to : Ty) (x : Part) (xs : List Part) → behind casts (cast_each to (x ∷ xs)) ≡ bind (behind casts (cast_all (to ∷ []) (x ∷ []))) (λ zs. behind zs (cast_each to xs))
+one_part casts to x xs = joined casts (cast_to to x) (cast_each to xs)
+
+next_by : (casts : List Typed) (to : Ty) (all left : List Part) (x : Part) → all ≡ left ++ x ∷ []
+    → behind casts (cast_each to (reverse all)) ≡ bind (behind casts (cast_all (to ∷ []) (x ∷ []))) (λ zs. behind zs (cast_each to (reverse left)))
+next_by casts to all left x is =
+    ap (λ (l : List Part). behind casts (cast_each to (reverse l))) is
+    ∙ ap (λ (l : List Part). behind casts (cast_each to l)) (turned left x)
+    ∙ one_part casts to x (reverse left)
+
+pub next_part : (casts done : List Typed) (to : Ty) (all left : List Part) (x : Part) → all ≡ left ++ x ∷ [] → behind casts (cast_all (to ∷ []) (x ∷ [])) ≡ Ok done
+    → behind casts (cast_each to (reverse all)) ≡ behind done (cast_each to (reverse left))
+next_part casts done to all left x is given = next_by casts to all left x is ∙ ap (λ (o : Out (List Typed)). bind o (λ zs. behind zs (cast_each to (reverse left)))) given
+
+pub next_part_fails : (whole : Out (List Typed)) (casts done : List Typed) (to : Ty) (all left : List Part) (x : Part) (e : Fail) (told : Result (List Typed) Fail) → whole ≡ behind casts (cast_each to (reverse all)) → all ≡ left ++ x ∷ []
+    → KeepsIn {U = Unit {0}} (behind casts (cast_all (to ∷ []) (x ∷ []))) (Err e) done → IsErr told → IsErrAnd told (λ x. x ≡ e) → Keeps whole told
+next_part_fails whole casts done to all left x e told is ends fails =
+    told_as whole e told (fails_by whole (behind casts (cast_all (to ∷ []) (x ∷ []))) (λ zs. behind zs (cast_each to (reverse left))) e done (is ∙ next_by casts to all left x ends) fails)
+
+pub end_of_parts : (casts : List Typed) (to : Ty) (all : List Part) → all ≡ [] → behind casts (cast_each to (reverse all)) ≡ Ok casts
+end_of_parts casts to all is =
+    ap (λ (l : List Part). behind casts (cast_each to (reverse l))) is ∙ ap (λ (zs : List Typed). Ok zs) (append-nil casts)
 
 -- none of the types is left
 pub end_of_types : (casts : List Typed) (ts : List Ty) (i : ℕ) (xs : List Part) → length ts ≤ i → behind casts (cast_all (drop i ts) xs) ≡ Ok casts

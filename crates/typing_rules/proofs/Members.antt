@@ -20,6 +20,7 @@ use Rattle.allowlist.proofs.Members.{own_of, asks}
 use Rattle.allowlist.proofs.Places.{own_found}
 use Rattle.allowlist.proofs.Tables.{length-catalogue}
 use Rattle.allowlist.proofs.Unique.{found_is_allowed}
+use Rattle.typing_rules.specs.Rules.Locations as locations
 use Rattle.typing_rules.specs.Rules.Members as spec
 
 -- what is read at a number
@@ -152,3 +153,8 @@ by_get allow class name number h = getter_is allow class name ∙ ap (λ o. spec
 
 pub by_is : (allow : AllowList) (class : ℕ) (name : List ℕ) → member_of allow class (accessor_name accessor.Get name) 0 ≡ None → spec.getter allow class name ≡ member_of allow class (accessor_name accessor.Is name) 0
 by_is allow class name h = getter_is allow class name ∙ ap (λ o. spec.or_else o (member_of allow class (accessor_name accessor.Is name) 0)) h
+
+-- ---- setters
+
+pub setter_is : (allow : AllowList) (class : ℕ) (name : List ℕ) → locations.setter allow class name ≡ member_of allow class (accessor_name accessor.Set name) 1
+setter_is allow class name = ap (λ n. member_of allow class (codes "set" ++ n) 1) (capital_is name)

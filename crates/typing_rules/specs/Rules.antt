@@ -8,5 +8,9 @@ pub mod Sides
 pub mod Places
 pub mod Calls
 pub mod Members
+pub mod Accesses
+pub mod Locations
+pub mod Containers
 pub mod Statements
+pub mod Loops
 pub mod Functions

@@ -40,22 +40,27 @@ use Rattle.typing_rules.specs.Rules.Literals.{integer, negated_integer, constant
 use Rattle.typing_rules.specs.Rules.Casts.{cast_to, asked}
 use Rattle.typing_rules.specs.Rules.Operators.{binary_of, unary_of, choice_of, elvis_of, instance_of}
 use Rattle.typing_rules.specs.Rules.Places.{local, written, assign_of, step_of}
+use Rattle.typing_rules.specs.Rules.Accesses.{read_of, numbered_of, index_of}
+use Rattle.typing_rules.specs.Rules.Locations.{name_location, number_location, index_location}
+use Rattle.typing_rules.specs.Rules.Containers.{list_of, map_of, array_of, array_with}
+use Rattle.typing_rules.specs.Rules.Loops.{each_of, each_loop}
+use Rattle.pl_tree.specs.declared.operator.BinaryOperator.{BinaryOperator}
 use Rattle.allowlist.specs.Allow.{AllowList}
 use Rattle.pl_tree.specs.declared.operator.Access.{Access}
 use Rattle.pl_tree.specs.declared.operator.Access.TheVariants as access
 use Rattle.typing_rules.specs.Rules.Calls.{call_of}
-use Rattle.typing_rules.specs.Rules.Members.{read_of, field_of, method_of, static_of, new_of}
+use Rattle.typing_rules.specs.Rules.Members.{field_of, method_of, static_of, new_of}
 use Rattle.typing_rules.specs.Rules.Statements.{reached, deed, expression_of, variable_of, declaration_of, test, loop_test, if_of, loop_of, do_of, break_of, continue_of, return_of, nothing_returned, throw_of, block_of, caught, try_of}
 use Rattle.typing_rules.specs.Rules.Functions.{headers, function_start, main_start, finished, main}
 
 -- An expression: its first token, the type that it is where it is none, its value, its value directly behind a minus that stands at a place,
--- and what it is to be written to.
+-- and what it is to be written to. What reads it too stands at a place.
 pub record Reading : Type 0 where
   pub first : ℕ
   pub names : Option (Doing Ty)
   pub value : Doing Part
   pub negated : ℕ → Doing Part
-  pub place : Doing Place
+  pub place : Option ℕ → Doing Place
 
 -- a statement at its first token; it may be the last of the main script
 pub record Doer : Type 0 where
@@ -71,8 +76,13 @@ abbrev pub Seen : Type 0
 Seen = Doing (Unit {0})
 
 -- what is no variable is not written to
-abbrev pub fixed : Doing Part → Doing Place
-fixed value = do x ← value; pure place.Fixed
+abbrev pub fixed : Doing Part → Option ℕ → Doing Place
+fixed value by = do x ← value; pure place.Fixed
+
+-- an assignment with an operator reads too
+abbrev pub read_at : ℕ → Option BinaryOperator → Option ℕ
+read_at at None = None
+read_at at (Some operator) = Some at
 
 -- what is no literal and no name
 abbrev pub plain : ℕ → Doing Part → Reading
@@ -91,10 +101,6 @@ unbuilt at = by_rule (refuse OUT_OF_PROFILE at)
 -- a part that is only looked through
 abbrev pub seen : {A : Type 0} → Doing A → Seen
 seen m = do x ← m; pure tt
-
-abbrev pub all_seen : List Seen → Seen
-all_seen [] = pure tt
-all_seen (m ∷ rest) = do m; all_seen rest
 
 -- the names that a part declares are gone behind it
 abbrev pub scoped : {A : Type 0} → Doing A → Doing A
@@ -116,6 +122,14 @@ is_empty (m ∷ rest) = false
 abbrev pub parts : List (Doing Part) → Doing (List Part)
 parts [] = pure []
 parts (m ∷ rest) = do x ← m; xs ← parts rest; pure (x ∷ xs)
+
+abbrev pub value_of : Reading → Doing Part
+value_of e = e.value
+
+-- entries of a map, from the left to the right: each a key, and a value
+abbrev pub entries : List (Doing (Part × Part)) → Doing (List Part)
+entries [] = pure []
+entries (m ∷ rest) = do p ← m; xs ← entries rest; pure (p.0 ∷ p.1 ∷ xs)
 
 -- Statements; behind one that escapes stands none. The last of the main script may be its result.
 abbrev pub statements : Bool → Bool → List Doer → Doing (List Step)
@@ -170,33 +184,38 @@ abbrev pub handlers : List (Doing Caught) → Doing (List Caught)
 handlers [] = pure []
 handlers (m ∷ rest) = do x ← m; xs ← handlers rest; pure (x ∷ xs)
 
--- Loops over elements are not built. The variable is declared behind what is gone over, and before the body.
+-- a loop over elements, whose variable is in sight in its body
 abbrev pub for_each : ℕ → Doing Ty → Spelled → Reading → Doing Step → Doing Step
-for_each at type name over body = do of ← type; x ← over.value; changing (declared name.at name.spelling of); y ← looping body; unbuilt at
-
--- A name behind a dot as what is written to: that of a value is not built. A name of a class, and one behind `?.`, are read, and are not
--- written to.
-abbrev pub member_place : Access → ℕ → Reading → Option (Doing Ty) → Doing Part → Doing Place
-member_place access.Plain at receiver None read = do x ← receiver.value; unbuilt at
-member_place access.Plain at receiver (Some type) read = fixed read
-member_place access.Guarded at receiver names read = fixed read
-
--- an element of a list by its number; a class has none
-abbrev pub element : ℕ → Reading → Option (Doing Ty) → Doing Part
-element at receiver None = do x ← receiver.value; unbuilt at
-element at receiver (Some type) = do t ← type; by_rule (refuse UNKNOWN_MEMBER at)
+for_each at type name over body =
+    scoped (do of ← type; x ← over.value; e ← looking (each_of at name.spelling of x); changing (declared name.at name.spelling of); y ← looping body; pure (each_loop at e.first e.element y))
 
 module _ (allow : AllowList) (hs : List Header) where
   abbrev pub call : ℕ → List ℕ → List (Doing Part) → Doing Part
   call at name given = do xs ← parts given; by_rule (call_of hs at name xs)
 
   abbrev pub Open : (Type 0 → Type 0 → Type 0 → Type 0 → Type 0 → Type 0 → Type 0 → Type 0 → Type 0 → Type 0 → Type 0 → Type 0) → Type 0
-  Open F = F (Doing Part) (Doing Step) Reading (Doing Step) Seen Doer Braces (Doing Caught) Doer Seen (Ty → Doing TypedVariable)
+  Open F = F (Doing Part) (Doing Step) Reading (Doing Step) Seen Doer Braces (Doing Caught) Doer (Doing (Part × Part)) (Ty → Doing TypedVariable)
 
   -- a member of a value, or of the class that a type names
   abbrev pub read : Access → ℕ → Reading → Option (Doing Ty) → List ℕ → Doing Part
   read access at receiver None name = do x ← receiver.value; by_rule (read_of allow access at name x)
   read access at receiver (Some type) name = do t ← type; by_rule (field_of allow access at name t)
+
+  -- A name behind a dot as what is written to. A name of a class, and one behind `?.`, are read, and are not written to.
+  abbrev pub member_place : Access → ℕ → Reading → Option (Doing Ty) → List ℕ → Doing Part → Option ℕ → Doing Place
+  member_place access.Plain at receiver None name value by = do x ← receiver.value; by_rule (name_location allow by at name x)
+  member_place access.Plain at receiver (Some type) name value by = fixed value by
+  member_place access.Guarded at receiver names name value by = fixed value by
+
+  -- an element by its number; a class has none
+  abbrev pub element : Access → ℕ → Reading → Option (Doing Ty) → List ℕ → Doing Part
+  element access at receiver None digits = do x ← receiver.value; by_rule (numbered_of allow access at digits x)
+  element access at receiver (Some type) digits = do t ← type; by_rule (refuse UNKNOWN_MEMBER at)
+
+  abbrev pub element_place : Access → ℕ → Reading → Option (Doing Ty) → List ℕ → Doing Part → Option ℕ → Doing Place
+  element_place access.Plain at receiver None digits value by = do x ← receiver.value; by_rule (number_location allow by at digits x)
+  element_place access.Plain at receiver (Some type) digits value by = fixed value by
+  element_place access.Guarded at receiver names digits value by = fixed value by
 
   abbrev pub method : Access → ℕ → Reading → Option (Doing Ty) → List ℕ → List (Doing Part) → Doing Part
   method access at receiver None name given = do x ← receiver.value; xs ← parts given; by_rule (method_of allow access at name x xs)
@@ -219,14 +238,14 @@ module _ (allow : AllowList) (hs : List Header) where
   unary operator at operand = plain at (do x ← operand.value; by_rule (unary_of operator at x))
 
   abbrev pub expression_step : Open Expr-F → Reading
-  expression_step (Expr-F.Assign operator at target value) = plain target.first (do p ← target.place; x ← value.value; by_rule (assign_of at operator p x))
+  expression_step (Expr-F.Assign operator at target value) = plain target.first (do p ← target.place (read_at at operator); x ← value.value; by_rule (assign_of at operator p x))
   expression_step (Expr-F.Conditional at condition left right) = plain condition.first (do z ← condition.value; x ← left.value; y ← right.value; by_rule (choice_of at z x y))
   expression_step (Expr-F.Elvis at left right) = plain left.first (do x ← left.value; y ← right.value; by_rule (elvis_of at x y))
   expression_step (Expr-F.Binary operator at left right) = plain left.first (do x ← left.value; y ← right.value; by_rule (binary_of operator at x y))
   expression_step (Expr-F.Instanceof at operand of) = plain operand.first (do x ← operand.value; t ← by_rule (type_of of); by_rule (instance_of at x t))
   expression_step (Expr-F.Unary operator at operand) = unary operator at operand
-  expression_step (Expr-F.Prefix step at target) = plain at (do p ← target.place; by_rule (step_of at step g.New p))
-  expression_step (Expr-F.Postfix step at target) = plain at (do p ← target.place; by_rule (step_of at step g.Old p))
+  expression_step (Expr-F.Prefix step at target) = plain at (do p ← target.place (Some at); by_rule (step_of at step g.New p))
+  expression_step (Expr-F.Postfix step at target) = plain at (do p ← target.place (Some at); by_rule (step_of at step g.Old p))
   expression_step (Expr-F.Cast at of operand) = plain at (do to ← by_rule (type_of of); x ← operand.value; by_rule (asked at to x))
   expression_step (Expr-F.Bracketed at inner) = plain at (do x ← inner.value; pure (bracketed at x))
   expression_step (Expr-F.Integer at spelling) = record {
@@ -238,24 +257,24 @@ module _ (allow : AllowList) (hs : List Header) where
   }
   expression_step (Expr-F.Text at spelling) = plain at (by_rule (text at spelling))
   expression_step (Expr-F.Constant constant_ at) = plain at (by_rule (constant at constant_))
-  expression_step (Expr-F.List at items) = plain at (do all_seen (map (λ (e : Reading). seen e.value) items); unbuilt at)
-  expression_step (Expr-F.Map at entries) = plain at (do all_seen entries; unbuilt at)
+  expression_step (Expr-F.List at items) = plain at (do xs ← parts (map value_of items); by_rule (list_of at xs))
+  expression_step (Expr-F.Map at pairs) = plain at (do xs ← entries pairs; by_rule (map_of at xs))
   expression_step (Expr-F.Name at spelling) = record {
     first = at;
     names = None;
     value = looking (local at spelling);
     negated = (λ minus. (do x ← looking (local at spelling); by_rule (unary_of sign.Minus minus x)));
-    place = looking (written at spelling);
+    place = (λ by. looking (written at spelling));
   }
   expression_step (Expr-F.Call at spelling given) = plain at (call at spelling given)
   expression_step (Expr-F.New at of given) = plain at (do t ← by_rule (type_of of); xs ← parts given; by_rule (new_of allow at t xs))
-  expression_step (Expr-F.NewArray at of sizes) = plain at (do t ← by_rule (type_of of); all_seen (map (λ (e : Reading). seen e.value) sizes); unbuilt at)
-  expression_step (Expr-F.NewItems at of items) = plain at (do t ← by_rule (type_of of); all_seen (map (λ (e : Reading). seen e.value) items); unbuilt at)
+  expression_step (Expr-F.NewArray at of sizes) = plain at (do t ← by_rule (type_of of); xs ← parts (map value_of sizes); by_rule (array_of at t xs))
+  expression_step (Expr-F.NewItems at of items) = plain at (do t ← by_rule (type_of of); xs ← parts (map value_of items); by_rule (array_with at t xs))
   expression_step (Expr-F.Type of) = record (plain of.at (do t ← by_rule (type_of of); unbuilt of.at)) { names = Some (by_rule (type_of of)) }
-  expression_step (Expr-F.Member access at receiver spelling) = record (plain receiver.first (read access at receiver receiver.names spelling)) { place = member_place access at receiver receiver.names (read access at receiver receiver.names spelling) }
+  expression_step (Expr-F.Member access at receiver spelling) = record (plain receiver.first (read access at receiver receiver.names spelling)) { place = member_place access at receiver receiver.names spelling (read access at receiver receiver.names spelling) }
   expression_step (Expr-F.Method access at receiver spelling given) = plain receiver.first (method access at receiver receiver.names spelling given)
-  expression_step (Expr-F.Element access at receiver spelling) = plain receiver.first (element at receiver receiver.names)
-  expression_step (Expr-F.Index at receiver index) = plain receiver.first (do x ← receiver.value; y ← index.value; unbuilt at)
+  expression_step (Expr-F.Element access at receiver digits) = record (plain receiver.first (element access at receiver receiver.names digits)) { place = element_place access at receiver receiver.names digits (element access at receiver receiver.names digits) }
+  expression_step (Expr-F.Index at receiver index) = record (plain receiver.first (do x ← receiver.value; y ← index.value; by_rule (index_of allow at x y))) { place = λ by. (do x ← receiver.value; y ← index.value; by_rule (index_location allow by at x y)) }
 
   abbrev pub first_step : Open First-F → Doing Step
   first_step (First-F.«First::Declare» declaration) = declaration.typed false
@@ -299,30 +318,30 @@ module _ (allow : AllowList) (hs : List Header) where
   abbrev pub declaration_step : Open Declaration-F → Doer
   declaration_step d = record { at = d.of.at; typed = λ last. (do of ← by_rule (type_of d.of); vs ← variables of d.variables; pure (declaration_of d.of.at vs)) }
 
-  abbrev pub entry_step : Open Entry-F → Seen
-  entry_step entry = do seen entry.key.value; seen entry.value.value
+  abbrev pub entry_step : Open Entry-F → Doing (Part × Part)
+  entry_step entry = do x ← entry.key.value; y ← entry.value.value; pure (x, y)
 
   abbrev pub variable_step : Open Variable-F → Ty → Doing TypedVariable
   variable_step v of = do x ← initial of v.value; stating (variable_of v.name of x)
 
   abbrev pub reading : Expr → Reading
-  reading = fold-Expr (Doing Part) (Doing Step) Reading (Doing Step) Seen Doer Braces (Doing Caught) Doer Seen (Ty → Doing TypedVariable)
+  reading = fold-Expr (Doing Part) (Doing Step) Reading (Doing Step) Seen Doer Braces (Doing Caught) Doer (Doing (Part × Part)) (Ty → Doing TypedVariable)
       argument_step body_step expression_step first_step lambda_step statement_step block_step catch_step declaration_step entry_step variable_step
 
   abbrev pub argument : Argument → Doing Part
-  argument = fold-Argument (Doing Part) (Doing Step) Reading (Doing Step) Seen Doer Braces (Doing Caught) Doer Seen (Ty → Doing TypedVariable)
+  argument = fold-Argument (Doing Part) (Doing Step) Reading (Doing Step) Seen Doer Braces (Doing Caught) Doer (Doing (Part × Part)) (Ty → Doing TypedVariable)
       argument_step body_step expression_step first_step lambda_step statement_step block_step catch_step declaration_step entry_step variable_step
 
   abbrev pub body : Body → Doing Step
-  body = fold-Body (Doing Part) (Doing Step) Reading (Doing Step) Seen Doer Braces (Doing Caught) Doer Seen (Ty → Doing TypedVariable)
+  body = fold-Body (Doing Part) (Doing Step) Reading (Doing Step) Seen Doer Braces (Doing Caught) Doer (Doing (Part × Part)) (Ty → Doing TypedVariable)
       argument_step body_step expression_step first_step lambda_step statement_step block_step catch_step declaration_step entry_step variable_step
 
   abbrev pub doer : Statement → Doer
-  doer = fold-Statement (Doing Part) (Doing Step) Reading (Doing Step) Seen Doer Braces (Doing Caught) Doer Seen (Ty → Doing TypedVariable)
+  doer = fold-Statement (Doing Part) (Doing Step) Reading (Doing Step) Seen Doer Braces (Doing Caught) Doer (Doing (Part × Part)) (Ty → Doing TypedVariable)
       argument_step body_step expression_step first_step lambda_step statement_step block_step catch_step declaration_step entry_step variable_step
 
   abbrev pub braces : Block → Braces
-  braces = fold-Block (Doing Part) (Doing Step) Reading (Doing Step) Seen Doer Braces (Doing Caught) Doer Seen (Ty → Doing TypedVariable)
+  braces = fold-Block (Doing Part) (Doing Step) Reading (Doing Step) Seen Doer Braces (Doing Caught) Doer (Doing (Part × Part)) (Ty → Doing TypedVariable)
       argument_step body_step expression_step first_step lambda_step statement_step block_step catch_step declaration_step entry_step variable_step
 
 -- a body from its first step

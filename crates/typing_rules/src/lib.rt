@@ -11,8 +11,9 @@ pub mod rules;
 mod scopes;
 mod state;
 mod texts;
+mod words;
 
 pub use header::{ContextTypes, Header};
-pub use part::{Caught, Form, Part, Place, Step};
+pub use part::{Caught, Each, Form, Location, Part, Place, Step};
 pub use scopes::{Entry, Scopes, Standing};
 pub use state::State;

@@ -6,8 +6,8 @@ ghost use Rattle.typing_rules.specs.Rules.Places as places;
 ghost use Rattle.typing_rules.specs.Rules.Statements as statements;
 
 use pl_types::Ty;
-use plain_data::{Subtree, Text};
-use typed_tree::{Typed, TypedCatch, TypedStatement};
+use plain_data::{Items, Subtree, Text};
+use typed_tree::{Target, Typed, TypedCatch, TypedStatement};
 
 /// What an expression is to the rules of the node around it.
 #[derive(Clone, Copy)]
@@ -74,10 +74,46 @@ impl Part {
     }
 }
 
+/// What is written to, with the parts of it that are values.
+pub struct Location {
+    pub target: Target,
+    pub parts: Items<Subtree<Typed>>,
+    /// The type of what is read.
+    pub gives: Ty,
+    /// The type of what is written.
+    pub takes: Ty,
+}
+
+impl Drop for Location {
+    fn drop(self) {
+        let Location {
+            target: _target,
+            parts: _parts,
+            gives: _gives,
+            takes: _takes,
+        } = self;
+    }
+}
+
+impl Location {
+    /// The target, its parts, the type of what is read, and that of what is written.
+    pub fn into_parts(self) -> (Target, Items<Subtree<Typed>>, Ty, Ty)
+        ensures { result ≡ (self.target, self.parts, self.gives, self.takes) }
+    {
+        let Location {
+            target,
+            parts,
+            gives,
+            takes,
+        } = self;
+        (target, parts, gives, takes)
+    }
+}
+
 /// What stands before `=`, `+=` or the like, or at `++` or `--`.
 pub enum Place {
-    /// A variable that is written to.
-    Local { name: Text, of: Ty },
+    /// What is written to.
+    Written(Location),
     /// What is not written to.
     Fixed,
 }
@@ -85,24 +121,46 @@ pub enum Place {
 impl Drop for Place {
     fn drop(self) {
         match self {
-            Place::Local {
-                name: _name,
-                of: _of,
-            } => {}
+            Place::Written(_location) => {}
             Place::Fixed => {}
         }
     }
 }
 
 impl Place {
-    /// The variable that is written to, if it is one.
-    pub fn into_local(self) -> Option<(Text, Ty)>
-        ensures { result ≡ places.local_in self }
+    /// What is written to, if anything is.
+    pub fn into_location(self) -> Option<Location>
+        ensures { result ≡ places.location_in self }
     {
         match self {
-            Place::Local { name, of } => Some((name, of)),
+            Place::Written(location) => Some(location),
             Place::Fixed => None,
         }
+    }
+}
+
+/// How a loop over elements begins: the declaration of its iterator, and that of its variable, with which each turn begins.
+pub struct Each {
+    pub first: Step,
+    pub element: Step,
+}
+
+impl Drop for Each {
+    fn drop(self) {
+        let Each {
+            first: _first,
+            element: _element,
+        } = self;
+    }
+}
+
+impl Each {
+    /// The two declarations.
+    pub fn into_steps(self) -> (Step, Step)
+        ensures { result ≡ (self.first, self.element) }
+    {
+        let Each { first, element } = self;
+        (first, element)
     }
 }
 

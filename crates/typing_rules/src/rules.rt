@@ -1,11 +1,15 @@
 //! The rules, by kind of node.
 
+pub mod accesses;
 pub mod bodies;
 pub mod calls;
 pub mod casts;
+pub mod containers;
 pub mod functions;
 pub mod literals;
+pub mod locations;
 mod lookups;
+pub mod loops;
 pub mod members;
 mod nodes;
 pub mod operators;

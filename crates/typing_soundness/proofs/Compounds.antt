@@ -310,18 +310,18 @@ module _ (funs : Script) where
   abbrev pub some_variables : Kind (List TypedVariable)
   some_variables = record { before = declared; reaches = λ xs. Unit {0} }
 
-  record Declared (s t : State) (name : Spelled) (of : Ty) : Type 0 where
-    is : t ≡ record s { scopes = s.scopes ++ new_entry name.spelling of ∷ [] }
-    known : Known t
+  pub record Declared (s t : State) (name : Spelled) (of : Ty) : Type 0 where
+    pub is : t ≡ record s { scopes = s.scopes ++ new_entry name.spelling of ∷ [] }
+    pub known : Known t
 
-  declared_by : (found : Option ℕ) (s t : State) (name : Spelled) (of : Ty) → find name.spelling s.scopes ≡ found
+  pub declared_by : (found : Option ℕ) (s t : State) (name : Spelled) (of : Ty) → find name.spelling s.scopes ≡ found
       → declared_if found name.at name.spelling of s ≡ Ok t → Known s → Declared s t name of
   declared_by (Some i) s t name of is e d = cc
   declared_by None s t name of is e d =
       settled (λ t. Declared s t name of) (record s { scopes = s.scopes ++ new_entry name.spelling of ∷ [] }) t e
       (record { is = refl; known = (distinct_behind s.scopes (new_entry name.spelling of) d.0 (not_found name.spelling s.scopes is), d.1) })
 
-  declared_grew : (s t : State) (name : Spelled) (of : Ty) → Declared s t name of → Grew s t
+  pub declared_grew : (s t : State) (name : Spelled) (of : Ty) → Declared s t name of → Grew s t
   declared_grew s t name of x = record { more = new_entry name.spelling of ∷ []; is = x.is; known = x.known }
 
   declared_sight : (s t : State) (name : Spelled) (of : Ty) → Declared s t name of → in_sight t.scopes ≡ record { name = name.spelling; of = of } ∷ in_sight s.scopes

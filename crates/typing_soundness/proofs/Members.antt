@@ -1,15 +1,14 @@
 -- Calls of members that rules give agree, where their parts do.
 use Rattle.std.proofs.Common.{◌≡◌, ℕ, suc, ◌+◌, Bool, true, false, ◌&&◌, List, [], ◌∷◌, ◌++◌, map, length, Option, Some, None, Ok, refl, sym, ap, ◌∙◌, subst, arith, eqb-true, ◌⊎◌, inl, inr, codes}
-use Rattle.std.specs.Prelude.{slice_get, ◌==◌, if◌then◌else◌}
+use Rattle.std.specs.Prelude.{slice_get, ◌==◌, ◌||◌, not, if◌then◌else◌}
 use Rattle.std.specs.List.{list_all}
 use Rattle.std.specs.Str.{bytes_eq}
-use Rattle.std.proofs.lemmas.Bool.{and_parts}
+use Rattle.std.proofs.lemmas.Bool.{and_parts, and_from, or_cases}
 use Rattle.std.proofs.lemmas.Option.{get_or_from_slice_get}
 use Rattle.pl_types.specs.declared.conversion.Cast.TheVariants as cast
 use Rattle.pl_types.specs.declared.ty.Ty.{Ty, out-Ty}
 use Rattle.pl_types.specs.declared.ty.Ty.TheVariants as ty
 use Rattle.pl_types.specs.declared.ty.Ty.TheOpen.{Ty-F}
-use Rattle.pl_types.specs.declared.rules.TheConstants.{OUT_OF_PROFILE}
 use Rattle.pl_types.specs.Classes.{class_is_below}
 use Rattle.pl_types.proofs.Shapes.{class_up}
 use Rattle.pl_tree.specs.declared.operator.Access.{Access}
@@ -25,6 +24,7 @@ use Rattle.container_calls.specs.Members.{container_ranges}
 use Rattle.container_calls.proofs.Owners.{holds_of_all, holds_at, if_then, then_holds}
 use Rattle.member_calls.specs.Members.{is_built}
 use Rattle.member_calls.proofs.Built.{built_range, of_built}
+use Rattle.listing_parts.specs.Names.{is_word}
 use Rattle.typed_tree.specs.declared.operation.Operation.{Operation}
 use Rattle.typed_tree.specs.declared.operation.Operation.TheVariants as o
 use Rattle.typed_tree.specs.declared.typed.Typed.{Typed}
@@ -32,38 +32,92 @@ use Rattle.typing_rules.specs.declared.part.Form.{Form}
 use Rattle.typing_rules.specs.declared.part.Form.TheVariants as f
 use Rattle.typing_rules.specs.declared.part.Part.{Part}
 use Rattle.typing_rules.specs.Outcomes.{refuse, bind}
-use Rattle.typing_rules.specs.Rules.Nodes.{applied, part, type_of_part}
-use Rattle.typing_rules.specs.Rules.Types.{is_built_class}
-use Rattle.typing_rules.specs.Rules.Casts.{cast_to}
+use Rattle.typing_rules.specs.Rules.Nodes.{typed, applied, part, type_in, type_of_part, is_void, is_void_layer}
+use Rattle.typing_rules.specs.Rules.Types.{is_built_class, is_built as built_type}
+use Rattle.typing_rules.specs.Rules.Casts.{cast_to, cast_each}
 use Rattle.typing_rules.specs.Rules.Operators.{primitive_layer, primitive_of, is_primitive}
-use Rattle.typing_rules.specs.Rules.Members.{is_open_layer, is_open, is_open_member, is_open_at, is_kind, wanted, member, cast_all, member_arguments, guards, gives_primitive, nullable, result, instance_node, instance_call, called_layer, method_of, static_node, static_call, static_layer, static_of, constructed, new_layer, new_of, or_else, capital, getter, plainly, is_map, read_named, read_layer, read_of, field_node, field_layer, field_of}
+use Rattle.typing_rules.specs.Rules.Members.{is_open, is_open_member, is_open_at, is_kind, wanted, member, cast_all, member_arguments, guards, gives_primitive, nullable, result, accessed, instance_node, instance_call, names_prelude, called_layer, method_of, static_node, static_call, static_layer, static_of, constructed, new_layer, new_of, or_else, capital, getter, plainly, read_named, field_node, field_layer, field_of}
 use Rattle.source_meaning.specs.Tree.{type_of}
 use Rattle.source_meaning.specs.Programs.{exprs_of, expr_of}
-use Rattle.program_typing.specs.Types.{IsReference, IsGiven}
-use Rattle.program_typing.specs.Agreeing.{Known as Script, Scope, types_of, TakesTypes, Applies, is_primitive_layer, is_primitive as gives_number, ReceiverIsOf, MemberAgrees, ExprsAgree}
+use Rattle.program_typing.specs.Types.{IsReference, AreReferences, AreAll, IsGiven}
+use Rattle.program_typing.specs.Agreeing.{Known as Script, Scope, types_of, TakesTypes, Applies, is_primitive_layer, is_primitive as gives_number, ReceiverIsOf, MemberAgrees, IsGuarded, ExprsAgree}
 use Rattle.typing_soundness.proofs.Nodes.{applied_is, guarded_is}
-use Rattle.typing_soundness.proofs.Types.{class_by, part_layer, IsOfPart, part_aim, reference_by}
-use Rattle.typing_soundness.proofs.Parts.{passed, accepted, settled, PartIs, node_is, part_of, cast_is}
+use Rattle.typing_soundness.proofs.Types.{def_layer, class_by, part_layer, IsOfPart, built_part, is_built_by, built_out, IsAim, part_aim, def_aim, def_reference, reference_by}
+use Rattle.typing_soundness.proofs.Parts.{passed, accepted, settled, def_part, TypedIs, PartIs, node_is, part_of, cast_is}
 use Rattle.typing_soundness.proofs.Names.{AllParts}
 
 -- ---- types that members name
 
+void_or_built : (of : Ty) → is_open of ≡ true → (is_void of ≡ true) ⊎ (built_type of ≡ true)
+void_or_built of e = or_cases (is_void of) (built_type of) e
+
+void_open : (l : Ty-F Ty) → is_void_layer l ≡ true → part_layer l
+void_open Ty-F.Void e = tt
+void_open Ty-F.Null e = cc
+void_open Ty-F.Def e = cc
+void_open (Ty-F.Prim p) e = cc
+void_open (Ty-F.Class c) e = cc
+void_open (Ty-F.Array u) e = cc
+
 open_part : (of : Ty) → is_open of ≡ true → IsOfPart of
-open_part of e = record { layer = by_layer (out-Ty of) e }
+open_part of e = pick (void_or_built of e)
   where
-    by_layer : (l : Ty-F Ty) → is_open_layer l ≡ true → part_layer l
-    by_layer Ty-F.Void e = tt
-    by_layer Ty-F.Null e = cc
-    by_layer Ty-F.Def e = tt
-    by_layer (Ty-F.Prim p) e = tt
-    by_layer (Ty-F.Class c) e = e
-    by_layer (Ty-F.Array u) e = cc
+    pick : (is_void of ≡ true) ⊎ (built_type of ≡ true) → IsOfPart of
+    pick (inl void) = record { layer = void_open (out-Ty of) void }
+    pick (inr built) = built_part of (record { is = built })
+
+-- what is asked of a type that is open, by its outermost layer
+abbrev shallow_layer : Ty-F Ty → Bool
+shallow_layer Ty-F.Null = false
+shallow_layer (Ty-F.Class c) = is_built_class c
+shallow_layer other = true
+
+abbrev is_shallow : Ty → Bool
+is_shallow of = shallow_layer (out-Ty of)
+
+void_shallow : (l : Ty-F Ty) → is_void_layer l ≡ true → shallow_layer l ≡ true
+void_shallow Ty-F.Void e = refl
+void_shallow Ty-F.Null e = cc
+void_shallow Ty-F.Def e = refl
+void_shallow (Ty-F.Prim p) e = refl
+void_shallow (Ty-F.Class c) e = cc
+void_shallow (Ty-F.Array u) e = refl
+
+built_shallow : (l : Ty-F Ty) → is_built_by l ≡ true → shallow_layer l ≡ true
+built_shallow Ty-F.Void e = refl
+built_shallow Ty-F.Null e = cc
+built_shallow Ty-F.Def e = refl
+built_shallow (Ty-F.Prim p) e = refl
+built_shallow (Ty-F.Class c) e = e
+built_shallow (Ty-F.Array u) e = refl
+
+open_shallow : (of : Ty) → is_open of ≡ true → is_shallow of ≡ true
+open_shallow of e = pick (void_or_built of e)
+  where
+    pick : (is_void of ≡ true) ⊎ (built_type of ≡ true) → is_shallow of ≡ true
+    pick (inl void) = void_shallow (out-Ty of) void
+    pick (inr built) = built_shallow (out-Ty of) (built_out of (record { is = built }))
+
+all_shallow : (ofs : List Ty) → list_all is_open ofs ≡ true → list_all is_shallow ofs ≡ true
+all_shallow [] e = refl
+all_shallow (of ∷ ofs) e =
+    let both = and_parts (is_open of) (list_all is_open ofs) e in
+    and_from (is_shallow of) (list_all is_shallow ofs) (open_shallow of both.0) (all_shallow ofs both.1)
+
+abbrev is_shallow_member : MemberType → Bool
+is_shallow_member m = is_built_class m.owner && (list_all is_shallow m.params && is_shallow m.result)
+
+member_shallow : (m : MemberType) → is_open_member m ≡ true → is_shallow_member m ≡ true
+member_shallow m e =
+    let first = and_parts (is_built_class m.owner) (list_all is_open m.params && is_open m.result) e in
+    let second = and_parts (list_all is_open m.params) (is_open m.result) first.1 in
+    and_from (is_built_class m.owner) _ first.0 (and_from (list_all is_shallow m.params) (is_shallow m.result) (all_shallow m.params second.0) (open_shallow m.result second.1))
 
 -- what is open in the member of a number
-record Opens (number : ℕ) : Type 0 where
-  is : is_open_at number ≡ true
-  params : list_all is_open (member_at number).params ≡ true
-  result : IsOfPart (member_at number).result
+pub record Opens (number : ℕ) : Type 0 where
+  pub is : is_open_at number ≡ true
+  pub params : list_all is_open (member_at number).params ≡ true
+  pub result : IsOfPart (member_at number).result
 
 opens : (number : ℕ) → is_open_at number ≡ true → Opens number
 opens number e =
@@ -85,10 +139,10 @@ kind_is kind.Field kind.Field e = refl
 kind_is a b e = cc
 
 -- what is wanted was found, and is open
-record Wants (sort : MemberKind) (found : Option ℕ) (number : ℕ) : Type 0 where
-  is : found ≡ Some number
-  kind : (member_at number).kind ≡ sort
-  opens : Opens number
+pub record Wants (sort : MemberKind) (found : Option ℕ) (number : ℕ) : Type 0 where
+  pub is : found ≡ Some number
+  pub kind : (member_at number).kind ≡ sort
+  pub opens : Opens number
 
 record BothHold (c d : Bool) (m n : ℕ) : Type 0 where
   first : c ≡ true
@@ -100,7 +154,7 @@ both_hold true true a b at m n e = record { first = refl; second = refl; same = 
 both_hold true false a b at m n e = cc
 both_hold false d a b at m n e = cc
 
-wants : (sort : MemberKind) (at : ℕ) (found : Option ℕ) (number : ℕ) → wanted sort at found ≡ Ok number → Wants sort found number
+pub wants : (sort : MemberKind) (at : ℕ) (found : Option ℕ) (number : ℕ) → wanted sort at found ≡ Ok number → Wants sort found number
 wants sort at None number e = cc
 wants sort at (Some m) number e =
     let h = both_hold (is_kind sort (member_at m).kind) (is_open_at m) _ _ at m number e in
@@ -108,21 +162,22 @@ wants sort at (Some m) number e =
 
 -- ---- the member that is found
 
-record Allowed (allow : AllowList) (arity number : ℕ) : Type 0 where
-  allowed : flag allow.members number ≡ true
-  is : slice_get catalogue number ≡ Some (member_at number)
-  takes : length (member_at number).params ≡ arity
+pub record Allowed (allow : AllowList) (arity number : ℕ) : Type 0 where
+  pub allowed : flag allow.members number ≡ true
+  pub is : slice_get catalogue number ≡ Some (member_at number)
+  pub takes : length (member_at number).params ≡ arity
 
 -- a member that is open is built: each row of the catalogue is tested
 abbrev open_and_built : ℕ → MemberType → Bool
-open_and_built n m = if_then (is_open_member m) (built_range n)
+open_and_built n m = if_then (is_shallow_member m) (built_range n)
 
 all_built : holds_of_all open_and_built ≡ true
 unfolding catalogue container_ranges out-Ty denote.Hole.Carrier.out
 all_built = refl
 
 open_built : (number : ℕ) → slice_get catalogue number ≡ Some (member_at number) → Opens number → is_built number ≡ true
-open_built number is x = of_built number ∙ then_holds (is_open_at number) (built_range number) (holds_at open_and_built number (member_at number) all_built is) x.is
+open_built number is x =
+    of_built number ∙ then_holds (is_shallow_member (member_at number)) (built_range number) (holds_at open_and_built number (member_at number) all_built is) (member_shallow (member_at number) x.is)
 
 allowed_by : (allow : AllowList) (arity number : ℕ) (m : MemberType) → flag allow.members number ≡ true → slice_get catalogue number ≡ Some m
     → length m.params ≡ arity
@@ -131,7 +186,7 @@ allowed_by allow arity number m a is l =
     let same : member_at number ≡ m = get_or_from_slice_get catalogue number m (constructor 0 []) is in
     record { allowed = a; is = is ∙ ap Some (sym same); takes = ap (λ (m : MemberType). length m.params) same ∙ l }
 
-found_allowed : (allow : AllowList) (class : ℕ) (name : List ℕ) (arity number : ℕ) → member_of allow class name arity ≡ Some number
+pub found_allowed : (allow : AllowList) (class : ℕ) (name : List ℕ) (arity number : ℕ) → member_of allow class name arity ≡ Some number
     → Allowed allow arity number
 found_allowed allow class name arity number e =
     let found = found_is_allowed allow class name arity number e in
@@ -171,12 +226,12 @@ own_allowed allow class name arity number e =
     allowed_by allow arity number found.member all.0 (subst (λ n. slice_get catalogue n ≡ Some found.member) same found.is)
     (eqb-true (length found.member.params) arity named.1)
 
-either_found : (a b : Option ℕ) (number : ℕ) → or_else a b ≡ Some number → (a ≡ Some number) ⊎ (b ≡ Some number)
+pub either_found : (a b : Option ℕ) (number : ℕ) → or_else a b ≡ Some number → (a ≡ Some number) ⊎ (b ≡ Some number)
 either_found None b number e = inr e
 either_found (Some m) b number e = inl e
 
 -- a getter takes nothing
-getter_allowed : (allow : AllowList) (class : ℕ) (name : List ℕ) (number : ℕ) → getter allow class name ≡ Some number → Allowed allow 0 number
+pub getter_allowed : (allow : AllowList) (class : ℕ) (name : List ℕ) (number : ℕ) → getter allow class name ≡ Some number → Allowed allow 0 number
 getter_allowed allow class name number e = pick (either_found _ _ number e)
   where
     pick : (member_of allow class (codes "get" ++ capital name) 0 ≡ Some number) ⊎ (member_of allow class (codes "is" ++ capital name) 0 ≡ Some number) → Allowed allow 0 number
@@ -186,17 +241,17 @@ getter_allowed allow class name number e = pick (either_found _ _ number e)
 -- ---- the class that has the member
 
 -- the table keeps a value of the class at which a member is found at the class that has it
-abbrev Receives : ℕ → ℕ → Type 0
+abbrev pub Receives : ℕ → ℕ → Type 0
 Receives class number = IsGiven cast.Keep (ty.Class class) (ty.Class (member_at number).owner)
 
-found_receives : (allow : AllowList) (class : ℕ) (name : List ℕ) (arity number : ℕ) → member_of allow class name arity ≡ Some number → Receives class number
+pub found_receives : (allow : AllowList) (class : ℕ) (name : List ℕ) (arity number : ℕ) → member_of allow class name arity ≡ Some number → Receives class number
 found_receives allow class name arity number e =
     let found = found_above allow class name arity number e in
     let same : member_at number ≡ found.0 = get_or_from_slice_get catalogue number found.0 (constructor 0 []) found.1 in
     let above : class_is_below class (member_at number).owner ≡ true = subst (λ (m : MemberType). class_is_below class m.owner ≡ true) (sym same) found.2 in
     record { written = false; is = sym (class_up class_is_below class (member_at number).owner false above) }
 
-getter_receives : (allow : AllowList) (class : ℕ) (name : List ℕ) (number : ℕ) → getter allow class name ≡ Some number → Receives class number
+pub getter_receives : (allow : AllowList) (class : ℕ) (name : List ℕ) (number : ℕ) → getter allow class name ≡ Some number → Receives class number
 getter_receives allow class name number e = pick (either_found _ _ number e)
   where
     pick : (member_of allow class (codes "get" ++ capital name) 0 ≡ Some number) ⊎ (member_of allow class (codes "is" ++ capital name) 0 ≡ Some number) → Receives class number
@@ -225,12 +280,18 @@ not_nullable : (c : Bool) (number at : ℕ) (x y : Part) → (if c then refuse n
 not_nullable true number at x y e = cc
 not_nullable false number at x y e = record { holds = refl; same = cc }
 
+-- what is called by name when the script runs is a word
+word_by : (a b : Bool) → (a || not b) ≡ false → b ≡ true
+word_by true b e = cc
+word_by false true e = refl
+word_by false false e = cc
+
 module _ (funs : Script) (g : Scope) where
   -- ---- arguments
 
-  record Given (ts : List Ty) (ys : List Typed) : Type 0 where
-    agree : ExprsAgree funs g (exprs_of (map expr_of ys))
-    types : types_of (exprs_of (map expr_of ys)) ≡ ts
+  pub record Given (ts : List Ty) (ys : List Typed) : Type 0 where
+    pub agree : ExprsAgree funs g (exprs_of (map expr_of ys))
+    pub types : types_of (exprs_of (map expr_of ys)) ≡ ts
 
   cast_all_are : (ts : List Ty) (xs : List Part) (ys : List Typed) → list_all is_open ts ≡ true → length ts ≡ length xs → cast_all ts xs ≡ Ok ys
       → AllParts funs g xs
@@ -252,13 +313,13 @@ module _ (funs : Script) (g : Scope) where
   -- ---- calls of a member
 
   -- a member that may be called
-  record Callable (sort : MemberKind) (arity number : ℕ) : Type 0 where
-    kind : (member_at number).kind ≡ sort
-    built : is_built number ≡ true
-    opens : Opens number
-    found : Allowed funs.allowed arity number
+  pub record Callable (sort : MemberKind) (arity number : ℕ) : Type 0 where
+    pub kind : (member_at number).kind ≡ sort
+    pub built : is_built number ≡ true
+    pub opens : Opens number
+    pub found : Allowed funs.allowed arity number
 
-  callable : (sort : MemberKind) (at arity : ℕ) (found : Option ℕ) (number : ℕ) → wanted sort at found ≡ Ok number
+  pub callable : (sort : MemberKind) (at arity : ℕ) (found : Option ℕ) (number : ℕ) → wanted sort at found ≡ Ok number
       → (found ≡ Some number → Allowed funs.allowed arity number)
       → Callable sort arity number
   callable sort at arity found number e there =
@@ -266,12 +327,12 @@ module _ (funs : Script) (g : Scope) where
       let a = there w.is in
       record { kind = w.kind; built = open_built number a.is w.opens; opens = w.opens; found = a }
 
-  given_to : (sort : MemberKind) (number : ℕ) (xs : List Part) (ys : List Typed) → Callable sort (length xs) number → member_arguments number xs ≡ Ok ys
+  pub given_to : (sort : MemberKind) (number : ℕ) (xs : List Part) (ys : List Typed) → Callable sort (length xs) number → member_arguments number xs ≡ Ok ys
       → AllParts funs g xs
       → Given (member_at number).params ys
   given_to sort number xs ys c e h = cast_all_are (member_at number).params xs ys c.opens.params c.found.takes e h
 
-  agrees_by : (sort : MemberKind) (arity number : ℕ) (ofs : List Ty) → Callable sort arity number → TakesTypes sort (member_at number).params ofs
+  pub agrees_by : (sort : MemberKind) (arity number : ℕ) (ofs : List Ty) → Callable sort arity number → TakesTypes sort (member_at number).params ofs
       → ReceiverIsOf sort (member_at number).owner ofs → MemberAgrees funs sort (member number) ofs (result number)
   agrees_by sort arity number ofs c takes receiver = record {
     member = member_at number;
@@ -285,11 +346,11 @@ module _ (funs : Script) (g : Scope) where
     gives = refl;
   }
 
-  class_is_reference : (x : Part) (c : ℕ) → out-Ty (type_of_part x) ≡ Ty-F.Class c → IsReference (type_of_part x)
+  pub class_is_reference : (x : Part) (c : ℕ) → out-Ty (type_of_part x) ≡ Ty-F.Class c → IsReference (type_of_part x)
   class_is_reference x c is = reference_by (type_of_part x) (Ty-F.Class c) is tt
 
   -- a call on a value
-  instance_is : (access : Access) (at class number : ℕ) (x y : Part) (xs : List Part) → Callable kind.Instance (length xs) number → out-Ty (type_of_part x) ≡ Ty-F.Class class → Receives class number
+  pub instance_is : (access : Access) (at class number : ℕ) (x y : Part) (xs : List Part) → Callable kind.Instance (length xs) number → out-Ty (type_of_part x) ≡ Ty-F.Class class → Receives class number
       → instance_call access at number x xs ≡ Ok y
       → PartIs funs g x → AllParts funs g xs → PartIs funs g y
   instance_is access at class number x y xs c is receives e hx h =
@@ -310,7 +371,53 @@ module _ (funs : Script) (g : Scope) where
       pick through.Guarded ys whole given agrees =
           part_of funs g at f.Deed _ (result number) c.opens.result
           (node_is funs g at (result number) _ _ (guarded_is at (result number) (o.Instance (member number)) (x.typed ∷ ys)) refl
-          (hx.typed.agrees, given.agree, record { member = member number; is = refl; agrees = agrees; whole = no_number (result number) whole }))
+          (hx.typed.agrees, given.agree, record { sort = tt; agrees = agrees; whole = no_number (result number) whole }))
+
+  -- ---- what is found when the script runs
+
+  -- values that are all of one type
+  pub record EachAre (to : Ty) (ys : List Typed) : Type 0 where
+    pub agree : ExprsAgree funs g (exprs_of (map expr_of ys))
+    pub types : AreAll to (types_of (exprs_of (map expr_of ys)))
+
+  pub each_are : (to : Ty) (xs : List Part) (ys : List Typed) → IsAim to → cast_each to xs ≡ Ok ys → AllParts funs g xs → EachAre to ys
+  each_are to [] ys aim e h = settled (EachAre to) [] ys e (record { agree = tt; types = tt })
+  each_are to (x ∷ xs) ys aim e h =
+      let a = passed (cast_to to x) _ ys e in
+      let others = passed (cast_each to xs) _ ys a.then' in
+      let first = cast_is funs g to x a.given aim a.first h.0 in
+      let rest = each_are to xs others.given aim others.first h.1 in
+      settled (EachAre to) (a.given ∷ others.given) ys others.then' (record { agree = (first.agrees, rest.agree); types = (first.is, rest.types) })
+
+  pub references_of : (ofs : List Ty) → AreAll ty.Def ofs → AreReferences ofs
+  references_of [] h = tt
+  references_of (of ∷ ofs) h = (subst IsReference (sym h.0) def_reference, references_of ofs h.1)
+
+  -- def is no primitive type
+  pub def_whole : gives_number ty.Def ≡ false
+  def_whole = ap is_primitive_layer def_layer
+
+  -- an operation on a value, which a null receiver leaves out behind `?.`
+  pub accessed_part : (access : Access) (form : Form) (at : ℕ) (of : Ty) (operation : Operation) (x : Typed) (ys : List Typed) → IsOfPart of → TypedIs funs g x (type_in x)
+      → ExprsAgree funs g (exprs_of (map expr_of ys)) → Applies funs operation (type_of (expr_of x) ∷ types_of (exprs_of (map expr_of ys))) of → IsGuarded operation → gives_number of ≡ false
+      → PartIs funs g (part at form (typed at of (accessed access operation (x ∷ ys))))
+  accessed_part through.Plain form at of operation x ys b hx h a guarded whole =
+      part_of funs g at form _ of b (node_is funs g at of _ _ (applied_is at of operation (x ∷ ys)) refl ((hx.agrees, h), a))
+  accessed_part through.Guarded form at of operation x ys b hx h a guarded whole =
+      part_of funs g at form _ of b (node_is funs g at of _ _ (guarded_is at of operation (x ∷ ys)) refl (hx.agrees, h, record { sort = guarded; agrees = a; whole = whole }))
+
+  pub def_is_reference : (x : Part) → out-Ty (type_of_part x) ≡ Ty-F.Def → PartIs funs g x → IsReference (type_of (expr_of x.typed))
+  def_is_reference x is h = subst IsReference (sym h.typed.is) (reference_by (type_of_part x) Ty-F.Def is tt)
+
+  def_called : (c : Bool) (number : ℕ) (access : Access) (at : ℕ) (name : List ℕ) (x y : Part) (xs : List Part) → (c ≡ false → is_word name ≡ true) → out-Ty (type_of_part x) ≡ Ty-F.Def
+      → (if c then refuse number at else bind (cast_each ty.Def xs) (λ ys. accepted (part at f.Deed (typed at ty.Def (accessed access (o.DefCall name) (x.typed ∷ ys)))))) ≡ Ok y
+      → PartIs funs g x → AllParts funs g xs → PartIs funs g y
+  def_called true number access at name x y xs word is e hx h = cc
+  def_called false number access at name x y xs word is e hx h =
+      let a = passed (cast_each ty.Def xs) _ y e in
+      let given = each_are ty.Def xs a.given def_aim a.first h in
+      settled (PartIs funs g) _ y a.then' (accessed_part access f.Deed at ty.Def (o.DefCall name) x.typed a.given def_part hx.typed given.agree
+      ((def_is_reference x is hx, references_of _ given.types), refl, word refl) tt def_whole)
 
   method_by : (l : Ty-F Ty) (access : Access) (at : ℕ) (name : List ℕ) (x y : Part) (xs : List Part) → out-Ty (type_of_part x) ≡ l
       → called_layer funs.allowed l access at name x xs ≡ Ok y
@@ -320,7 +427,8 @@ module _ (funs : Script) (g : Scope) where
       let found = (wants kind.Instance at (member_of funs.allowed c name (length xs)) a.given a.first).is in
       instance_is access at c a.given x y xs (callable kind.Instance at (length xs) _ a.given a.first (found_allowed funs.allowed c name (length xs) a.given)) is
       (found_receives funs.allowed c name (length xs) a.given found) a.then' hx h
-  method_by Ty-F.Def access at name x y xs is e hx h = cc
+  method_by Ty-F.Def access at name x y xs is e hx h =
+      def_called (names_prelude name (length xs) || not (is_word name)) _ access at name x y xs (word_by (names_prelude name (length xs)) (is_word name)) is e hx h
   method_by Ty-F.Void access at name x y xs is e hx h = cc
   method_by Ty-F.Null access at name x y xs is e hx h = cc
   method_by (Ty-F.Prim p) access at name x y xs is e hx h = cc
@@ -331,7 +439,7 @@ module _ (funs : Script) (g : Scope) where
   method_part access at name x y xs e hx h = method_by (out-Ty (type_of_part x)) access at name x y xs refl e hx h
 
   -- a name of a value
-  named_read : (c : ℕ) (access : Access) (at : ℕ) (name : List ℕ) (x y : Part) → out-Ty (type_of_part x) ≡ Ty-F.Class c
+  pub named_read : (c : ℕ) (access : Access) (at : ℕ) (name : List ℕ) (x y : Part) → out-Ty (type_of_part x) ≡ Ty-F.Class c
       → read_named funs.allowed access at name c x ≡ Ok y
       → PartIs funs g x → PartIs funs g y
   named_read c access at name x y is e hx =
@@ -341,26 +449,6 @@ module _ (funs : Script) (g : Scope) where
       let called = instance_is access at c a.given x b.given [] (callable kind.Instance at 0 _ a.given a.first (getter_allowed funs.allowed c name a.given)) is
       (getter_receives funs.allowed c name a.given found) b.first hx tt in
       settled (PartIs funs g) (plainly b.given) y b.then' (record { typed = called.typed; built = called.built })
-
-  -- a name of a map is no getter
-  class_read : (keys : Bool) (c : ℕ) (access : Access) (at : ℕ) (name : List ℕ) (x y : Part) → out-Ty (type_of_part x) ≡ Ty-F.Class c
-      → (if keys then refuse OUT_OF_PROFILE at else read_named funs.allowed access at name c x) ≡ Ok y
-      → PartIs funs g x → PartIs funs g y
-  class_read true c access at name x y is e hx = cc
-  class_read false c access at name x y is e hx = named_read c access at name x y is e hx
-
-  read_by : (l : Ty-F Ty) (access : Access) (at : ℕ) (name : List ℕ) (x y : Part) → out-Ty (type_of_part x) ≡ l
-      → read_layer funs.allowed l access at name x ≡ Ok y
-      → PartIs funs g x → PartIs funs g y
-  read_by (Ty-F.Class c) access at name x y is e hx = class_read (is_map c) c access at name x y is e hx
-  read_by Ty-F.Def access at name x y is e hx = cc
-  read_by Ty-F.Void access at name x y is e hx = cc
-  read_by Ty-F.Null access at name x y is e hx = cc
-  read_by (Ty-F.Prim p) access at name x y is e hx = cc
-  read_by (Ty-F.Array u) access at name x y is e hx = cc
-
-  pub read_part : (access : Access) (at : ℕ) (name : List ℕ) (x y : Part) → read_of funs.allowed access at name x ≡ Ok y → PartIs funs g x → PartIs funs g y
-  read_part access at name x y e hx = read_by (out-Ty (type_of_part x)) access at name x y refl e hx
 
   -- a call on a class, `new` and a field
   applied_part : (form : Form) (operation : Operation) (at number : ℕ) (ys : List Typed) → Opens number

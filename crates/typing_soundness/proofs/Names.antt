@@ -17,8 +17,10 @@ use Rattle.pl_tree.specs.declared.operator.BinaryOperator.{BinaryOperator}
 use Rattle.pl_tree.specs.declared.operator.Step.{Step as TreeStep}
 use Rattle.pl_tree.specs.declared.operator.Step.TheVariants as step
 use Rattle.typed_tree.specs.declared.operation.Constant.TheVariants as k
+use Rattle.typed_tree.specs.declared.operation.Operation.{Operation}
 use Rattle.typed_tree.specs.declared.operation.Operation.TheVariants as o
 use Rattle.typed_tree.specs.declared.operation.Operator.{Operator}
+use Rattle.typed_tree.specs.declared.operation.Target.{Target}
 use Rattle.typed_tree.specs.declared.operation.Target.TheVariants as target
 use Rattle.typed_tree.specs.declared.operation.Change.{Change}
 use Rattle.typed_tree.specs.declared.operation.Gives.{Gives}
@@ -28,6 +30,7 @@ use Rattle.typed_tree.specs.declared.typed.Node.TheVariants as n
 use Rattle.typed_tree.specs.declared.typed.Typed.{Typed}
 use Rattle.typing_rules.specs.declared.header.Header.{Header}
 use Rattle.typing_rules.specs.declared.part.Form.TheVariants as f
+use Rattle.typing_rules.specs.declared.part.Location.{Location}
 use Rattle.typing_rules.specs.declared.part.Part.{Part}
 use Rattle.typing_rules.specs.declared.part.Place.{Place}
 use Rattle.typing_rules.specs.declared.part.Place.TheVariants as place
@@ -37,20 +40,21 @@ use Rattle.typing_rules.specs.declared.state.State.{State}
 use Rattle.typing_rules.specs.Scopes.{find}
 use Rattle.typing_rules.specs.Outcomes.{refuse}
 use Rattle.typing_rules.specs.Rules.Types.{is_built}
-use Rattle.typing_rules.specs.Rules.Nodes.{typed, plain, type_of_part}
+use Rattle.typing_rules.specs.Rules.Nodes.{typed, part, plain, type_of_part}
 use Rattle.typing_rules.specs.Rules.Casts.{cast_to}
-use Rattle.typing_rules.specs.Rules.Operators.{operand, plan_between, relation_between, reference}
-use Rattle.typing_rules.specs.Rules.Places.{entry_if, local_if, local, is_fixed, written_to, written_if, written_at, written, set, change, change_by, cast_before, cast_after, change_of, changed_by, changed, joining, joining_by, joining_of, joined_if, compound, assigned, assign_of, one, counted, operator_of, step_of}
+use Rattle.typing_rules.specs.Rules.Operators.{operand, unboxed_of, plan_between, side_of, relation_between, dynamic_between, type_given, reference}
+use Rattle.typing_rules.specs.Rules.Places.{entry_if, local_if, local, is_fixed, written_to, written_if, written_at, written, set, change, change_by, change_between, change_of, joining_of, type_after, changed_by, changed, joined_if, compound, assigned, assign_of, one, counted, operator_of, step_of}
+use Rattle.typing_rules.specs.Typing.{read_at}
 use Rattle.typing_rules.specs.Rules.Calls.{function_of, arguments, called, called_if, call_of}
-use Rattle.source_meaning.specs.Tree.{Name, Variable, Fun, type_of}
+use Rattle.source_meaning.specs.Tree.{Name, Assign, Modify, Variable, Fun, type_of}
 use Rattle.source_meaning.specs.Programs.{exprs_of, expr_of}
-use Rattle.program_typing.specs.Types.{IsReference, string, Takes, Casts}
-use Rattle.program_typing.specs.Agreeing.{Known as Script, Scope, variable_of, IsVariable, types_of, types_in, IsKnownBefore, Changes, ExprsAgree, scope_of}
+use Rattle.program_typing.specs.Types.{Takes, Casts}
+use Rattle.program_typing.specs.Agreeing.{Known as Script, Scope, variable_of, IsVariable, types_of, types_in as variable_types, IsKnownBefore, Changes, Writes, Reads, IsPlace, ExprAgrees, ExprsAgree, scope_of}
 use Rattle.typing_soundness.proofs.Nodes.{local_is, applied_is, assign_is, change_is}
-use Rattle.typing_soundness.proofs.Types.{IsBuilt, built_part, built_aim, IsOfPart, IsAim, prim_aim, def_aim, def_reference}
+use Rattle.typing_soundness.proofs.Types.{IsBuilt, built_part, built_aim, IsOfPart, prim_part, IsAim, prim_aim, def_aim}
 use Rattle.typing_soundness.proofs.Casts.{part_casts, known_from_unboxed, known_to_def}
 use Rattle.typing_soundness.proofs.Plans.{PlanFits, IsWide, plans_fit, add_right, subtract_right, IsUnboxed, left_unboxed}
-use Rattle.typing_soundness.proofs.Parts.{passed, accepted, settled, TypedIs, PartIs, node_is, part_of, constant_typed, operand_is, cast_is, reference_is}
+use Rattle.typing_soundness.proofs.Parts.{passed, accepted, settled, TypedIs, PartIs, Relates, relations_fit, dynamics_fit, node_is, part_of, constant_typed, operand_is, cast_is, reference_is}
 
 -- ---- names in sight
 
@@ -80,10 +84,10 @@ other_name x y v o h = pick (bytes_eq x y) refl
     pick true is = absurd (h (sym ((bytes_eq-Decides x y).0 is)))
     pick false is = refl
 
-same_name : (x : Name) (v : Variable) (o : Option Variable) → (if bytes_eq x x then Some v else o) ≡ Some v
+pub same_name : (x : Name) (v : Variable) (o : Option Variable) → (if bytes_eq x x then Some v else o) ≡ Some v
 same_name x v o = ap (λ (c : Bool). if c then Some v else o) ((bytes_eq-Decides x x).1 refl)
 
-older : (x : Name) (es : List Entry) (g : Scope) → Fresh x es → variable_of (scope_of (map seen es) g) x ≡ variable_of g x
+pub older : (x : Name) (es : List Entry) (g : Scope) → Fresh x es → variable_of (scope_of (map seen es) g) x ≡ variable_of g x
 older x [] g h = refl
 older x (e ∷ es) g h = older x es (seen e ∷ g) h.1 ∙ other_name x e.name (seen e) (variable_of g x) h.0
 
@@ -128,128 +132,166 @@ module _ (funs : Script) where
 
   -- ---- what is written to
 
-  abbrev pub PlaceIs : Scope → Place → Type 0
-  PlaceIs g (place.Local name of) = IsVariable g name of × IsBuilt of
-  PlaceIs g place.Fixed = Unit {0}
+  abbrev types_in : List Typed → List Ty
+  types_in parts = types_of (exprs_of (map expr_of parts))
 
-  written_entry_to : (fixed : Bool) (es : List Entry) (i : ℕ) (e : Entry) → Distinct es → slice_get es i ≡ Some e → IsBuilt e.of
-      → PlaceIs (in_sight es) (written_to fixed e)
-  written_entry_to true es i e d is b = tt
-  written_entry_to false es i e d is b = (entry_seen es i e e.of d is refl, b)
+  -- what reads a place, where something is read: then what is read is of the type that is written
+  abbrev pub ReadsBy : Option ℕ → Option Operation → List Ty → Ty → Ty → Type 0
+  ReadsBy None read ofs gives takes = Unit {0}
+  ReadsBy (Some at) read ofs gives takes = Reads funs read ofs gives × (gives ≡ takes)
 
-  written_if_built : (c fixed : Bool) (es : List Entry) (i : ℕ) (e : Entry) (number at : ℕ) (x : Place) → is_built e.of ≡ c → Distinct es
+  -- a place agrees with its parts
+  pub record PlacedIs (by : Option ℕ) (g : Scope) (read : Option Operation) (write : Operation) (parts : List Typed) (gives takes : Ty) : Type 0 where
+    pub agree : ExprsAgree funs g (exprs_of (map expr_of parts))
+    pub short : IsPlace (types_in parts)
+    pub reads : ReadsBy by read (types_in parts) gives takes
+    pub writes : Writes funs write (types_in parts) takes
+
+  abbrev pub TargetIs : Option ℕ → Scope → Target → List Typed → Ty → Ty → Type 0
+  TargetIs by g (target.Local name) parts gives takes = IsVariable g name takes × (gives ≡ takes)
+  TargetIs by g (target.Place read write) parts gives takes = PlacedIs by g read write parts gives takes
+
+  pub record LocationIs (by : Option ℕ) (g : Scope) (w : Location) : Type 0 where
+    pub target : TargetIs by g w.target w.parts w.gives w.takes
+    pub built : IsBuilt w.takes
+
+  abbrev pub PlaceIs : Option ℕ → Scope → Place → Type 0
+  PlaceIs by g (place.Written w) = LocationIs by g w
+  PlaceIs by g place.Fixed = Unit {0}
+
+  written_entry_to : (by : Option ℕ) (fixed : Bool) (es : List Entry) (i : ℕ) (e : Entry) → Distinct es → slice_get es i ≡ Some e → IsBuilt e.of
+      → PlaceIs by (in_sight es) (written_to fixed e)
+  written_entry_to by true es i e d is b = tt
+  written_entry_to by false es i e d is b = record { target = (entry_seen es i e e.of d is refl, refl); built = b }
+
+  written_if_built : (by : Option ℕ) (c fixed : Bool) (es : List Entry) (i : ℕ) (e : Entry) (number at : ℕ) (x : Place) → is_built e.of ≡ c → Distinct es
       → slice_get es i ≡ Some e
-      → (if c then accepted (written_to fixed e) else refuse number at) ≡ accepted x → PlaceIs (in_sight es) x
-  written_if_built false fixed es i e number at x b d is given = cc
-  written_if_built true fixed es i e number at x b d is given =
-      settled (PlaceIs (in_sight es)) (written_to fixed e) x given (written_entry_to fixed es i e d is (record { is = b }))
+      → (if c then accepted (written_to fixed e) else refuse number at) ≡ accepted x → PlaceIs by (in_sight es) x
+  written_if_built by false fixed es i e number at x b d is given = cc
+  written_if_built by true fixed es i e number at x b d is given =
+      settled (PlaceIs by (in_sight es)) (written_to fixed e) x given (written_entry_to by fixed es i e d is (record { is = b }))
 
-  written_entry : (es : List Entry) (at base i : ℕ) (o : Option Entry) (x : Place) → Distinct es → slice_get es i ≡ o → written_if at base i o ≡ Ok x → PlaceIs (in_sight es) x
-  written_entry es at base i None x d is given = cc
-  written_entry es at base i (Some e) x d is given =
-      written_if_built (is_built e.of) (is_fixed e.standing || nat_lt i base) es i e _ at x refl d is given
+  written_entry : (by : Option ℕ) (es : List Entry) (at base i : ℕ) (o : Option Entry) (x : Place) → Distinct es → slice_get es i ≡ o → written_if at base i o ≡ Ok x → PlaceIs by (in_sight es) x
+  written_entry by es at base i None x d is given = cc
+  written_entry by es at base i (Some e) x d is given =
+      written_if_built by (is_built e.of) (is_fixed e.standing || nat_lt i base) es i e _ at x refl d is given
 
-  written_found : (o : Option ℕ) (at : ℕ) (s : State) (x : Place) → Distinct s.scopes → written_at o at s ≡ Ok x → PlaceIs (in_sight s.scopes) x
-  written_found None at s x d given = cc
-  written_found (Some i) at s x d given = written_entry s.scopes at s.base i (slice_get s.scopes i) x d refl given
+  written_found : (by : Option ℕ) (o : Option ℕ) (at : ℕ) (s : State) (x : Place) → Distinct s.scopes → written_at o at s ≡ Ok x → PlaceIs by (in_sight s.scopes) x
+  written_found by None at s x d given = cc
+  written_found by (Some i) at s x d given = written_entry by s.scopes at s.base i (slice_get s.scopes i) x d refl given
 
-  pub written_place : (at : ℕ) (name : Name) (s : State) (x : Place) → Known s → written at name s ≡ Ok x → PlaceIs (in_sight s.scopes) x
-  written_place at name s x d given = written_found (find name s.scopes) at s x d.0 given
+  pub written_place : (by : Option ℕ) (at : ℕ) (name : Name) (s : State) (x : Place) → Known s → written at name s ≡ Ok x → PlaceIs by (in_sight s.scopes) x
+  written_place by at name s x d given = written_found by (find name s.scopes) at s x d.0 given
 
   module _ (g : Scope) where
-    set_is : (at : ℕ) (name : Name) (of : Ty) (x y : Part) → IsVariable g name of → IsBuilt of → set at name of x ≡ Ok y → PartIs funs g x
-        → PartIs funs g y
-    set_is at name of x y v b e h =
-        let a = passed (cast_to of x) _ y e in
-        let value = cast_is funs g of x a.given (built_aim of b) a.first h in
-        settled (PartIs funs g) _ y a.then' (part_of funs g at f.Deed _ of (built_part of b)
-        (node_is funs g at of _ _ (assign_is at of (target.Local name) [] a.given) refl (value.agrees, v, value.is)))
+    set_agrees : (by : Option ℕ) (at : ℕ) (to : Target) (parts : List Typed) (gives takes : Ty) (y : Typed) → TargetIs by g to parts gives takes → TypedIs funs g y takes
+        → ExprAgrees funs g (Assign at takes to (exprs_of (map expr_of parts)) (expr_of y))
+    set_agrees by at (target.Local name) parts gives takes y v h = (h.agrees, v.0, h.is)
+    set_agrees by at (target.Place read write) parts gives takes y v h = (v.agree, h.agrees, h.is, v.short, v.writes)
 
-    -- the casts before and after what changes a variable
-    changes : (before after : Option Cast) (plan : Plan) (of : Ty) (x : Change) (right : Ty) → change_by before after plan ≡ Some x
-        → ((c : Cast) → before ≡ Some c → IsKnownBefore c × Casts c of (t.Prim plan.left))
-        → ((c : Cast) → after ≡ Some c → Casts c (t.Prim plan.result) of)
-        → PlanFits plan → right ≡ t.Prim plan.right → Changes x of right
-    changes None after plan of x right e b a fits is = cc
-    changes (Some before) None plan of x right e b a fits is = cc
-    changes (Some before) (Some after) plan of x right e b a fits is =
-        let same : change before plan after ≡ x = cc in
+    set_is : (by : Option ℕ) (at : ℕ) (w : Location) (x y : Part) → LocationIs by g w → set at w x ≡ Ok y → PartIs funs g x → PartIs funs g y
+    set_is by at w x y v e h =
+        let a = passed (cast_to w.takes x) _ y e in
+        let value = cast_is funs g w.takes x a.given (built_aim w.takes v.built) a.first h in
+        settled (PartIs funs g) _ y a.then' (part_of funs g at f.Deed _ w.takes (built_part w.takes v.built)
+        (node_is funs g at w.takes _ _ (assign_is at w.takes w.target w.parts a.given) refl (set_agrees by at w.target w.parts w.gives w.takes a.given v.target value)))
+
+    -- ---- changes
+
+    same_type : (at : ℕ) (to : Target) (parts : List Typed) (gives takes : Ty) → TargetIs (Some at) g to parts gives takes → gives ≡ takes
+    same_type at (target.Local name) parts gives takes v = v.1
+    same_type at (target.Place read write) parts gives takes v = v.reads.1
+
+    change_agrees : (by at : ℕ) (to : Target) (parts : List Typed) (gives takes : Ty) (x : Change) (y : Typed) (given : Gives) → TargetIs (Some by) g to parts gives takes
+        → ExprAgrees funs g (expr_of y) → Changes x takes (type_of (expr_of y)) → ExprAgrees funs g (Modify at takes to (exprs_of (map expr_of parts)) x (expr_of y) given)
+    change_agrees by at (target.Local name) parts gives takes x y given v h c = (h, v.0, c)
+    change_agrees by at (target.Place read write) parts gives takes x y given v h c =
+        (v.agree, h, c, v.short, subst (Reads funs read (types_in parts)) v.reads.1 v.reads.0, v.writes)
+
+    -- the casts before and after what changes what is written to
+    changes : (before after : Option Cast) (operator : Operator) (left result of : Ty) (x : Change) (right : Ty) → change_by before operator after ≡ Some x
+        → ((c : Cast) → before ≡ Some c → IsKnownBefore c × Casts c of left)
+        → ((c : Cast) → after ≡ Some c → Casts c result of)
+        → Takes operator (left ∷ right ∷ []) result → Changes x of right
+    changes None after operator left result of x right e b a t = cc
+    changes (Some before) None operator left result of x right e b a t = cc
+    changes (Some before) (Some after) operator left result of x right e b a t =
+        let same : change before operator after ≡ x = cc in
         subst (λ x. Changes x of right) same (record {
-          left = t.Prim plan.left;
-          result = t.Prim plan.result;
+          left = left;
+          result = result;
           known = (b before refl).0;
           before = (b before refl).1;
-          does = subst (λ right. Takes plan.operator (t.Prim plan.left ∷ right ∷ []) (t.Prim plan.result)) (sym is) fits.does;
+          does = t;
           after = a after refl;
         })
 
-    joins : (before after : Option Cast) (of : Ty) (x : Change) (right : Ty) → joining_by before after ≡ Some x
-        → ((c : Cast) → before ≡ Some c → IsKnownBefore c × Casts c of t.Def)
-        → ((c : Cast) → after ≡ Some c → Casts c string of) → right ≡ t.Def → Changes x of right
-    joins None after of x right e b a is = cc
-    joins (Some before) None of x right e b a is = cc
-    joins (Some before) (Some after) of x right e b a is =
-        let same : joining before after ≡ x = cc in
-        subst (λ x. Changes x of right) same (record {
-          left = t.Def;
-          result = string;
-          known = (b before refl).0;
-          before = (b before refl).1;
-          does = ((def_reference, subst IsReference (sym is) def_reference), refl);
-          after = a after refl;
-        })
+    changes_between : (operator : Operator) (left result : Ty) (w : Location) (x : Change) (right : Ty) → change_between operator left result w ≡ Some x → w.gives ≡ w.takes → IsBuilt w.takes
+        → ((c : Cast) → cast_of class_is_below w.takes left true ≡ Some c → IsKnownBefore c × Casts c w.takes left)
+        → Takes operator (left ∷ right ∷ []) result → Changes x w.takes right
+    changes_between operator left result w x right e same b known t =
+        changes (cast_of class_is_below w.gives left true) (cast_of class_is_below result w.takes true) operator left result w.takes x right e
+        (λ c found. known c (ap (λ of. cast_of class_is_below of left true) (sym same) ∙ found))
+        (λ c found. part_casts result w.takes true c (built_aim w.takes b) found) t
 
-    changed_if : (found : Option Change) (at : ℕ) (name : Name) (of : Ty) (y : Typed) (right : Ty) (gives : Gives) (z : Part) → IsVariable g name of
-        → IsBuilt of
-        → changed_by found at name of y gives ≡ Ok z → TypedIs funs g y right → ((x : Change) → found ≡ Some x → Changes x of (type_of (expr_of y)))
+    type_given_after : (given : Gives) (w : Location) → w.gives ≡ w.takes → type_after given w ≡ w.takes
+    type_given_after gv.Old w same = same
+    type_given_after gv.New w same = refl
+
+    changed_if : (by : ℕ) (found : Option Change) (at : ℕ) (w : Location) (y : Typed) (right : Ty) (given : Gives) (z : Part) → LocationIs (Some by) g w
+        → changed_by found at w y given ≡ Ok z → TypedIs funs g y right → ((x : Change) → found ≡ Some x → Changes x w.takes (type_of (expr_of y)))
         → PartIs funs g z
-    changed_if None at name of y right gives z v b e h c = cc
-    changed_if (Some x) at name of y right gives z v b e h c =
-        settled (PartIs funs g) _ z e (part_of funs g at f.Deed _ of (built_part of b)
-        (node_is funs g at of _ _ (change_is at of (target.Local name) [] x y gives) refl (h.agrees, v, c x refl)))
+    changed_if by None at w y right given z v e h c = cc
+    changed_if by (Some x) at w y right given z v e h c =
+        let same = type_given_after given w (same_type by w.target w.parts w.gives w.takes v.target) in
+        settled (PartIs funs g) _ z e
+        (subst (λ (of : Ty). PartIs funs g (part at f.Deed (typed at of (n.Change w.target w.parts x y given)))) (sym same)
+        (part_of funs g at f.Deed _ w.takes (built_part w.takes v.built)
+        (node_is funs g at w.takes _ _ (change_is at w.takes w.target w.parts x y given) refl (change_agrees by at w.target w.parts w.gives w.takes x y given v.target h.agrees (c x refl)))))
 
-    changed_is : (at : ℕ) (name : Name) (of : Ty) (plan : Plan) (y : Typed) (gives : Gives) (z : Part) → IsVariable g name of → IsBuilt of
-        → PlanFits plan → IsUnboxed of
-        → changed at name of plan y gives ≡ Ok z → TypedIs funs g y (t.Prim plan.right) → PartIs funs g z
-    changed_is at name of plan y gives z v b fits p e h =
-        changed_if (change_of plan of) at name of y (t.Prim plan.right) gives z v b e h (λ x found.
-        changes (cast_before plan of) (cast_after plan of) plan of x _ found
-        (λ c found. (known_from_unboxed of p.primitive plan.left true c p.is found, part_casts of (t.Prim plan.left) true c (prim_aim plan.left) found))
-        (λ c found. part_casts (t.Prim plan.result) of true c (built_aim of b) found) fits h.is)
+    changed_is : (by at : ℕ) (w : Location) (plan : Plan) (y : Typed) (given : Gives) (z : Part) → LocationIs (Some by) g w → PlanFits plan → IsUnboxed w.gives
+        → changed at w plan y given ≡ Ok z → TypedIs funs g y (t.Prim plan.right) → PartIs funs g z
+    changed_is by at w plan y given z v fits p e h =
+        let same = same_type by w.target w.parts w.gives w.takes v.target in
+        let unboxed : unboxed_of w.takes ≡ Some p.primitive = subst (λ of. unboxed_of of ≡ Some p.primitive) same p.is in
+        changed_if by (change_of plan w) at w y (t.Prim plan.right) given z v e h (λ x found.
+        changes_between plan.operator (t.Prim plan.left) (t.Prim plan.result) w x _ found same v.built
+        (λ c found. (known_from_unboxed w.takes p.primitive plan.left true c unboxed found, part_casts w.takes (t.Prim plan.left) true c (prim_aim plan.left) found))
+        (subst (λ right. Takes plan.operator (t.Prim plan.left ∷ right ∷ []) (t.Prim plan.result)) (sym h.is) fits.does))
 
-    joined_is : (found : Option Operator) (operator : BinaryOperator) (at : ℕ) (name : Name) (of : Ty) (x z : Part) → IsVariable g name of
-        → IsBuilt of
-        → joined_if found operator at name of x ≡ Ok z → PartIs funs g x → PartIs funs g z
-    joined_is None operator at name of x z v b e h = cc
-    joined_is (Some relation) operator at name of x z v b e h =
-        let a = passed (reference x) (λ y. changed_by (joining_of of) at name of y gv.New) z e in
+    joined_is : (by : ℕ) (found : Option Operator) (at : ℕ) (w : Location) (x : Part) (given : Gives) (z : Part) → LocationIs (Some by) g w → ((r : Operator) → found ≡ Some r → Relates r)
+        → joined_if found at w x given ≡ Ok z → PartIs funs g x → PartIs funs g z
+    joined_is by None at w x given z v relates e h = cc
+    joined_is by (Some relation) at w x given z v relates e h =
+        let same = same_type by w.target w.parts w.gives w.takes v.target in
+        let a = passed (reference x) (λ y. changed_by (joining_of relation w) at w y given) z e in
         let right = reference_is funs g x a.given a.first h in
-        changed_if (joining_of of) at name of a.given t.Def gv.New z v b a.then' right (λ x found.
-        joins (cast_of class_is_below of t.Def true) (cast_of class_is_below string of true) of x _ found
-        (λ c found. (known_to_def of true c found, part_casts of t.Def true c def_aim found))
-        (λ c found. part_casts string of true c (built_aim of b) found) right.is)
+        changed_if by (joining_of relation w) at w a.given t.Def given z v a.then' right (λ x found.
+        changes_between relation t.Def (type_given relation) w x _ found same v.built
+        (λ c found. (known_to_def w.takes true c found, part_casts w.takes t.Def true c def_aim found))
+        (subst (λ right. Takes relation (t.Def ∷ right ∷ []) (type_given relation)) (sym right.is) (relates relation refl).does))
 
-    compound_is : (found : Option Plan) (operator : BinaryOperator) (at : ℕ) (name : Name) (of : Ty) (x z : Part) → IsVariable g name of → IsBuilt of
-        → ((p : Plan) → found ≡ Some p → PlanFits p × IsUnboxed of) → compound found operator at name of x ≡ Ok z → PartIs funs g x
+    compound_is : (by : ℕ) (found : Option Plan) (operator : BinaryOperator) (at : ℕ) (w : Location) (x z : Part) → LocationIs (Some by) g w
+        → ((p : Plan) → found ≡ Some p → PlanFits p × IsUnboxed w.gives) → compound found operator at w x ≡ Ok z → PartIs funs g x
         → PartIs funs g z
-    compound_is None operator at name of x z v b fits e h = joined_is (relation_between operator of (type_of_part x)) operator at name of x z v b e h
-    compound_is (Some plan) operator at name of x z v b fits e h =
-        let a = passed (operand at plan.right x) (λ y. changed at name of plan y gv.New) z e in
+    compound_is by None operator at w x z v fits e h =
+        joined_is by (relation_between operator w.gives (type_of_part x)) at w x gv.New z v (relations_fit operator (side_of w.gives) (side_of (type_of_part x))) e h
+    compound_is by (Some plan) operator at w x z v fits e h =
+        let a = passed (operand at plan.right x) (λ y. changed at w plan y gv.New) z e in
         let fit = fits plan refl in
-        changed_is at name of plan a.given gv.New z v b fit.0 fit.1 a.then' (operand_is funs g at plan.right x a.given a.first h)
+        changed_is by at w plan a.given gv.New z v fit.0 fit.1 a.then' (operand_is funs g at plan.right x a.given a.first h)
 
-    assigned_is : (operator : Option BinaryOperator) (at : ℕ) (name : Name) (of : Ty) (x z : Part) → IsVariable g name of → IsBuilt of
-        → assigned operator at name of x ≡ Ok z
+    assigned_is : (operator : Option BinaryOperator) (at : ℕ) (w : Location) (x z : Part) → LocationIs (read_at at operator) g w → assigned operator at w x ≡ Ok z
         → PartIs funs g x → PartIs funs g z
-    assigned_is None at name of x z v b e h = set_is at name of x z v b e h
-    assigned_is (Some operator) at name of x z v b e h =
-        compound_is (plan_between operator of (type_of_part x)) operator at name of x z v b
-        (λ p found. (plans_fit operator of (type_of_part x) p found, left_unboxed operator of (type_of_part x) p found)) e h
+    assigned_is None at w x z v e h = set_is None at w x z v e h
+    assigned_is (Some operator) at w x z v e h =
+        compound_is at (plan_between operator w.gives (type_of_part x)) operator at w x z v
+        (λ p found. (plans_fit operator w.gives (type_of_part x) p found, left_unboxed operator w.gives (type_of_part x) p found)) e h
 
     -- an assignment
-    pub assign_part : (p : Place) (at : ℕ) (operator : Option BinaryOperator) (x z : Part) → PlaceIs g p → assign_of at operator p x ≡ Ok z → PartIs funs g x → PartIs funs g z
+    pub assign_part : (p : Place) (at : ℕ) (operator : Option BinaryOperator) (x z : Part) → PlaceIs (read_at at operator) g p → assign_of at operator p x ≡ Ok z → PartIs funs g x → PartIs funs g z
     assign_part place.Fixed at operator x z v e h = cc
-    assign_part (place.Local name of) at operator x z v e h = assigned_is operator at name of x z v.0 v.1 e h
+    assign_part (place.Written w) at operator x z v e h = assigned_is operator at w x z v e h
 
     one_is : (at : ℕ) (q : Primitive) → IsWide q → TypedIs funs g (one at q) (t.Prim q)
     one_is at prim.Int w = constant_typed funs g at (t.Prim prim.Int) (k.Int (pos 1)) refl
@@ -259,24 +301,27 @@ module _ (funs : Script) where
     one_is at prim.Short w = absurd w
     one_is at prim.Char w = absurd w
 
-    counted_is : (found : Option Plan) (at : ℕ) (name : Name) (of : Ty) (gives : Gives) (z : Part) → IsVariable g name of → IsBuilt of
-        → ((p : Plan) → found ≡ Some p → PlanFits p × IsUnboxed of) → ((p : Plan) → found ≡ Some p → IsWide p.right)
-        → counted found at name of gives ≡ Ok z → PartIs funs g z
-    counted_is None at name of gives z v b fits wide e = cc
-    counted_is (Some plan) at name of gives z v b fits wide e =
+    counted_is : (by : ℕ) (found : Option Plan) (at : ℕ) (s : TreeStep) (w : Location) (given : Gives) (z : Part) → LocationIs (Some by) g w
+        → ((p : Plan) → found ≡ Some p → PlanFits p × IsUnboxed w.gives) → ((p : Plan) → found ≡ Some p → IsWide p.right)
+        → counted found at s w given ≡ Ok z → PartIs funs g z
+    counted_is by None at s w given z v fits wide e =
+        joined_is by (dynamic_between (operator_of s) w.gives (t.Prim prim.Int)) at w (plain at (one at prim.Int)) given z v
+        (dynamics_fit (operator_of s) (side_of w.gives) (side_of (t.Prim prim.Int))) e
+        (part_of funs g at f.Other (one at prim.Int) (t.Prim prim.Int) (prim_part prim.Int) (one_is at prim.Int tt))
+    counted_is by (Some plan) at s w given z v fits wide e =
         let fit = fits plan refl in
-        changed_is at name of plan _ gives z v b fit.0 fit.1 e (one_is at plan.right (wide plan refl))
+        changed_is by at w plan _ given z v fit.0 fit.1 e (one_is at plan.right (wide plan refl))
 
     step_right : (s : TreeStep) (p q : Ty) (x : Plan) → plan_between (operator_of s) p q ≡ Some x → IsWide x.right
     step_right step.Increment p q x e = add_right p q x e
     step_right step.Decrement p q x e = subtract_right p q x e
 
     -- `++` and `--`
-    pub step_part : (p : Place) (at : ℕ) (s : TreeStep) (gives : Gives) (z : Part) → PlaceIs g p → step_of at s gives p ≡ Ok z → PartIs funs g z
-    step_part place.Fixed at s gives z v e = cc
-    step_part (place.Local name of) at s gives z v e =
-        counted_is (plan_between (operator_of s) of (t.Prim prim.Int)) at name of gives z v.0 v.1
-        (λ p found. (plans_fit (operator_of s) of (t.Prim prim.Int) p found, left_unboxed (operator_of s) of (t.Prim prim.Int) p found)) (step_right s of (t.Prim prim.Int)) e
+    pub step_part : (p : Place) (at : ℕ) (s : TreeStep) (given : Gives) (z : Part) → PlaceIs (Some at) g p → step_of at s given p ≡ Ok z → PartIs funs g z
+    step_part place.Fixed at s given z v e = cc
+    step_part (place.Written w) at s given z v e =
+        counted_is at (plan_between (operator_of s) w.gives (t.Prim prim.Int)) at s w given z v
+        (λ p found. (plans_fit (operator_of s) w.gives (t.Prim prim.Int) p found, left_unboxed (operator_of s) w.gives (t.Prim prim.Int) p found)) (step_right s w.gives (t.Prim prim.Int)) e
 
     -- ---- calls
 
@@ -310,7 +355,7 @@ module _ (funs : Script) where
   pub record Head (number : ℕ) (h : Header) : Type 0 where
     pub fun : Fun
     pub is : slice_get funs.functions (suc number) ≡ Some fun
-    pub takes : types_in fun.params ≡ map (λ (x : Named). x.of) h.parameters
+    pub takes : variable_types fun.params ≡ map (λ (x : Named). x.of) h.parameters
     pub gives : fun.result ≡ h.result
     pub built : IsOfPart h.result
     pub all_built : AllBuilt h.parameters

@@ -39,11 +39,12 @@ use Rattle.typing_rules.specs.Rules.Nodes.{boolean, typed, applied, type_in, typ
 use Rattle.typing_rules.specs.Rules.Literals.{int_literal, long_literal, integer, negated_integer, constant, unescaped, unquoted, text}
 use Rattle.typing_rules.specs.Rules.Digits.{is_long, magnitude, unmarked}
 use Rattle.typing_rules.specs.Rules.Casts.{within, unit_of, standing_layer, standing, cast_by, cast_at, literal_or, cast_to, asked}
-use Rattle.typing_rules.specs.Rules.Operators.{primitive_layer, primitive_of, unboxed_of, on_numbers, operand, Side, side_layer, side_of, joins, compares, identifies, only_if, relation_of, relation_between, type_given, reference, related, strict, side, logical, binary_of, promoted_if, promoted, signed, plus_as, not_of, unary_of, common_if, common_layer, common, choice_as, choice_of, is_literal, is_primitive, needs_no_other, elvis_by, common_of, elvis_of, may_be_instance, has_instances_layer, instance_of}
+use Rattle.typing_rules.specs.Rules.Operators.{primitive_layer, primitive_of, unboxed_of, on_numbers, operand, Side, side_layer, side_of, joins, compares, identifies, only_if, is_dynamic, dynamic_if, dynamic_of, relation_of, relation_between, type_given, reference, related, strict, side, logical, binary_of, promoted_if, promoted, is_def_side, on_def, alone, signed, plus_as, not_of, unary_of, common_if, common_layer, common, choice_as, choice_of, is_literal, is_primitive, needs_no_other, elvis_by, common_of, elvis_of, may_be_instance, has_instances_layer, instance_of}
 use Rattle.typing_rules.specs.Rules.Types.{is_built_class}
 use Rattle.source_meaning.specs.Tree.{Expr, Literal, type_of}
 use Rattle.source_meaning.specs.Programs.{expr_of}
-use Rattle.program_typing.specs.Types.{is_reference_layer, IsReference, string, IsOf, Takes, Casts}
+use Rattle.program_typing.specs.Types.{is_reference_layer, IsReference, string, IsOf, Takes, TakesTo, Casts}
+use Rattle.program_typing.proofs.Containers.{as_node}
 use Rattle.program_typing.specs.Agreeing.{Known as Script, Scope, ExprAgrees}
 use Rattle.typing_soundness.proofs.Nodes.{constant_is, text_is, applied_is, logic_is, choice_is, elvis_is}
 use Rattle.typing_soundness.proofs.Types.{IsBuilt, prim_by, prim_built, def_built, class_built, built_part, built_aim, built_named, part_layer, IsOfPart, null_part, prim_part, part_aim, IsAim, prim_aim, def_aim, def_reference, null_reference, class_reference}
@@ -80,16 +81,51 @@ pub string_part : IsOfPart string
 string_part = built_part string (class_built STRING refl)
 
 -- what is done with two references
-record Relates (r : Operator) : Type 0 where
-  does : Takes r (t.Def ∷ t.Def ∷ []) (type_given r)
-  of_part : IsOfPart (type_given r)
+pub record Relates (r : Operator) : Type 0 where
+  pub does : Takes r (t.Def ∷ t.Def ∷ []) (type_given r)
+  pub of_part : IsOfPart (type_given r)
 
 only_relates : (test : Bool) (r r' : Operator) → only_if test r ≡ Some r' → Relates r → Relates r'
 only_relates true r r' e h = let same : r ≡ r' = cc in subst Relates same h
 only_relates false r r' e h = cc
 
-relations_fit : (operator : BinaryOperator) (x y : Side) (r : Operator) → relation_of operator x y ≡ Some r → Relates r
-relations_fit b.Add x y r e = only_relates (joins x y) _ r e (record { does = ((def_reference, def_reference), refl); of_part = string_part })
+pub def_part : IsOfPart t.Def
+def_part = built_part t.Def def_built
+
+dynamic_relates : (test : Bool) (o' : Op) (r : Operator) → dynamic_if test (Some o') ≡ Some r → Relates (operator.Def o') → Relates r
+dynamic_relates true o' r e h = let same : operator.Def o' ≡ r = cc in subst Relates same h
+dynamic_relates false o' r e h = cc
+
+no_dynamic : (test : Bool) (r : Operator) → dynamic_if test None ≡ Some r → Relates r
+no_dynamic true r e = cc
+no_dynamic false r e = cc
+
+-- an operator whose sides have types that are found when the script runs
+pub dynamics_fit : (operator : BinaryOperator) (x y : Side) (r : Operator) → dynamic_of operator x y ≡ Some r → Relates r
+dynamics_fit b.Multiply x y r e = dynamic_relates (is_dynamic x y) op.Mul r e (record { does = ((def_reference, def_reference), refl); of_part = def_part })
+dynamics_fit b.Divide x y r e = dynamic_relates (is_dynamic x y) op.Div r e (record { does = ((def_reference, def_reference), refl); of_part = def_part })
+dynamics_fit b.Remainder x y r e = dynamic_relates (is_dynamic x y) op.Rem r e (record { does = ((def_reference, def_reference), refl); of_part = def_part })
+dynamics_fit b.Add x y r e = dynamic_relates (is_dynamic x y) op.Add r e (record { does = ((def_reference, def_reference), refl); of_part = def_part })
+dynamics_fit b.Subtract x y r e = dynamic_relates (is_dynamic x y) op.Sub r e (record { does = ((def_reference, def_reference), refl); of_part = def_part })
+dynamics_fit b.ShiftLeft x y r e = dynamic_relates (is_dynamic x y) op.Shl r e (record { does = ((def_reference, def_reference), refl); of_part = def_part })
+dynamics_fit b.ShiftRight x y r e = dynamic_relates (is_dynamic x y) op.Shr r e (record { does = ((def_reference, def_reference), refl); of_part = def_part })
+dynamics_fit b.ShiftRightUnsigned x y r e = dynamic_relates (is_dynamic x y) op.Ushr r e (record { does = ((def_reference, def_reference), refl); of_part = def_part })
+dynamics_fit b.And x y r e = dynamic_relates (is_dynamic x y) op.And r e (record { does = ((def_reference, def_reference), refl); of_part = def_part })
+dynamics_fit b.Xor x y r e = dynamic_relates (is_dynamic x y) op.Xor r e (record { does = ((def_reference, def_reference), refl); of_part = def_part })
+dynamics_fit b.Or x y r e = dynamic_relates (is_dynamic x y) op.Or r e (record { does = ((def_reference, def_reference), refl); of_part = def_part })
+dynamics_fit b.Less x y r e = dynamic_relates (is_dynamic x y) op.Lt r e (record { does = ((def_reference, def_reference), refl); of_part = prim_part prim.Boolean })
+dynamics_fit b.LessEqual x y r e = dynamic_relates (is_dynamic x y) op.Le r e (record { does = ((def_reference, def_reference), refl); of_part = prim_part prim.Boolean })
+dynamics_fit b.Greater x y r e = dynamic_relates (is_dynamic x y) op.Gt r e (record { does = ((def_reference, def_reference), refl); of_part = prim_part prim.Boolean })
+dynamics_fit b.GreaterEqual x y r e = dynamic_relates (is_dynamic x y) op.Ge r e (record { does = ((def_reference, def_reference), refl); of_part = prim_part prim.Boolean })
+dynamics_fit operator x y r e = no_dynamic (is_dynamic x y) r e
+
+joined_relates : (test : Bool) (other : Option Operator) (r : Operator) → (if test then Some operator.Concat else other) ≡ Some r → Relates operator.Concat → (other ≡ Some r → Relates r) → Relates r
+joined_relates true other r e h k = let same : operator.Concat ≡ r = cc in subst Relates same h
+joined_relates false other r e h k = k e
+
+pub relations_fit : (operator : BinaryOperator) (x y : Side) (r : Operator) → relation_of operator x y ≡ Some r → Relates r
+relations_fit b.Add x y r e =
+    joined_relates (joins x y) (dynamic_of b.Add x y) r e (record { does = ((def_reference, def_reference), refl); of_part = string_part }) (dynamics_fit b.Add x y r)
 relations_fit b.Equal x y r e =
     only_relates (compares x y) _ r e (record { does = ((def_reference, def_reference), refl); of_part = prim_part prim.Boolean })
 relations_fit b.NotEqual x y r e =
@@ -98,7 +134,7 @@ relations_fit b.Same x y r e =
     only_relates (identifies x y) _ r e (record { does = ((def_reference, def_reference), refl); of_part = prim_part prim.Boolean })
 relations_fit b.NotSame x y r e =
     only_relates (identifies x y) _ r e (record { does = ((def_reference, def_reference), refl); of_part = prim_part prim.Boolean })
-relations_fit operator x y r e = cc
+relations_fit operator x y r e = dynamics_fit operator x y r e
 
 common_if_built : (p : Option Primitive) → IsBuilt (common_if p)
 common_if_built None = def_built
@@ -184,7 +220,7 @@ module _ (funs : Script) (g : Scope) where
   pub constant_typed : (at : ℕ) (of : Ty) (v : Constant) → IsOf v of → TypedIs (typed at of (n.Constant v)) of
   constant_typed at of v a = node_is at of (n.Constant v) (Literal at of v) (constant_is at of v) refl a
 
-  int_is : (at : ℕ) (value : ℤ) → PartIs (int_literal at value)
+  pub int_is : (at : ℕ) (value : ℤ) → PartIs (int_literal at value)
   int_is at value = part_of at (f.Number value) _ (t.Prim prim.Int) (prim_part prim.Int) (constant_typed at (t.Prim prim.Int) (k.Int value) refl)
 
   long_is : (at : ℕ) (value : ℤ) → PartIs (long_literal at value)
@@ -304,6 +340,11 @@ module _ (funs : Script) (g : Scope) where
   written_is at to x y aim e h =
       cast_given _ x.at at to x.typed y e (λ cast found. part_casts (type_in x.typed) to true cast aim found) h.typed
 
+  -- a cast that stands at a place, written or added
+  pub cast_at_is : (at : ℕ) (to : Ty) (x : Part) (written : Bool) (y : Typed) → IsAim to → cast_at at to x written ≡ Ok y → PartIs x → TypedIs y to
+  cast_at_is at to x written y aim e h =
+      cast_given _ x.at at to x.typed y e (λ cast found. part_casts (type_in x.typed) to written cast aim found) h.typed
+
   pub asked_is : (at : ℕ) (to : Ty) (x y : Part) → IsBuilt to → asked at to x ≡ Ok y → PartIs x → PartIs y
   asked_is at to x y b e h =
       let p = passed (cast_at at to x true) _ y e in
@@ -318,11 +359,11 @@ module _ (funs : Script) (g : Scope) where
   two_types : (P : List Ty → Type 0) (a b p q : Ty) → a ≡ p → b ≡ q → P (p ∷ q ∷ []) → P (a ∷ b ∷ [])
   two_types P a b p q x y h = subst (λ a. P (a ∷ b ∷ [])) (sym x) (subst (λ b. P (p ∷ b ∷ [])) (sym y) h)
 
-  related_is : (found : Option Operator) (operator : BinaryOperator) (at : ℕ) (x y z : Part) → related found operator at x y ≡ Ok z
+  related_is : (found : Option Operator) (at : ℕ) (x y z : Part) → related found at x y ≡ Ok z
       → ((r : Operator) → found ≡ Some r → Relates r)
       → PartIs x → PartIs y → PartIs z
-  related_is None operator at x y z e takes hx hy = cc
-  related_is (Some relation) operator at x y z e takes hx hy =
+  related_is None at x y z e takes hx hy = cc
+  related_is (Some relation) at x y z e takes hx hy =
       let a = passed (reference x) _ z e in
       let b = passed (reference y) _ z a.then' in
       let left = reference_is x a.given a.first hx in
@@ -330,14 +371,14 @@ module _ (funs : Script) (g : Scope) where
       settled PartIs _ z b.then' (part_of at f.Other _ (type_given relation) (takes relation refl).of_part
       (node_is at (type_given relation) _ _ (applied_is at (type_given relation) (o.Operator relation) (a.given ∷ b.given ∷ [])) refl (
         (left.agrees, (right.agrees, tt)),
-        two_types (λ ofs. Takes relation ofs (type_given relation)) _ _ t.Def t.Def left.is right.is (takes relation refl).does,
+        two_types (λ ofs. TakesTo relation ofs (type_given relation)) _ _ t.Def t.Def left.is right.is (as_node relation (t.Def ∷ t.Def ∷ []) (type_given relation) (takes relation refl).does),
       )))
 
   strict_is : (plan : Option Plan) (operator : BinaryOperator) (at : ℕ) (x y z : Part) → strict plan operator at x y ≡ Ok z
       → ((p : Plan) → plan ≡ Some p → PlanFits p)
       → PartIs x → PartIs y → PartIs z
   strict_is None operator at x y z e fits hx hy =
-      related_is (relation_between operator (type_of_part x) (type_of_part y)) operator at x y z e (relations_fit operator (side_of (type_of_part x)) (side_of (type_of_part y))) hx hy
+      related_is (relation_between operator (type_of_part x) (type_of_part y)) at x y z e (relations_fit operator (side_of (type_of_part x)) (side_of (type_of_part y))) hx hy
   strict_is (Some plan) operator at x y z e fits hx hy =
       let a = passed (operand x.at plan.left x) _ z e in
       let b = passed (operand y.at plan.right y) _ z a.then' in
@@ -346,7 +387,8 @@ module _ (funs : Script) (g : Scope) where
       settled PartIs _ z b.then' (part_of at f.Other _ (t.Prim plan.result) (prim_part plan.result)
       (node_is at (t.Prim plan.result) _ _ (applied_is at (t.Prim plan.result) (o.Operator plan.operator) (a.given ∷ b.given ∷ [])) refl (
         (left.agrees, (right.agrees, tt)),
-        two_types (λ ofs. Takes plan.operator ofs (t.Prim plan.result)) _ _ (t.Prim plan.left) (t.Prim plan.right) left.is right.is (fits plan refl).does,
+        two_types (λ ofs. TakesTo plan.operator ofs (t.Prim plan.result)) _ _ (t.Prim plan.left) (t.Prim plan.right) left.is right.is
+            (as_node plan.operator (t.Prim plan.left ∷ t.Prim plan.right ∷ []) (t.Prim plan.result) (fits plan refl).does),
       )))
 
   side_if : (c : Bool) (number at : ℕ) (x : Part) (y : Typed) → (if c then refuse number at else cast_to boolean x) ≡ Ok y → PartIs x → TypedIs y boolean
@@ -412,18 +454,34 @@ module _ (funs : Script) (g : Scope) where
   complements prim.Short w = absurd w
   complements prim.Char w = absurd w
 
+  on_def_is : (o' : Op) (at : ℕ) (x y : Part) → on_def o' at x ≡ Ok y → TakesTo (operator.Def o') (t.Def ∷ []) t.Def → PartIs x → PartIs y
+  on_def_is o' at x y e takes h =
+      let a = passed (reference x) _ y e in
+      let side = reference_is x a.given a.first h in
+      settled PartIs _ y a.then' (part_of at f.Other _ t.Def def_part
+      (node_is at t.Def _ _ (applied_is at t.Def (o.Operator (operator.Def o')) (a.given ∷ [])) refl
+      ((side.agrees, tt), one_type (λ ofs. TakesTo (operator.Def o') ofs t.Def) _ t.Def side.is takes)))
+
+  alone_if : (c : Bool) (number : ℕ) (o' : Op) (at : ℕ) (x y : Part) → (if c then on_def o' at x else refuse number at) ≡ Ok y → TakesTo (operator.Def o') (t.Def ∷ []) t.Def → PartIs x → PartIs y
+  alone_if true number o' at x y e takes h = on_def_is o' at x y e takes h
+  alone_if false number o' at x y e takes h = cc
+
+  -- an operand that is no number
+  alone_is : (o' : Op) (at : ℕ) (x y : Part) → alone o' at x ≡ Ok y → TakesTo (operator.Def o') (t.Def ∷ []) t.Def → PartIs x → PartIs y
+  alone_is o' at x y e takes h = alone_if (is_def_side (side_of (type_of_part x))) _ o' at x y e takes h
+
   signed_is : (o' : Op) (p : Option Primitive) (at : ℕ) (x y : Part) → signed o' p at x ≡ Ok y → IsWideIf p → ((q : Primitive) → IsWide q → Takes (on_numbers q o') (t.Prim q ∷ []) (t.Prim q))
-      → PartIs x → PartIs y
-  signed_is o' None at x y e w takes h = cc
-  signed_is o' (Some q) at x y e w takes h =
+      → TakesTo (operator.Def o') (t.Def ∷ []) t.Def → PartIs x → PartIs y
+  signed_is o' None at x y e w takes dynamic h = alone_is o' at x y e dynamic h
+  signed_is o' (Some q) at x y e w takes dynamic h =
       let a = passed (operand x.at q x) _ y e in
       let side = operand_is x.at q x a.given a.first h in
       settled PartIs _ y a.then' (part_of at f.Other _ (t.Prim q) (prim_part q)
       (node_is at (t.Prim q) _ _ (applied_is at (t.Prim q) (o.Operator (on_numbers q o')) (a.given ∷ [])) refl
-      ((side.agrees, tt), one_type (λ ofs. Takes (on_numbers q o') ofs (t.Prim q)) _ (t.Prim q) side.is (takes q w))))
+      ((side.agrees, tt), one_type (λ ofs. TakesTo (on_numbers q o') ofs (t.Prim q)) _ (t.Prim q) side.is (as_node (on_numbers q o') (t.Prim q ∷ []) (t.Prim q) (takes q w)))))
 
   plus_is : (p : Option Primitive) (at : ℕ) (x y : Part) → plus_as p at x ≡ Ok y → PartIs x → PartIs y
-  plus_is None at x y e h = cc
+  plus_is None at x y e h = alone_is op.Pos at x y e (def_reference, refl) h
   plus_is (Some q) at x y e h =
       let a = passed (operand x.at q x) _ y e in
       settled PartIs _ y a.then' (part_of at f.Other a.given (t.Prim q) (prim_part q) (operand_is x.at q x a.given a.first h))
@@ -438,8 +496,8 @@ module _ (funs : Script) (g : Scope) where
 
   pub unary_is : (operator : UnaryOperator) (at : ℕ) (x y : Part) → unary_of operator at x ≡ Ok y → PartIs x → PartIs y
   unary_is u.Plus at x y e h = plus_is (promoted x) at x y e h
-  unary_is u.Minus at x y e h = signed_is op.Neg (promoted x) at x y e (promoted_wide (unboxed_of (type_of_part x))) negates h
-  unary_is u.Complement at x y e h = signed_is op.Not (promoted x) at x y e (promoted_wide (unboxed_of (type_of_part x))) complements h
+  unary_is u.Minus at x y e h = signed_is op.Neg (promoted x) at x y e (promoted_wide (unboxed_of (type_of_part x))) negates (def_reference, refl) h
+  unary_is u.Complement at x y e h = signed_is op.Not (promoted x) at x y e (promoted_wide (unboxed_of (type_of_part x))) complements (def_reference, refl) h
   unary_is u.Not at x y e h = not_is at x y e h
 
   -- ---- the conditional

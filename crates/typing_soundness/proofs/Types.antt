@@ -7,15 +7,16 @@ use Rattle.pl_types.specs.declared.primitive.Primitive.{Primitive}
 use Rattle.pl_types.specs.declared.ty.Ty.{Ty, out-Ty, roll-Ty, roll-out-Ty}
 use Rattle.pl_types.specs.declared.ty.Ty.TheVariants as t
 use Rattle.pl_types.specs.declared.ty.Ty.TheOpen.{Ty-F}
-use Rattle.pl_types.specs.declared.ty.Ty.TheFolds.{fold-roll-Ty, map-Ty}
-use Rattle.typing_rules.specs.Rules.Types.{is_built_class, is_built_layer, is_built}
+use Rattle.pl_types.specs.declared.ty.Ty.TheFolds.{fold-roll-Ty, fold_out-Ty, ind-Ty, map-Ty}
+use Rattle.pl_types.specs.declared.ty.Ty.TheViews.{outs-Array}
+use Rattle.typing_rules.specs.Rules.Types.{is_built_class, built_layer, is_built}
 use Rattle.program_typing.specs.Types.{is_reference_layer, IsReference, has_values_layer, HasValues, listed_layer, is_listed, IsNamed}
 use Rattle.typing_soundness.specs.Laws.{may_be_result, MayBeResult}
 
 -- ---- the classes that are built
 
 -- scripts may have them
-built_listed : (c : ℕ) → is_built_class c ≡ true → nat_lt c PRELUDE ≡ true
+pub built_listed : (c : ℕ) → is_built_class c ≡ true → nat_lt c PRELUDE ≡ true
 built_listed c e = pick (or_cases (nat_le c COLLECTIONS) _ e)
   where
     pick : (nat_le c COLLECTIONS ≡ true) ⊎ ((nat_le EXCEPTION c && nat_le c SCRIPT_DOC_VALUES) ≡ true) → nat_lt c PRELUDE ≡ true
@@ -49,11 +50,17 @@ class_layer c = refl
 pub void_by : (of : Ty) → out-Ty of ≡ Ty-F.Void → of ≡ t.Void
 void_by of e = sym (roll-out-Ty of) ∙ (ap roll-Ty e ∙ t.rolls-Void)
 
+pub def_by : (of : Ty) → out-Ty of ≡ Ty-F.Def → of ≡ t.Def
+def_by of e = sym (roll-out-Ty of) ∙ (ap roll-Ty e ∙ t.rolls-Def)
+
 pub prim_by : (of : Ty) (p : Primitive) → out-Ty of ≡ Ty-F.Prim p → of ≡ t.Prim p
 prim_by of p e = sym (roll-out-Ty of) ∙ (ap roll-Ty e ∙ t.rolls-Prim p)
 
 pub class_by : (of : Ty) (c : ℕ) → out-Ty of ≡ Ty-F.Class c → of ≡ t.Class c
 class_by of c e = sym (roll-out-Ty of) ∙ (ap roll-Ty e ∙ t.rolls-Class c)
+
+pub array_by : (of u : Ty) → out-Ty of ≡ Ty-F.Array u → of ≡ t.Array u
+array_by of u e = sym (roll-out-Ty of) ∙ (ap roll-Ty e ∙ t.rolls-Array u)
 
 -- ---- what variables may have
 
@@ -61,8 +68,15 @@ class_by of c e = sym (roll-out-Ty of) ∙ (ap roll-Ty e ∙ t.rolls-Class c)
 pub record IsBuilt (of : Ty) : Type 0 where
   pub is : is_built of ≡ true
 
-built_by : (of : Ty) (l : Ty-F Ty) → out-Ty of ≡ l → is_built_layer l ≡ true → IsBuilt of
-built_by of l e is = record { is = ap is_built_layer e ∙ is }
+-- whether a type is built, by its outermost layer
+abbrev pub is_built_by : Ty-F Ty → Bool
+is_built_by l = built_layer (map-Ty Ty Bool is_built l)
+
+built_by : (of : Ty) (l : Ty-F Ty) → out-Ty of ≡ l → is_built_by l ≡ true → IsBuilt of
+built_by of l e is = record { is = fold_out-Ty Bool built_layer of ∙ (ap is_built_by e ∙ is) }
+
+pub built_out : (of : Ty) → IsBuilt of → is_built_by (out-Ty of) ≡ true
+built_out of b = sym (fold_out-Ty Bool built_layer of) ∙ b.is
 
 pub prim_built : (p : Primitive) → IsBuilt (t.Prim p)
 prim_built p = built_by (t.Prim p) (Ty-F.Prim p) (prim_layer p) refl
@@ -73,32 +87,41 @@ def_built = built_by t.Def Ty-F.Def def_layer refl
 pub class_built : (c : ℕ) → is_built_class c ≡ true → IsBuilt (t.Class c)
 class_built c is = built_by (t.Class c) (Ty-F.Class c) (class_layer c) is
 
+pub array_built : (elem : Ty) → IsBuilt elem → IsBuilt (t.Array elem)
+array_built elem b = built_by (t.Array elem) (Ty-F.Array elem) (outs-Array elem) b.is
+
 pub built_values : (of : Ty) → IsBuilt of → HasValues of
-built_values of b = by_layer (out-Ty of) b.is
+built_values of b = by_layer (out-Ty of) (built_out of b)
   where
-    by_layer : (l : Ty-F Ty) → is_built_layer l ≡ true → has_values_layer l
+    by_layer : (l : Ty-F Ty) → is_built_by l ≡ true → has_values_layer l
     by_layer (Ty-F.Prim p) is = tt
     by_layer Ty-F.Def is = tt
     by_layer (Ty-F.Class c) is = tt
     by_layer Ty-F.Void is = cc
     by_layer Ty-F.Null is = cc
-    by_layer (Ty-F.Array u) is = cc
+    by_layer (Ty-F.Array u) is = tt
 
 listed_by : (of : Ty) (l : Ty-F Ty) → out-Ty of ≡ l → is_listed of ≡ listed_layer (map-Ty Ty Bool is_listed l)
 listed_by of l e =
     ap is_listed (sym (roll-out-Ty of)) ∙ (fold-roll-Ty Bool listed_layer (out-Ty of) ∙ ap (λ l. listed_layer (map-Ty Ty Bool is_listed l)) e)
 
 -- code may name each type that is built
+abbrev Listed : Ty → Type 0
+Listed of = is_built of ≡ true → is_listed of ≡ true
+
+listed_layers : (y : Ty-F ((of : Ty) × Listed of)) → Listed (roll-Ty (map-Ty ((of : Ty) × Listed of) Ty (λ e. e.0) y))
+listed_layers Ty-F.Void h = let never = sym (fold-roll-Ty Bool built_layer Ty-F.Void) ∙ h in cc
+listed_layers Ty-F.Null h = let never = sym (fold-roll-Ty Bool built_layer Ty-F.Null) ∙ h in cc
+listed_layers Ty-F.Def h = fold-roll-Ty Bool listed_layer Ty-F.Def
+listed_layers (Ty-F.Prim p) h = fold-roll-Ty Bool listed_layer (Ty-F.Prim p)
+listed_layers (Ty-F.Class c) h = fold-roll-Ty Bool listed_layer (Ty-F.Class c) ∙ built_listed c (sym (fold-roll-Ty Bool built_layer (Ty-F.Class c)) ∙ h)
+listed_layers (Ty-F.Array e) h = fold-roll-Ty Bool listed_layer (Ty-F.Array e.0) ∙ e.1 (sym (fold-roll-Ty Bool built_layer (Ty-F.Array e.0)) ∙ h)
+
+listed : (of : Ty) → Listed of
+listed = ind-Ty Listed (λ x y is. let P : Ty-F Ty → Type 0 = λ z. Listed (roll-Ty z) in subst P is (listed_layers y))
+
 pub built_named : (of : Ty) → IsBuilt of → IsNamed of
-built_named of b = record { listed = listed_by of (out-Ty of) refl ∙ by_layer (out-Ty of) b.is }
-  where
-    by_layer : (l : Ty-F Ty) → is_built_layer l ≡ true → listed_layer (map-Ty Ty Bool is_listed l) ≡ true
-    by_layer (Ty-F.Prim p) is = refl
-    by_layer Ty-F.Def is = refl
-    by_layer (Ty-F.Class c) is = built_listed c is
-    by_layer Ty-F.Void is = cc
-    by_layer Ty-F.Null is = cc
-    by_layer (Ty-F.Array u) is = cc
+built_named of b = record { listed = listed of b.is }
 
 -- code may name each class that scripts may name
 pub class_named : (c : ℕ) → nat_lt c PRELUDE ≡ true → IsNamed (t.Class c)
@@ -112,7 +135,7 @@ part_layer Ty-F.Null = Unit {0}
 part_layer Ty-F.Def = Unit {0}
 part_layer (Ty-F.Prim p) = Unit {0}
 part_layer (Ty-F.Class c) = is_built_class c ≡ true
-part_layer (Ty-F.Array u) = ⊥
+part_layer (Ty-F.Array u) = is_built u ≡ true
 
 pub record IsOfPart (of : Ty) : Type 0 where
   pub layer : part_layer (out-Ty of)
@@ -127,15 +150,19 @@ pub null_part : IsOfPart t.Null
 null_part = part_by t.Null Ty-F.Null null_layer tt
 
 pub built_part : (of : Ty) → IsBuilt of → IsOfPart of
-built_part of b = record { layer = by_layer (out-Ty of) b.is }
+built_part of b = record { layer = by_layer (out-Ty of) (built_out of b) }
   where
-    by_layer : (l : Ty-F Ty) → is_built_layer l ≡ true → part_layer l
+    by_layer : (l : Ty-F Ty) → is_built_by l ≡ true → part_layer l
     by_layer (Ty-F.Prim p) is = tt
     by_layer Ty-F.Def is = tt
     by_layer (Ty-F.Class c) is = is
     by_layer Ty-F.Void is = cc
     by_layer Ty-F.Null is = cc
-    by_layer (Ty-F.Array u) is = cc
+    by_layer (Ty-F.Array u) is = is
+
+-- the elements of a part that is an array
+pub element_built : (of u : Ty) → out-Ty of ≡ Ty-F.Array u → IsOfPart of → IsBuilt u
+element_built of u e b = record { is = subst part_layer e b.layer }
 
 pub prim_part : (p : Primitive) → IsOfPart (t.Prim p)
 prim_part p = built_part (t.Prim p) (prim_built p)
@@ -187,7 +214,7 @@ part_aim of b = record { layer = by_layer (out-Ty of) refl b.layer }
     by_layer Ty-F.Def e h = built_named of (built_by of Ty-F.Def e refl)
     by_layer (Ty-F.Prim p) e h = built_named of (built_by of (Ty-F.Prim p) e refl)
     by_layer (Ty-F.Class c) e h = built_named of (built_by of (Ty-F.Class c) e h)
-    by_layer (Ty-F.Array u) e h = absurd h
+    by_layer (Ty-F.Array u) e h = built_named of (built_by of (Ty-F.Array u) e h)
 
 pub prim_aim : (p : Primitive) → IsAim (t.Prim p)
 prim_aim p = built_aim (t.Prim p) (prim_built p)
@@ -205,6 +232,9 @@ def_reference = reference_by t.Def Ty-F.Def def_layer tt
 
 pub null_reference : IsReference t.Null
 null_reference = reference_by t.Null Ty-F.Null null_layer tt
+
+pub array_reference : (elem : Ty) → IsReference (t.Array elem)
+array_reference elem = reference_by (t.Array elem) (Ty-F.Array elem) (outs-Array elem) tt
 
 pub class_reference : (c : ℕ) → IsReference (t.Class c)
 class_reference c = reference_by (t.Class c) (Ty-F.Class c) (class_layer c) tt

@@ -1,5 +1,5 @@
 -- What steps of typing give, where they refuse nothing: expressions leave what is known as it was.
-use Rattle.std.proofs.Common.{◌≡◌, ℕ, List, [], ◌∷◌, Option, Some, None, Ok, Err, refl}
+use Rattle.std.proofs.Common.{◌≡◌, ℕ, zero, suc, length, Option, Some, None, Ok, Err, refl}
 use Rattle.std.specs.Prelude.{Bool, true, false, nat_lt, if◌then◌else◌}
 use Rattle.pl_types.specs.declared.classes.TheConstants.{PRELUDE}
 use Rattle.pl_types.specs.declared.ty.Ty.{Ty}
@@ -16,12 +16,12 @@ use Rattle.pl_types.specs.declared.refusal.Refusal.{Refusal}
 use Rattle.pl_types.specs.declared.rules.TheConstants.{BAD_CAST, OUT_OF_PROFILE}
 use Rattle.typing_rules.specs.Outcomes.{Out, refusal, refuse}
 use Rattle.typing_rules.specs.Doing.{Whole, Answer, Doing, ◌>>=◌, ◌>>◌, pure, and_then, by_rule, looking, changing}
-use Rattle.typing_rules.specs.Rules.Types.{is_built_class, base_of, bracketed as with_brackets, type_of, is_empty, caught_base, caught_class}
+use Rattle.typing_rules.specs.Rules.Types.{is_built_class, base_of, arrays, type_of, is_empty, caught_base, caught_class}
 use Rattle.typing_rules.specs.Rules.Operators.{unary_of}
 use Rattle.typing_rules.specs.Typing.{Reading, plain, unbuilt, seen}
 use Rattle.program_typing.specs.Types.{IsNamed}
 use Rattle.program_typing.specs.Agreeing.{Known as Script}
-use Rattle.typing_soundness.proofs.Types.{IsBuilt, prim_built, def_built, class_built, class_named}
+use Rattle.typing_soundness.proofs.Types.{IsBuilt, prim_built, def_built, class_built, array_built, class_named}
 use Rattle.typing_soundness.proofs.Parts.{passed, accepted, settled, PartIs, unary_is}
 use Rattle.typing_soundness.proofs.Names.{Known, in_sight, PlaceIs}
 
@@ -90,17 +90,14 @@ unbuilt_looked at = rule_looked (refuse OUT_OF_PROFILE at)
 pub ends_unbuilt : {A B : Type 0} {good : State → B → Type 0} {m : Doing A} (at : ℕ) → Looked m → Value good (m >>= (λ (a : A). unbuilt {A = B} at))
 ends_unbuilt {B = B} at x = record { by = λ s next r d e. let a = x.by s _ r d e in never at r a.goes }
 
-pub ends_unbuilt' : {A B : Type 0} {good : State → B → Type 0} {m : Doing A} (at : ℕ) → Looked m → Value good (m >> unbuilt {A = B} at)
-ends_unbuilt' {B = B} at x = record { by = λ s next r d e. let a = x.by s _ r d e in never at r a.goes }
-
 pub is_unbuilt : {B : Type 0} {good : State → B → Type 0} (at : ℕ) → Value good (unbuilt {A = B} at)
 is_unbuilt {B = B} at = record { by = λ s next r d e. never at r e }
 
 -- ---- types are built
 
-bracketed_is : (at : ℕ) (brackets : List ℕ) (from of : Ty) → with_brackets at brackets from ≡ Ok of → IsBuilt from → IsBuilt of
-bracketed_is at [] from of e b = settled IsBuilt from of e b
-bracketed_is at (x ∷ brackets) from of e b = cc
+pub arrays_built : (n : ℕ) (of : Ty) → IsBuilt of → IsBuilt (arrays n of)
+arrays_built zero of b = b
+arrays_built (suc n) of b = array_built (arrays n of) (arrays_built n of b)
 
 class_is : (c : Bool) (number at class : ℕ) (of : Ty) → is_built_class class ≡ c
     → (if c then accepted (t.Class class) else refuse number at) ≡ accepted of → IsBuilt of
@@ -115,8 +112,8 @@ base_is at (base.Name name) of e = cc
 
 pub type_is : (name : TypeName) (of : Ty) → type_of name ≡ Ok of → IsBuilt of
 type_is name of e =
-    let a = passed (base_of name.at name.base) (with_brackets name.at name.brackets) of e in
-    bracketed_is name.at name.brackets a.given of a.then' (base_is name.at name.base a.given a.first)
+    let a = passed (base_of name.at name.base) (λ base. accepted (arrays (length name.brackets) base)) of e in
+    settled IsBuilt (arrays (length name.brackets) a.given) of a.then' (arrays_built (length name.brackets) a.given (base_is name.at name.base a.given a.first))
 
 -- ---- code may name the class of a catch
 
@@ -152,14 +149,15 @@ module _ (funs : Script) where
   abbrev pub PartAt : State → Part → Type 0
   PartAt s x = PartIs funs (in_sight s.scopes) x
 
-  abbrev pub PlaceAt : State → Place → Type 0
-  PlaceAt s x = PlaceIs funs (in_sight s.scopes) x
+  -- what is written to, and where something is read too, what reads
+  abbrev pub PlaceAt : Option ℕ → State → Place → Type 0
+  PlaceAt by s x = PlaceIs funs by (in_sight s.scopes) x
 
   pub record ReadingIs (x : Reading) : Type 0 where
     pub names : NamesAre x.names
     pub value : Value PartAt x.value
     pub negated : (minus : ℕ) → Value PartAt (x.negated minus)
-    pub place : Value PlaceAt x.place
+    pub place : (by : Option ℕ) → Value (PlaceAt by) (x.place by)
 
   -- what is done with one part by a rule
   pub one_part : {m : Doing Part} (rule : Part → Out Part) → Value PartAt m
@@ -174,6 +172,26 @@ module _ (funs : Script) where
   pub two_parts : {m n : Doing Part} (rule : Part → Part → Out Part) → Value PartAt m → Value PartAt n
       → ((s : State) (x y z : Part) → rule x y ≡ Ok z → PartAt s x → PartAt s y → PartAt s z) → Value PartAt (m >>= (λ x. n >>= (λ y. by_rule (rule x y))))
   two_parts rule x y f = record {
+    by = λ s next r d e.
+        let a = x.by s _ r d e in
+        let b = y.by s _ r d a.goes in
+        let c = ruled (rule a.given b.given) (λ y. next y s) r b.goes in
+        record { given = c.given; has = f s a.given b.given c.given c.has a.has b.has; goes = c.goes };
+  }
+
+  -- what is written to, by a rule on one part or on two
+  pub one_place : {m : Doing Part} (by : Option ℕ) (rule : Part → Out Place) → Value PartAt m
+      → ((s : State) (x : Part) (y : Place) → rule x ≡ Ok y → PartAt s x → PlaceAt by s y) → Value (PlaceAt by) (m >>= (λ x. by_rule (rule x)))
+  one_place by rule x f = record {
+    by = λ s next r d e.
+        let a = x.by s _ r d e in
+        let b = ruled (rule a.given) (λ y. next y s) r a.goes in
+        record { given = b.given; has = f s a.given b.given b.has a.has; goes = b.goes };
+  }
+
+  pub two_place : {m n : Doing Part} (by : Option ℕ) (rule : Part → Part → Out Place) → Value PartAt m → Value PartAt n
+      → ((s : State) (x y : Part) (z : Place) → rule x y ≡ Ok z → PartAt s x → PartAt s y → PlaceAt by s z) → Value (PlaceAt by) (m >>= (λ x. n >>= (λ y. by_rule (rule x y))))
+  two_place by rule x y f = record {
     by = λ s next r d e.
         let a = x.by s _ r d e in
         let b = y.by s _ r d a.goes in
@@ -212,8 +230,8 @@ module _ (funs : Script) where
   negated_part : (minus : ℕ) {m : Doing Part} → Value PartAt m → Value PartAt (m >>= (λ x. by_rule (unary_of sign.Minus minus x)))
   negated_part minus x = one_part (unary_of sign.Minus minus) x (λ s x y e h. unary_is funs (in_sight s.scopes) sign.Minus minus x y e h)
 
-  fixed : {m : Doing Part} → Value PartAt m → Value PlaceAt (m >>= (λ x. pure place.Fixed))
-  fixed x = record { by = λ s next r d e. let a = x.by s _ r d e in record { given = place.Fixed; has = tt; goes = a.goes } }
+  fixed : {m : Doing Part} → Value PartAt m → (by : Option ℕ) → Value (PlaceAt by) (m >>= (λ x. pure place.Fixed))
+  fixed x by = record { by = λ s next r d e. let a = x.by s _ r d e in record { given = place.Fixed; has = tt; goes = a.goes } }
 
   -- what is no literal and no name
   pub plain_is : (first : ℕ) (m : Doing Part) → Value PartAt m → ReadingIs (plain first m)
@@ -225,10 +243,11 @@ module _ (funs : Script) where
   type_name_is first m n x y = record { names = y; value = x; negated = λ minus. negated_part minus x; place = fixed x }
 
   -- what may be written to
-  pub placed_is : (first : ℕ) (m : Doing Part) (p : Doing Place) → Value PartAt m → Value PlaceAt p → ReadingIs (record (plain first m) { place = p })
+  pub placed_is : (first : ℕ) (m : Doing Part) (p : Option ℕ → Doing Place) → Value PartAt m → ((by : Option ℕ) → Value (PlaceAt by) (p by))
+      → ReadingIs (record (plain first m) { place = p })
   placed_is first m p x y = record { names = tt; value = x; negated = λ minus. negated_part minus x; place = y }
 
-  pub fixed_place : {m : Doing Part} → Value PartAt m → Value PlaceAt (m >>= (λ x. pure place.Fixed))
+  pub fixed_place : {m : Doing Part} → Value PartAt m → (by : Option ℕ) → Value (PlaceAt by) (m >>= (λ x. pure place.Fixed))
   fixed_place = fixed
 
   pub minus_part : (minus : ℕ) {m : Doing Part} → Value PartAt m → Value PartAt (m >>= (λ x. by_rule (unary_of sign.Minus minus x)))

@@ -1,6 +1,6 @@
 -- What typing gives is well formed, and each of its statements is reached.
 use Rattle.std.specs.Prelude.{◌≡◌, ◌≢◌, ℕ, List, [], ◌∷◌, Ok}
-use Rattle.object_heap.specs.Fits.{Rules}
+use Rattle.object_heap.specs.Fits.{Rules, Every}
 use Rattle.run_state.specs.World.{Limits}
 use Rattle.pl_tree.specs.declared.tree.Tree.{Tree}
 use Rattle.typed_tree.specs.declared.program.Named.{Named}
@@ -57,9 +57,10 @@ TypingReaches = (allow : AllowList) (context : ContextTypes) (tree : Tree) (p : 
 abbrev pub beside : Program → source.Program → source.Programs
 beside p prelude = record { script = program_of p; prelude = prelude }
 
--- In a program that typing gives, beside a well-formed prelude, each value is of its type, at every bound.
+-- In a program that typing gives, beside a well-formed prelude, each value is of its type, at every bound, where the store fits by the
+-- rules of a program.
 abbrev pub TypingKeepsTypes : Type 0
 TypingKeepsTypes =
     (allow : AllowList) (context : ContextTypes) (tree : Tree) (p : Program) → IsContext context → typing_of allow context tree ≡ Ok p
-    → (prelude : source.Program) (limits : Limits) → limits.allowed ≡ allow → WellFormed (known limits.prelude_allowed prelude) → (rules : Rules) (bound : ℕ)
+    → (prelude : source.Program) (limits : Limits) → limits.allowed ≡ allow → WellFormed (known limits.prelude_allowed prelude) → (rules : Rules) (bound : ℕ) → rules.typed ≡ Every
     → MeaningTyped rules (beside p prelude) limits (meaning (beside p prelude) limits bound)

@@ -18,6 +18,11 @@ pub behind_two : {A B : Type 0} (o : Out A) (f : A → Out B) (h : B → Config)
 behind_two (Ok a) f h k = behind (f a) h k
 behind_two (Err r) f h k = refl
 
+pub behind_both : {A B : Type 0} (o : Out A) (f : A → Out B) (h : A → B → Config) (k : Config → Answer)
+    → and_then o (λ a. and_then (f a) (λ b. k (h a b))) ≡ and_then (bind o (λ a. bind (f a) (λ b. Ok (h a b)))) k
+behind_both (Ok a) f h k = behind (f a) (h a) k
+behind_both (Err r) f h k = refl
+
 pub behind_next : {A B : Type 0} (o : Out A) (f : A → Out B) (h : B → Config) (k : Config → Answer)
     → and_then o (λ a. and_then (f a) (λ b. k (h b))) ≡ and_then (bind (bind o f) (λ b. Ok (h b))) k
 behind_next (Ok a) f h k = behind (f a) h k

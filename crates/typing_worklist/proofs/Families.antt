@@ -71,13 +71,13 @@ module _ (allow : AllowList) (hs : List Header) (js : List Item) (c : Config) wh
   parameters_from all i None is = goings.parameters_end allow hs js c all i is
   parameters_from all i (Some one) is = goings.parameters_go allow hs js c all i one is
 
-  values_from : (all : List Expr) (i at : ℕ) (found : Option Expr) → slice_get all i ≡ found → run allow hs (j.UnbuiltValues all i at ∷ js) c ≡ run allow hs (values_plan all i at found ++ js) c
-  values_from all i at None is = goings.values_end allow hs js c all i at is
-  values_from all i at (Some one) is = goings.values_go allow hs js c all i at one is
+  values_from : (all : List Expr) (i : ℕ) (found : Option Expr) → slice_get all i ≡ found → run allow hs (j.Values all i ∷ js) c ≡ run allow hs (values_plan all i found ++ js) c
+  values_from all i None is = goings.values_end allow hs js c all i is
+  values_from all i (Some one) is = goings.values_go allow hs js c all i one is
 
-  entries_from : (all : List Entry) (i at : ℕ) (found : Option Entry) → slice_get all i ≡ found → run allow hs (j.UnbuiltEntries all i at ∷ js) c ≡ run allow hs (entries_plan all i at found ++ js) c
-  entries_from all i at None is = goings.entries_end allow hs js c all i at is
-  entries_from all i at (Some one) is = goings.entries_go allow hs js c all i at one is
+  entries_from : (all : List Entry) (i : ℕ) (found : Option Entry) → slice_get all i ≡ found → run allow hs (j.Entries all i ∷ js) c ≡ run allow hs (entries_plan all i found ++ js) c
+  entries_from all i None is = goings.entries_end allow hs js c all i is
+  entries_from all i (Some one) is = goings.entries_go allow hs js c all i one is
 
   statements_from : (all : List Statement) (i : ℕ) (in_main after : Bool) (found : Option Statement) → slice_get all i ≡ found → run allow hs (j.Statements all i in_main after ∷ js) c ≡ run allow hs (statements_plan all i in_main after found ++ js) c
   statements_from all i in_main after None is = goings.statements_end allow hs js c all i in_main after is
@@ -86,13 +86,19 @@ module _ (allow : AllowList) (hs : List Header) (js : List Item) (c : Config) wh
   pub expression_planned : (x : ExpressionItem) → run allow hs (expression_item x ∷ js) c ≡ run allow hs (expression_items c x ++ js) c
   expression_planned (e.Value x) = values.value_planned allow hs js c x.now
   expression_planned (e.Negated x minus) = values.negated_planned allow hs js c minus x.now
-  expression_planned (e.Target x) = values.target_planned allow hs js c x.now
+  expression_planned (e.Target x by) = values.target_planned allow hs js c x.now by
   expression_planned (e.Given x) = parts.argument_planned allow hs js c x.now
   expression_planned (e.Arguments all i) = arguments_from all.now i (slice_get all.now i) refl
   expression_planned (e.Call at name all) = goings.call_goes allow hs js c at name.now all.now
   expression_planned (e.Method at access name all) = goings.method_goes allow hs js c at access name.now all.now
   expression_planned (e.Static at access of name all) = goings.static_goes allow hs js c at access of.now name.now all.now
   expression_planned (e.New at of all) = goings.new_goes allow hs js c at of.now all.now
+  expression_planned (e.Values all i) = values_from all.now i (slice_get all.now i) refl
+  expression_planned (e.Entries all i) = entries_from all.now i (slice_get all.now i) refl
+  expression_planned (e.List at all) = goings.list_goes allow hs js c at all.now
+  expression_planned (e.Map at all) = goings.map_goes allow hs js c at all.now
+  expression_planned (e.Array at of all) = goings.array_goes allow hs js c at of.now all.now
+  expression_planned (e.ArrayWith at of all) = goings.array_with_goes allow hs js c at of.now all.now
 
   pub statement_planned : (x : StatementItem) → run allow hs (statement_item x ∷ js) c ≡ run allow hs (statement_items c x ++ js) c
   statement_planned (s.One x last) = statements.statement_planned allow hs js c last x.now
@@ -109,6 +115,8 @@ module _ (allow : AllowList) (hs : List Header) (js : List Item) (c : Config) wh
   loop_part_planned (l.Block x) = goings.loop_block_goes allow hs js c x.now
   loop_part_planned (l.For at first condition update body) = goings.for_goes allow hs js c at first.now condition.now update.now body.now
   loop_part_planned (l.ForParts at first condition update body) = parts.for_planned allow hs js c at first.now condition.now update.now body.now
+  loop_part_planned (l.Each at of name over body) = goings.for_each_goes allow hs js c at of.now name.now over.now body.now
+  loop_part_planned (l.EachDef at name over body) = goings.for_in_goes allow hs js c at name.now over.now body.now
   loop_part_planned (l.FirstIf x) = parts.first_if_planned allow hs js c x.now
   loop_part_planned (l.First x) = parts.first_planned allow hs js c x.now
   loop_part_planned (l.Deed x) = goings.deed_goes allow hs js c x.now
@@ -130,8 +138,6 @@ module _ (allow : AllowList) (hs : List Header) (js : List Item) (c : Config) wh
   pub unbuilt_planned : (x : UnbuiltItem) → run allow hs (unbuilt_item x ∷ js) c ≡ run allow hs (unbuilt_items x ++ js) c
   unbuilt_planned (u.Parameters all i) = parameters_from all.now i (slice_get all.now i) refl
   unbuilt_planned (u.Inner x at) = parts.inner_planned allow hs js c at x.now
-  unbuilt_planned (u.Values all i at) = values_from all.now i at (slice_get all.now i) refl
-  unbuilt_planned (u.Entries all i at) = entries_from all.now i at (slice_get all.now i) refl
 
   word_by : (x : WordItem) → run allow hs (word_item x ∷ js) c ≡ and_then (does_word allow hs x c) (run allow hs js)
   unfolding run
@@ -148,6 +154,13 @@ module _ (allow : AllowList) (hs : List Header) (js : List Item) (c : Config) wh
   word_by (w.StaticCalled at access of name height) = refl
   word_by (w.Made at of height) = refl
   word_by (w.Read at access name) = refl
+  word_by (w.Numbered at access digits) = refl
+  word_by (w.Indexed at) = refl
+  word_by (w.ArrayMade at of height) = refl
+  word_by (w.ArrayFilled at of height) = refl
+  word_by (w.WrittenName at by name) = refl
+  word_by (w.WrittenNumber at by digits) = refl
+  word_by (w.WrittenIndex at by) = refl
   word_by (w.Field at access of name) = refl
   word_by (w.Begun x) = refl
   word_by (w.Updated x) = refl
@@ -156,6 +169,8 @@ module _ (allow : AllowList) (hs : List Header) (js : List Item) (c : Config) wh
   unfolding run
   binding_by (b.CastInitial of) = refl
   binding_by (b.Declare name of) = refl
+  binding_by (b.Each at name of) = refl
+  binding_by (b.EachDef at name) = refl
   binding_by (b.Named name of) = behind_two (type_of of.now) (λ t. declared name.now.at name.now.spelling t c.state) (λ s. record c { state = s }) (run allow hs js)
   binding_by (b.NamedDef name) = behind (declared name.now.at name.now.spelling ty.Def c.state) (λ s. record c { state = s }) (run allow hs js)
   binding_by (b.Catching of name) = refl

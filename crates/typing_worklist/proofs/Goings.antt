@@ -20,6 +20,7 @@ use Rattle.typed_tree.specs.declared.statement.TypedVariable.{TypedVariable}
 use Rattle.allowlist.specs.Allow.{AllowList}
 use Rattle.typing_rules.specs.declared.header.Header.{Header}
 use Rattle.typing_rules.specs.declared.part.Caught.{Caught}
+use Rattle.typing_rules.specs.declared.part.Part.{Part}
 use Rattle.typing_rules.specs.declared.state.State.{State}
 use Rattle.typing_rules.specs.Doing.{Answer, Doing, and_then}
 use Rattle.typing_rules.specs.Outcomes.{bind}
@@ -27,21 +28,23 @@ use Rattle.typing_rules.specs.State.{closed, declared}
 use Rattle.typing_rules.specs.Rules.Types.{type_of, caught_class}
 use Rattle.typing_rules.specs.Rules.Calls as calls
 use Rattle.typing_rules.specs.Rules.Casts as casts
+use Rattle.typing_rules.specs.Rules.Loops as loops
 use Rattle.typing_rules.specs.Rules.Statements as rules
 use Rattle.typing_rules.specs.Typing as typing
-use Rattle.typing_rules.specs.Typing.{Reading, Doer, Braces, Seen, reading, argument, doer, braces, parts, handlers, statements, all_seen, seen, lambda_parameters, parameter_type, is_empty, variable_step}
+use Rattle.typing_rules.specs.Typing.{Doer, Braces, value_of, reading, argument, body, doer, braces, parts, handlers, statements, looping, lambda_parameters, parameter_type, is_empty, variable_step}
 use Rattle.typing_actions.specs.declared.config.Config.{Config}
 use Rattle.typing_actions.specs.Stacks.{one, above}
+use Rattle.typing_actions.specs.Statements as deeds
 use Rattle.typing_worklist.specs.declared.item.Act.TheVariants as a
 use Rattle.typing_worklist.specs.declared.item.StatementAct.TheVariants as sa
 use Rattle.typing_worklist.specs.Folds.{handler, entry, variable}
 use Rattle.typing_worklist.specs.Going.{none_left}
 use Rattle.typing_worklist.specs.Item as j
 use Rattle.typing_worklist.specs.Item.{Item}
-use Rattle.typing_worklist.specs.Machine.{run, stacked, parts_to, step_to, steps_to, variable_to, variables_to, catch_to, catches_to, nothing_to, refused_at}
-use Rattle.typing_worklist.specs.Plans.{parameter_item, variable_plan, statements_plan, catch_plan}
+use Rattle.typing_worklist.specs.Machine.{run, stacked, parts_to, step_to, steps_to, variable_to, variables_to, catch_to, catches_to, nothing_to}
+use Rattle.typing_worklist.specs.Plans.{parameter_item, variable_plan, statements_plan, catch_plan, each_plan, each_def_plan}
 use Rattle.typing_worklist.proofs.Above.{above_stacked}
-use Rattle.typing_worklist.proofs.Behind.{behind, behind_two, behind_with, again, again_with}
+use Rattle.typing_worklist.proofs.Behind.{behind, behind_two, behind_both, behind_with, again, again_with}
 use Rattle.typing_worklist.proofs.Opened.{block_is, catch_is, declaration_is, entry_is, variable_over, variable_is}
 use Rattle.typing_worklist.proofs.StatementPlans.{place_is}
 
@@ -180,22 +183,59 @@ module _ (allow : AllowList) (hs : List Header) (js : List Item) (c : Config) wh
   unfolding run
   parameters_end all i is = ap (λ (t : List Parameter). lambda_parameters t c.state (nothing_to c (run allow hs js))) (drop_end i all is)
 
-  pub values_go : (all : List Expr) (i at : ℕ) (one : Expr) → slice_get all i ≡ Some one → run allow hs (j.UnbuiltValues all i at ∷ js) c ≡ run allow hs (j.Value one ∷ j.UnbuiltValues all (i + 1) at ∷ js) c
+  pub values_go : (all : List Expr) (i : ℕ) (one : Expr) → slice_get all i ≡ Some one → run allow hs (j.Values all i ∷ js) c ≡ run allow hs (j.Value one ∷ j.Values all (i + 1) ∷ js) c
   unfolding run
-  values_go all i at one is = ap (λ (t : List Expr). all_seen (map (λ (e : Reading). seen e.value) (map (reading allow hs) t)) c.state (refused_at at)) (drop_one i all one is)
+  values_go all i one is = ap (λ (t : List Expr). parts (map value_of (map (reading allow hs) t)) c.state (parts_to c (run allow hs js))) (drop_one i all one is)
 
-  pub values_end : (all : List Expr) (i at : ℕ) → slice_get all i ≡ None → run allow hs (j.UnbuiltValues all i at ∷ js) c ≡ run allow hs (j.Do (a.Unbuilt at) ∷ js) c
+  pub values_end : (all : List Expr) (i : ℕ) → slice_get all i ≡ None → run allow hs (j.Values all i ∷ js) c ≡ run allow hs js c
   unfolding run
-  values_end all i at is = ap (λ (t : List Expr). all_seen (map (λ (e : Reading). seen e.value) (map (reading allow hs) t)) c.state (refused_at at)) (drop_end i all is)
+  values_end all i is = ap (λ (t : List Expr). parts (map value_of (map (reading allow hs) t)) c.state (parts_to c (run allow hs js))) (drop_end i all is)
 
-  pub entries_go : (all : List Entry) (i at : ℕ) (one : Entry) → slice_get all i ≡ Some one → run allow hs (j.UnbuiltEntries all i at ∷ js) c ≡ run allow hs (j.Value (out-Entry one).key ∷ j.Value (out-Entry one).value ∷ j.UnbuiltEntries all (i + 1) at ∷ js) c
+  pub entries_go : (all : List Entry) (i : ℕ) (one : Entry) → slice_get all i ≡ Some one → run allow hs (j.Entries all i ∷ js) c ≡ run allow hs (j.Value (out-Entry one).key ∷ j.Value (out-Entry one).value ∷ j.Entries all (i + 1) ∷ js) c
   unfolding run
-  entries_go all i at one is = ap (λ (t : List Entry). all_seen (map (entry allow hs) t) c.state (refused_at at)) (drop_one i all one is)
-      ∙ ap (λ (x : Seen). x c.state (λ u s. all_seen (map (entry allow hs) (drop (i + 1) all)) s (refused_at at))) (entry_is allow hs one)
+  entries_go all i one is = ap (λ (t : List Entry). typing.entries (map (entry allow hs) t) c.state (parts_to c (run allow hs js))) (drop_one i all one is)
+      ∙ ap (λ (x : Doing (Part × Part)). x c.state (λ p s. typing.entries (map (entry allow hs) (drop (i + 1) all)) s (λ xs t. run allow hs js (record c { parts = stacked xs (p.1 ∷ p.0 ∷ c.parts); state = t })))) (entry_is allow hs one)
 
-  pub entries_end : (all : List Entry) (i at : ℕ) → slice_get all i ≡ None → run allow hs (j.UnbuiltEntries all i at ∷ js) c ≡ run allow hs (j.Do (a.Unbuilt at) ∷ js) c
+  pub entries_end : (all : List Entry) (i : ℕ) → slice_get all i ≡ None → run allow hs (j.Entries all i ∷ js) c ≡ run allow hs js c
   unfolding run
-  entries_end all i at is = ap (λ (t : List Entry). all_seen (map (entry allow hs) t) c.state (refused_at at)) (drop_end i all is)
+  entries_end all i is = ap (λ (t : List Entry). typing.entries (map (entry allow hs) t) c.state (parts_to c (run allow hs js))) (drop_end i all is)
+
+  pub list_goes : (at : ℕ) (all : List Expr) → run allow hs (j.ListOf at all ∷ js) c ≡ run allow hs (j.Values all 0 ∷ j.Do (a.List at (length c.parts)) ∷ js) c
+  unfolding run
+  list_goes at all = refl
+
+  pub map_goes : (at : ℕ) (all : List Entry) → run allow hs (j.MapOf at all ∷ js) c ≡ run allow hs (j.Entries all 0 ∷ j.Do (a.Map at (length c.parts)) ∷ js) c
+  unfolding run
+  map_goes at all = refl
+
+  pub array_goes : (at : ℕ) (of : TypeName) (all : List Expr) → run allow hs (j.ArrayOf at of all ∷ js) c ≡ run allow hs (j.Values all 0 ∷ j.ArrayMade at of (length c.parts) ∷ js) c
+  unfolding run
+  array_goes at of all = refl
+
+  pub array_with_goes : (at : ℕ) (of : TypeName) (all : List Expr) → run allow hs (j.ArrayWith at of all ∷ js) c ≡ run allow hs (j.Values all 0 ∷ j.ArrayFilled at of (length c.parts) ∷ js) c
+  unfolding run
+  array_with_goes at of all = refl
+
+  -- a loop over elements behind what it goes over, whose variable is of a type
+  abbrev each_rest : ℕ → Spelled → Body → Ty → Part → State → Answer
+  each_rest at name b to x s = and_then (loops.each_of at name.spelling to x s) (λ e. and_then (declared name.at name.spelling to s) (λ t.
+      looping (body allow hs b) t (λ y u. run allow hs js (record c { steps = loops.each_loop at e.first e.element y ∷ c.steps; state = closed (length c.state.scopes) u }))))
+
+  each_by : (at : ℕ) (name : Spelled) (b : Body) (to : Ty) (x : Part) (s : State) → each_rest at name b to x s
+      ≡ and_then (deeds.each_begun at name to x (record c { state = s })) (run allow hs (j.Looping b ∷ j.DoStatement (sa.EachLoop at) ∷ j.DoStatement (sa.Close (length c.state.scopes)) ∷ js))
+  unfolding run
+  each_by at name b to x s = behind_both (loops.each_of at name.spelling to x s) (λ e. declared name.at name.spelling to s) (λ e t. record c { steps = e.element ∷ e.first ∷ c.steps; state = t })
+      (run allow hs (j.Looping b ∷ j.DoStatement (sa.EachLoop at) ∷ j.DoStatement (sa.Close (length c.state.scopes)) ∷ js))
+
+  pub for_each_goes : (at : ℕ) (of : TypeName) (name : Spelled) (over : Expr) (b : Body) → run allow hs (j.ForEach at of name over b ∷ js) c ≡ run allow hs (each_plan (length c.state.scopes) at of name over b ++ js) c
+  unfolding run
+  for_each_goes at of name over b =
+      (λ i. and_then (type_of of) (λ to. (reading allow hs over).value c.state (λ x s. each_by at name b to x s i)))
+      ∙ again (type_of of) (λ p. (reading allow hs over).value c.state (λ x s. and_then (bind p (λ to. deeds.each_begun at name to x (record c { state = s }))) (run allow hs (j.Looping b ∷ j.DoStatement (sa.EachLoop at) ∷ j.DoStatement (sa.Close (length c.state.scopes)) ∷ js))))
+
+  pub for_in_goes : (at : ℕ) (name : Spelled) (over : Expr) (b : Body) → run allow hs (j.ForIn at name over b ∷ js) c ≡ run allow hs (each_def_plan (length c.state.scopes) at name over b ++ js) c
+  unfolding run
+  for_in_goes at name over b = λ i. (reading allow hs over).value c.state (λ x s. each_by at name b ty.Def x s i)
 
   pub catches_go : (all : List Catch) (i : ℕ) (one : Catch) → slice_get all i ≡ Some one → run allow hs (j.Catches all i ∷ js) c ≡ run allow hs (j.Catch_ one ∷ j.Catches all (i + 1) ∷ js) c
   unfolding run

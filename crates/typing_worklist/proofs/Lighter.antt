@@ -37,7 +37,7 @@ use Rattle.typing_worklist.specs.declared.item.WordItem.{WordItem}
 use Rattle.typing_worklist.specs.declared.item.WordItem.TheVariants as v
 use Rattle.typing_worklist.specs.Item.{Item}
 use Rattle.typing_worklist.specs.Items.{expression_item, word_item, binding_item, statement_item, loop_item, declaration_item, catch_item, unbuilt_item}
-use Rattle.typing_worklist.specs.Plans.{Open, type_in, member_plan, method_plan, element_plan, value_plan, negated_plan, member_target, target_plan, argument_plan, inner_plan, statement_plan, body_plan, first_plan, loop_body_plan, first_if_plan, condition_plan, update_if_plan, otherwise_plan, returned_plan, initial_plan, parameter_item, arguments_plan, variables_plan, catches_plan, parameters_plan, values_plan, entries_plan, statements_plan, expression_items, statement_items, loop_items, declaration_items, catch_items, unbuilt_items}
+use Rattle.typing_worklist.specs.Plans.{Open, type_in, member_plan, method_plan, element_plan, value_plan, negated_plan, member_target, element_target, target_plan, argument_plan, inner_plan, statement_plan, body_plan, first_plan, loop_body_plan, first_if_plan, condition_plan, update_if_plan, otherwise_plan, returned_plan, initial_plan, parameter_item, arguments_plan, variables_plan, catches_plan, parameters_plan, values_plan, entries_plan, statements_plan, expression_items, statement_items, loop_items, declaration_items, catch_items, unbuilt_items}
 use Rattle.typing_worklist.specs.Weights.{total, argument_step, variable_step, expression_step, statement_step, body_step, first_step, lambda_step, argument, argument_if, body, body_if, expression, expression_if, first, first_if, inner, statement, block, handler, declaration, entry, variable, weight_of, weights}
 use Rattle.typing_worklist.proofs.Goings.{drop_one}
 use Rattle.typing_worklist.proofs.Weighed as w
@@ -52,9 +52,9 @@ method_lighter : (access : Access) (at : ℕ) (receiver : Expr) (type : Option T
 method_lighter access at receiver None name given = omega arith
 method_lighter access at receiver (Some of) name given = omega arith
 
-element_lighter : (at : ℕ) (receiver : Expr) (type : Option TypeName) → weights (element_plan at receiver type) < 20 + expression receiver
-element_lighter at receiver None = omega arith
-element_lighter at receiver (Some of) = omega arith
+element_lighter : (access : Access) (at : ℕ) (receiver : Expr) (type : Option TypeName) (digits : List ℕ) → weights (element_plan access at receiver type digits) < 20 + expression receiver
+element_lighter access at receiver None digits = omega arith
+element_lighter access at receiver (Some of) digits = omega arith
 
 value_by : (y : Open Expr-F) → weights (value_plan y) < expression_step (w.expression_over y)
 value_by (Expr-F.Assign operator at target value) = let under : weights (value_plan (Expr-F.Assign operator at target value)) < 20 + (expression target + expression value) = omega arith in under
@@ -83,7 +83,7 @@ value_by (Expr-F.NewItems at of items) = let under : weights (value_plan (Expr-F
 value_by (Expr-F.Type of) = omega arith
 value_by (Expr-F.Member access at receiver spelling) = member_lighter access at receiver (type_in (out-Expr receiver)) spelling
 value_by (Expr-F.Method access at receiver spelling given) = method_lighter access at receiver (type_in (out-Expr receiver)) spelling given
-value_by (Expr-F.Element access at receiver spelling) = element_lighter at receiver (type_in (out-Expr receiver))
+value_by (Expr-F.Element access at receiver digits) = element_lighter access at receiver (type_in (out-Expr receiver)) digits
 value_by (Expr-F.Index at receiver index) = let under : weights (value_plan (Expr-F.Index at receiver index)) < 20 + (expression receiver + expression index) = omega arith in under
 
 value_lighter : (x : Expr) → weights (value_plan (out-Expr x)) < expression x
@@ -117,37 +117,45 @@ negated_by minus x (Expr-F.Element access at receiver spelling) = omega arith
 negated_by minus x (Expr-F.Index at receiver index) = omega arith
 
 -- what is written to
-target_member : (access : Access) (at : ℕ) (x receiver : Expr) (type : Option TypeName) → expression x ≡ 20 + expression receiver → weights (member_target access at x receiver type) < 2 + expression x
-target_member access.Plain at x receiver None is = omega (arith, is)
-target_member access.Plain at x receiver (Some of) is = omega arith
-target_member access.Guarded at x receiver type is = omega arith
+target_member : (access : Access) (at : ℕ) (x receiver : Expr) (type : Option TypeName) (name : List ℕ) (by : Option ℕ) → expression x ≡ 20 + expression receiver → weights (member_target access at x receiver type name by) < 2 + expression x
+target_member access.Plain at x receiver None name by is = omega (arith, is)
+target_member access.Plain at x receiver (Some of) name by is = omega arith
+target_member access.Guarded at x receiver type name by is = omega arith
 
-target_by : (x : Expr) (y : Open Expr-F) → expression x ≡ expression_step (w.expression_over y) → weights (target_plan x y) < 2 + expression x
-target_by x (Expr-F.Assign operator at target value) is = omega arith
-target_by x (Expr-F.Conditional at condition left right) is = omega arith
-target_by x (Expr-F.Elvis at left right) is = omega arith
-target_by x (Expr-F.Binary operator at left right) is = omega arith
-target_by x (Expr-F.Instanceof at operand of) is = omega arith
-target_by x (Expr-F.Unary operator at operand) is = omega arith
-target_by x (Expr-F.Prefix step at target) is = omega arith
-target_by x (Expr-F.Postfix step at target) is = omega arith
-target_by x (Expr-F.Cast at of operand) is = omega arith
-target_by x (Expr-F.Bracketed at operand) is = omega arith
-target_by x (Expr-F.Integer at spelling) is = omega arith
-target_by x (Expr-F.Text at spelling) is = omega arith
-target_by x (Expr-F.Constant constant at) is = omega arith
-target_by x (Expr-F.List at items) is = omega arith
-target_by x (Expr-F.Map at entries) is = omega arith
-target_by x (Expr-F.Name at spelling) is = omega arith
-target_by x (Expr-F.Call at spelling given) is = omega arith
-target_by x (Expr-F.New at of given) is = omega arith
-target_by x (Expr-F.NewArray at of sizes) is = omega arith
-target_by x (Expr-F.NewItems at of items) is = omega arith
-target_by x (Expr-F.Type of) is = omega arith
-target_by x (Expr-F.Member access at receiver spelling) is = target_member access at x receiver (type_in (out-Expr receiver)) is
-target_by x (Expr-F.Method access at receiver spelling given) is = omega arith
-target_by x (Expr-F.Element access at receiver spelling) is = omega arith
-target_by x (Expr-F.Index at receiver index) is = omega arith
+target_element : (access : Access) (at : ℕ) (x receiver : Expr) (type : Option TypeName) (digits : List ℕ) (by : Option ℕ) → expression x ≡ 20 + expression receiver → weights (element_target access at x receiver type digits by) < 2 + expression x
+target_element access.Plain at x receiver None digits by is = omega (arith, is)
+target_element access.Plain at x receiver (Some of) digits by is = omega arith
+target_element access.Guarded at x receiver type digits by is = omega arith
+
+target_index : (at : ℕ) (x receiver index : Expr) (by : Option ℕ) → expression x ≡ 20 + (expression receiver + expression index) → weights (target_plan x by (Expr-F.Index at receiver index)) < 2 + expression x
+target_index at x receiver index by is = omega (arith, is)
+
+target_by : (x : Expr) (by : Option ℕ) (y : Open Expr-F) → expression x ≡ expression_step (w.expression_over y) → weights (target_plan x by y) < 2 + expression x
+target_by x by (Expr-F.Assign operator at target value) is = omega arith
+target_by x by (Expr-F.Conditional at condition left right) is = omega arith
+target_by x by (Expr-F.Elvis at left right) is = omega arith
+target_by x by (Expr-F.Binary operator at left right) is = omega arith
+target_by x by (Expr-F.Instanceof at operand of) is = omega arith
+target_by x by (Expr-F.Unary operator at operand) is = omega arith
+target_by x by (Expr-F.Prefix step at target) is = omega arith
+target_by x by (Expr-F.Postfix step at target) is = omega arith
+target_by x by (Expr-F.Cast at of operand) is = omega arith
+target_by x by (Expr-F.Bracketed at operand) is = omega arith
+target_by x by (Expr-F.Integer at spelling) is = omega arith
+target_by x by (Expr-F.Text at spelling) is = omega arith
+target_by x by (Expr-F.Constant constant at) is = omega arith
+target_by x by (Expr-F.List at items) is = omega arith
+target_by x by (Expr-F.Map at entries) is = omega arith
+target_by x by (Expr-F.Name at spelling) is = omega arith
+target_by x by (Expr-F.Call at spelling given) is = omega arith
+target_by x by (Expr-F.New at of given) is = omega arith
+target_by x by (Expr-F.NewArray at of sizes) is = omega arith
+target_by x by (Expr-F.NewItems at of items) is = omega arith
+target_by x by (Expr-F.Type of) is = omega arith
+target_by x by (Expr-F.Member access at receiver spelling) is = target_member access at x receiver (type_in (out-Expr receiver)) spelling by is
+target_by x by (Expr-F.Method access at receiver spelling given) is = omega arith
+target_by x by (Expr-F.Element access at receiver digits) is = target_element access at x receiver (type_in (out-Expr receiver)) digits by is
+target_by x by (Expr-F.Index at receiver index) is = target_index at x receiver index by is
 
 -- Parts that others hold.
 block_is : (x : Block) → block x ≡ 20 + total (map statement (out-Block x).statements)
@@ -295,13 +303,13 @@ parameters_lighter : (all : List Parameter) (i : ℕ) (found : Option Parameter)
 parameters_lighter all i None is = omega arith
 parameters_lighter all i (Some one) is = omega (arith, length_one i all one is, parameter_weighs one.name one.of)
 
-values_lighter : (all : List Expr) (i at : ℕ) (found : Option Expr) → slice_get all i ≡ found → weights (values_plan all i at found) < 2 + total (map expression (drop i all))
-values_lighter all i at None is = omega arith
-values_lighter all i at (Some one) is = omega (arith, total_one expression i all one is)
+values_lighter : (all : List Expr) (i : ℕ) (found : Option Expr) → slice_get all i ≡ found → weights (values_plan all i found) < 1 + total (map expression (drop i all))
+values_lighter all i None is = omega arith
+values_lighter all i (Some one) is = omega (arith, total_one expression i all one is)
 
-entries_lighter : (all : List Entry) (i at : ℕ) (found : Option Entry) → slice_get all i ≡ found → weights (entries_plan all i at found) < 2 + total (map entry (drop i all))
-entries_lighter all i at None is = omega arith
-entries_lighter all i at (Some one) is = omega (arith, total_one entry i all one is, entry_is one)
+entries_lighter : (all : List Entry) (i : ℕ) (found : Option Entry) → slice_get all i ≡ found → weights (entries_plan all i found) < 1 + total (map entry (drop i all))
+entries_lighter all i None is = omega arith
+entries_lighter all i (Some one) is = omega (arith, total_one entry i all one is, entry_is one)
 
 statements_lighter : (all : List Statement) (i : ℕ) (in_main after : Bool) (found : Option Statement) → slice_get all i ≡ found → weights (statements_plan all i in_main after found) < 1 + total (map statement (drop i all))
 statements_lighter all i in_main after None is = omega arith
@@ -311,13 +319,19 @@ statements_lighter all i in_main after (Some one) is = omega (arith, total_one s
 expression_light : (c : Config) (x : ExpressionItem) → weights (expression_items c x) < weight_of (expression_item x)
 expression_light c (e.Value x) = value_lighter x.now
 expression_light c (e.Negated x minus) = negated_by minus x.now (out-Expr x.now)
-expression_light c (e.Target x) = target_by x.now (out-Expr x.now) (w.expression_weighs x.now)
+expression_light c (e.Target x by) = target_by x.now by (out-Expr x.now) (w.expression_weighs x.now)
 expression_light c (e.Given x) = argument_lighter x.now
 expression_light c (e.Arguments all i) = arguments_lighter all.now i (slice_get all.now i) refl
 expression_light c (e.Call at name all) = omega arith
 expression_light c (e.Method at access name all) = omega arith
 expression_light c (e.Static at access of name all) = omega arith
 expression_light c (e.New at of all) = omega arith
+expression_light c (e.Values all i) = values_lighter all.now i (slice_get all.now i) refl
+expression_light c (e.Entries all i) = entries_lighter all.now i (slice_get all.now i) refl
+expression_light c (e.List at all) = omega arith
+expression_light c (e.Map at all) = omega arith
+expression_light c (e.Array at of all) = omega arith
+expression_light c (e.ArrayWith at of all) = omega arith
 
 statement_light : (c : Config) (x : StatementItem) → weights (statement_items c x) < weight_of (statement_item x)
 statement_light c (s.One x last) = one_lighter last x.now
@@ -334,6 +348,8 @@ loop_light c (l.Body x) = loop_body_lighter x.now
 loop_light c (l.Block x) = omega arith
 loop_light c (l.For at f d u b) = omega arith
 loop_light c (l.ForParts at f d u b) = omega arith
+loop_light c (l.Each at of name over body_) = omega arith
+loop_light c (l.EachDef at name over body_) = omega arith
 loop_light c (l.FirstIf x) = first_if_lighter x.now
 loop_light c (l.First x) = first_lighter x.now
 loop_light c (l.Deed x) = omega arith
@@ -355,8 +371,6 @@ catch_light c (k.One x) = omega (arith, handler_is x.now, block_is (out-Catch x.
 unbuilt_light : (x : UnbuiltItem) → weights (unbuilt_items x) < weight_of (unbuilt_item x)
 unbuilt_light (u.Parameters all i) = parameters_lighter all.now i (slice_get all.now i) refl
 unbuilt_light (u.Inner x at) = inner_lighter at x.now
-unbuilt_light (u.Values all i at) = values_lighter all.now i at (slice_get all.now i) refl
-unbuilt_light (u.Entries all i at) = entries_lighter all.now i at (slice_get all.now i) refl
 
 -- The same before items that are left.
 weights_append : (xs ys : List Item) → weights (xs ++ ys) ≡ weights xs + weights ys
@@ -399,6 +413,13 @@ word_weighs (v.MethodCalled at access name height) = refl
 word_weighs (v.StaticCalled at access of name height) = refl
 word_weighs (v.Made at of height) = refl
 word_weighs (v.Read at access name) = refl
+word_weighs (v.Numbered at access digits) = refl
+word_weighs (v.Indexed at) = refl
+word_weighs (v.ArrayMade at of height) = refl
+word_weighs (v.ArrayFilled at of height) = refl
+word_weighs (v.WrittenName at by name) = refl
+word_weighs (v.WrittenNumber at by digits) = refl
+word_weighs (v.WrittenIndex at by) = refl
 word_weighs (v.Field at access of name) = refl
 word_weighs (v.Begun x) = refl
 word_weighs (v.Updated x) = refl
@@ -406,6 +427,8 @@ word_weighs (v.Updated x) = refl
 binding_weighs : (x : BindingItem) → weight_of (binding_item x) ≡ 1
 binding_weighs (b.CastInitial of) = refl
 binding_weighs (b.Declare name of) = refl
+binding_weighs (b.Each at name of) = refl
+binding_weighs (b.EachDef at name) = refl
 binding_weighs (b.Named name of) = refl
 binding_weighs (b.NamedDef name) = refl
 binding_weighs (b.Catching of name) = refl

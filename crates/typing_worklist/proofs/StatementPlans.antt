@@ -5,19 +5,17 @@ use Rattle.pl_tree.specs.declared.tree.Argument.TheOpen.{Statement-F}
 use Rattle.allowlist.specs.Allow.{AllowList}
 use Rattle.typing_rules.specs.declared.header.Header.{Header}
 use Rattle.typing_rules.specs.Doing.{and_then}
-use Rattle.typing_rules.specs.State.{declared}
-use Rattle.typing_rules.specs.Rules.Types.{type_of}
 use Rattle.typing_rules.specs.Rules.Statements as rules
-use Rattle.typing_rules.specs.Typing.{Doer, reading, doer, body, braces, statement_step, scoped, looping, handlers}
+use Rattle.typing_rules.specs.Typing.{Doer, reading, doer, braces, statement_step, scoped, looping, handlers}
 use Rattle.typing_actions.specs.declared.config.Config.{Config}
 use Rattle.typing_worklist.specs.declared.item.StatementAct.TheVariants as sa
 use Rattle.typing_worklist.specs.Folds.{handler}
 use Rattle.typing_worklist.specs.Item as j
 use Rattle.typing_worklist.specs.Item.{Item}
-use Rattle.typing_worklist.specs.Machine.{run, step_to, refused_at}
+use Rattle.typing_worklist.specs.Machine.{run, step_to}
 use Rattle.typing_worklist.specs.Plans.{Open, statement_plan, statement_place}
 use Rattle.typing_worklist.proofs.Above.{above_stacked}
-use Rattle.typing_worklist.proofs.Behind.{behind, behind_with, again}
+use Rattle.typing_worklist.proofs.Behind.{behind, behind_with}
 use Rattle.typing_worklist.proofs.Opened.{statement_over, statement_is, declaration_is}
 
 module _ (allow : AllowList) (hs : List Header) (js : List Item) (c : Config) where
@@ -43,7 +41,7 @@ module _ (allow : AllowList) (hs : List Header) (js : List Item) (c : Config) wh
   statement_by last (Statement-F.For at (Some f) (Some d) None (Some b)) = refl
   statement_by last (Statement-F.For at (Some f) (Some d) (Some u) None) = refl
   statement_by last (Statement-F.For at (Some f) (Some d) (Some u) (Some b)) = refl
-  statement_by last (Statement-F.ForEach at of name over body_) = again (type_of of) (λ p. (reading allow hs over).value c.state (λ x s. and_then p (λ t. and_then (declared name.at name.spelling t s) (λ u. looping (body allow hs body_) u (refused_at at)))))
+  statement_by last (Statement-F.ForEach at of name over body_) = refl
   statement_by last (Statement-F.ForIn at name over body_) = refl
   statement_by last (Statement-F.Try at block catches) = sym (λ i. scoped (braces allow hs block).steps c.state (λ ys t. handlers (map (handler allow hs) catches) t (λ xs s. and_then (above_stacked xs c.catches (λ zs below. Ok (record c { steps = rules.try_of at (rules.block_of (braces allow hs block).at ys) zs ∷ c.steps; catches = below; state = s })) i) (run allow hs js))))
   statement_by last (Statement-F.Do at block condition) = (λ i. looping (scoped (braces allow hs block).steps) c.state (λ ys w. (reading allow hs condition).value w (λ x s. behind (rules.loop_test x) (λ t. record c { tests = t ∷ c.tests; steps = rules.block_of (braces allow hs block).at ys ∷ c.steps; state = s }) (run allow hs (j.DoStatement (sa.DoLoop at) ∷ js)) i)))

@@ -22,7 +22,8 @@ pub data Item : Type 0 where
   -- expressions
   Value : Expr → Item
   Negated : Expr → ℕ → Item
-  Target : Expr → Item
+  -- what is written to, and where an assignment stands that reads it too
+  Target : Expr → Option ℕ → Item
   Given : Argument → Item
   Arguments : List Argument → ℕ → Item
   Call : ℕ → List ℕ → List Argument → Item
@@ -34,6 +35,19 @@ pub data Item : Type 0 where
   New : ℕ → TypeName → List Argument → Item
   Made : ℕ → TypeName → ℕ → Item
   Read : ℕ → Access → List ℕ → Item
+  Numbered : ℕ → Access → List ℕ → Item
+  Indexed : ℕ → Item
+  Values : List Expr → ℕ → Item
+  Entries : List Entry → ℕ → Item
+  ListOf : ℕ → List Expr → Item
+  MapOf : ℕ → List Entry → Item
+  ArrayOf : ℕ → TypeName → List Expr → Item
+  ArrayWith : ℕ → TypeName → List Expr → Item
+  ArrayMade : ℕ → TypeName → ℕ → Item
+  ArrayFilled : ℕ → TypeName → ℕ → Item
+  WrittenName : ℕ → Option ℕ → List ℕ → Item
+  WrittenNumber : ℕ → Option ℕ → List ℕ → Item
+  WrittenIndex : ℕ → Option ℕ → Item
   Field : ℕ → Access → TypeName → List ℕ → Item
   Integer : ℕ → List ℕ → Item
   NegatedInteger : ℕ → ℕ → List ℕ → Item
@@ -57,6 +71,10 @@ pub data Item : Type 0 where
   For : ℕ → Option First → Option Expr → Option Expr → Option Body → Item
   ForParts : ℕ → Option First → Option Expr → Option Expr → Option Body → Item
   FirstIf : Option First → Item
+  ForEach : ℕ → TypeName → Spelled → Expr → Body → Item
+  ForIn : ℕ → Spelled → Expr → Body → Item
+  Each : ℕ → Spelled → TypeName → Item
+  EachDef : ℕ → Spelled → Item
   First_ : First → Item
   Deed : Expr → Item
   Begun : Expr → Item
@@ -84,5 +102,3 @@ pub data Item : Type 0 where
   NamedDef : Spelled → Item
   Parameters : List Parameter → ℕ → Item
   UnbuiltInner : LambdaBody → ℕ → Item
-  UnbuiltValues : List Expr → ℕ → ℕ → Item
-  UnbuiltEntries : List Entry → ℕ → ℕ → Item

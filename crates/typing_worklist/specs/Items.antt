@@ -24,13 +24,19 @@ use Rattle.typing_worklist.specs.Item.{Item}
 abbrev pub expression_item : ExpressionItem → Item
 expression_item (e.Value x) = j.Value x.now
 expression_item (e.Negated x minus) = j.Negated x.now minus
-expression_item (e.Target x) = j.Target x.now
+expression_item (e.Target x by) = j.Target x.now by
 expression_item (e.Given x) = j.Given x.now
 expression_item (e.Arguments all i) = j.Arguments all.now i
 expression_item (e.Call at name all) = j.Call at name.now all.now
 expression_item (e.Method at access name all) = j.Method at access name.now all.now
 expression_item (e.Static at access of name all) = j.Static at access of.now name.now all.now
 expression_item (e.New at of all) = j.New at of.now all.now
+expression_item (e.Values all i) = j.Values all.now i
+expression_item (e.Entries all i) = j.Entries all.now i
+expression_item (e.List at all) = j.ListOf at all.now
+expression_item (e.Map at all) = j.MapOf at all.now
+expression_item (e.Array at of all) = j.ArrayOf at of.now all.now
+expression_item (e.ArrayWith at of all) = j.ArrayWith at of.now all.now
 
 abbrev pub word_item : WordItem → Item
 word_item (w.Called at name height) = j.Called at name.now height
@@ -46,6 +52,13 @@ word_item (w.MethodCalled at access name height) = j.MethodCalled at access name
 word_item (w.StaticCalled at access of name height) = j.StaticCalled at access of.now name.now height
 word_item (w.Made at of height) = j.Made at of.now height
 word_item (w.Read at access name) = j.Read at access name.now
+word_item (w.Numbered at access digits) = j.Numbered at access digits.now
+word_item (w.Indexed at) = j.Indexed at
+word_item (w.ArrayMade at of height) = j.ArrayMade at of.now height
+word_item (w.ArrayFilled at of height) = j.ArrayFilled at of.now height
+word_item (w.WrittenName at by name) = j.WrittenName at by name.now
+word_item (w.WrittenNumber at by digits) = j.WrittenNumber at by digits.now
+word_item (w.WrittenIndex at by) = j.WrittenIndex at by
 word_item (w.Field at access of name) = j.Field at access of.now name.now
 word_item (w.Begun x) = j.Begun x.now
 word_item (w.Updated x) = j.Updated x.now
@@ -53,6 +66,8 @@ word_item (w.Updated x) = j.Updated x.now
 abbrev pub binding_item : BindingItem → Item
 binding_item (b.CastInitial of) = j.CastInitial of.now
 binding_item (b.Declare name of) = j.Declare name.now of.now
+binding_item (b.Each at name of) = j.Each at name.now of.now
+binding_item (b.EachDef at name) = j.EachDef at name.now
 binding_item (b.Named name of) = j.Named name.now of.now
 binding_item (b.NamedDef name) = j.NamedDef name.now
 binding_item (b.Catching of name) = j.Catching of.now name.now
@@ -73,6 +88,8 @@ loop_item (l.Body x) = j.LoopBody x.now
 loop_item (l.Block x) = j.LoopBlock x.now
 loop_item (l.For at first condition update body) = j.For at first.now condition.now update.now body.now
 loop_item (l.ForParts at first condition update body) = j.ForParts at first.now condition.now update.now body.now
+loop_item (l.Each at of name over body) = j.ForEach at of.now name.now over.now body.now
+loop_item (l.EachDef at name over body) = j.ForIn at name.now over.now body.now
 loop_item (l.FirstIf x) = j.FirstIf x.now
 loop_item (l.First x) = j.First_ x.now
 loop_item (l.Deed x) = j.Deed x.now
@@ -89,8 +106,6 @@ declaration_item (d.Initial of x) = j.Initial of.now x.now
 abbrev pub unbuilt_item : UnbuiltItem → Item
 unbuilt_item (u.Parameters all i) = j.Parameters all.now i
 unbuilt_item (u.Inner x at) = j.UnbuiltInner x.now at
-unbuilt_item (u.Values all i at) = j.UnbuiltValues all.now i at
-unbuilt_item (u.Entries all i at) = j.UnbuiltEntries all.now i at
 
 abbrev pub catch_item : CatchItem → Item
 catch_item (k.Try at all) = j.Try at all.now

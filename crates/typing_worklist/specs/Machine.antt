@@ -18,11 +18,11 @@ use Rattle.typing_rules.specs.declared.state.State.{State}
 use Rattle.pl_types.specs.declared.ty.Ty.TheVariants as ty
 use Rattle.typing_rules.specs.Outcomes.{Out, refuse, refusal}
 use Rattle.typing_rules.specs.State.{declared}
-use Rattle.typing_rules.specs.Doing.{Answer, Doing, ◌>>=◌, pure, and_then}
+use Rattle.typing_rules.specs.Doing.{Answer, Doing, ◌>>=◌, pure, by_rule, and_then}
 use Rattle.typing_rules.specs.Rules.Types.{type_of}
 use Rattle.typing_rules.specs.Rules.Statements.{loop_of, block_of, reached}
 use Rattle.typing_rules.specs.Typing as typing
-use Rattle.typing_rules.specs.Typing.{Reading, reading, argument, body, doer, braces, seen, all_seen, scoped, looping, perhaps, parts, handlers, call, statements, initial, returned, loop_condition, loop_step, loop_update, lambda_parameters}
+use Rattle.typing_rules.specs.Typing.{value_of, reading, argument, body, doer, braces, for_each, scoped, looping, perhaps, parts, handlers, call, statements, initial, returned, loop_condition, loop_step, loop_update, lambda_parameters}
 use Rattle.typing_actions.specs.declared.config.Config.{Config}
 use Rattle.typing_actions.specs.Stacks.{one}
 use Rattle.typing_actions.specs.Expressions as expressions
@@ -51,6 +51,8 @@ does (a.Unary at operator) c = expressions.unary operator at c
 does (a.Choice at) c = expressions.choice at c
 does (a.Elvis at) c = expressions.elvis at c
 does (a.Bracketed at) c = expressions.bracketed at c
+does (a.List at height) c = expressions.list at height c
+does (a.Map at height) c = expressions.map_ at height c
 does a.Fixed c = places.fixed c
 does (a.Assign at operator) c = places.assign at operator c
 does (a.Step at step gives) c = places.step at step gives c
@@ -72,6 +74,7 @@ does_statement (s.IfAlone at) c = deeds.if_alone at c
 does_statement (s.IfElse at) c = deeds.if_else at c
 does_statement (s.Loop at has_first has_body) c = deeds.whole_loop at has_first has_body c
 does_statement (s.DoLoop at) c = deeds.do_loop at c
+does_statement (s.EachLoop at) c = deeds.each_loop at c
 does_statement (s.Try at height) c = deeds.whole_try at height c
 does_statement (s.Close height) c = Ok (bodies.close height c)
 does_statement (s.Looped is) c = Ok (bodies.looped is c)
@@ -91,6 +94,13 @@ does_word allow hs (w.MethodCalled at access name height) c = members.method all
 does_word allow hs (w.StaticCalled at access of name height) c = members.static allow at access of.now name.now height c
 does_word allow hs (w.Made at of height) c = members.made allow at of.now height c
 does_word allow hs (w.Read at access name) c = members.read allow at access name.now c
+does_word allow hs (w.Numbered at access digits) c = members.numbered allow at access digits.now c
+does_word allow hs (w.Indexed at) c = members.indexed allow at c
+does_word allow hs (w.ArrayMade at of height) c = expressions.array at of.now height c
+does_word allow hs (w.ArrayFilled at of height) c = expressions.array_with at of.now height c
+does_word allow hs (w.WrittenName at by name) c = places.named allow by at name.now c
+does_word allow hs (w.WrittenNumber at by digits) c = places.numbered allow by at digits.now c
+does_word allow hs (w.WrittenIndex at by) c = places.indexed allow by at c
 does_word allow hs (w.Field at access of name) c = members.field allow at access of.now name.now c
 does_word allow hs (w.Begun e) c = deeds.deed (reading allow hs e.now).first c
 does_word allow hs (w.Updated e) c = deeds.update (reading allow hs e.now).first c
@@ -99,6 +109,8 @@ does_word allow hs (w.Updated e) c = deeds.update (reading allow hs e.now).first
 abbrev pub does_binding : BindingItem → Config → Out Config
 does_binding (b.CastInitial of) c = deeds.initial of.now c
 does_binding (b.Declare name of) c = deeds.variable name.now of.now c
+does_binding (b.Each at name of) c = deeds.each at name.now of.now c
+does_binding (b.EachDef at name) c = deeds.each_def at name.now c
 does_binding (b.Named name of) c = bodies.declare_of name.now of.now c
 does_binding (b.NamedDef name) c = bodies.declare name.now ty.Def c
 does_binding (b.Catching of name) c = deeds.catching of.now name.now c
@@ -176,7 +188,7 @@ module _ (allow : AllowList) (hs : List Header) where
 abbrev pub mean : AllowList → List Header → Item → Config → (Config → Answer) → Answer
 mean allow hs (j.Value e) c k = (reading allow hs e).value c.state (part_to c k)
 mean allow hs (j.Negated e minus) c k = (reading allow hs e).negated minus c.state (part_to c k)
-mean allow hs (j.Target e) c k = (reading allow hs e).place c.state (place_to c k)
+mean allow hs (j.Target e by) c k = (reading allow hs e).place by c.state (place_to c k)
 mean allow hs (j.Given e) c k = argument allow hs e c.state (part_to c k)
 mean allow hs (j.Arguments all i) c k = parts (map (argument allow hs) (drop i all)) c.state (parts_to c k)
 mean allow hs (j.Call at name all) c k = call allow hs at name (map (argument allow hs) all) c.state (part_to c k)
@@ -188,6 +200,19 @@ mean allow hs (j.StaticCalled at access of name height) c k = and_then (members.
 mean allow hs (j.New at of all) c k = parts (map (argument allow hs) all) c.state (parts_to c (λ d. and_then (members.made allow at of (length c.parts) d) k))
 mean allow hs (j.Made at of height) c k = and_then (members.made allow at of height c) k
 mean allow hs (j.Read at access name) c k = and_then (members.read allow at access name c) k
+mean allow hs (j.Numbered at access digits) c k = and_then (members.numbered allow at access digits c) k
+mean allow hs (j.Indexed at) c k = and_then (members.indexed allow at c) k
+mean allow hs (j.Values all i) c k = parts (map value_of (map (reading allow hs) (drop i all))) c.state (parts_to c k)
+mean allow hs (j.Entries all i) c k = typing.entries (map (entry allow hs) (drop i all)) c.state (parts_to c k)
+mean allow hs (j.ListOf at all) c k = parts (map value_of (map (reading allow hs) all)) c.state (parts_to c (λ d. and_then (expressions.list at (length c.parts) d) k))
+mean allow hs (j.MapOf at all) c k = typing.entries (map (entry allow hs) all) c.state (parts_to c (λ d. and_then (expressions.map_ at (length c.parts) d) k))
+mean allow hs (j.ArrayOf at of all) c k = parts (map value_of (map (reading allow hs) all)) c.state (parts_to c (λ d. and_then (expressions.array at of (length c.parts) d) k))
+mean allow hs (j.ArrayWith at of all) c k = parts (map value_of (map (reading allow hs) all)) c.state (parts_to c (λ d. and_then (expressions.array_with at of (length c.parts) d) k))
+mean allow hs (j.ArrayMade at of height) c k = and_then (expressions.array at of height c) k
+mean allow hs (j.ArrayFilled at of height) c k = and_then (expressions.array_with at of height c) k
+mean allow hs (j.WrittenName at by name) c k = and_then (places.named allow by at name c) k
+mean allow hs (j.WrittenNumber at by digits) c k = and_then (places.numbered allow by at digits c) k
+mean allow hs (j.WrittenIndex at by) c k = and_then (places.indexed allow by at c) k
 mean allow hs (j.Field at access of name) c k = and_then (members.field allow at access of name c) k
 mean allow hs (j.Integer at spelling) c k = and_then (expressions.integer at spelling c) k
 mean allow hs (j.NegatedInteger minus at spelling) c k = and_then (expressions.negated_integer minus at spelling c) k
@@ -210,6 +235,10 @@ mean allow hs (j.Reached all i at in_main after) c k = one c.steps (λ x rest. a
     statements in_main y.escapes (map (doer allow hs) (drop i all)) c.state (λ ys s. k (record c { steps = stacked ys (y ∷ rest); state = s }))))
 mean allow hs (j.For at f d u b) c k = scoped (for_parts allow hs at f d u b) c.state (step_to c k)
 mean allow hs (j.ForParts at f d u b) c k = for_parts allow hs at f d u b c.state (step_to c k)
+mean allow hs (j.ForEach at of name over body_) c k = for_each at (by_rule (type_of of)) name (reading allow hs over) (body allow hs body_) c.state (step_to c k)
+mean allow hs (j.ForIn at name over body_) c k = for_each at (pure ty.Def) name (reading allow hs over) (body allow hs body_) c.state (step_to c k)
+mean allow hs (j.Each at name of) c k = and_then (deeds.each at name of c) k
+mean allow hs (j.EachDef at name) c k = and_then (deeds.each_def at name c) k
 mean allow hs (j.FirstIf e) c k = first_part allow hs e c k
 mean allow hs (j.First_ e) c k = first allow hs e c.state (step_to c k)
 mean allow hs (j.Deed e) c k = loop_step (reading allow hs e) c.state (step_to c k)
@@ -231,8 +260,6 @@ mean allow hs (j.Named name of) c k = and_then (type_of of) (λ t. and_then (dec
 mean allow hs (j.NamedDef name) c k = and_then (declared name.at name.spelling ty.Def c.state) (λ s. k (record c { state = s }))
 mean allow hs (j.Parameters all i) c k = lambda_parameters (drop i all) c.state (nothing_to c k)
 mean allow hs (j.UnbuiltInner e at) c k = inner allow hs e c.state (refused_at at)
-mean allow hs (j.UnbuiltValues all i at) c k = all_seen (map (λ (e : Reading). seen e.value) (map (reading allow hs) (drop i all))) c.state (refused_at at)
-mean allow hs (j.UnbuiltEntries all i at) c k = all_seen (map (entry allow hs) (drop i all)) c.state (refused_at at)
 mean allow hs (j.Try at all) c k = handlers (map (handler allow hs) all) c.state (catches_to c (λ d. and_then (deeds.whole_try at (length c.catches) d) k))
 mean allow hs (j.Catches all i) c k = handlers (map (handler allow hs) (drop i all)) c.state (catches_to c k)
 mean allow hs (j.Catch_ e) c k = handler allow hs e c.state (catch_to c k)

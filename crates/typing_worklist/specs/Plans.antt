@@ -35,6 +35,7 @@ use Rattle.typing_worklist.specs.declared.item.CatchItem.TheVariants as kt
 use Rattle.typing_worklist.specs.declared.item.UnbuiltItem.{UnbuiltItem}
 use Rattle.typing_worklist.specs.declared.item.UnbuiltItem.TheVariants as ut
 use Rattle.typing_actions.specs.declared.config.Config.{Config}
+use Rattle.typing_rules.specs.Typing.{read_at}
 use Rattle.typing_worklist.specs.Going.{is_there, none_left}
 use Rattle.typing_worklist.specs.Item as j
 use Rattle.typing_worklist.specs.Item.{Item}
@@ -62,36 +63,36 @@ method_plan access at receiver None name given = j.Value receiver ∷ j.Method a
 method_plan access at receiver (Some of) name given = j.TypeOf of ∷ j.Static at access of name given ∷ []
 
 -- an element by its number
-abbrev pub element_plan : ℕ → Expr → Option TypeName → List Item
-element_plan at receiver None = j.Value receiver ∷ j.Do (a.Unbuilt at) ∷ []
-element_plan at receiver (Some of) = j.TypeOf of ∷ j.Do (a.NoMember at) ∷ []
+abbrev pub element_plan : Access → ℕ → Expr → Option TypeName → List ℕ → List Item
+element_plan access at receiver None digits = j.Value receiver ∷ j.Numbered at access digits ∷ []
+element_plan access at receiver (Some of) digits = j.TypeOf of ∷ j.Do (a.NoMember at) ∷ []
 
 abbrev pub value_plan : Open Expr-F → List Item
-value_plan (Expr-F.Assign operator at target value) = j.Target target ∷ j.Value value ∷ j.Do (a.Assign at operator) ∷ []
+value_plan (Expr-F.Assign operator at target value) = j.Target target (read_at at operator) ∷ j.Value value ∷ j.Do (a.Assign at operator) ∷ []
 value_plan (Expr-F.Conditional at condition left right) = j.Value condition ∷ j.Value left ∷ j.Value right ∷ j.Do (a.Choice at) ∷ []
 value_plan (Expr-F.Elvis at left right) = j.Value left ∷ j.Value right ∷ j.Do (a.Elvis at) ∷ []
 value_plan (Expr-F.Binary operator at left right) = j.Value left ∷ j.Value right ∷ j.Do (a.Binary at operator) ∷ []
 value_plan (Expr-F.Instanceof at operand of) = j.Value operand ∷ j.InstanceOf at of ∷ []
 value_plan (Expr-F.Unary operator at operand) = unary_plan operator at operand
-value_plan (Expr-F.Prefix step at target) = j.Target target ∷ j.Do (a.Step at step g.New) ∷ []
-value_plan (Expr-F.Postfix step at target) = j.Target target ∷ j.Do (a.Step at step g.Old) ∷ []
+value_plan (Expr-F.Prefix step at target) = j.Target target (Some at) ∷ j.Do (a.Step at step g.New) ∷ []
+value_plan (Expr-F.Postfix step at target) = j.Target target (Some at) ∷ j.Do (a.Step at step g.Old) ∷ []
 value_plan (Expr-F.Cast at of operand) = j.TypeOf of ∷ j.Value operand ∷ j.Asked at of ∷ []
 value_plan (Expr-F.Bracketed at inner) = j.Value inner ∷ j.Do (a.Bracketed at) ∷ []
 value_plan (Expr-F.Integer at spelling) = j.Integer at spelling ∷ []
 value_plan (Expr-F.Text at spelling) = j.Text at spelling ∷ []
 value_plan (Expr-F.Constant constant at) = j.Do (a.Constant at constant) ∷ []
-value_plan (Expr-F.List at items) = j.UnbuiltValues items 0 at ∷ []
-value_plan (Expr-F.Map at entries) = j.UnbuiltEntries entries 0 at ∷ []
+value_plan (Expr-F.List at items) = j.ListOf at items ∷ []
+value_plan (Expr-F.Map at entries) = j.MapOf at entries ∷ []
 value_plan (Expr-F.Name at spelling) = j.Name at spelling ∷ []
 value_plan (Expr-F.Call at spelling given) = j.Call at spelling given ∷ []
 value_plan (Expr-F.New at of given) = j.TypeOf of ∷ j.New at of given ∷ []
-value_plan (Expr-F.NewArray at of sizes) = j.TypeOf of ∷ j.UnbuiltValues sizes 0 at ∷ []
-value_plan (Expr-F.NewItems at of items) = j.TypeOf of ∷ j.UnbuiltValues items 0 at ∷ []
+value_plan (Expr-F.NewArray at of sizes) = j.TypeOf of ∷ j.ArrayOf at of sizes ∷ []
+value_plan (Expr-F.NewItems at of items) = j.TypeOf of ∷ j.ArrayWith at of items ∷ []
 value_plan (Expr-F.Type of) = j.TypeOf of ∷ j.Do (a.Unbuilt of.at) ∷ []
 value_plan (Expr-F.Member access at receiver spelling) = member_plan access at receiver (type_in (out-Expr receiver)) spelling
 value_plan (Expr-F.Method access at receiver spelling given) = method_plan access at receiver (type_in (out-Expr receiver)) spelling given
-value_plan (Expr-F.Element access at receiver spelling) = element_plan at receiver (type_in (out-Expr receiver))
-value_plan (Expr-F.Index at receiver index) = j.Value receiver ∷ j.Value index ∷ j.Do (a.Unbuilt at) ∷ []
+value_plan (Expr-F.Element access at receiver digits) = element_plan access at receiver (type_in (out-Expr receiver)) digits
+value_plan (Expr-F.Index at receiver index) = j.Value receiver ∷ j.Value index ∷ j.Indexed at ∷ []
 
 -- a value behind a minus
 abbrev pub negated_plan : ℕ → Expr → Open Expr-F → List Item
@@ -99,16 +100,24 @@ negated_plan minus e (Expr-F.Integer at spelling) = j.NegatedInteger minus at sp
 negated_plan minus e _ = j.Value e ∷ j.Do (a.Unary minus sign.Minus) ∷ []
 
 -- a name behind a dot as what is written to
-abbrev pub member_target : Access → ℕ → Expr → Expr → Option TypeName → List Item
-member_target access.Plain at e receiver None = j.Value receiver ∷ j.Do (a.Unbuilt at) ∷ []
-member_target access.Plain at e receiver (Some of) = j.Value e ∷ j.Do a.Fixed ∷ []
-member_target access.Guarded at e receiver type = j.Value e ∷ j.Do a.Fixed ∷ []
+abbrev pub member_target : Access → ℕ → Expr → Expr → Option TypeName → List ℕ → Option ℕ → List Item
+member_target access.Plain at e receiver None name by = j.Value receiver ∷ j.WrittenName at by name ∷ []
+member_target access.Plain at e receiver (Some of) name by = j.Value e ∷ j.Do a.Fixed ∷ []
+member_target access.Guarded at e receiver type name by = j.Value e ∷ j.Do a.Fixed ∷ []
+
+-- a number behind a dot
+abbrev pub element_target : Access → ℕ → Expr → Expr → Option TypeName → List ℕ → Option ℕ → List Item
+element_target access.Plain at e receiver None digits by = j.Value receiver ∷ j.WrittenNumber at by digits ∷ []
+element_target access.Plain at e receiver (Some of) digits by = j.Value e ∷ j.Do a.Fixed ∷ []
+element_target access.Guarded at e receiver type digits by = j.Value e ∷ j.Do a.Fixed ∷ []
 
 -- what is written to
-abbrev pub target_plan : Expr → Open Expr-F → List Item
-target_plan e (Expr-F.Name at spelling) = j.Written at spelling ∷ []
-target_plan e (Expr-F.Member access at receiver spelling) = member_target access at e receiver (type_in (out-Expr receiver))
-target_plan e _ = j.Value e ∷ j.Do a.Fixed ∷ []
+abbrev pub target_plan : Expr → Option ℕ → Open Expr-F → List Item
+target_plan e by (Expr-F.Name at spelling) = j.Written at spelling ∷ []
+target_plan e by (Expr-F.Member access at receiver spelling) = member_target access at e receiver (type_in (out-Expr receiver)) spelling by
+target_plan e by (Expr-F.Element access at receiver digits) = element_target access at e receiver (type_in (out-Expr receiver)) digits by
+target_plan e by (Expr-F.Index at receiver index) = j.Value receiver ∷ j.Value index ∷ j.WrittenIndex at by ∷ []
+target_plan e by _ = j.Value e ∷ j.Do a.Fixed ∷ []
 
 abbrev pub argument_plan : Open Argument-F → List Item
 argument_plan (Argument-F.Value value) = j.Value value ∷ []
@@ -125,8 +134,8 @@ abbrev pub statement_plan : Bool → Open Statement-F → List Item
 statement_plan last (Statement-F.If at condition chosen otherwise) = j.Value condition ∷ j.DoStatement s.Test ∷ j.Body_ chosen ∷ j.Otherwise at otherwise ∷ []
 statement_plan last (Statement-F.While at condition body) = j.Value condition ∷ j.DoStatement s.LoopTest ∷ j.DoStatement s.NoTest ∷ j.LoopBody body ∷ j.DoStatement (s.Loop at false (is_there body)) ∷ []
 statement_plan last (Statement-F.For at first condition update body) = j.For at first condition update body ∷ []
-statement_plan last (Statement-F.ForEach at of name over body) = j.TypeOf of ∷ j.Value over ∷ j.Named name of ∷ j.Looping body ∷ j.Do (a.Unbuilt at) ∷ []
-statement_plan last (Statement-F.ForIn at name over body) = j.Value over ∷ j.NamedDef name ∷ j.Looping body ∷ j.Do (a.Unbuilt at) ∷ []
+statement_plan last (Statement-F.ForEach at of name over body) = j.ForEach at of name over body ∷ []
+statement_plan last (Statement-F.ForIn at name over body) = j.ForIn at name over body ∷ []
 statement_plan last (Statement-F.Try at block catches) = j.Block_ block ∷ j.Try at catches ∷ []
 statement_plan last (Statement-F.Do at block condition) = j.LoopBlock block ∷ j.Value condition ∷ j.DoStatement s.LoopTest ∷ j.DoStatement (s.DoLoop at) ∷ []
 statement_plan last (Statement-F.«Statement::Declare» declaration) = j.Declaration_ declaration ∷ []
@@ -175,6 +184,13 @@ initial_plan of (Some e) = j.Given e ∷ j.CastInitial of ∷ []
 abbrev pub for_plan : ℕ → Option First → Option Expr → Option Expr → Option Body → List Item
 for_plan at first condition update body = j.FirstIf first ∷ j.Condition condition ∷ j.UpdateIf update ∷ j.LoopBody body ∷ j.DoStatement (s.Loop at (is_there first) (is_there body)) ∷ []
 
+-- A loop over elements in a scope of its own, where so many names are in sight. Its variable has a type, or is of type def.
+abbrev pub each_plan : ℕ → ℕ → TypeName → Spelled → Expr → Body → List Item
+each_plan names at of name over body = j.TypeOf of ∷ j.Value over ∷ j.Each at name of ∷ j.Looping body ∷ j.DoStatement (s.EachLoop at) ∷ j.DoStatement (s.Close names) ∷ []
+
+abbrev pub each_def_plan : ℕ → ℕ → Spelled → Expr → Body → List Item
+each_def_plan names at name over body = j.Value over ∷ j.EachDef at name ∷ j.Looping body ∷ j.DoStatement (s.EachLoop at) ∷ j.DoStatement (s.Close names) ∷ []
+
 -- a parameter of a function value
 abbrev pub parameter_item : Spelled → Option TypeName → Item
 parameter_item name None = j.NamedDef name
@@ -200,13 +216,13 @@ abbrev pub parameters_plan : List Parameter → ℕ → Option Parameter → Lis
 parameters_plan all i None = []
 parameters_plan all i (Some one) = parameter_item one.name one.of ∷ j.Parameters all (i + 1) ∷ []
 
-abbrev pub values_plan : List Expr → ℕ → ℕ → Option Expr → List Item
-values_plan all i at None = j.Do (a.Unbuilt at) ∷ []
-values_plan all i at (Some one) = j.Value one ∷ j.UnbuiltValues all (i + 1) at ∷ []
+abbrev pub values_plan : List Expr → ℕ → Option Expr → List Item
+values_plan all i None = []
+values_plan all i (Some one) = j.Value one ∷ j.Values all (i + 1) ∷ []
 
-abbrev pub entries_plan : List Entry → ℕ → ℕ → Option Entry → List Item
-entries_plan all i at None = j.Do (a.Unbuilt at) ∷ []
-entries_plan all i at (Some one) = j.Value (out-Entry one).key ∷ j.Value (out-Entry one).value ∷ j.UnbuiltEntries all (i + 1) at ∷ []
+abbrev pub entries_plan : List Entry → ℕ → Option Entry → List Item
+entries_plan all i None = []
+entries_plan all i (Some one) = j.Value (out-Entry one).key ∷ j.Value (out-Entry one).value ∷ j.Entries all (i + 1) ∷ []
 
 -- where a statement stands
 abbrev pub statement_place : Open Statement-F → ℕ
@@ -246,13 +262,19 @@ catch_plan names steps e =
 abbrev pub expression_items : Config → ExpressionItem → List Item
 expression_items c (et.Value x) = value_plan (out-Expr x.now)
 expression_items c (et.Negated x minus) = negated_plan minus x.now (out-Expr x.now)
-expression_items c (et.Target x) = target_plan x.now (out-Expr x.now)
+expression_items c (et.Target x by) = target_plan x.now by (out-Expr x.now)
 expression_items c (et.Given x) = argument_plan (out-Argument x.now)
 expression_items c (et.Arguments all i) = arguments_plan all.now i (slice_get all.now i)
 expression_items c (et.Call at name all) = j.Arguments all.now 0 ∷ j.Called at name.now (length c.parts) ∷ []
 expression_items c (et.Method at access name all) = j.Arguments all.now 0 ∷ j.MethodCalled at access name.now (length c.parts) ∷ []
 expression_items c (et.Static at access of name all) = j.Arguments all.now 0 ∷ j.StaticCalled at access of.now name.now (length c.parts) ∷ []
 expression_items c (et.New at of all) = j.Arguments all.now 0 ∷ j.Made at of.now (length c.parts) ∷ []
+expression_items c (et.Values all i) = values_plan all.now i (slice_get all.now i)
+expression_items c (et.Entries all i) = entries_plan all.now i (slice_get all.now i)
+expression_items c (et.List at all) = j.Values all.now 0 ∷ j.Do (a.List at (length c.parts)) ∷ []
+expression_items c (et.Map at all) = j.Entries all.now 0 ∷ j.Do (a.Map at (length c.parts)) ∷ []
+expression_items c (et.Array at of all) = j.Values all.now 0 ∷ j.ArrayMade at of.now (length c.parts) ∷ []
+expression_items c (et.ArrayWith at of all) = j.Values all.now 0 ∷ j.ArrayFilled at of.now (length c.parts) ∷ []
 
 abbrev pub statement_items : Config → StatementItem → List Item
 statement_items c (st.One x last) = statement_plan last (out-Statement x.now)
@@ -269,6 +291,8 @@ loop_items c (lt.Body x) = loop_body_plan x.now
 loop_items c (lt.Block x) = j.DoStatement (s.Looped true) ∷ j.Block_ x.now ∷ j.DoStatement (s.Looped c.state.looped) ∷ []
 loop_items c (lt.For at first condition update body) = j.ForParts at first.now condition.now update.now body.now ∷ j.DoStatement (s.Close (length c.state.scopes)) ∷ []
 loop_items c (lt.ForParts at first condition update body) = for_plan at first.now condition.now update.now body.now
+loop_items c (lt.Each at of name over body) = each_plan (length c.state.scopes) at of.now name.now over.now body.now
+loop_items c (lt.EachDef at name over body) = each_def_plan (length c.state.scopes) at name.now over.now body.now
 loop_items c (lt.FirstIf x) = first_if_plan x.now
 loop_items c (lt.First x) = first_plan (out-First x.now)
 loop_items c (lt.Deed x) = j.Value x.now ∷ j.Begun x.now ∷ []
@@ -290,8 +314,6 @@ catch_items c (kt.One x) = catch_plan (length c.state.scopes) (length c.steps) (
 abbrev pub unbuilt_items : UnbuiltItem → List Item
 unbuilt_items (ut.Parameters all i) = parameters_plan all.now i (slice_get all.now i)
 unbuilt_items (ut.Inner x at) = inner_plan at (out-LambdaBody x.now)
-unbuilt_items (ut.Values all i at) = values_plan all.now i at (slice_get all.now i)
-unbuilt_items (ut.Entries all i at) = entries_plan all.now i at (slice_get all.now i)
 
 -- The first token of an expression is that of the expression at its left end, or its own.
 abbrev pub left_of : Open Expr-F → Option Expr

@@ -24,6 +24,10 @@ pub enum Act {
     Choice(u32),
     Elvis(u32),
     Bracketed(u32),
+    /// A list of the elements above a height.
+    List(u32, usize),
+    /// A map of the keys and values above a height.
+    Map(u32, usize),
     /// A part that is no name is written to.
     Fixed,
     Assign(u32, Option<BinaryOperator>),
@@ -54,6 +58,8 @@ pub enum StatementAct {
     /// Whether a first step and a body are there.
     Loop(u32, bool, bool),
     DoLoop(u32),
+    /// A loop over elements, whose body is typed.
+    EachLoop(u32),
     /// A `try` with the catches above a height.
     Try(u32, usize),
     /// Names declared since there were so many are forgotten.
@@ -67,8 +73,8 @@ pub enum ExpressionItem<'a> {
     Value(&'a Subtree<Expr>),
     /// Directly behind a minus that stands at a place.
     Negated(&'a Subtree<Expr>, u32),
-    /// What is written to.
-    Target(&'a Subtree<Expr>),
+    /// What is written to, and where an assignment stands that reads it too.
+    Target(&'a Subtree<Expr>, Option<u32>),
     Given(&'a Argument),
     /// Those from one on.
     Arguments(&'a Items<Argument>, usize),
@@ -78,6 +84,16 @@ pub enum ExpressionItem<'a> {
     /// A call on a type.
     Static(u32, Access, &'a TypeName, &'a Text, &'a Items<Argument>),
     New(u32, &'a TypeName, &'a Items<Argument>),
+    /// Those from one on.
+    Values(&'a Items<Subtree<Expr>>, usize),
+    /// Entries of a map from one on.
+    Entries(&'a Items<Entry>, usize),
+    List(u32, &'a Items<Subtree<Expr>>),
+    Map(u32, &'a Items<Entry>),
+    /// A new array of sizes.
+    Array(u32, &'a TypeName, &'a Items<Subtree<Expr>>),
+    /// A new array of elements.
+    ArrayWith(u32, &'a TypeName, &'a Items<Subtree<Expr>>),
 }
 
 /// What is done with a name, a spelling or a type that the script has.
@@ -101,6 +117,20 @@ pub enum WordItem<'a> {
     Made(u32, &'a TypeName, usize),
     /// A name of a value that is typed.
     Read(u32, Access, &'a Text),
+    /// An element of a value that is typed, by its number.
+    Numbered(u32, Access, &'a Text),
+    /// An element in brackets, whose index is typed too.
+    Indexed(u32),
+    /// The sizes of a new array, above a height, are typed.
+    ArrayMade(u32, &'a TypeName, usize),
+    /// Its elements are typed.
+    ArrayFilled(u32, &'a TypeName, usize),
+    /// A name of a value that is typed, as what is written to, and where an assignment stands that reads it too.
+    WrittenName(u32, Option<u32>, &'a Text),
+    /// An element by its number.
+    WrittenNumber(u32, Option<u32>, &'a Text),
+    /// An element in brackets.
+    WrittenIndex(u32, Option<u32>),
     /// A name of a type.
     Field(u32, Access, &'a TypeName, &'a Text),
     /// What a `for` begins with is typed.
@@ -115,6 +145,9 @@ pub enum BindingItem<'a> {
     /// The value that a variable of a type begins with is typed.
     CastInitial(&'a TypeName),
     Declare(&'a Spelled, &'a TypeName),
+    /// The value that a loop goes over, whose variable has a type or is of type def, is typed.
+    Each(u32, &'a Spelled, &'a TypeName),
+    EachDef(u32, &'a Spelled),
     /// A name that a construct which is not built declares, of a type or of def.
     Named(&'a Spelled, &'a TypeName),
     NamedDef(&'a Spelled),
@@ -162,6 +195,9 @@ pub enum LoopItem<'a> {
         &'a Option<Subtree<Expr>>,
         &'a Option<Body>,
     ),
+    /// A loop over elements, whose variable has a type or is of type def.
+    Each(u32, &'a TypeName, &'a Spelled, &'a Subtree<Expr>, &'a Body),
+    EachDef(u32, &'a Spelled, &'a Subtree<Expr>, &'a Body),
     FirstIf(&'a Option<First>),
     First(&'a First),
     Deed(&'a Subtree<Expr>),
@@ -185,8 +221,6 @@ pub enum DeclarationItem<'a> {
 pub enum UnbuiltItem<'a> {
     Parameters(&'a Items<Parameter>, usize),
     Inner(&'a LambdaBody, u32),
-    Values(&'a Items<Subtree<Expr>>, usize, u32),
-    Entries(&'a Items<Entry>, usize, u32),
 }
 
 /// The catches of a `try`, or a part of one.

@@ -1,5 +1,5 @@
 -- What members of containers throw is an exception that is there.
-use Rattle.std.proofs.Common.{◌≡◌, ℕ, true, Bool, Option, Some, None, List, ◌∷◌, [], ◌++◌, length, refl, slice_get, not}
+use Rattle.std.proofs.Common.{◌≡◌, ℕ, true, Option, Some, None, List, ◌∷◌, [], ◌++◌, length, refl, slice_get, not}
 use Rattle.std.specs.Prelude.{◌+◌, nat_lt}
 use Rattle.std.proofs.lemmas.Bool.{cond_both}
 use Rattle.pl_types.specs.declared.classes.TheConstants.{EXCEPTION, ILLEGAL_STATE_EXCEPTION, NULL_POINTER_EXCEPTION}

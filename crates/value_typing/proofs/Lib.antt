@@ -11,3 +11,4 @@ pub mod Members
 pub mod Elements
 pub mod Kept
 pub mod Operators
+pub mod Containers

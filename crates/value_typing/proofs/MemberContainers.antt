@@ -87,7 +87,7 @@ made_typed layer store before object h =
     (subst (λ (n : ℕ). is_typed_layer (kinds (store.objects ++ before) ++ kind_of object ∷ []) layer (v.Ref n) ≡ true)
     (length-kinds (store.objects ++ before) ∙ length-append store.objects before) (h (kinds (store.objects ++ before)))))
 
-settled : (of : Ty) (store : Store) (told : Outcome) → OutcomeTyped store.objects of told → EffectTyped (out-Ty of) (effect store told)
+pub settled : (of : Ty) (store : Store) (told : Outcome) → OutcomeTyped store.objects of told → EffectTyped (out-Ty of) (effect store told)
 settled of store (outcome.Gives value) h = h
 settled of store (outcome.New object) h = new_typed (out-Ty of) store object 0 h
 settled of store (outcome.Makes before object) h = made_typed (out-Ty of) store before object h
@@ -103,7 +103,7 @@ in_row_of : (objects : List Object) (a b : Ty) (told : Outcome) → Some a ≡ S
 in_row_of objects a b told e h = let same : a ≡ b = cc in subst (λ (of : Ty). OutcomeTyped objects of told) same h
 
 -- a new object of a class, and of one below a class
-new_of : (class : ℕ) (kind : Kind) → class_of_kind kind ≡ Some class → NewIsOf (out-Ty (ty.Class class)) kind
+pub new_of : (class : ℕ) (kind : Kind) → class_of_kind kind ≡ Some class → NewIsOf (out-Ty (ty.Class class)) kind
 unfolding out-Ty denote.Hole.Carrier.out
 new_of class kind e = new_of_class class kind e
 
@@ -216,7 +216,7 @@ new_set objects class = new_of (number_of_set class) (ASet (number_of_set class)
 new_map : (objects : List Object) (class : MapClass) → NewIsOf (out-Ty (ty.Class (number_of_map class))) (AMap (number_of_map class))
 new_map objects class = new_of (number_of_map class) (AMap (number_of_map class)) refl
 
-not_simple_typed : (objects : List Object) (of : Ty) → OutcomeTyped objects of not_simple
+pub not_simple_typed : (objects : List Object) (of : Ty) → OutcomeTyped objects of not_simple
 unfolding says
 not_simple_typed objects of = tt
 
@@ -260,7 +260,7 @@ effect_row a b x e h = let same : a ≡ b = cc in subst (λ (of : Ty). EffectTyp
 null_typed : (layer : Ty-F Ty) (store : Store) → EffectTyped layer (iterating.null_error store)
 null_typed layer store = thrown_typed layer store _ None
 
-over_typed : (store : Store) (id : ℕ) (over : Option Container) → EffectTyped (out-Ty (ty.Class ITERATOR)) (iterators.iterate_over store id over)
+pub over_typed : (store : Store) (id : ℕ) (over : Option Container) → EffectTyped (out-Ty (ty.Class ITERATOR)) (iterators.iterate_over store id over)
 over_typed store id None = null_typed (out-Ty (ty.Class ITERATOR)) store
 over_typed store id (Some over) =
     new_typed (out-Ty (ty.Class ITERATOR)) store (o.Iter id 0 (changes_now store.objects over) None) 0 (new_of ITERATOR AnIterator refl)

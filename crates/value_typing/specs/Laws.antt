@@ -1,9 +1,9 @@
 -- What keeps the types of values, and which types casts, operators, elements and members give.
-use Rattle.std.specs.Prelude.{◌≡◌, ℕ, Bool, true, false, Some, List, slice_get}
+use Rattle.std.specs.Prelude.{◌≡◌, ℕ, ℤ, Bool, true, false, Some, List, slice_get}
 use Rattle.pl_types.specs.declared.ty.Ty.{Ty, out-Ty}
 use Rattle.pl_types.specs.declared.ty.Ty.TheVariants as ty
 use Rattle.pl_types.specs.declared.ty.Ty.TheOpen.{Ty-F}
-use Rattle.pl_types.specs.declared.classes.TheConstants.{STRING}
+use Rattle.pl_types.specs.declared.classes.TheConstants.{STRING, ARRAY_LIST, HASH_MAP, ITERATOR}
 use Rattle.pl_types.specs.declared.conversion.Cast.TheVariants as cast
 use Rattle.pl_types.specs.declared.primitive.Primitive.{Primitive}
 use Rattle.pl_types.specs.declared.primitive.Primitive.TheVariants as prim
@@ -19,6 +19,9 @@ use Rattle.object_heap.specs.Fits.{Rules, Fits, is_primitive, layer_asked}
 use Rattle.object_heap.specs.Parts.{items_of}
 use Rattle.object_heap.specs.Store.{Store}
 use Rattle.container_calls.specs.Laws.{StillThere}
+use Rattle.container_ops.specs.Making.{list_made, map_made, array_filled, array_made}
+use Rattle.container_ops.specs.Elements.{element_read, length_of}
+use Rattle.container_ops.specs.Loops.{iterated, has_more}
 use Rattle.member_calls.specs.Members.{is_built, is_of_host, does}
 use Rattle.arithmetic.specs.declared.operator.Op.{Op}
 use Rattle.number_ops.specs.Casts.{cast_at_run_time}
@@ -108,3 +111,16 @@ abbrev pub HostKeepsTypes : Type 0
 HostKeepsTypes =
     (rules : Rules) (host : HostMeaning) (number : ℕ) (values : List Value) (store : Store) → Fits rules store.objects → is_of_host number ≡ true
     → ActIsOf (ty.Prim prim.Long) (does host number values store)
+
+-- What the language itself makes of lists, maps, arrays and iterators is of its type, whatever the store. An element that is read of an array
+-- is of the element type where the store fits, as far as the rules ask for it.
+pub record ContainersGiveTypes : Type 0 where
+  pub lists : (w : World) (items : List Value) → OutcomeTyped (ty.Class ARRAY_LIST) (acts_in w (list_made w.store items))
+  pub maps : (w : World) (parts : List Value) → OutcomeTyped (ty.Class HASH_MAP) (acts_in w (map_made w.store parts))
+  pub arrays : (w : World) (of : Ty) (sizes : List ℤ) → OutcomeTyped of (acts_in w (array_made w.store of sizes))
+  pub filled : (w : World) (elem : Ty) (items : List Value) → OutcomeTyped (ty.Array elem) (acts_in w (array_filled w.store elem items))
+  pub elements : (rules : Rules) (w : World) (of : Ty) (array : Value) (at : ℤ) → Fits rules w.store.objects → layer_asked rules.typed (out-Ty of) ≡ true
+      → is_typed w.store.objects (ty.Array of) array ≡ true → OutcomeTyped of (acts_in w (element_read w.store of array at))
+  pub lengths : (w : World) (array : Value) → OutcomeTyped (ty.Prim prim.Int) (acts_in w (length_of w.store array))
+  pub iterators : (w : World) (value : Value) → OutcomeTyped (ty.Class ITERATOR) (acts_in w (iterated w.store value))
+  pub more : (w : World) (iterator : Value) → OutcomeTyped (ty.Prim prim.Boolean) (acts_in w (has_more w.store iterator))

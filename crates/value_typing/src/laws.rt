@@ -5,6 +5,7 @@ ghost use Rattle.value_typing.specs.Laws.{
   CastsGiveTypes,
   ClassesWiden,
   ComparisonsGiveFlags,
+  ContainersGiveTypes,
   ElementsAreTyped,
   EqualityGivesTypes,
   HostKeepsTypes,
@@ -19,8 +20,8 @@ ghost use Rattle.value_typing.specs.Laws.{
 };
 
 /// Laws that callers may cite: values stay of their types as a run goes on, a value of a class is of each class above it, an element
-/// of an array is of the element type, and what casts keep, put in a box or make, and what concatenations and comparisons give, is of
-/// its type.
+/// of an array is of the element type, and what casts keep, put in a box or make, what concatenations and comparisons give, and what
+/// the language itself makes of containers and reads of arrays, is of its type.
 pub fn values_keep_types()
     ensures begin { StoresBegin }
     ensures go_on { StoresGoOn }
@@ -35,6 +36,7 @@ pub fn values_keep_types()
     ensures texts { TextsGiveTypes }
     ensures comparisons { ComparisonsGiveFlags }
     ensures equality { EqualityGivesTypes }
+    ensures containers { ContainersGiveTypes }
 {}
 
 /// Laws that callers may cite: in a store that fits, a member that is built and is called with values of its types gives a value of its

@@ -24,8 +24,8 @@ const SUM: &str =
 const CALLS: &str =
     "painless 1\nfun 0 loop R - -\ni 9\ncall 1\nbox int\nret\nend\nfun 1 loop I I -\nload 0\ni 0\neq.i\nifz 6\ni 0\nret\nload 0\ni 1\nsub.i\ncall 1\ni 1\nadd.i\nret\nend\n";
 
-/// A list, for which no row is built yet.
-const LIST: &str = "painless 1\nfun 0 loop R - -\nlist 0\nret\nend\n";
+/// A method as a value, for which no row is built yet.
+const METHOD: &str = "painless 1\nfun 0 loop R - -\nref - java.lang.String length\nret\nend\n";
 
 /// A loop of a function without a limit of turns, and of one with it.
 const HEADERS: [(&str, Which); 2] = [
@@ -41,7 +41,7 @@ const HEADERS: [(&str, Which); 2] = [
 
 /// Calls of members with receivers and arguments of other classes, of null, and of the classes that are asked for, and which class
 /// of exception ends the run where no tick may be paid: where there is none, the call comes to its tick.
-const CALLED: [(&str, Option<u32>); 10] = [
+const CALLED: [(&str, Option<u32>); 13] = [
     (
         "painless 1\nfun 0 loop R - -\ntext \"a\"\ninvoke java.lang.Exception.getMessage/0\nret\nend\n",
         Some(CLASS_CAST_EXCEPTION),
@@ -81,6 +81,19 @@ const CALLED: [(&str, Option<u32>); 10] = [
     (
         "painless 1\nfun 0 loop R - -\nnull\nnew java.lang.Exception/1\nret\nend\n",
         None,
+    ),
+    // whether a list has more, the length of a map, and an int out of an array of longs
+    (
+        "painless 1\nfun 0 loop I - -\nlist 0\nhas\nret\nend\n",
+        Some(CLASS_CAST_EXCEPTION),
+    ),
+    (
+        "painless 1\nfun 0 loop I - -\nmap 0\nalen\nret\nend\n",
+        Some(CLASS_CAST_EXCEPTION),
+    ),
+    (
+        "painless 1\nfun 0 loop I - -\ni 1\nnewarray long[] 1\ni 0\naload int\nret\nend\n",
+        Some(CLASS_CAST_EXCEPTION),
     ),
 ];
 
@@ -225,7 +238,7 @@ fn to_the_end(rt: HostRuntime) -> Result<(), Fail> {
 #[test]
 fn a_row_is_wanting(rt: HostRuntime) -> Result<(), Fail> {
     let allow = Catalogue::full(rt.alloc())?;
-    let refused = match verified(rt.alloc(), &allow, LIST)? {
+    let refused = match verified(rt.alloc(), &allow, METHOD)? {
         Some(code) => !have_rows(code.allow(), code.code()),
         None => false,
     };

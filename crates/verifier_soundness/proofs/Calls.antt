@@ -68,7 +68,7 @@ all_and test (y ∷ ys) x all h =
     (λ i. p.0 i && all_and test ys x p.1 h i)
 
 module _ (allow : AllowList) (code : List FunCode) (limits : Limits) where
-  abbrev MemberPaid : World → Counted → Type 0
+  abbrev pub MemberPaid : World → Counted → Type 0
   MemberPaid w (Passes limit w') = ReachesAllowed allow w'
   MemberPaid w (Counts w') = (w'.ticks ≤ w.ticks) × ReachesAllowed allow w'
 
@@ -97,13 +97,13 @@ module _ (allow : AllowList) (code : List FunCode) (limits : Limits) where
   pays_so w (Passes limit w') reached s = same_reached allow code limits w w' s reached
   pays_so w (Counts w') reached s = (no_more w'.ticks w.ticks w'.ticks s.0 refl, same_reached allow code limits w w' s.1 reached)
 
-  member_is_paid : (text : Owner) (number : ℕ) (w : World) → flag allow.members number ≡ true → ReachesAllowed allow w → MemberPaid w (pay_member text number w)
+  pub member_is_paid : (text : Owner) (number : ℕ) (w : World) → flag allow.members number ≡ true → ReachesAllowed allow w → MemberPaid w (pay_member text number w)
   unfolding pay_member
   member_is_paid Script number w allowed reached = reaches_so number w (pay_tick w) allowed reached (tick_is_paid w)
   member_is_paid Prelude number w allowed reached = pays_so w (pay_tick w) reached (tick_is_paid w)
 
   -- with less left it goes on as with more
-  sooner : (a b : ℕ) (n : Next) → a ≤ b → Moves allow code limits a n → Moves allow code limits b n
+  pub sooner : (a b : ℕ) (n : Next) → a ≤ b → Moves allow code limits a n → Moves allow code limits b n
   sooner a b (Goes c) h m = let less = m.less in record { fits = m.fits; less = omega (arith, less, h) }
   sooner a b (Ends r) h m = m
   sooner a b Stuck h m = m
@@ -111,7 +111,7 @@ module _ (allow : AllowList) (code : List FunCode) (limits : Limits) where
   plus_most : (p q r : ℕ) → p ≤ q → p + r ≤ q + r
   plus_most p q r h = omega arith
 
-  fewer_ticks : (f : Frame) (below : List Frame) (w w' : World) → w'.ticks ≤ w.ticks → left_at code limits f below w' ≤ left_at code limits f below w
+  pub fewer_ticks : (f : Frame) (below : List Frame) (w w' : World) → w'.ticks ≤ w.ticks → left_at code limits f below w' ≤ left_at code limits f below w
   fewer_ticks f below w w' h =
       plus_most (w'.ticks * tick_worth code limits) (w.ticks * tick_worth code limits) ((lines_in code f.fun - f.line) + lines_below code below) (mul-le-mul_right (tick_worth code limits) h)
 

@@ -10,8 +10,11 @@ mod Throwing
 mod Calling
 mod Plains
 mod Testing
+mod TextKinds
 mod Members
+mod Forms
 mod Calls
+mod Accesses
 mod Steps
 pub mod Runs
 pub mod Sizes

@@ -28,8 +28,9 @@ use Rattle.container_calls.specs.Types.{suits, primitive_in, primitive_of, Effec
 use Rattle.code_meaning.specs.declared.word.Word.{Word}
 use Rattle.code_meaning.specs.declared.word.Word.TheVariants.{I, J, R}
 use Rattle.code_meaning.specs.Words.{boxed, unboxed}
-use Rattle.code_meaning.specs.Members.{reference_in, taken_layer, taken, before, taken_all, Receiving, Unfit, receives, receives_on, received_by, count_by, given_layer, given_as}
+use Rattle.code_meaning.specs.Members.{reference_in, taken_layer, taken, before, taken_alike, taken_all, Receiving, Unfit, receives, receives_on, received_by, count_by, given_layer, given_as}
 use Rattle.verifier_soundness.specs.Fits.{kind_of, kinds_of}
+use Rattle.verifier_soundness.proofs.Words.{AreAll}
 use Rattle.verifier_soundness.proofs.Casts.{EffectIs}
 use Rattle.verifier_soundness.proofs.Testing.{each_of}
 
@@ -206,7 +207,7 @@ takes_many k params = sym (many_given k params) ∙ ap length (sym (turned_kinds
 
 -- ---- that arguments are taken
 
-abbrev IsThere : {A : Type 0} → Option A → Type 0
+abbrev pub IsThere : {A : Type 0} → Option A → Type 0
 IsThere None = ⊥
 IsThere (Some a) = Unit {0}
 
@@ -248,7 +249,7 @@ layer_there (Ty-F.Prim p) word k = boxed_there p word k
 layer_there (Ty-F.Class class) word k = reference_there word k
 layer_there (Ty-F.Array elem) word k = reference_there word k
 
-one_there : (of : Ty) (word : Word) → kind_of word ≡ kind_of_type of → IsThere (taken of word)
+pub one_there : (of : Ty) (word : Word) → kind_of word ≡ kind_of_type of → IsThere (taken of word)
 unfolding kind_of_type
 one_there of word k = layer_there (out-Ty of) word k
 
@@ -256,6 +257,10 @@ both_there : (o : Option Value) (os : Option (List Value)) → IsThere o → IsT
 both_there None os h more = absurd h
 both_there (Some value) None h more = absurd more
 both_there (Some value) (Some values) h more = tt
+
+pub alike_there : (of : Ty) (words : List Word) → AreAll (kind_of_type of) words → IsThere (taken_alike of words)
+alike_there of [] h = tt
+alike_there of (word ∷ words) h = both_there (taken of word) (taken_alike of words) (one_there of word h.0) (alike_there of words h.1)
 
 first_is : (k j : Slot) (ks js : List Slot) → k ∷ ks ≡ j ∷ js → k ≡ j
 first_is k j ks js e = cc
@@ -305,7 +310,7 @@ is_received k params words e = by_kind k params words (e ∙ turned_kinds k para
 
 -- ---- what is given
 
-unboxed_is : (p : Primitive) (value : Value) → is_primitive p value ≡ true → kind_of (unboxed value) ≡ kind_of_primitive p
+pub unboxed_is : (p : Primitive) (value : Value) → is_primitive p value ≡ true → kind_of (unboxed value) ≡ kind_of_primitive p
 unboxed_is prim.Boolean v.Null h = absurd (false≢true h)
 unboxed_is prim.Boolean (v.Bool flag) h = refl
 unboxed_is prim.Boolean (v.Byte a) h = absurd (false≢true h)

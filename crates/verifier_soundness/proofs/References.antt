@@ -108,3 +108,7 @@ by_null P (v.Ref id) first second p q = q
 pub type_is : (P : Next → Type 0) (o : Option Ty) (next : Ty → Next) → is_some o ≡ true → ((of : Ty) → P (next of)) → P (on_type o next)
 type_is P None next e h = absurd (false≢true e)
 type_is P (Some of) next e h = h of
+
+pub type_read : (P : Next → Type 0) (o : Option Ty) (next : Ty → Next) → is_some o ≡ true → ((of : Ty) → o ≡ Some of → P (next of)) → P (on_type o next)
+type_read P None next e h = absurd (false≢true e)
+type_read P (Some of) next e h = h of refl

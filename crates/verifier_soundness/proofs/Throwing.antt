@@ -17,7 +17,7 @@ use Rattle.verifier.specs.Shaped.{IsWellShapedCode}
 use Rattle.run_state.specs.World.{World, Limits, Outcome, Given, Raised, Full, acts_in}
 use Rattle.code_meaning.specs.declared.word.Word.{Word}
 use Rattle.code_meaning.specs.declared.word.Word.TheVariants as word
-use Rattle.code_meaning.specs.Machine.{Frame, Next, Goes, traps_at, traps_of, is_instance, lands, unwind, on_outcome, on_thrown, depth_of, function_of, codes_of}
+use Rattle.code_meaning.specs.Machine.{Frame, Next, Goes, traps_at, traps_of, is_instance, lands, unwind, on_outcome, on_done, on_thrown, depth_of, function_of, codes_of}
 use Rattle.verifier_soundness.specs.Fits.{ReachesAllowed, kind_of, kinds_of, frame_kinds, BelowFits}
 use Rattle.verifier_soundness.proofs.Casts.{EffectIs}
 use Rattle.verifier_soundness.proofs.References.{GivesNothing}
@@ -135,6 +135,31 @@ module _ (allow : AllowList) (code prelude : List FunCode) (limits : Limits) (we
       → (to : Value → Word) (k : Slot) (stack : List Word) (e : Effect) → flow_of i ≡ flow.GoesOn → k ∷ kinds_of stack ≡ s.left → EffectIs to k e
       → Moves allow code limits (left_at code limits f below w) (on_outcome (codes_of code prelude) limits (acts_in w e) to f below w stack)
   effect_moves function f below w i s here to k stack e goes kinds is = outcome_moves function f below w i s here to k stack (acts_in w e) goes kinds (acts_so to k w e here.reached is)
+
+  -- ---- what an operation gives is dropped
+
+  abbrev OutcomeGoes : World → Outcome Value → Type 0
+  OutcomeGoes w (Given value w') = GoesTo allow code limits w w'
+  OutcomeGoes w (Raised id w') = GoesTo allow code limits w w'
+  OutcomeGoes w Full = Unit {0}
+
+  goes_so : (w : World) (e : Effect) → ReachesAllowed allow w → OutcomeGoes w (acts_in w e)
+  unfolding acts_in
+  goes_so w (Gives value store) reached = record { ticks = refl; reached = reached }
+  goes_so w (Throws id store) reached = record { ticks = refl; reached = reached }
+  goes_so w NoRoom reached = tt
+
+  done_moves_on : (function : FunCode) (f : Frame) (below : List Frame) (w : World) (i : Instruction) (s : StandsIn allow code function (frame_kinds f) i) → Here allow code limits function f below w
+      → (stack : List Word) (o : Outcome Value) → flow_of i ≡ flow.GoesOn → kinds_of stack ≡ s.left → OutcomeGoes w o
+      → Moves allow code limits (left_at code limits f below w) (on_done (codes_of code prelude) limits o f below w stack)
+  done_moves_on function f below w i s here stack (Given value w') goes kinds is = goes_next allow code limits function f below w w' i s here stack is goes kinds
+  done_moves_on function f below w i s here stack (Raised id w') goes kinds is = thrown function f below w w' id here is
+  done_moves_on function f below w i s here stack Full goes kinds is = here.reached
+
+  pub done_moves : (function : FunCode) (f : Frame) (below : List Frame) (w : World) (i : Instruction) (s : StandsIn allow code function (frame_kinds f) i) → Here allow code limits function f below w
+      → (stack : List Word) (e : Effect) → flow_of i ≡ flow.GoesOn → kinds_of stack ≡ s.left
+      → Moves allow code limits (left_at code limits f below w) (on_done (codes_of code prelude) limits (acts_in w e) f below w stack)
+  done_moves function f below w i s here stack e goes kinds = done_moves_on function f below w i s here stack (acts_in w e) goes kinds (goes_so w e here.reached)
 
   -- ---- what is thrown as it is
 

@@ -7,8 +7,8 @@ use Rattle.typed_tree.specs.declared.operation.Target.TheVariants as target
 use Rattle.source_meaning.specs.Tree.{Expr, Literal, Quoted, Local, Apply, Guarded, Logic, Conditional, Elvis, Assign, Modify, Lambda, Reference, NewReference, Exprs, None', One, Maybe, Missing, Given, Program, type_of}
 use Rattle.code_meaning.specs.Machine.{Handlers, traps_at}
 use Rattle.compiler_relation.specs.Representation.{Representation, representation_of}
-use Rattle.compiler_relation.specs.Parts.{default_code, operator_code, cast_code, operation_code, member_code, without_null, pops, kept_before, kept_behind}
-use Rattle.compiler_relation.specs.Stands.{Scope, At, AllAt, ExprAt, ExprsAt, end_all, change_first, change_last, elvis_right, end_expr, end_exprs, end_skip, end_dropped, end_update, end_test, end_last, end_value, end_returned, SkipAt, DroppedAt, UpdateAt, TestAt, LastAt, ValueAt, ReturnedAt}
+use Rattle.compiler_relation.specs.Parts.{default_code, operator_code, cast_code, operation_code, member_code, without_null, pops, read_code, write_code, kept_under, copies, kept_before, kept_behind}
+use Rattle.compiler_relation.specs.Stands.{Scope, At, AllAt, ExprAt, ExprsAt, end_all, count, change_first, change_last, end_read, elvis_right, end_expr, end_exprs, end_skip, end_dropped, end_update, end_test, end_last, end_value, end_returned, SkipAt, DroppedAt, UpdateAt, TestAt, LastAt, ValueAt, ReturnedAt}
 use Rattle.compiler_relation.specs.Placed.{untrapped}
 use Rattle.compiler_relation.proofs.Covers.Ends.{all_grow, expr_grows, exprs_grow}
 
@@ -28,20 +28,20 @@ module _ (funs : Program) (f : FunCode) (h : Handlers) (lo hi : ℕ) (over : (li
     expr_placed g p (Local at of name) low high x = (x.0, x.1, x.2, one_placed p _ low (omega arith) x.3)
     expr_placed g p (Apply at of o parts) low high x =
         let e = exprs_grow p parts in
-        let d = all_grow (end_exprs p parts) (operation_code o of) in
-        (exprs_placed g p parts low (omega arith) x.0, all_placed (end_exprs p parts) (operation_code o of) (omega arith) high x.1, x.2)
+        let d = all_grow (end_exprs p parts) (operation_code o of (count parts)) in
+        (exprs_placed g p parts low (omega arith) x.0, all_placed (end_exprs p parts) (operation_code o of (count parts)) (omega arith) high x.1, x.2)
     expr_placed g p (Guarded at of o None') low high x = tt
     expr_placed g p (Guarded at of o (One a others)) low high x =
         let e = expr_grows p a in
         let d = exprs_grow (suc (suc (end_expr p a))) others in
-        let c = all_grow (end_exprs (suc (suc (end_expr p a))) others) (member_code o) in
-        let b = all_grow (end_all (end_exprs (suc (suc (end_expr p a))) others) (member_code o)) (without_null (representation_of of)) in (
+        let c = all_grow (end_exprs (suc (suc (end_expr p a))) others) (member_code o (suc (count others))) in
+        let b = all_grow (end_all (end_exprs (suc (suc (end_expr p a))) others) (member_code o (suc (count others)))) (without_null (representation_of of)) in (
           expr_placed g p a low (omega arith) x.0,
           one_placed (end_expr p a) _ (omega arith) (omega arith) x.1,
           one_placed (suc (end_expr p a)) _ (omega arith) (omega arith) x.2,
           exprs_placed g (suc (suc (end_expr p a))) others (omega arith) (omega arith) x.3,
-          all_placed (end_exprs (suc (suc (end_expr p a))) others) (member_code o) (omega arith) (omega arith) x.4,
-          all_placed (end_all (end_exprs (suc (suc (end_expr p a))) others) (member_code o)) (without_null (representation_of of)) (omega arith) (omega arith) x.5,
+          all_placed (end_exprs (suc (suc (end_expr p a))) others) (member_code o (suc (count others))) (omega arith) (omega arith) x.4,
+          all_placed (end_all (end_exprs (suc (suc (end_expr p a))) others) (member_code o (suc (count others)))) (without_null (representation_of of)) (omega arith) (omega arith) x.5,
           x.6,
         )
     expr_placed g p (Logic at of o left right) low high x =
@@ -88,34 +88,69 @@ module _ (funs : Program) (f : FunCode) (h : Handlers) (lo hi : ℕ) (over : (li
           one_placed (end_expr p value) _ (omega arith) (omega arith) x.1,
           (x.2.0, x.2.1, x.2.2, x.2.3, one_placed (suc (end_expr p value)) _ (omega arith) (omega arith) x.2.4),
         )
-    expr_placed g p (Assign at of target.Element parts value) low high x = tt
-    expr_placed g p (Assign at of (target.Members read write) parts value) low high x = tt
-    expr_placed g p (Assign at of target.DefIndex parts value) low high x = tt
-    expr_placed g p (Assign at of (target.DefName name) parts value) low high x = tt
+    expr_placed g p (Assign at of (target.Place read write) parts value) low high x =
+        let e = exprs_grow p parts in
+        let d = expr_grows (end_exprs p parts) value in
+        let c = all_grow (end_expr (end_exprs p parts) value) (kept_under (count parts)) in
+        let b = all_grow (end_all (end_expr (end_exprs p parts) value) (kept_under (count parts))) (write_code write of) in (
+          exprs_placed g p parts low (omega arith) x.0,
+          expr_placed g (end_exprs p parts) value (omega arith) (omega arith) x.1,
+          all_placed (end_expr (end_exprs p parts) value) (kept_under (count parts)) (omega arith) (omega arith) x.2,
+          all_placed (end_all (end_expr (end_exprs p parts) value) (kept_under (count parts))) (write_code write of) (omega arith) high x.3,
+          x.4,
+          x.5,
+        )
     expr_placed g p (Modify at of (target.Local name) parts change right gives) low high x =
-        let b = all_grow (suc p) (kept_before gives) in
-        let c = all_grow (end_all (suc p) (kept_before gives)) (cast_code change.before of) in
-        let d = expr_grows (change_first gives change of p) right in
-        let e = all_grow (end_expr (change_first gives change of p) right) (operator_code change.operator) in
-        let r = all_grow (end_all (end_expr (change_first gives change of p) right) (operator_code change.operator)) (cast_code change.after of) in
-        let s = all_grow (end_all (end_all (end_expr (change_first gives change of p) right) (operator_code change.operator)) (cast_code change.after of)) (kept_behind gives) in (
+        let b = all_grow (suc p) (kept_before 0 gives) in
+        let c = all_grow (end_all (suc p) (kept_before 0 gives)) (cast_code change.before of) in
+        let d = expr_grows (change_first 0 gives change of (suc p)) right in
+        let q = end_expr (change_first 0 gives change of (suc p)) right in
+        let e = all_grow q (operator_code change.operator) in
+        let r = all_grow (end_all q (operator_code change.operator)) (cast_code change.after of) in
+        let s = all_grow (end_all (end_all q (operator_code change.operator)) (cast_code change.after of)) (kept_behind 0 gives) in (
           x.0,
           x.1,
           x.2,
           one_placed p _ low (omega arith) x.3,
-          all_placed (suc p) (kept_before gives) (omega arith) (omega arith) x.4,
-          all_placed (end_all (suc p) (kept_before gives)) (cast_code change.before of) (omega arith) (omega arith) x.5,
-          expr_placed g (change_first gives change of p) right (omega arith) (omega arith) x.6,
-          all_placed (end_expr (change_first gives change of p) right) (operator_code change.operator) (omega arith) (omega arith) x.7,
-          all_placed (end_all (end_expr (change_first gives change of p) right) (operator_code change.operator)) (cast_code change.after of) (omega arith) (omega arith) x.8,
-          all_placed (end_all (end_all (end_expr (change_first gives change of p) right) (operator_code change.operator)) (cast_code change.after of)) (kept_behind gives) (omega arith) (omega arith) x.9,
-          one_placed (change_last gives change of (end_expr (change_first gives change of p) right)) _ (omega arith) (omega arith) x.10,
+          all_placed (suc p) (kept_before 0 gives) (omega arith) (omega arith) x.4,
+          all_placed (end_all (suc p) (kept_before 0 gives)) (cast_code change.before of) (omega arith) (omega arith) x.5,
+          expr_placed g (change_first 0 gives change of (suc p)) right (omega arith) (omega arith) x.6,
+          all_placed q (operator_code change.operator) (omega arith) (omega arith) x.7,
+          all_placed (end_all q (operator_code change.operator)) (cast_code change.after of) (omega arith) (omega arith) x.8,
+          all_placed (end_all (end_all q (operator_code change.operator)) (cast_code change.after of)) (kept_behind 0 gives) (omega arith) (omega arith) x.9,
+          one_placed (change_last 0 gives change of q) _ (omega arith) (omega arith) x.10,
           x.11,
         )
-    expr_placed g p (Modify at of target.Element parts change right gives) low high x = tt
-    expr_placed g p (Modify at of (target.Members read write) parts change right gives) low high x = tt
-    expr_placed g p (Modify at of target.DefIndex parts change right gives) low high x = tt
-    expr_placed g p (Modify at of (target.DefName name) parts change right gives) low high x = tt
+    expr_placed g p (Modify at of (target.Place read write) parts change right gives) low high x =
+        let n = count parts in
+        let p' = end_exprs p parts in
+        let r = end_read n read of p' in
+        let q = end_expr (change_first n gives change of r) right in
+        let z = change_last n gives change of q in
+        let b = exprs_grow p parts in
+        let c = all_grow p' (copies n) in
+        let d = all_grow (end_all p' (copies n)) (read_code read of n) in
+        let e = all_grow r (kept_before n gives) in
+        let e' = all_grow (end_all r (kept_before n gives)) (cast_code change.before of) in
+        let k = expr_grows (change_first (count parts) gives change of (end_read (count parts) read of (end_exprs p parts))) right in
+        let k' = all_grow q (operator_code change.operator) in
+        let w = all_grow (end_all q (operator_code change.operator)) (cast_code change.after of) in
+        let w' = all_grow (end_all (end_all q (operator_code change.operator)) (cast_code change.after of)) (kept_behind n gives) in
+        let y = all_grow z (write_code write of) in (
+          exprs_placed g p parts low (omega arith) x.0,
+          all_placed p' (copies n) (omega arith) (omega arith) x.1,
+          all_placed (end_all p' (copies n)) (read_code read of n) (omega arith) (omega arith) x.2,
+          all_placed r (kept_before n gives) (omega arith) (omega arith) x.3,
+          all_placed (end_all r (kept_before n gives)) (cast_code change.before of) (omega arith) (omega arith) x.4,
+          expr_placed g (change_first (count parts) gives change of (end_read (count parts) read of (end_exprs p parts))) right (omega arith) (omega arith) x.5,
+          all_placed q (operator_code change.operator) (omega arith) (omega arith) x.6,
+          all_placed (end_all q (operator_code change.operator)) (cast_code change.after of) (omega arith) (omega arith) x.7,
+          all_placed (end_all (end_all q (operator_code change.operator)) (cast_code change.after of)) (kept_behind n gives) (omega arith) (omega arith) x.8,
+          all_placed z (write_code write of) (omega arith) high x.9,
+          x.10,
+          x.11,
+          x.12,
+        )
     expr_placed g p (Lambda at of interface function) low high x = tt
     expr_placed g p (Reference at of interface class name) low high x = tt
     expr_placed g p (NewReference at of interface made) low high x = tt

@@ -6,7 +6,7 @@ use Rattle.std.proofs.lemmas.List.{append-nil}
 use Rattle.pl_types.specs.Classes.{full_name}
 use Rattle.pl_types.specs.Names.{class_of_full}
 use Rattle.pl_code.specs.declared.code.Trap.{Trap}
-use Rattle.source_meaning.specs.Tree.{Stmt, Do, If, While, DoWhile, ForEach, Try, Block, Break, Continue, Return, Throw, Stmts, Finish, Then, Declare, Catches, NoCatch, Catch}
+use Rattle.source_meaning.specs.Tree.{Stmt, Do, If, While, DoWhile, Try, Block, Break, Continue, Return, Throw, Stmts, Finish, Then, Declare, Catches, NoCatch, Catch}
 use Rattle.code_meaning.specs.Machine.{Handler, Handlers, traps_at}
 use Rattle.compiler_relation.specs.Stands.{all_fall, goes_on, end_expr, end_skip, jumps_over, end_update, end_value, end_stmt, end_stmts, end_catches, end_tried, end_caught, handlers_of, trap_of, traps_stmt, traps_stmts, traps_catches}
 use Rattle.compiler_relation.proofs.Covers.Ends.{expr_grows, skip_grows, update_grows, test_grows, last_test_grows, value_grows, stmt_grows, stmts_grow, catches_grow}
@@ -76,7 +76,6 @@ mutual
   stmt_misses p (DoWhile body test) lo hi line off low high =
       let e = last_test_grows (goes_on body) (end_stmts (suc p) body) test in
       stmts_miss (suc p) body lo hi line off (omega arith) (omega arith)
-  stmt_misses p (ForEach x of element over body) lo hi line off low high = refl
   stmt_misses p (Try body catches) lo hi line off low high =
       let r = stmts_grow p body in
       let d = skip_grows (all_fall body) (end_stmts p body) in

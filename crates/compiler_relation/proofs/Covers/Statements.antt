@@ -6,7 +6,7 @@ use Rattle.pl_types.specs.Classes.{full_name}
 use Rattle.pl_types.specs.Names.{class_of_full}
 use Rattle.pl_code.specs.declared.code.Trap.{Trap}
 use Rattle.pl_code.specs.declared.code.FunCode.{FunCode}
-use Rattle.source_meaning.specs.Tree.{Stmt, Do, If, While, DoWhile, ForEach, Try, Block, Break, Continue, Return, Throw, Stmts, Finish, Then, Declare, Catches, NoCatch, Catch, Program}
+use Rattle.source_meaning.specs.Tree.{Stmt, Do, If, While, DoWhile, Try, Block, Break, Continue, Return, Throw, Stmts, Finish, Then, Declare, Catches, NoCatch, Catch, Program}
 use Rattle.code_meaning.specs.Machine.{Handlers, traps_at}
 use Rattle.compiler_relation.specs.Representation.{Representation}
 use Rattle.compiler_relation.specs.Parts.{default_code}
@@ -96,7 +96,6 @@ module _ (named : (class : ℕ) → class < 57 → class_of_full (full_name clas
           one_placed funs f h behind end tail again _ (omega arith) (omega arith) x.3,
           one_placed funs f h behind end tail (suc again) _ (omega arith) (omega arith) x.4,
         )
-    stmt_placed h g n j p (ForEach name of element over body) covers x = tt
     stmt_placed h g n j p (Try body catches) covers x =
         let behind = end_stmts p body in
         let later = end_tried p body in

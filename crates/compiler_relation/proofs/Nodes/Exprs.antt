@@ -108,16 +108,16 @@ module _ (funs : Programs) (codes : Codes) (limits : Limits) (c : Ctx codes) (h 
   double_runs Absent value q s l st some a next = absurd (some refl)
 
   -- the same where an assignment gives the old or the new value
-  pub keeps_before : (x : Gives) (k : Representation) (value : Value) (q : ℕ) (s : State) (l st : List Word) → k ≢ Absent → AllAt c.body h q (kept_before x)
+  pub keeps_before : (x : Gives) (k : Representation) (value : Value) (q : ℕ) (s : State) (l st : List Word) → k ≢ Absent → AllAt c.body h q (kept_before 0 x)
       → {A : Type 0} {land : A → State → List Word → Next} {good : A → Type 0} {o : Out A}
-      → Sim codes limits c h g land good (at codes limits c (end_all q (kept_before x)) l (pushed (low k value) (kept_old k x value st)) s) o
+      → Sim codes limits c h g land good (at codes limits c (end_all q (kept_before 0 x)) l (pushed (low k value) (kept_old k x value st)) s) o
       → Sim codes limits c h g land good (at codes limits c q l (pushed (low k value) st) s) o
   keeps_before gives.Old k value q s l st some a next = double_runs k value q s l st some a.0 next
   keeps_before gives.New k value q s l st some a next = next
 
-  pub keeps_behind : (x : Gives) (k : Representation) (value : Value) (q : ℕ) (s : State) (l st : List Word) → k ≢ Absent → AllAt c.body h q (kept_behind x)
+  pub keeps_behind : (x : Gives) (k : Representation) (value : Value) (q : ℕ) (s : State) (l st : List Word) → k ≢ Absent → AllAt c.body h q (kept_behind 0 x)
       → {A : Type 0} {land : A → State → List Word → Next} {good : A → Type 0} {o : Out A}
-      → Sim codes limits c h g land good (at codes limits c (end_all q (kept_behind x)) l (pushed (low k value) (kept_new k x value st)) s) o
+      → Sim codes limits c h g land good (at codes limits c (end_all q (kept_behind 0 x)) l (pushed (low k value) (kept_new k x value st)) s) o
       → Sim codes limits c h g land good (at codes limits c q l (pushed (low k value) st) s) o
   keeps_behind gives.Old k value q s l st some a next = next
   keeps_behind gives.New k value q s l st some a next = double_runs k value q s l st some a.0 next

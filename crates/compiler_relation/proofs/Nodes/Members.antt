@@ -87,7 +87,7 @@ all_params_present : list_all (λ (m : MemberType). all_present m.params) catalo
 unfolding catalogue ty.out-Ty denote.Hole.Carrier.out
 all_params_present = refl
 
-params_present : (number : ℕ) (t : MemberType) → slice_get catalogue number ≡ Some t → ArePresent (map representation_of t.params)
+pub params_present : (number : ℕ) (t : MemberType) → slice_get catalogue number ≡ Some t → ArePresent (map representation_of t.params)
 params_present number t is = are_present t.params (each_true (λ (m : MemberType). all_present m.params) catalogue number t all_params_present is)
 
 stands_at : (number : ℕ) (t : MemberType) → slice_get catalogue number ≡ Some t → member_at number ≡ t
@@ -110,7 +110,7 @@ in_boxed prim.Int value given e = cc
 in_boxed prim.Long (v.Long a) given e = e
 in_boxed prim.Long value given e = cc
 
-layer_taken : (y : Ty-F Ty) (value given : Value) → passed_layer y value ≡ Some given → taken_layer y (word_at (representation_of_layer y) value) ≡ Some given
+pub layer_taken : (y : Ty-F Ty) (value given : Value) → passed_layer y value ≡ Some given → taken_layer y (word_at (representation_of_layer y) value) ≡ Some given
 layer_taken Ty-F.Void value given e = e
 layer_taken Ty-F.Null value given e = e
 layer_taken Ty-F.Def value given e = e

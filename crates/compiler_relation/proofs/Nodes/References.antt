@@ -32,10 +32,11 @@ use Rattle.code_meaning.specs.Words.{unboxed, bit}
 use Rattle.code_meaning.specs.Machine.{Codes, Handlers, Next, on_outcome, on_thrown}
 use Rattle.compiler_relation.specs.Representation.{Representation, Unboxed, Boxed, Absent}
 use Rattle.compiler_relation.specs.Parts.{operator_code, operator_takes, operator_gives, turned_round}
-use Rattle.compiler_relation.specs.Stands.{Scope, At, AllAt, end_all, AllRepresented}
+use Rattle.compiler_relation.specs.Stands.{Scope, At, AllAt, end_all, AllRepresented, HasCode}
 use Rattle.compiler_relation.proofs.Locals.{Fits}
 use Rattle.compiler_relation.proofs.Follows.{Ctx, Sim, at, frame, ended, done, step_to, throws}
 use Rattle.compiler_relation.proofs.Refines.{push, Any, land_value}
+use Rattle.compiler_relation.proofs.Nodes.Dynamic.{dynamic_runs}
 use Rattle.compiler_relation.proofs.Nodes.Operands.{stack_is, outcome_runs, ints_run, longs_run, flags_run}
 
 pub unboxed_boxed : Unboxed ≡ Boxed → ⊥
@@ -187,31 +188,35 @@ module _ (funs : Programs) (codes : Codes) (limits : Limits) (c : Ctx codes) (h 
   -- an operator, whose operands are represented as it takes them, and what it gives as it gives it
   abbrev OperatorRuns : Operator → Type 0
   OperatorRuns o =
-      (ks : List Representation) (values : List Value) (q : ℕ) (s : State) (e : Env) (l st : List Word) → AllAt c.body h q (operator_code o) → AllRepresented (operator_takes o) ks → length ks ≡ length values → Fits c.body g e l
+      (ks : List Representation) (values : List Value) (q : ℕ) (s : State) (e : Env) (l st : List Word) → AllAt c.body h q (operator_code o) → AllRepresented (operator_takes o) ks → HasCode o → length ks ≡ length values → Fits c.body g e l
       → Sim codes limits c h g (land_value funs codes limits c (operator_gives o) (end_all q (operator_code o)) st) Any (at codes limits c q l (push ks values st) s) (operated (operates o values s.world.store) s e)
 
   operator_does : (o : Operator) → OperatorRuns o
-  operator_does (operator.Int o) ks values q s e l st x lie same f = ints_run funs codes limits c h g o (operands_of values) q s e l (push ks values st) st x (stack_is ks values st lie same) f
-  operator_does (operator.Long o) ks values q s e l st x lie same f = longs_run funs codes limits c h g o (operands_of values) q s e l (push ks values st) st x (stack_is ks values st lie same) f
-  operator_does (operator.Boolean o) ks values q s e l st x lie same f = flags_run funs codes limits c h g o (operands_of values) q s e l (push ks values st) st x (stack_is ks values st lie same) f
-  operator_does operator.Equal ks values q s e l st x lie same f = references_run operator.Equal Unboxed q s e l st (λ a b. equal_runs a b q s e l st x f) ks values lie same
-  operator_does operator.NotEqual ks values q s e l st x lie same f = references_run operator.NotEqual Unboxed q s e l st (λ a b. not_equal_runs a b q s e l st x f) ks values lie same
-  operator_does operator.Same ks values q s e l st x lie same f =
+  operator_does (operator.Int o) ks values q s e l st x lie can same f = ints_run funs codes limits c h g o (operands_of values) q s e l (push ks values st) st x (stack_is ks values st lie same) f
+  operator_does (operator.Long o) ks values q s e l st x lie can same f = longs_run funs codes limits c h g o (operands_of values) q s e l (push ks values st) st x (stack_is ks values st lie same) f
+  operator_does (operator.Boolean o) ks values q s e l st x lie can same f = flags_run funs codes limits c h g o (operands_of values) q s e l (push ks values st) st x (stack_is ks values st lie same) f
+  operator_does operator.Equal ks values q s e l st x lie can same f = references_run operator.Equal Unboxed q s e l st (λ a b. equal_runs a b q s e l st x f) ks values lie same
+  operator_does operator.NotEqual ks values q s e l st x lie can same f = references_run operator.NotEqual Unboxed q s e l st (λ a b. not_equal_runs a b q s e l st x f) ks values lie same
+  operator_does operator.Same ks values q s e l st x lie can same f =
       references_run operator.Same Unboxed q s e l st (λ a b. step_to codes limits l (R b ∷ R a ∷ st) s x.0 (done codes limits f tt)) ks values lie same
-  operator_does operator.NotSame ks values q s e l st x lie same f =
+  operator_does operator.NotSame ks values q s e l st x lie can same f =
       references_run operator.NotSame Unboxed q s e l st (λ a b. step_to codes limits l (R b ∷ R a ∷ st) s x.0 (turned_runs (is_same a b) (suc q) s e l st x.1 f)) ks values lie same
-  operator_does operator.Concat ks values q s e l st x lie same f = references_run operator.Concat Boxed q s e l st (λ a b. concat_runs a b q s e l st x f) ks values lie same
-  operator_does (operator.Def o) ks values q s e l st x lie same f = nothing_runs (operator.Def o) values s e (λ a b. refl)
-  operator_does operator.List ks values q s e l st x lie same f = nothing_runs operator.List values s e (λ a b. refl)
-  operator_does operator.Map ks values q s e l st x lie same f = nothing_runs operator.Map values s e (λ a b. refl)
-  operator_does operator.NewArray ks values q s e l st x lie same f = nothing_runs operator.NewArray values s e (λ a b. refl)
-  operator_does operator.ArrayOf ks values q s e l st x lie same f = nothing_runs operator.ArrayOf values s e (λ a b. refl)
-  operator_does operator.Element ks values q s e l st x lie same f = nothing_runs operator.Element values s e (λ a b. refl)
-  operator_does operator.Length ks values q s e l st x lie same f = nothing_runs operator.Length values s e (λ a b. refl)
+  operator_does operator.Concat ks values q s e l st x lie can same f = references_run operator.Concat Boxed q s e l st (λ a b. concat_runs a b q s e l st x f) ks values lie same
+  operator_does (operator.Def o) ks values q s e l st x lie can same f = dynamic_runs funs codes limits c h g o can ks values q s e l st x lie same f
+  operator_does operator.List ks values q s e l st x lie can same f = nothing_runs operator.List values s e (λ a b. refl)
+  operator_does operator.Map ks values q s e l st x lie can same f = nothing_runs operator.Map values s e (λ a b. refl)
+  operator_does operator.NewArray ks values q s e l st x lie can same f = nothing_runs operator.NewArray values s e (λ a b. refl)
+  operator_does operator.ArrayOf ks values q s e l st x lie can same f = nothing_runs operator.ArrayOf values s e (λ a b. refl)
+  operator_does operator.Element ks values q s e l st x lie can same f = nothing_runs operator.Element values s e (λ a b. refl)
+  operator_does operator.Length ks values q s e l st x lie can same f = nothing_runs operator.Length values s e (λ a b. refl)
+  operator_does operator.PutElement ks values q s e l st x lie can same f = nothing_runs operator.PutElement values s e (λ a b. refl)
+  operator_does operator.Iterate ks values q s e l st x lie can same f = nothing_runs operator.Iterate values s e (λ a b. refl)
+  operator_does operator.HasNext ks values q s e l st x lie can same f = nothing_runs operator.HasNext values s e (λ a b. refl)
+  operator_does operator.Next ks values q s e l st x lie can same f = nothing_runs operator.Next values s e (λ a b. refl)
 
   -- each operator, whose operands are represented as it takes them
-  pub operator_runs : (o : Operator) (ks : List Representation) (values : List Value) (k : Representation) (q : ℕ) (s : State) (e : Env) (l st : List Word) → AllAt c.body h q (operator_code o) → AllRepresented (operator_takes o) ks → length ks ≡ length values → k ≡ operator_gives o → Fits c.body g e l
+  pub operator_runs : (o : Operator) (ks : List Representation) (values : List Value) (k : Representation) (q : ℕ) (s : State) (e : Env) (l st : List Word) → AllAt c.body h q (operator_code o) → AllRepresented (operator_takes o) ks → HasCode o → length ks ≡ length values → k ≡ operator_gives o → Fits c.body g e l
       → Sim codes limits c h g (land_value funs codes limits c k (end_all q (operator_code o)) st) Any (at codes limits c q l (push ks values st) s) (operated (operates o values s.world.store) s e)
-  operator_runs o ks values k q s e l st x lie same is f =
+  operator_runs o ks values k q s e l st x lie can same is f =
       subst (λ k. Sim codes limits c h g (land_value funs codes limits c k (end_all q (operator_code o)) st) Any (at codes limits c q l (push ks values st) s) (operated (operates o values s.world.store) s e)) (sym is)
-      (operator_does o ks values q s e l st x lie same f)
+      (operator_does o ks values q s e l st x lie can same f)

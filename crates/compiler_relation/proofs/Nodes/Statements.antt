@@ -9,7 +9,7 @@ use Rattle.pl_code.specs.declared.kinds.Numbered.TheVariants as numbered
 use Rattle.pl_code.specs.declared.code.Instruction.TheVariants as i
 use Rattle.number_ops.specs.Relations.{thrown}
 use Rattle.run_state.specs.World.{Limits, End, acts_in}
-use Rattle.source_meaning.specs.Tree.{Name, Expr, Maybe, Missing, Given, Stmt, Do, If, While, DoWhile, ForEach, Try, Block, Break, Continue, Return, Throw, Stmts, Finish, Then, Declare, Catches, NoCatch, Catch, Programs, functions_in, type_of}
+use Rattle.source_meaning.specs.Tree.{Name, Expr, Maybe, Missing, Given, Stmt, Do, If, While, DoWhile, Try, Block, Break, Continue, Return, Throw, Stmts, Finish, Then, Declare, Catches, NoCatch, Catch, Programs, functions_in, type_of}
 use Rattle.source_meaning.specs.Meaning.{State, Env, Out, Done, Flow, Normal, Broke, Continued, Returned, Meaning, bind, effect, goes_next, value_or, stmt_of, stmts_of}
 use Rattle.code_meaning.specs.declared.word.Word.{Word}
 use Rattle.code_meaning.specs.declared.word.Word.TheVariants.{R}
@@ -58,7 +58,6 @@ mutual
   next_grows n m (If c a b) less = nexts_grow n (next_stmts m a) b (nexts_grow n m a less)
   next_grows n m (While test update body) less = nexts_grow n m body less
   next_grows n m (DoWhile body test) less = nexts_grow n m body less
-  next_grows n m (ForEach x of element over body) less = less
   next_grows n m (Try body catches) less = catches_grow n (next_stmts m body) catches (nexts_grow n m body less)
   next_grows n m (Block body) less = nexts_grow n m body less
   next_grows n m Break less = less

@@ -5,7 +5,7 @@ ghost use Rattle.pl_types.specs.declared.ty.Ty.TheVariants as def;
 ghost use Rattle.verifier_soundness.specs.Rows.{HaveRows};
 ghost use Rattle.script_engine.specs.Running.{TakesArguments};
 
-use allowlist::{Allow, Catalogue};
+use allowlist::{Allow, AllowErr, Catalogue};
 use machine::Limits;
 use object_heap::{End, Heap, Outcome, Which};
 use object_values::Value;
@@ -35,7 +35,7 @@ pub const USUAL: Bounds = Bounds {
     room: 16_000_000,
 };
 
-/// What scripts are compiled by: every class, no variable, and any result.
+/// What scripts are compiled by: the classes and members of a list, no variable, and any result.
 #[derive(Drop)]
 pub struct Compiler {
     alloc: Global,
@@ -47,6 +47,16 @@ impl Compiler {
     pub fn new(alloc: Global) -> Result<Compiler, AllocError> {
         let allow = Catalogue::full(alloc)?;
         Ok(Compiler { alloc, allow })
+    }
+
+    /// What an allowlist file names is allowed.
+    pub fn reading(alloc: Global, file: &str) -> Result<Compiler, AllowErr> {
+        let allow = Allow::read(alloc, file.as_bytes())?;
+        Ok(Compiler { alloc, allow })
+    }
+
+    pub fn alloc(&self) -> Global {
+        self.alloc
     }
 
     fn compiled(&self, script: &str) -> Result<Script, Fail>
@@ -146,18 +156,41 @@ fn end_text(outcome: &Outcome) -> Result<String, AllocError> {
     }
 }
 
-/// Whether a run ended as a row says: `END`, or `END, N ticks`.
+/// An end, and behind it the numbers of the members that were reached.
+fn reached_text(alloc: Global, end: &str, reached: &[u32]) -> Result<String, AllocError> {
+    let mut text = format!(in alloc; "{end}, reached")?;
+    for number in reached {
+        let word = format!(in alloc; " {number}")?;
+        text.push_str(word.as_str())?;
+    }
+    Ok(text)
+}
+
+/// Whether a run ended as a row says: `END`, `END, N ticks`, or `END, reached NUMBERS`.
 fn ended(outcome: &Outcome, wanted: &str) -> Result<bool, AllocError> {
     let alloc = outcome.heap.alloc();
     let text = end_text(outcome)?;
     let end = text.as_str();
     let ticks = outcome.ticks;
     let paid = format!(in alloc; "{end}, {ticks} ticks")?;
-    Ok(wanted == end || wanted == paid.as_str())
+    let reached = reached_text(alloc, end, outcome.reached.as_slice())?;
+    Ok(wanted == end || wanted == paid.as_str() || wanted == reached.as_str())
+}
+
+/// Whether a script is refused as a row says: `refused by RULE at BYTE`.
+fn refused(alloc: Global, fail: &Fail, wanted: &str) -> Result<bool, AllocError> {
+    match fail {
+        Fail::Refused(refusal) => {
+            let (rule, byte) = (refusal.number, refusal.offset);
+            let text = format!(in alloc; "refused by {rule} at {byte}")?;
+            Ok(wanted == text.as_str())
+        }
+        Fail::NoMemory => Ok(false),
+    }
 }
 
 /// Whether a script, run within bounds, ends as a row says.
-fn ends(
+pub fn script_ends(
     compiler: &Compiler,
     script: &str,
     bounds: Bounds,
@@ -168,7 +201,7 @@ fn ends(
             let outcome = run(compiler.alloc, &compiled, bounds)?;
             ended(&outcome, wanted)
         }
-        Err(_) => Ok(false),
+        Err(fail) => refused(compiler.alloc, &fail, wanted),
     }
 }
 
@@ -181,7 +214,7 @@ pub fn all_end(
 ) -> Result<(), AllocError> {
     for line in table.lines() {
         let (wanted, script) = line.split_once(':').unwrap_or(("", line));
-        let good = ends(compiler, script, bounds, wanted)?;
+        let good = script_ends(compiler, script, bounds, wanted)?;
         assert!(rt; good, "{line}");
     }
     Ok(())
@@ -197,7 +230,7 @@ fn cells_end(
     for cell in line.split(',') {
         let (expression, wanted) = cell.rsplit_once(": ").unwrap_or((cell, ""));
         let script = format!(in compiler.alloc; "{declared} {expression}")?;
-        let good = ends(compiler, script.as_str(), USUAL, wanted)?;
+        let good = script_ends(compiler, script.as_str(), USUAL, wanted)?;
         assert!(rt; good, "{declared}{cell}");
     }
     Ok(())

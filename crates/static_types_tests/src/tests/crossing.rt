@@ -3,7 +3,7 @@
 use super::pairs::{LETTERS, TYPES};
 use super::reading::Reader;
 use pl_types::classes::CLASS_COUNT;
-use pl_types::rules::{BAD_CAST, BAD_NULLABLE, BAD_OPERAND, OUT_OF_PROFILE};
+use pl_types::rules::{BAD_CAST, BAD_NULLABLE, BAD_OPERAND};
 use pl_types::{Fail, Refusal, Ty, class_short, primitive_word};
 use std::alloc::{AllocError, Global};
 use std::process::Abort;
@@ -95,7 +95,6 @@ fn letter_at_mark(number: u8) -> u8 {
         BAD_CAST => b'x',
         BAD_OPERAND => b'-',
         BAD_NULLABLE => b'!',
-        OUT_OF_PROFILE => b'?',
         _ => b'.',
     }
 }

@@ -12,7 +12,6 @@
 //! | `x` | BadCast at the `@` |
 //! | `-` | BadOperand at the `@` |
 //! | `!` | BadNullable at the `@` |
-//! | `?` | OutOfProfile at the `@` |
 
 /// The types of the tables.
 pub const TYPES: &str =
@@ -81,28 +80,28 @@ any: xxxxxxxxxxxxx===x=";
 /// What operators on numbers give.
 pub const OPERATORS: &str = "\
 #x @* y; x @/ y; x @% y; x @- y
-boolean Boolean Number Object Comparable String StringBuilder: -----------------?
-byte short char int Byte Short Character Integer: -iiiil-iiiil-----?
-long Long: -lllll-lllll-----?
-def: ??????????????????
+boolean Boolean Number Object Comparable String StringBuilder: -----------------d
+byte short char int Byte Short Character Integer: -iiiil-iiiil-----d
+long Long: -lllll-lllll-----d
+def: dddddddddddddddddd
 #x @+ y
-boolean Boolean Number Object Comparable StringBuilder: ---------------T-?
-byte short char int Byte Short Character Integer: -iiiil-iiiil---T-?
-long Long: -lllll-lllll---T-?
+boolean Boolean Number Object Comparable StringBuilder: ---------------T-d
+byte short char int Byte Short Character Integer: -iiiil-iiiil---T-d
+long Long: -lllll-lllll---T-d
 String: TTTTTTTTTTTTTTTTTT
-def: ???????????????T??
+def: dddddddddddddddTdd
 #x @<< y; x @>> y; x @>>> y
-boolean Boolean Number Object Comparable String StringBuilder: -----------------?
-byte short char int Byte Short Character Integer: -iiiii-iiiii-----?
-long Long: -lllll-lllll-----?
-def: ??????????????????";
+boolean Boolean Number Object Comparable String StringBuilder: -----------------d
+byte short char int Byte Short Character Integer: -iiiii-iiiii-----d
+long Long: -lllll-lllll-----d
+def: dddddddddddddddddd";
 
 /// What is compared.
 pub const COMPARISONS: &str = "\
 #x @< y; x @<= y; x @> y; x @>= y
-boolean Boolean Number Object Comparable String StringBuilder: -----------------?
-byte short char int long Byte Short Character Integer Long: -zzzzz-zzzzz-----?
-def: ??????????????????
+boolean Boolean Number Object Comparable String StringBuilder: -----------------z
+byte short char int long Byte Short Character Integer Long: -zzzzz-zzzzz-----z
+def: zzzzzzzzzzzzzzzzzz
 #x @== y; x @!= y
 boolean: z-----zzzzzzzzzzzz
 byte short char int long: -zzzzzzzzzzzzzzzzz
@@ -118,11 +117,11 @@ Boolean Byte Short Character Integer Long Number Object Comparable String String
 /// Bits, conditions, and the common type of two.
 pub const CHOICES: &str = "\
 #x @& y; x @^ y; x @| y
-boolean Boolean: z-----z----------?
-byte short char int Byte Short Character Integer: -iiiil-iiiil-----?
-long Long: -lllll-lllll-----?
-Number Object Comparable String StringBuilder: -----------------?
-def: ??????????????????
+boolean Boolean: z-----z----------d
+byte short char int Byte Short Character Integer: -iiiil-iiiil-----d
+long Long: -lllll-lllll-----d
+Number Object Comparable String StringBuilder: -----------------d
+def: dddddddddddddddddd
 #x @&& y; x @|| y
 boolean Boolean def: z>>>>>z>>>>>>>>>>z
 byte short char int long Byte Short Character Integer Long Number Object Comparable String StringBuilder: <<<<<<<<<<<<<<<<<<
@@ -163,31 +162,31 @@ def: dddddddddddddddddd";
 /// What operators of one side give.
 pub const ONE_SIDE: &str = "\
 #@-y; @+y; @~y
-any: -iiiil-iiiil-----?
+any: -iiiil-iiiil-----d
 #@!y
 any: z>>>>>z>>>>>>>>>>z
 #@y++; @y--; @++y; @--y
-any: -bscil-BSCIL-----?";
+any: -bscil-BSCIL-----d";
 
 /// Assignments with an operator.
 pub const CHANGES: &str = "\
 #x @*= y; x @/= y; x @%= y; x @-= y
-boolean Boolean Number Object Comparable String StringBuilder: -----------------?
-byte short char int long Byte Short Character Integer Long: -=====-=====-----?
-def: ??????????????????
+boolean Boolean Number Object Comparable String StringBuilder: -----------------=
+byte short char int long Byte Short Character Integer Long: -=====-=====-----=
+def: ==================
 #x @+= y
-boolean Boolean Number StringBuilder: ---------------x-?
-byte short int long Byte Short Character Integer Long: -=====-=====---x-?
-char: -=====-=====---=-?
-Object Comparable: ---------------=-?
+boolean Boolean Number StringBuilder: ---------------x-=
+byte short int long Byte Short Character Integer Long: -=====-=====---x-=
+char: -=====-=====---=-=
+Object Comparable: ---------------=-=
 String: ==================
-def: ???????????????=??
+def: ==================
 #x @<<= y; x @>>= y; x @>>>= y
-boolean Boolean Number Object Comparable String StringBuilder: -----------------?
-byte short char int long Byte Short Character Integer Long: -=====-=====-----?
-def: ??????????????????
+boolean Boolean Number Object Comparable String StringBuilder: -----------------=
+byte short char int long Byte Short Character Integer Long: -=====-=====-----=
+def: ==================
 #x @&= y; x @^= y; x @|= y
-boolean Boolean: =-----=----------?
-byte short char int long Byte Short Character Integer Long: -=====-=====-----?
-Number Object Comparable String StringBuilder: -----------------?
-def: ??????????????????";
+boolean Boolean: =-----=----------=
+byte short char int long Byte Short Character Integer Long: -=====-=====-----=
+Number Object Comparable String StringBuilder: -----------------=
+def: ==================";

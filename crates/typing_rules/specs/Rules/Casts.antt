@@ -1,5 +1,5 @@
 -- Casts.
-use Rattle.std.specs.Prelude.{ℕ, ℤ, pos, neg_ℤ, int_le, Bool, true, false, ◌&&◌, [], ◌∷◌, Option, Some, None, Ok, if◌then◌else◌}
+use Rattle.std.specs.Prelude.{ℕ, ℤ, pos, neg_ℤ, int_le, Bool, true, false, ◌&&◌, List, [], ◌∷◌, Option, Some, None, Ok, if◌then◌else◌}
 use Rattle.pl_types.specs.declared.ty.Ty.{Ty, out-Ty}
 use Rattle.pl_types.specs.declared.ty.Ty.TheOpen.{Ty-F}
 use Rattle.pl_types.specs.declared.primitive.Primitive.TheVariants as p
@@ -66,3 +66,8 @@ cast_to to x = literal_or (standing x.form to) x.at to (cast_at x.at to x false)
 -- a cast that is written
 abbrev pub asked : ℕ → Ty → Part → Out Part
 asked at to x = bind (cast_at at to x true) (λ y. Ok (plain at y))
+
+-- parts that are all cast to one type
+abbrev pub cast_each : Ty → List Part → Out (List Typed)
+cast_each to [] = Ok []
+cast_each to (x ∷ xs) = bind (cast_to to x) (λ y. bind (cast_each to xs) (λ ys. Ok (y ∷ ys)))

@@ -1,42 +1,42 @@
 -- Members: which one a name means, and its call.
-use Rattle.std.specs.Prelude.{ℕ, ◌-◌, ◌&&◌, nat_le, Bool, true, false, List, [], ◌∷◌, ◌++◌, codes, length, Option, Some, None, Ok, if◌then◌else◌}
-use Rattle.std.specs.List.{list_all}
+use Rattle.std.specs.Prelude.{ℕ, ◌-◌, ◌&&◌, ◌||◌, nat_le, Bool, true, false, List, [], ◌∷◌, ◌++◌, codes, length, Option, Some, None, Ok, not, if◌then◌else◌}
+use Rattle.std.specs.List.{list_all, list_any}
 use Rattle.pl_types.specs.declared.ty.Ty.{Ty, out-Ty}
 use Rattle.pl_types.specs.declared.ty.Ty.TheOpen.{Ty-F}
-use Rattle.pl_types.specs.declared.classes.TheConstants.{MAP, LINKED_HASH_MAP}
+use Rattle.pl_types.specs.declared.ty.Ty.TheVariants as t
 use Rattle.pl_types.specs.declared.rules.TheConstants.{UNKNOWN_MEMBER, BAD_NULLABLE, OUT_OF_PROFILE}
 use Rattle.pl_tree.specs.declared.operator.Access.{Access}
 use Rattle.pl_tree.specs.declared.operator.Access.TheVariants as access
 use Rattle.allowlist.specs.declared.member.MemberKind.{MemberKind}
 use Rattle.allowlist.specs.declared.member.MemberKind.TheVariants as kind
 use Rattle.allowlist.specs.declared.member.MemberType.{MemberType}
-use Rattle.allowlist.specs.Allow.{AllowList, own_member, member_of}
+use Rattle.allowlist.specs.Allow.{AllowList, own_member, member_of, has_name, is_in_prelude}
+use Rattle.allowlist.specs.Catalogue.{catalogue}
 use Rattle.allowlist.specs.Index.{member_at}
 use Rattle.member_names.specs.Names.{text_of}
 use Rattle.typed_tree.specs.declared.operation.Member.{Member}
+use Rattle.typed_tree.specs.declared.operation.Operation.{Operation}
 use Rattle.typed_tree.specs.declared.operation.Operation.TheVariants as o
 use Rattle.typed_tree.specs.declared.typed.Typed.{Typed}
+use Rattle.typed_tree.specs.declared.typed.Node.{Node}
 use Rattle.typed_tree.specs.declared.typed.Node.TheVariants as n
+use Rattle.listing_parts.specs.Names.{is_word}
 use Rattle.typing_rules.specs.declared.part.Part.{Part}
 use Rattle.typing_rules.specs.declared.part.Form.TheVariants as f
 use Rattle.typing_rules.specs.Outcomes.{Out, refuse, bind}
-use Rattle.typing_rules.specs.Rules.Nodes.{typed, applied, part, plain, type_of_part}
-use Rattle.typing_rules.specs.Rules.Types.{is_built_class, is_built_layer}
-use Rattle.typing_rules.specs.Rules.Casts.{cast_to}
+use Rattle.typing_rules.specs.Rules.Nodes.{typed, applied, part, plain, type_of_part, is_void}
+use Rattle.typing_rules.specs.Rules.Types.{is_built_class, is_built}
+use Rattle.typing_rules.specs.Rules.Casts.{cast_to, cast_each}
 use Rattle.typing_rules.specs.Rules.Operators.{primitive_of, is_primitive}
 
 -- ---- which members are built
 
 -- a type that a member that is built may name
-abbrev pub is_open_layer : Ty-F Ty → Bool
-is_open_layer Ty-F.Void = true
-is_open_layer layer = is_built_layer layer
-
 abbrev pub is_open : Ty → Bool
-is_open of = is_open_layer (out-Ty of)
+is_open of = is_void of || is_built of
 
--- Built are the members of the classes that are built, but for those that name another class or an array. (The
--- members that the prelude has take functions.)
+-- Built are the members of the classes that are built, but for those that name another class. (The members that the prelude has take
+-- functions.)
 abbrev pub is_open_member : MemberType → Bool
 is_open_member m = is_built_class m.owner && (list_all is_open m.params && is_open m.result)
 
@@ -90,9 +90,13 @@ result number = (member_at number).result
 
 -- ---- calls on a value
 
+-- an operation on a value, which `?.` leaves out where that is null
+abbrev pub accessed : Access → Operation → List Typed → Node
+accessed access.Plain operation parts = n.Apply operation parts
+accessed access.Guarded operation parts = n.Guarded operation parts
+
 abbrev pub instance_node : Access → ℕ → ℕ → List Typed → Part
-instance_node access.Plain at number ys = part at f.Deed (typed at (result number) (n.Apply (o.Instance (member number)) ys))
-instance_node access.Guarded at number ys = part at f.Deed (typed at (result number) (n.Guarded (o.Instance (member number)) ys))
+instance_node access at number ys = part at f.Deed (typed at (result number) (accessed access (o.Instance (member number)) ys))
 
 abbrev pub instance_call : Access → ℕ → ℕ → Part → List Part → Out Part
 instance_call access at number x xs = bind (member_arguments number xs) (λ ys. nullable access at number (instance_node access at number (x.typed ∷ ys)))
@@ -101,10 +105,23 @@ abbrev pub instance_named : AllowList → Access → ℕ → List ℕ → ℕ �
 instance_named allow access at name class x xs =
     bind (wanted kind.Instance at (member_of allow class name (length xs))) (λ number. instance_call access at number x xs)
 
--- a primitive, void, null and an array have no members, and those of a def are not built
+-- a member that the prelude has, which is not built
+abbrev pub is_prelude_member : List ℕ → ℕ → MemberType → Bool
+is_prelude_member name arity m = is_in_prelude m.origin && has_name name arity m
+
+abbrev pub names_prelude : List ℕ → ℕ → Bool
+names_prelude name arity = list_any (is_prelude_member name arity) catalogue
+
+-- A call of a member that is found when the script runs. Code names it by a word, as each name of a script is.
+abbrev pub def_call : Access → ℕ → List ℕ → Part → List Part → Out Part
+def_call access at name x xs =
+    if names_prelude name (length xs) || not (is_word name) then refuse OUT_OF_PROFILE at
+    else bind (cast_each t.Def xs) (λ ys. Ok (part at f.Deed (typed at t.Def (accessed access (o.DefCall name) (x.typed ∷ ys)))))
+
+-- a primitive, void, null and an array have no members
 abbrev pub called_layer : AllowList → Ty-F Ty → Access → ℕ → List ℕ → Part → List Part → Out Part
 called_layer allow (Ty-F.Class c) access at name x xs = instance_named allow access at name c x xs
-called_layer allow Ty-F.Def access at name x xs = refuse OUT_OF_PROFILE at
+called_layer allow Ty-F.Def access at name x xs = def_call access at name x xs
 called_layer allow _ access at name x xs = refuse UNKNOWN_MEMBER at
 
 abbrev pub method_of : AllowList → Access → ℕ → List ℕ → Part → List Part → Out Part
@@ -163,21 +180,6 @@ plainly x = plain x.at x.typed
 abbrev pub read_named : AllowList → Access → ℕ → List ℕ → ℕ → Part → Out Part
 read_named allow access at name class x =
     bind (wanted kind.Instance at (getter allow class name)) (λ number. bind (instance_call access at number x []) (λ y. Ok (plainly y)))
-
--- a name of a map is a key of it, which is not built
-abbrev pub is_map : ℕ → Bool
-is_map c = nat_le MAP c && nat_le c LINKED_HASH_MAP
-
-abbrev pub read_of_class : AllowList → ℕ → Access → ℕ → List ℕ → Part → Out Part
-read_of_class allow c access at name x = if is_map c then refuse OUT_OF_PROFILE at else read_named allow access at name c x
-
-abbrev pub read_layer : AllowList → Ty-F Ty → Access → ℕ → List ℕ → Part → Out Part
-read_layer allow (Ty-F.Class c) access at name x = read_of_class allow c access at name x
-read_layer allow Ty-F.Def access at name x = refuse OUT_OF_PROFILE at
-read_layer allow _ access at name x = refuse UNKNOWN_MEMBER at
-
-abbrev pub read_of : AllowList → Access → ℕ → List ℕ → Part → Out Part
-read_of allow access at name x = read_layer allow (out-Ty (type_of_part x)) access at name x
 
 -- a field of a class
 abbrev pub field_node : ℕ → ℕ → Part

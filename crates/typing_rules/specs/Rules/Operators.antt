@@ -7,7 +7,7 @@ use Rattle.pl_types.specs.declared.ty.Ty.TheVariants as t
 use Rattle.pl_types.specs.declared.ty.Ty.TheOpen.{Ty-F}
 use Rattle.pl_types.specs.declared.primitive.Primitive.{Primitive}
 use Rattle.pl_types.specs.declared.primitive.Primitive.TheVariants as p
-use Rattle.pl_types.specs.declared.rules.TheConstants.{BAD_OPERAND, BAD_NULLABLE, OUT_OF_PROFILE}
+use Rattle.pl_types.specs.declared.rules.TheConstants.{BAD_OPERAND, BAD_NULLABLE}
 use Rattle.pl_types.specs.declared.classes.TheConstants.{STRING, ITERABLE, MAP}
 use Rattle.pl_types.specs.Casts.{unboxed}
 use Rattle.pl_types.specs.Classes.{class_is_below}
@@ -192,19 +192,7 @@ identifies x y = false
 abbrev pub only_if : Bool → Operator → Option Operator
 only_if test o = if test then Some o else None
 
--- What is done with two sides that are not both primitives to an operator, as references.
-abbrev pub relation_of : BinaryOperator → Side → Side → Option Operator
-relation_of b.Add x y = only_if (joins x y) operator.Concat
-relation_of b.Equal x y = only_if (compares x y) operator.Equal
-relation_of b.NotEqual x y = only_if (compares x y) operator.NotEqual
-relation_of b.Same x y = only_if (identifies x y) operator.Same
-relation_of b.NotSame x y = only_if (identifies x y) operator.NotSame
-relation_of operator x y = None
-
-abbrev pub relation_between : BinaryOperator → Ty → Ty → Option Operator
-relation_between operator x y = relation_of operator (side_of x) (side_of y)
-
--- Operators whose sides have types that are found when the script runs are not built: where one side is def, and the other no void.
+-- one side is def, and the other no void
 abbrev pub is_dynamic : Side → Side → Bool
 is_dynamic OfVoid y = false
 is_dynamic x OfVoid = false
@@ -212,35 +200,70 @@ is_dynamic OfDef y = true
 is_dynamic x OfDef = true
 is_dynamic x y = false
 
-abbrev pub is_identity : BinaryOperator → Bool
-is_identity b.Same = true
-is_identity b.NotSame = true
-is_identity operator = false
+-- An operator whose sides have types that are found when the script runs. The equalities have operators of their own.
+abbrev pub dynamic_op : BinaryOperator → Option Op
+dynamic_op b.Multiply = Some op.Mul
+dynamic_op b.Divide = Some op.Div
+dynamic_op b.Remainder = Some op.Rem
+dynamic_op b.Add = Some op.Add
+dynamic_op b.Subtract = Some op.Sub
+dynamic_op b.ShiftLeft = Some op.Shl
+dynamic_op b.ShiftRight = Some op.Shr
+dynamic_op b.ShiftRightUnsigned = Some op.Ushr
+dynamic_op b.Less = Some op.Lt
+dynamic_op b.LessEqual = Some op.Le
+dynamic_op b.Greater = Some op.Gt
+dynamic_op b.GreaterEqual = Some op.Ge
+dynamic_op b.And = Some op.And
+dynamic_op b.Xor = Some op.Xor
+dynamic_op b.Or = Some op.Or
+dynamic_op operator = None
 
--- the rule that two sides break with which nothing is done
-abbrev pub broken_by : BinaryOperator → Side → Side → ℕ
-broken_by operator x y = if not (is_identity operator) && is_dynamic x y then OUT_OF_PROFILE else BAD_OPERAND
+abbrev pub dynamic_if : Bool → Option Op → Option Operator
+dynamic_if true (Some op) = Some (operator.Def op)
+dynamic_if test op = None
 
-abbrev pub refused_between : {A : Type 0} → BinaryOperator → ℕ → Ty → Ty → Out A
-refused_between operator at x y = refuse (broken_by operator (side_of x) (side_of y)) at
+abbrev pub dynamic_of : BinaryOperator → Side → Side → Option Operator
+dynamic_of operator x y = dynamic_if (is_dynamic x y) (dynamic_op operator)
 
-abbrev pub gives_text : Operator → Bool
-gives_text operator.Concat = true
-gives_text o = false
+abbrev pub dynamic_between : BinaryOperator → Ty → Ty → Option Operator
+dynamic_between operator x y = dynamic_of operator (side_of x) (side_of y)
 
+-- What is done with two sides that are not both primitives to an operator, as references.
+abbrev pub relation_of : BinaryOperator → Side → Side → Option Operator
+relation_of b.Add x y = if joins x y then Some operator.Concat else dynamic_of b.Add x y
+relation_of b.Equal x y = only_if (compares x y) operator.Equal
+relation_of b.NotEqual x y = only_if (compares x y) operator.NotEqual
+relation_of b.Same x y = only_if (identifies x y) operator.Same
+relation_of b.NotSame x y = only_if (identifies x y) operator.NotSame
+relation_of operator x y = dynamic_of operator x y
+
+abbrev pub relation_between : BinaryOperator → Ty → Ty → Option Operator
+relation_between operator x y = relation_of operator (side_of x) (side_of y)
+
+abbrev pub is_comparison : Op → Bool
+is_comparison op.Lt = true
+is_comparison op.Le = true
+is_comparison op.Gt = true
+is_comparison op.Ge = true
+is_comparison op = false
+
+-- the type of what an operator on references gives
 abbrev pub type_given : Operator → Ty
-type_given o = if gives_text o then t.Class STRING else boolean
+type_given operator.Concat = t.Class STRING
+type_given (operator.Def op) = if is_comparison op then boolean else t.Def
+type_given o = boolean
 
 -- a side as a reference
 abbrev pub reference : Part → Out Typed
 reference x = cast_at x.at t.Def x true
 
-abbrev pub related : Option Operator → BinaryOperator → ℕ → Part → Part → Out Part
-related None operator at x y = refused_between operator at (type_of_part x) (type_of_part y)
-related (Some relation) operator at x y = bind (reference x) (λ x. bind (reference y) (λ y. Ok (plain at (applied at (type_given relation) (o.Operator relation) (x ∷ y ∷ [])))))
+abbrev pub related : Option Operator → ℕ → Part → Part → Out Part
+related None at x y = refuse BAD_OPERAND at
+related (Some relation) at x y = bind (reference x) (λ x. bind (reference y) (λ y. Ok (plain at (applied at (type_given relation) (o.Operator relation) (x ∷ y ∷ [])))))
 
 abbrev pub strict : Option Plan → BinaryOperator → ℕ → Part → Part → Out Part
-strict None operator at x y = related (relation_between operator (type_of_part x) (type_of_part y)) operator at x y
+strict None operator at x y = related (relation_between operator (type_of_part x) (type_of_part y)) at x y
 strict (Some plan) operator at x y = bind (operand x.at plan.left x) (λ x. bind (operand y.at plan.right y) (λ y.
     Ok (plain at (applied at (t.Prim plan.result) (o.Operator plan.operator) (x ∷ y ∷ [])))))
 
@@ -264,22 +287,29 @@ promoted_if (Some q) = promote_of q p.Int
 abbrev pub promoted : Part → Option Primitive
 promoted x = promoted_if (unboxed_of (type_of_part x))
 
--- an operator on one def is not built, and no other type than a number's has one
-abbrev pub refused_one : {A : Type 0} → ℕ → Part → Out A
-refused_one at x = refused_between b.Add at (type_of_part x) (t.Prim p.Int)
+abbrev pub is_def_side : Side → Bool
+is_def_side OfDef = true
+is_def_side x = false
+
+-- an operator on one operand that is no number: on def it is found when the script runs, and no other type has one
+abbrev pub on_def : Op → ℕ → Part → Out Part
+on_def op at x = bind (reference x) (λ y. Ok (plain at (applied at t.Def (o.Operator (operator.Def op)) (y ∷ []))))
+
+abbrev pub alone : Op → ℕ → Part → Out Part
+alone op at x = if is_def_side (side_of (type_of_part x)) then on_def op at x else refuse BAD_OPERAND at
 
 abbrev pub signed : Op → Option Primitive → ℕ → Part → Out Part
-signed op None at x = refused_one at x
+signed op None at x = alone op at x
 signed op (Some q) at x = bind (operand x.at q x) (λ x. Ok (plain at (applied at (t.Prim q) (o.Operator (on_numbers q op)) (x ∷ []))))
 
 abbrev pub plus_as : Option Primitive → ℕ → Part → Out Part
-plus_as None at x = refused_one at x
+plus_as None at x = alone op.Pos at x
 plus_as (Some q) at x = bind (operand x.at q x) (λ x. Ok (plain at x))
 
 abbrev pub not_of : ℕ → Part → Out Part
 not_of at x = bind (side at x) (λ x. Ok (plain at (applied at boolean (o.Operator (operator.Boolean op.Not)) (x ∷ []))))
 
--- `+` only promotes
+-- `+` only promotes a number
 abbrev pub unary_of : UnaryOperator → ℕ → Part → Out Part
 unary_of u.Plus at x = plus_as (promoted x) at x
 unary_of u.Minus at x = signed op.Neg (promoted x) at x

@@ -5,8 +5,7 @@ use Rattle.pl_types.specs.declared.ty.Ty.TheVariants as t
 use Rattle.pl_types.specs.declared.primitive.Primitive.{Primitive}
 use Rattle.pl_types.specs.declared.primitive.Primitive.TheVariants as p
 use Rattle.pl_types.specs.declared.conversion.Cast.{Cast}
-use Rattle.pl_types.specs.declared.rules.TheConstants.{UNKNOWN_VARIABLE, NOT_ASSIGNABLE, BAD_CAST, OUT_OF_PROFILE}
-use Rattle.pl_types.specs.declared.classes.TheConstants.{STRING}
+use Rattle.pl_types.specs.declared.rules.TheConstants.{UNKNOWN_VARIABLE, NOT_ASSIGNABLE, BAD_CAST, BAD_OPERAND, OUT_OF_PROFILE}
 use Rattle.pl_types.specs.Casts.{cast_of}
 use Rattle.pl_types.specs.Classes.{class_is_below}
 use Rattle.pl_tree.specs.declared.operator.BinaryOperator.{BinaryOperator}
@@ -24,6 +23,7 @@ use Rattle.typed_tree.specs.declared.typed.Typed.{Typed}
 use Rattle.typed_tree.specs.declared.typed.Node.TheVariants as n
 use Rattle.typing_rules.specs.declared.part.Part.{Part}
 use Rattle.typing_rules.specs.declared.part.Form.TheVariants as f
+use Rattle.typing_rules.specs.declared.part.Location.{Location}
 use Rattle.typing_rules.specs.declared.part.Place.{Place}
 use Rattle.typing_rules.specs.declared.part.Place.TheVariants as place
 use Rattle.typing_rules.specs.declared.rules.plans.Plan.{Plan}
@@ -36,7 +36,7 @@ use Rattle.typing_rules.specs.Scopes.{find}
 use Rattle.typing_rules.specs.Rules.Nodes.{typed, part, plain, type_of_part}
 use Rattle.typing_rules.specs.Rules.Casts.{cast_to}
 use Rattle.typing_rules.specs.Rules.Types.{is_built}
-use Rattle.typing_rules.specs.Rules.Operators.{operand, plan_between, relation_between, reference, refused_between}
+use Rattle.typing_rules.specs.Rules.Operators.{operand, plan_between, relation_between, dynamic_between, type_given, reference}
 
 -- the entry of a name in sight, with its place among the names
 abbrev pub entry_if : Option ℕ → List Entry → Option Entry
@@ -61,9 +61,13 @@ abbrev pub is_fixed : Standing → Bool
 is_fixed standing.Variable = false
 is_fixed standing.Fixed = true
 
+-- a variable, which has no parts
+abbrev pub variable_at : List ℕ → Ty → Location
+variable_at name of = record { target = target.Local name; parts = []; gives = of; takes = of }
+
 abbrev pub written_to : Bool → Entry → Place
 written_to true e = place.Fixed
-written_to false e = place.Local e.name e.of
+written_to false e = place.Written (variable_at e.name e.of)
 
 abbrev pub written_of : ℕ → Bool → Entry → Out Place
 written_of at fixed e = if is_built e.of then Ok (written_to fixed e) else refuse OUT_OF_PROFILE at
@@ -81,87 +85,82 @@ abbrev pub written : ℕ → List ℕ → State → Out Place
 written at name s = written_at (find name s.scopes) at s
 
 -- `=`
-abbrev pub set : ℕ → List ℕ → Ty → Part → Out Part
-set at name of x = bind (cast_to of x) (λ y. Ok (part at f.Deed (typed at of (n.Assign (target.Local name) [] y))))
+abbrev pub set : ℕ → Location → Part → Out Part
+set at w x = bind (cast_to w.takes x) (λ y. Ok (part at f.Deed (typed at w.takes (n.Assign w.target w.parts y))))
 
-abbrev pub change : Cast → Plan → Cast → Change
-change before plan after = record { before = before; operator = plan.operator; after = after }
+abbrev pub change : Cast → Operator → Cast → Change
+change before operator after = record { before = before; operator = operator; after = after }
 
-abbrev pub change_by : Option Cast → Option Cast → Plan → Option Change
-change_by (Some before) (Some after) plan = Some (change before plan after)
-change_by _ _ plan = None
+abbrev pub change_by : Option Cast → Operator → Option Cast → Option Change
+change_by (Some before) operator (Some after) = Some (change before operator after)
+change_by _ operator _ = None
 
--- what is read is cast to the operator's left side
-abbrev pub cast_before : Plan → Ty → Option Cast
-cast_before plan of = cast_of class_is_below of (t.Prim plan.left) true
+-- What is read is cast to the operator's left side, and what comes out to the type that is written.
+abbrev pub change_between : Operator → Ty → Ty → Location → Option Change
+change_between operator left result w = change_by (cast_of class_is_below w.gives left true) operator (cast_of class_is_below result w.takes true)
 
--- and what comes out to the variable's type
-abbrev pub cast_after : Plan → Ty → Option Cast
-cast_after plan of = cast_of class_is_below (t.Prim plan.result) of true
+abbrev pub change_of : Plan → Location → Option Change
+change_of plan w = change_between plan.operator (t.Prim plan.left) (t.Prim plan.result) w
 
-abbrev pub change_of : Plan → Ty → Option Change
-change_of plan of = change_by (cast_before plan of) (cast_after plan of) plan
+-- an operator on what is read and another value, both references
+abbrev pub joining_of : Operator → Location → Option Change
+joining_of operator w = change_between operator t.Def (type_given operator) w
 
-abbrev pub changed_by : Option Change → ℕ → List ℕ → Ty → Typed → Gives → Out Part
-changed_by None at name of y gives = refuse BAD_CAST at
-changed_by (Some change) at name of y gives = Ok (part at f.Deed (typed at of (n.Change (target.Local name) [] change y gives)))
+-- what a change gives is what was read, or what is written
+abbrev pub type_after : Gives → Location → Ty
+type_after g.Old w = w.gives
+type_after g.New w = w.takes
 
-abbrev pub changed : ℕ → List ℕ → Ty → Plan → Typed → Gives → Out Part
-changed at name of plan y gives = changed_by (change_of plan of) at name of y gives
+abbrev pub changed_by : Option Change → ℕ → Location → Typed → Gives → Out Part
+changed_by None at w y gives = refuse BAD_CAST at
+changed_by (Some change) at w y gives = Ok (part at f.Deed (typed at (type_after gives w) (n.Change w.target w.parts change y gives)))
 
--- a text that is joined to a variable's value: that is a reference, and what comes out is cast to the variable's type
-abbrev pub joining : Cast → Cast → Change
-joining before after = record { before = before; operator = operator.Concat; after = after }
+abbrev pub changed : ℕ → Location → Plan → Typed → Gives → Out Part
+changed at w plan y gives = changed_by (change_of plan w) at w y gives
 
-abbrev pub joining_by : Option Cast → Option Cast → Option Change
-joining_by (Some before) (Some after) = Some (joining before after)
-joining_by _ _ = None
+abbrev pub joined_if : Option Operator → ℕ → Location → Part → Gives → Out Part
+joined_if None at w x gives = refuse BAD_OPERAND at
+joined_if (Some operator) at w x gives = bind (reference x) (λ y. changed_by (joining_of operator w) at w y gives)
 
-abbrev pub joining_of : Ty → Option Change
-joining_of of = joining_by (cast_of class_is_below of t.Def true) (cast_of class_is_below (t.Class STRING) of true)
+abbrev pub compound : Option Plan → BinaryOperator → ℕ → Location → Part → Out Part
+compound None operator at w x = joined_if (relation_between operator w.gives (type_of_part x)) at w x g.New
+compound (Some plan) operator at w x = bind (operand at plan.right x) (λ y. changed at w plan y g.New)
 
-abbrev pub joined_if : Option Operator → BinaryOperator → ℕ → List ℕ → Ty → Part → Out Part
-joined_if None operator at name of x = refused_between operator at of (type_of_part x)
-joined_if (Some relation) operator at name of x = bind (reference x) (λ y. changed_by (joining_of of) at name of y g.New)
+-- where what is written to is
+abbrev pub location_in : Place → Option Location
+location_in (place.Written w) = Some w
+location_in place.Fixed = None
 
-abbrev pub compound : Option Plan → BinaryOperator → ℕ → List ℕ → Ty → Part → Out Part
-compound None operator at name of x = joined_if (relation_between operator of (type_of_part x)) operator at name of x
-compound (Some plan) operator at name of x = bind (operand at plan.right x) (λ y. changed at name of plan y g.New)
+abbrev pub assigned : Option BinaryOperator → ℕ → Location → Part → Out Part
+assigned None at w x = set at w x
+assigned (Some operator) at w x = compound (plan_between operator w.gives (type_of_part x)) operator at w x
 
--- the variable that a place is
-abbrev pub local_in : Place → Option (List ℕ × Ty)
-local_in (place.Local name of) = Some (name, of)
-local_in place.Fixed = None
-
-abbrev pub assigned : Option BinaryOperator → ℕ → List ℕ → Ty → Part → Out Part
-assigned None at name of x = set at name of x
-assigned (Some operator) at name of x = compound (plan_between operator of (type_of_part x)) operator at name of x
-
-abbrev pub assign_if : Option (List ℕ × Ty) → ℕ → Option BinaryOperator → Part → Out Part
+abbrev pub assign_if : Option Location → ℕ → Option BinaryOperator → Part → Out Part
 assign_if None at operator x = refuse NOT_ASSIGNABLE at
-assign_if (Some v) at operator x = assigned operator at v.0 v.1 x
+assign_if (Some w) at operator x = assigned operator at w x
 
 -- An assignment, plain or with an operator. What is not written to is told before a cast.
 abbrev pub assign_of : ℕ → Option BinaryOperator → Place → Part → Out Part
-assign_of at operator p x = assign_if (local_in p) at operator x
+assign_of at operator p x = assign_if (location_in p) at operator x
 
 -- one of a number type
 abbrev pub one : ℕ → Primitive → Typed
 one at p.Long = typed at (t.Prim p.Long) (n.Constant (k.Long (pos 1)))
 one at q = typed at (t.Prim p.Int) (n.Constant (k.Int (pos 1)))
 
-abbrev pub counted : Option Plan → ℕ → List ℕ → Ty → Gives → Out Part
-counted None at name of gives = refused_between b.Add at of (t.Prim p.Int)
-counted (Some plan) at name of gives = changed at name of plan (one at plan.right) gives
-
 abbrev pub operator_of : Step → BinaryOperator
 operator_of step.Increment = b.Add
 operator_of step.Decrement = b.Subtract
 
-abbrev pub step_if : Option (List ℕ × Ty) → ℕ → Step → Gives → Out Part
+-- what is counted is a number, or a def, to which an int is added when the script runs
+abbrev pub counted : Option Plan → ℕ → Step → Location → Gives → Out Part
+counted None at step w gives = joined_if (dynamic_between (operator_of step) w.gives (t.Prim p.Int)) at w (plain at (one at p.Int)) gives
+counted (Some plan) at step w gives = changed at w plan (one at plan.right) gives
+
+abbrev pub step_if : Option Location → ℕ → Step → Gives → Out Part
 step_if None at step gives = refuse NOT_ASSIGNABLE at
-step_if (Some v) at step gives = counted (plan_between (operator_of step) v.1 (t.Prim p.Int)) at v.0 v.1 gives
+step_if (Some w) at step gives = counted (plan_between (operator_of step) w.gives (t.Prim p.Int)) at step w gives
 
 -- `++` and `--`
 abbrev pub step_of : ℕ → Step → Gives → Place → Out Part
-step_of at step gives p = step_if (local_in p) at step gives
+step_of at step gives p = step_if (location_in p) at step gives

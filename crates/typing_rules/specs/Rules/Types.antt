@@ -1,8 +1,9 @@
--- Types as they are written. Built are the primitive types, def, and the classes but those of functions: those from Object to
--- Collections, the boxes and the containers among them, those of exceptions, and ScriptDocValues.
-use Rattle.std.specs.Prelude.{ℕ, nat_le, nat_lt, Bool, true, false, ◌&&◌, ◌||◌, List, [], ◌∷◌, codes, bytes_eq, if◌then◌else◌, Ok}
+-- Types as they are written. Built are the primitive types, def, the classes but those of functions, and arrays of these. Those classes
+-- are the ones from Object to Collections, the boxes and the containers among them, those of exceptions, and ScriptDocValues.
+use Rattle.std.specs.Prelude.{ℕ, zero, suc, nat_le, nat_lt, Bool, true, false, ◌&&◌, ◌||◌, List, [], ◌∷◌, length, codes, bytes_eq, if◌then◌else◌, Ok}
 use Rattle.pl_types.specs.declared.classes.TheConstants.{COLLECTIONS, EXCEPTION, SCRIPT_DOC_VALUES, PRELUDE}
-use Rattle.pl_types.specs.declared.ty.Ty.{Ty, out-Ty}
+use Rattle.pl_types.specs.declared.ty.Ty.{Ty}
+use Rattle.pl_types.specs.declared.ty.Ty.TheFolds.{fold-Ty}
 use Rattle.pl_types.specs.declared.ty.Ty.TheOpen.{Ty-F}
 use Rattle.pl_types.specs.declared.ty.Ty.TheVariants as t
 use Rattle.pl_types.specs.declared.rules.TheConstants.{UNKNOWN_TYPE, BAD_CAST, OUT_OF_PROFILE}
@@ -15,15 +16,17 @@ use Rattle.typing_rules.specs.Outcomes.{Out, refuse, bind}
 abbrev pub is_built_class : ℕ → Bool
 is_built_class c = nat_le c COLLECTIONS || (nat_le EXCEPTION c && nat_le c SCRIPT_DOC_VALUES)
 
-abbrev pub is_built_layer : Ty-F Ty → Bool
-is_built_layer (Ty-F.Prim p) = true
-is_built_layer Ty-F.Def = true
-is_built_layer (Ty-F.Class c) = is_built_class c
-is_built_layer _ = false
+-- a type over what is said of its element
+abbrev pub built_layer : Ty-F Bool → Bool
+built_layer (Ty-F.Prim p) = true
+built_layer Ty-F.Def = true
+built_layer (Ty-F.Class c) = is_built_class c
+built_layer (Ty-F.Array element) = element
+built_layer _ = false
 
 -- the types of variables that are built
 abbrev pub is_built : Ty → Bool
-is_built of = is_built_layer (out-Ty of)
+is_built = fold-Ty Bool built_layer
 
 -- a name in a type's place means no class
 abbrev pub base_of : ℕ → TypeBase → Out Ty
@@ -32,13 +35,13 @@ base_of at (b.Primitive p) = Ok (t.Prim p)
 base_of at (b.Class c) = if is_built_class c then Ok (t.Class c) else refuse OUT_OF_PROFILE at
 base_of at (b.Name name) = refuse UNKNOWN_TYPE at
 
--- arrays are not built
-abbrev pub bracketed : ℕ → List ℕ → Ty → Out Ty
-bracketed at [] of = Ok of
-bracketed at (b ∷ brackets) of = refuse OUT_OF_PROFILE at
+-- arrays of so many dimensions
+abbrev pub arrays : ℕ → Ty → Ty
+arrays zero of = of
+arrays (suc n) of = t.Array (arrays n of)
 
 abbrev pub type_of : TypeName → Out Ty
-type_of of = bind (base_of of.at of.base) (bracketed of.at of.brackets)
+type_of of = bind (base_of of.at of.base) (λ base. Ok (arrays (length of.brackets) base))
 
 abbrev pub is_empty : List ℕ → Bool
 is_empty [] = true

@@ -153,6 +153,23 @@ fn cast_behind(
     }
 }
 
+/// Parts that are all cast to one type, behind what is there.
+pub(crate) fn cast_each(
+    alloc: Global,
+    to: &Ty,
+    mut given: Vec<Part>,
+    before: Items<Subtree<Typed>>,
+) -> Result<Items<Subtree<Typed>>, Fail>
+    ensures { Keeps (bind (spec.cast_each to.now given.items) (λ ys. Ok (before ++ ys))) result }
+{
+    let mut casts = before;
+    given.reverse();
+    while let Some(x) = given.pop() {
+        cast_behind(alloc, to, x, &mut casts)?;
+    }
+    Ok(casts)
+}
+
 /// What has to be a boolean.
 ///
 /// BadCast (9): it is none.

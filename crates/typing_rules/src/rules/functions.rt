@@ -15,12 +15,12 @@ use plain_data::{Items, Text};
 use std::alloc::Global;
 use typed_tree::Named;
 
-fn parameter_type(at: u32, of: &Option<TypeName>) -> Result<Ty, Fail>
+fn parameter_type(alloc: Global, at: u32, of: &Option<TypeName>) -> Result<Ty, Fail>
     ensures { Keeps (spec.parameter_type at of.now) result }
 {
     match of {
         None => Err(refuse(rules::OUT_OF_PROFILE, at)),
-        Some(of) => type_of(of),
+        Some(of) => type_of(alloc, of),
     }
 }
 
@@ -34,7 +34,7 @@ fn is_named(name: &Text, names: &[Named]) -> bool
 fn parameter(alloc: Global, parameter: &Parameter, before: &[Named]) -> Result<Named, Fail>
     ensures { Keeps (spec.parameter parameter.now before.now) result }
 {
-    let of = parameter_type(parameter.name.at, &parameter.of)?;
+    let of = parameter_type(alloc, parameter.name.at, &parameter.of)?;
     if is_named(&parameter.name.spelling, before) {
         return Err(refuse(rules::ALREADY_DEFINED, parameter.name.at));
     }
@@ -60,7 +60,7 @@ fn parameters(alloc: Global, all: &[Parameter]) -> Result<Items<Named>, Fail>
 pub fn header_of(alloc: Global, f: &Function, before: &[Header]) -> Result<Header, Fail>
     ensures { Keeps (spec.header_of f.now before.now) result }
 {
-    let result = result_of(&f.result)?;
+    let result = result_of(alloc, &f.result)?;
     let parameters = parameters(alloc, f.parameters.as_slice())?;
     if function_of(before, &f.name.spelling, parameters.len()).is_some() {
         return Err(refuse(rules::ALREADY_DEFINED, f.name.at));

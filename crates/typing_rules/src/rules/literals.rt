@@ -14,12 +14,12 @@ use std::alloc::Global;
 use typed_tree::{Constant, Node};
 
 /// How many ints are not negative.
-const INTS: u64 = 2_147_483_648;
+pub(crate) const INTS: u64 = 2_147_483_648;
 
 /// How many longs are not negative.
 const LONGS: u64 = 9_223_372_036_854_775_808;
 
-fn int_literal(alloc: Global, at: u32, value: i32) -> Result<Part, Fail>
+pub(crate) fn int_literal(alloc: Global, at: u32, value: i32) -> Result<Part, Fail>
     ensures { Keeps (Ok (spec.int_literal at value)) result }
 {
     let of = Ty::Prim(Primitive::Int);

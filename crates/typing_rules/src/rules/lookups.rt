@@ -2,15 +2,18 @@
 
 ghost use Rattle.std.specs.Prelude.{◌≡◌, ◌<◌, [], IfOk, IfSome, length};
 ghost use Rattle.std.specs.List.{list_all};
-ghost use Rattle.allowlist.specs.Allow.{own_member, member_of};
+ghost use Rattle.allowlist.specs.Allow.{own_member, member_of, is_in_prelude};
 ghost use Rattle.allowlist.specs.Index.{member_at};
 ghost use Rattle.typing_rules.specs.Outcomes.{Keeps};
+ghost use Rattle.typing_rules.specs.Rules.Locations as locations;
 ghost use Rattle.typing_rules.specs.Rules.Members as spec;
 
 use crate::refuse::refuse;
+use crate::rules::nodes::is_void;
 use crate::rules::types::{is_built, is_built_class};
-use allowlist::{Accessor, Allow, MemberKind, MemberType};
+use allowlist::{Accessor, Allow, MemberKind, MemberType, Origin};
 use pl_types::{Fail, Ty, rules};
+use plain_data::Text;
 
 /// The member of the catalogue with a number.
 pub(crate) fn member_at(allow: &Allow, number: u32) -> &MemberType
@@ -53,13 +56,37 @@ pub(crate) fn getter(allow: &Allow, class: u32, name: &str) -> Option<u32>
     }
 }
 
+/// The setter of a name.
+#[tactic(auto, using(crate::proofs::Members::setter_is))]
+pub(crate) fn setter(allow: &Allow, class: u32, name: &str) -> Option<u32>
+    ensures found { result ≡ locations.setter allow.now class name.now }
+    ensures within { IfSome result (λ number. number < length allow.now.members) }
+{
+    allow.accessor(class, Accessor::Set, name)
+}
+
+fn is_in_prelude(origin: Origin) -> bool
+    ensures { result ≡ is_in_prelude origin }
+{
+    match origin {
+        Origin::Prelude => true,
+        Origin::AugmentedPrelude => true,
+        _ => false,
+    }
+}
+
+/// Whether a member is of the prelude, and has a name and so many parameters.
+pub(crate) fn is_prelude_member(member: &MemberType, name: &Text, arity: usize) -> bool
+    ensures { result ≡ spec.is_prelude_member name.now arity member.now }
+{
+    is_in_prelude(member.origin)
+        && (member.name.as_str() == name.as_str() && member.params.len() == arity)
+}
+
 fn is_open(of: &Ty) -> bool
     ensures { result ≡ spec.is_open of.now }
 {
-    match of {
-        Ty::Void => true,
-        _ => is_built(of),
-    }
+    is_void(of) || is_built(of)
 }
 
 fn all_open(types: &[Ty]) -> bool

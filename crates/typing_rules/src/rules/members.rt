@@ -9,19 +9,24 @@ ghost use Rattle.typing_rules.specs.Rules.Members as spec;
 
 use crate::part::{Form, Part};
 use crate::refuse::refuse;
-use crate::rules::casts::cast_next;
-use crate::rules::lookups::{constructor_of, getter, member_at, member_of, wanted};
+use crate::rules::casts::{cast_each, cast_next};
+use crate::rules::lookups::{
+    constructor_of, getter, is_prelude_member, member_at, member_of, wanted,
+};
 use crate::rules::nodes::{one_part, part, plain};
+use crate::rules::places::copy;
 use crate::rules::references::is_primitive;
+use crate::words::is_word;
 use allowlist::{Allow, MemberKind};
 use member_names::member_text;
 use pl_tree::Access;
-use pl_types::{Fail, Ty, classes, rules};
+use pl_types::{Fail, Ty, rules};
 use plain_data::{Items, Subtree, Text};
 use std::alloc::{AllocError, Global};
 use typed_tree::{Member, Node, Operation, Typed};
 
-fn member(alloc: Global, allow: &Allow, number: u32) -> Result<Member, AllocError>
+/// What a script says of a member of the catalogue.
+pub(crate) fn member(alloc: Global, allow: &Allow, number: u32) -> Result<Member, AllocError>
     requires { number < length allow.now.members }
     ensures { IfOk result (λ member. member ≡ spec.member number) }
 {
@@ -62,7 +67,7 @@ fn arguments(
     cast_all(alloc, types, given, before)
 }
 
-fn guards(access: Access) -> bool
+pub(crate) fn guards(access: Access) -> bool
     ensures { result ≡ spec.guards access }
 {
     match access {
@@ -96,7 +101,7 @@ fn called(
 
 /// The member of a class that a name with so many arguments means. None has more parameters than a number counts.
 #[tactic(auto, using(crate::proofs::Members::too_many))]
-fn meant(
+pub(crate) fn meant(
     allow: &Allow,
     kind: MemberKind,
     at: u32,
@@ -114,6 +119,16 @@ fn meant(
     wanted(allow, kind, at, found)
 }
 
+/// An operation on a value, which `?.` leaves out where that is null.
+pub(crate) fn accessed(access: Access, operation: Operation, parts: Items<Subtree<Typed>>) -> Node
+    ensures { result ≡ spec.accessed access operation parts }
+{
+    match access {
+        Access::Plain => Node::Apply { operation, parts },
+        Access::Guarded => Node::Guarded { operation, parts },
+    }
+}
+
 fn instance_node(
     alloc: Global,
     allow: &Allow,
@@ -126,20 +141,12 @@ fn instance_node(
     ensures { Keeps (spec.nullable access at number (spec.instance_node access at number parts)) result }
 {
     let (member, of) = called(alloc, allow, access, at, number)?;
-    let operation = Operation::Instance(member);
-    match access {
-        Access::Plain => {
-            let node = Node::Apply { operation, parts };
-            part(alloc, at, Form::Deed, of, node)
-        }
-        Access::Guarded => {
-            let node = Node::Guarded { operation, parts };
-            part(alloc, at, Form::Deed, of, node)
-        }
-    }
+    let node = accessed(access, Operation::Instance(member), parts);
+    part(alloc, at, Form::Deed, of, node)
 }
 
-fn instance_call(
+/// A call of a member of a value.
+pub(crate) fn instance_call(
     alloc: Global,
     allow: &Allow,
     access: Access,
@@ -172,10 +179,47 @@ fn instance_named(
     instance_call(alloc, allow, access, at, number, x, given)
 }
 
+/// Whether the prelude has a member with a name and so many parameters.
+fn names_prelude(allow: &Allow, name: &Text, arity: usize) -> bool
+    ensures { result ≡ spec.names_prelude name.now arity }
+{
+    let mut number = 0;
+    while number < allow.member_count() {
+        if is_prelude_member(member_at(allow, number), name, arity) {
+            return true;
+        }
+        number += 1;
+    }
+    false
+}
+
+/// A call of a member that is found when the script runs.
+fn def_call(
+    alloc: Global,
+    allow: &Allow,
+    access: Access,
+    at: u32,
+    name: &Text,
+    x: Part,
+    given: Vec<Part>,
+) -> Result<Part, Fail>
+    ensures { Keeps (spec.def_call access at name.now x given.items) result }
+{
+    if names_prelude(allow, name, given.len()) || !is_word(name.as_str().as_bytes()) {
+        return Err(refuse(rules::OUT_OF_PROFILE, at));
+    }
+    let receiver = one_part(alloc, x.into_typed())?;
+    let parts = cast_each(alloc, &Ty::Def, given, receiver)?;
+    let name = copy(alloc, name)?;
+    let node = accessed(access, Operation::DefCall(name), parts);
+    part(alloc, at, Form::Deed, Ty::Def, node)
+}
+
 /// A call of a member of a value, at its `.` or `?.`, with arguments that are typed.
 ///
 /// UnknownMember (7): the value's type has no such member. BadCast (9): an argument has another type. BadNullable (17): `?.` before
-/// what gives a primitive. OutOfProfile (19): the member is not built, or the value is a def.
+/// what gives a primitive. OutOfProfile (19): the member is not built, or the value is a def, and the prelude has a member of this name
+/// with so many parameters.
 pub fn method_of(
     alloc: Global,
     allow: &Allow,
@@ -189,7 +233,7 @@ pub fn method_of(
 {
     let class = match x.of() {
         Ty::Class(class) => *class,
-        Ty::Def => return Err(refuse(rules::OUT_OF_PROFILE, at)),
+        Ty::Def => return def_call(alloc, allow, access, at, name, x, given),
         _ => return Err(refuse(rules::UNKNOWN_MEMBER, at)),
     };
     instance_named(alloc, allow, access, at, name, class, x, given)
@@ -289,14 +333,15 @@ pub fn new_of(
 
 // ---- names behind a dot
 
-fn plainly(x: Part) -> Part
+pub(crate) fn plainly(x: Part) -> Part
     ensures { result ≡ spec.plainly x }
 {
     let at = x.at;
     plain(at, x.into_typed())
 }
 
-fn read_named(
+/// The getter of a name of a value.
+pub(crate) fn read_named(
     alloc: Global,
     allow: &Allow,
     access: Access,
@@ -311,52 +356,6 @@ fn read_named(
     let number = wanted(allow, MemberKind::Instance, at, found)?;
     let y = instance_call(alloc, allow, access, at, number, x, Vec::new(alloc))?;
     Ok(plainly(y))
-}
-
-/// Whether a class is one of maps, whose names are keys.
-fn is_map(class: u32) -> bool
-    ensures { result ≡ spec.is_map class }
-{
-    classes::MAP <= class && class <= classes::LINKED_HASH_MAP
-}
-
-fn read_of_class(
-    alloc: Global,
-    allow: &Allow,
-    access: Access,
-    at: u32,
-    name: &Text,
-    class: u32,
-    x: Part,
-) -> Result<Part, Fail>
-    ensures { Keeps (spec.read_of_class allow.now class access at name.now x) result }
-{
-    if is_map(class) {
-        return Err(refuse(rules::OUT_OF_PROFILE, at));
-    }
-    read_named(alloc, allow, access, at, name, class, x)
-}
-
-/// What a name of a value means, at its `.` or `?.`: its getter.
-///
-/// UnknownMember (7): the value's type has no such getter. BadNullable (17): `?.` before what gives a primitive. OutOfProfile (19):
-/// the getter is not built, or the value is a map or a def.
-pub fn read_of(
-    alloc: Global,
-    allow: &Allow,
-    access: Access,
-    at: u32,
-    name: &Text,
-    x: Part,
-) -> Result<Part, Fail>
-    ensures { Keeps (spec.read_of allow.now access at name.now x) result }
-{
-    let class = match x.of() {
-        Ty::Class(class) => *class,
-        Ty::Def => return Err(refuse(rules::OUT_OF_PROFILE, at)),
-        _ => return Err(refuse(rules::UNKNOWN_MEMBER, at)),
-    };
-    read_of_class(alloc, allow, access, at, name, class, x)
 }
 
 fn field_node(

@@ -11,9 +11,9 @@ use crate::refuse::refuse;
 use crate::rules::casts::{cast_at, cast_to, cast_to_boolean};
 use crate::rules::nodes::{boolean, is_void, one_part, part, plain, two_parts};
 use crate::rules::plans::{Plan, on_numbers, plan_between, unboxed_of};
-use crate::rules::references::{common, related};
+use crate::rules::references::{common, reference, related};
 pub use crate::rules::references::{elvis_of, instance_of};
-use crate::rules::sides::{refused_alone, relation_between};
+use crate::rules::sides::{is_def, relation_between};
 use arithmetic::Op;
 use pl_tree::{BinaryOperator, UnaryOperator};
 use pl_types::{Fail, Primitive, Ty, promote, rules};
@@ -46,7 +46,7 @@ fn strict(
 {
     let Some(plan) = plan else {
         let relation = relation_between(operator, x.of(), y.of());
-        return related(alloc, relation, operator, at, x, y);
+        return related(alloc, relation, at, x, y);
     };
     let left = x.at;
     let right = y.at;
@@ -83,8 +83,7 @@ fn logical(alloc: Global, operator: Logical, at: u32, x: Part, y: Part) -> Resul
 
 /// An operator between two operands, at the operator.
 ///
-/// BadCast (9): a side of `&&` or `||` that is no boolean. BadOperand (10): sides of types that the operator does not take. OutOfProfile
-/// (19): the type of one is found when the script runs.
+/// BadCast (9): a side of `&&` or `||` that is no boolean. BadOperand (10): sides of types that the operator does not take.
 pub fn binary_of(
     alloc: Global,
     operator: BinaryOperator,
@@ -134,6 +133,28 @@ fn on_one(
     )
 }
 
+/// An operator on one def.
+fn on_def(alloc: Global, op: Op, at: u32, x: Part) -> Result<Part, Fail>
+    ensures { Keeps (spec.on_def op at x) result }
+{
+    let x = reference(alloc, x)?;
+    let parts = one_part(alloc, x)?;
+    let operation = Operation::Operator(Operator::Def(op));
+    let node = Node::Apply { operation, parts };
+    part(alloc, at, Form::Other, Ty::Def, node)
+}
+
+/// An operator on one operand that is no number.
+fn alone(alloc: Global, op: Op, at: u32, x: Part) -> Result<Part, Fail>
+    ensures { Keeps (spec.alone op at x) result }
+{
+    if is_def(x.of()) {
+        on_def(alloc, op, at, x)
+    } else {
+        Err(refuse(rules::BAD_OPERAND, at))
+    }
+}
+
 fn signed(
     alloc: Global,
     op: Op,
@@ -144,7 +165,7 @@ fn signed(
     ensures { Keeps (spec.signed op promoted at x) result }
 {
     let Some(primitive) = promoted else {
-        return Err(refused_alone(at, x.of()));
+        return alone(alloc, op, at, x);
     };
     let place = x.at;
     let x = operand(alloc, place, primitive, x)?;
@@ -155,7 +176,7 @@ fn plus_as(alloc: Global, promoted: Option<Primitive>, at: u32, x: Part) -> Resu
     ensures { Keeps (spec.plus_as promoted at x) result }
 {
     match promoted {
-        None => Err(refused_alone(at, x.of())),
+        None => alone(alloc, Op::Pos, at, x),
         Some(primitive) => {
             let place = x.at;
             let x = operand(alloc, place, primitive, x)?;
@@ -173,8 +194,7 @@ fn not_of(alloc: Global, at: u32, x: Part) -> Result<Part, Fail>
 
 /// An operator before its operand.
 ///
-/// BadCast (9): the operand of `!` is no boolean. BadOperand (10): an operand of a type that the operator does not take. OutOfProfile
-/// (19): its type is found when the script runs.
+/// BadCast (9): the operand of `!` is no boolean. BadOperand (10): an operand of a type that the operator does not take.
 pub fn unary_of(alloc: Global, operator: UnaryOperator, at: u32, x: Part) -> Result<Part, Fail>
     ensures { Keeps (spec.unary_of operator at x) result }
 {

@@ -1,25 +1,26 @@
 //! Names, and what is written to them.
 
-ghost use Rattle.std.specs.Prelude.{◌≡◌, IfOk, Ok};
+ghost use Rattle.std.specs.Prelude.{◌≡◌, IfOk, Ok, Some};
 ghost use Rattle.std.specs.Option.{option_copied};
 ghost use Rattle.typing_rules.specs.Outcomes.{Keeps};
-ghost use Rattle.typing_rules.specs.Rules.Operators.{plan_between};
+ghost use Rattle.typing_rules.specs.Rules.Nodes as nodes;
+ghost use Rattle.typing_rules.specs.Rules.Operators.{plan_between, dynamic_between};
 ghost use Rattle.typing_rules.specs.Rules.Places as spec;
 
 use crate::lineage::Classes;
-use crate::part::{Form, Part, Place};
+use crate::part::{Form, Location, Part, Place};
 use crate::refuse::refuse;
 use crate::rules::casts::cast_to;
-use crate::rules::nodes::{part, typed};
+use crate::rules::nodes::{part, plain, typed};
 use crate::rules::operators::operand;
 use crate::rules::plans::{Plan, plan_between};
-use crate::rules::references::reference;
-use crate::rules::sides::{refused_alone, refused_between, relation_between};
+use crate::rules::references::{reference, type_given};
+use crate::rules::sides::{dynamic_between, relation_between};
 use crate::rules::types::is_built;
 use crate::scopes::{Entry, Scopes, Standing};
 use crate::state::State;
 use pl_tree::{BinaryOperator, Step};
-use pl_types::{Cast, Fail, Primitive, Ty, cast, classes, rules};
+use pl_types::{Cast, Fail, Primitive, Ty, cast, rules};
 use plain_data::{Items, Subtree, Text};
 use std::alloc::{AllocError, Global};
 use typed_tree::{Change, Constant, Gives, Node, Operator, Target, Typed};
@@ -80,6 +81,19 @@ fn is_fixed(standing: Standing) -> bool
     }
 }
 
+/// A variable as what is written to.
+fn variable_at(alloc: Global, name: Text, of: Ty) -> Result<Place, Fail>
+    ensures { Keeps (Ok (Place.Written (spec.variable_at name of))) result }
+{
+    let gives = of.share(alloc)?;
+    Ok(Place::Written(Location {
+        target: Target::Local(name),
+        parts: Items::new(alloc),
+        gives,
+        takes: of,
+    }))
+}
+
 fn written_of(alloc: Global, at: u32, fixed: bool, e: &Entry) -> Result<Place, Fail>
     ensures { Keeps (spec.written_of at fixed e.now) result }
 {
@@ -90,7 +104,7 @@ fn written_of(alloc: Global, at: u32, fixed: bool, e: &Entry) -> Result<Place, F
         return Ok(Place::Fixed);
     }
     match copies(alloc, &e.name, &e.of) {
-        Ok((name, of)) => Ok(Place::Local { name, of }),
+        Ok((name, of)) => variable_at(alloc, name, of),
         Err(_) => Err(Fail::NoMemory),
     }
 }
@@ -108,122 +122,114 @@ pub fn written(alloc: Global, at: u32, name: &Text, state: &State) -> Result<Pla
     }
 }
 
-fn set(alloc: Global, at: u32, name: Text, of: Ty, x: Part) -> Result<Part, Fail>
-    ensures { Keeps (spec.set at name of x) result }
+fn set(alloc: Global, at: u32, location: Location, x: Part) -> Result<Part, Fail>
+    ensures { Keeps (spec.set at location x) result }
 {
-    let value = cast_to(alloc, &of, x)?;
+    let value = cast_to(alloc, &location.takes, x)?;
+    let (target, parts, _gives, of) = location.into_parts();
     let node = Node::Assign {
-        target: Target::Local(name),
-        parts: Items::new(alloc),
+        target,
+        parts,
         value,
     };
     part(alloc, at, Form::Deed, of, node)
 }
 
-fn cast_before(plan: Plan, of: &Ty) -> Option<Cast>
-    ensures { result ≡ spec.cast_before plan of.now }
+fn change_by(before: Option<Cast>, operator: Operator, after: Option<Cast>) -> Option<Change>
+    ensures { result ≡ spec.change_by before operator after }
 {
-    cast(&Classes, of, &Ty::Prim(plan.left), true)
-}
-
-fn cast_after(plan: Plan, of: &Ty) -> Option<Cast>
-    ensures { result ≡ spec.cast_after plan of.now }
-{
-    cast(&Classes, &Ty::Prim(plan.result), of, true)
-}
-
-/// The change of a variable: the casts of what is read, and of what comes out.
-fn change_of(plan: Plan, of: &Ty) -> Option<Change>
-    ensures { result ≡ spec.change_of plan of.now }
-{
-    match (cast_before(plan, of), cast_after(plan, of)) {
+    match (before, after) {
         (Some(before), Some(after)) => Some(Change {
             before,
-            operator: plan.operator,
+            operator,
             after,
         }),
         _ => None,
     }
+}
+
+/// The change of what is read by an operator: the casts of what is read, and of what comes out.
+fn change_between(operator: Operator, left: &Ty, given: &Ty, location: &Location) -> Option<Change>
+    ensures { result ≡ spec.change_between operator left.now given.now location.now }
+{
+    let before = cast(&Classes, &location.gives, left, true);
+    let after = cast(&Classes, given, &location.takes, true);
+    change_by(before, operator, after)
+}
+
+fn change_of(plan: Plan, location: &Location) -> Option<Change>
+    ensures { result ≡ spec.change_of plan location.now }
+{
+    let left = Ty::Prim(plan.left);
+    let given = Ty::Prim(plan.result);
+    change_between(plan.operator, &left, &given, location)
+}
+
+/// The change of what is read, as a reference, by an operator with another.
+fn joining_of(operator: Operator, location: &Location) -> Option<Change>
+    ensures { result ≡ spec.joining_of operator location.now }
+{
+    let given = type_given(operator);
+    change_between(operator, &Ty::Def, &given, location)
 }
 
 fn changed_by(
     alloc: Global,
     change: Option<Change>,
     at: u32,
-    name: Text,
-    of: Ty,
+    location: Location,
     right: Subtree<Typed>,
     gives: Gives,
 ) -> Result<Part, Fail>
-    ensures { Keeps (spec.changed_by change at name of right gives) result }
+    ensures { Keeps (spec.changed_by change at location right gives) result }
 {
     let Some(change) = change else {
         return Err(refuse(rules::BAD_CAST, at));
     };
+    let (target, parts, old, new) = location.into_parts();
     let node = Node::Change {
-        target: Target::Local(name),
-        parts: Items::new(alloc),
+        target,
+        parts,
         change,
         right,
         gives,
     };
-    part(alloc, at, Form::Deed, of, node)
+    match gives {
+        Gives::Old => part(alloc, at, Form::Deed, old, node),
+        Gives::New => part(alloc, at, Form::Deed, new, node),
+    }
 }
 
 fn changed(
     alloc: Global,
     at: u32,
-    name: Text,
-    of: Ty,
+    location: Location,
     plan: Plan,
     right: Subtree<Typed>,
     gives: Gives,
 ) -> Result<Part, Fail>
-    ensures { Keeps (spec.changed at name of plan right gives) result }
+    ensures { Keeps (spec.changed at location plan right gives) result }
 {
-    let change = change_of(plan, &of);
-    changed_by(alloc, change, at, name, of, right, gives)
-}
-
-fn joining_by(before: Option<Cast>, after: Option<Cast>) -> Option<Change>
-    ensures { result ≡ spec.joining_by before after }
-{
-    match (before, after) {
-        (Some(before), Some(after)) => Some(Change {
-            before,
-            operator: Operator::Concat,
-            after,
-        }),
-        _ => None,
-    }
-}
-
-/// The change of a variable to which a text is joined.
-fn joining_of(of: &Ty) -> Option<Change>
-    ensures { result ≡ spec.joining_of of.now }
-{
-    let before = cast(&Classes, of, &Ty::Def, true);
-    let after = cast(&Classes, &Ty::Class(classes::STRING), of, true);
-    joining_by(before, after)
+    let change = change_of(plan, &location);
+    changed_by(alloc, change, at, location, right, gives)
 }
 
 fn joined_if(
     alloc: Global,
-    relation: Option<Operator>,
-    operator: BinaryOperator,
+    operator: Option<Operator>,
     at: u32,
-    name: Text,
-    of: Ty,
+    location: Location,
     x: Part,
+    gives: Gives,
 ) -> Result<Part, Fail>
-    ensures { Keeps (spec.joined_if relation operator at name of x) result }
+    ensures { Keeps (spec.joined_if operator at location x gives) result }
 {
-    if relation.is_none() {
-        return Err(refused_between(operator, at, &of, x.of()));
-    }
+    let Some(operator) = operator else {
+        return Err(refuse(rules::BAD_OPERAND, at));
+    };
     let right = reference(alloc, x)?;
-    let change = joining_of(&of);
-    changed_by(alloc, change, at, name, of, right, Gives::New)
+    let change = joining_of(operator, &location);
+    changed_by(alloc, change, at, location, right, gives)
 }
 
 fn compound(
@@ -231,24 +237,41 @@ fn compound(
     plan: Option<Plan>,
     operator: BinaryOperator,
     at: u32,
-    name: Text,
-    of: Ty,
+    location: Location,
     x: Part,
 ) -> Result<Part, Fail>
-    ensures { Keeps (spec.compound plan operator at name of x) result }
+    ensures { Keeps (spec.compound plan operator at location x) result }
 {
     let Some(plan) = plan else {
-        let relation = relation_between(operator, &of, x.of());
-        return joined_if(alloc, relation, operator, at, name, of, x);
+        let relation = relation_between(operator, &location.gives, x.of());
+        return joined_if(alloc, relation, at, location, x, Gives::New);
     };
     let right = operand(alloc, at, plan.right, x)?;
-    changed(alloc, at, name, of, plan, right, Gives::New)
+    changed(alloc, at, location, plan, right, Gives::New)
+}
+
+fn assigned(
+    alloc: Global,
+    operator: Option<BinaryOperator>,
+    at: u32,
+    location: Location,
+    x: Part,
+) -> Result<Part, Fail>
+    ensures { Keeps (spec.assigned operator at location x) result }
+{
+    match operator {
+        None => set(alloc, at, location, x),
+        Some(operator) => {
+            let plan = plan_between(operator, &location.gives, x.of());
+            compound(alloc, plan, operator, at, location, x)
+        }
+    }
 }
 
 /// An assignment, plain or with an operator, at its operator.
 ///
 /// NotAssignable (15): its left side is not written to. BadCast (9): its right side has another type. BadOperand (10): the operator does
-/// not take the two sides. OutOfProfile (19): the type of one is found when the script runs.
+/// not take the two sides.
 pub fn assign_of(
     alloc: Global,
     at: u32,
@@ -258,15 +281,9 @@ pub fn assign_of(
 ) -> Result<Part, Fail>
     ensures { Keeps (spec.assign_of at operator place x) result }
 {
-    let Some((name, of)) = place.into_local() else {
-        return Err(refuse(rules::NOT_ASSIGNABLE, at));
-    };
-    match operator {
-        None => set(alloc, at, name, of, x),
-        Some(operator) => {
-            let plan = plan_between(operator, &of, x.of());
-            compound(alloc, plan, operator, at, name, of, x)
-        }
+    match place.into_location() {
+        Some(location) => assigned(alloc, operator, at, location, x),
+        None => Err(refuse(rules::NOT_ASSIGNABLE, at)),
     }
 }
 
@@ -299,39 +316,80 @@ fn operator_of(step: Step) -> BinaryOperator
     }
 }
 
-/// What `++` or `--` does with a variable of a type.
+/// What `++` or `--` does with a number of a type.
 fn step_plan(step: Step, of: &Ty) -> Option<Plan>
     ensures { result ≡ plan_between (spec.operator_of step) of.now (Ty.Prim Primitive.Int) }
 {
     plan_between(operator_of(step), of, &Ty::Prim(Primitive::Int))
 }
 
+/// What it does with a def.
+fn step_dynamic(step: Step, of: &Ty) -> Option<Operator>
+    ensures { result ≡ dynamic_between (spec.operator_of step) of.now (Ty.Prim Primitive.Int) }
+{
+    dynamic_between(operator_of(step), of, &Ty::Prim(Primitive::Int))
+}
+
+fn one_int(alloc: Global, at: u32) -> Result<Part, Fail>
+    ensures { Keeps (Ok (nodes.plain at (spec.one at Primitive.Int))) result }
+{
+    let one = one(alloc, at, Primitive::Int)?;
+    Ok(plain(at, one))
+}
+
+/// What `++` and `--` do when the script runs: an int is added.
+fn counted_as(
+    alloc: Global,
+    operator: Option<Operator>,
+    at: u32,
+    location: Location,
+    gives: Gives,
+) -> Result<Part, Fail>
+    ensures { Keeps (spec.joined_if operator at location (nodes.plain at (spec.one at Primitive.Int)) gives) result }
+{
+    let right = one_int(alloc, at)?;
+    joined_if(alloc, operator, at, location, right, gives)
+}
+
 fn counted(
     alloc: Global,
     plan: Option<Plan>,
     at: u32,
-    name: Text,
-    of: Ty,
+    step: Step,
+    location: Location,
     gives: Gives,
 ) -> Result<Part, Fail>
-    ensures { Keeps (spec.counted plan at name of gives) result }
+    ensures { Keeps (spec.counted plan at step location gives) result }
 {
     let Some(plan) = plan else {
-        return Err(refused_alone(at, &of));
+        let operator = step_dynamic(step, &location.gives);
+        return counted_as(alloc, operator, at, location, gives);
     };
     let right = one(alloc, at, plan.right)?;
-    changed(alloc, at, name, of, plan, right, gives)
+    changed(alloc, at, location, plan, right, gives)
+}
+
+fn stepped(
+    alloc: Global,
+    at: u32,
+    step: Step,
+    location: Location,
+    gives: Gives,
+) -> Result<Part, Fail>
+    ensures { Keeps (spec.step_if (Some location) at step gives) result }
+{
+    let plan = step_plan(step, &location.gives);
+    counted(alloc, plan, at, step, location, gives)
 }
 
 /// `++` or `--`, at its first token.
 ///
-/// NotAssignable (15): its operand is not written to. BadOperand (10): it is no number. OutOfProfile (19): it is def.
+/// NotAssignable (15): its operand is not written to. BadOperand (10): it is neither a number nor a def.
 pub fn step_of(alloc: Global, at: u32, step: Step, gives: Gives, place: Place) -> Result<Part, Fail>
     ensures { Keeps (spec.step_of at step gives place) result }
 {
-    let Some((name, of)) = place.into_local() else {
-        return Err(refuse(rules::NOT_ASSIGNABLE, at));
-    };
-    let plan = step_plan(step, &of);
-    counted(alloc, plan, at, name, of, gives)
+    match place.into_location() {
+        Some(location) => stepped(alloc, at, step, location, gives),
+        None => Err(refuse(rules::NOT_ASSIGNABLE, at)),
+    }
 }

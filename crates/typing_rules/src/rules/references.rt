@@ -10,18 +10,38 @@ use crate::refuse::refuse;
 use crate::rules::casts::{cast_at, cast_to};
 use crate::rules::nodes::{boolean, one_part, part, two_parts};
 use crate::rules::plans::primitive_of;
-use crate::rules::sides::{may_be_instance, refused_between, side_of};
-use pl_tree::BinaryOperator;
+use crate::rules::sides::{may_be_instance, side_of};
+use arithmetic::Op;
 use pl_types::{Fail, Ty, class_below, classes, promote, rules};
 use plain_data::Subtree;
 use std::alloc::{AllocError, Global};
 use typed_tree::{Node, Operation, Operator, Typed};
 
-fn type_given(operator: Operator) -> Ty
+fn is_comparison(op: Op) -> bool
+    ensures { result ≡ spec.is_comparison op }
+{
+    match op {
+        Op::Lt => true,
+        Op::Le => true,
+        Op::Gt => true,
+        Op::Ge => true,
+        _ => false,
+    }
+}
+
+/// The type of what an operator on references gives.
+pub(crate) fn type_given(operator: Operator) -> Ty
     ensures { result ≡ spec.type_given operator }
 {
     match operator {
         Operator::Concat => Ty::Class(classes::STRING),
+        Operator::Def(op) => {
+            if is_comparison(op) {
+                boolean()
+            } else {
+                Ty::Def
+            }
+        }
         _ => boolean(),
     }
 }
@@ -38,15 +58,14 @@ pub(crate) fn reference(alloc: Global, x: Part) -> Result<Subtree<Typed>, Fail>
 pub(crate) fn related(
     alloc: Global,
     relation: Option<Operator>,
-    operator: BinaryOperator,
     at: u32,
     x: Part,
     y: Part,
 ) -> Result<Part, Fail>
-    ensures { Keeps (spec.related relation operator at x y) result }
+    ensures { Keeps (spec.related relation at x y) result }
 {
     let Some(relation) = relation else {
-        return Err(refused_between(operator, at, x.of(), y.of()));
+        return Err(refuse(rules::BAD_OPERAND, at));
     };
     let x = reference(alloc, x)?;
     let y = reference(alloc, y)?;

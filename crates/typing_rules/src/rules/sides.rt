@@ -2,13 +2,12 @@
 
 ghost use Rattle.std.specs.Prelude.{◌≡◌};
 ghost use Rattle.pl_tree.specs.declared.operator.BinaryOperator.TheVariants as binary;
-ghost use Rattle.typing_rules.specs.Outcomes.{refusal};
 ghost use Rattle.typing_rules.specs.Rules.Operators as spec;
 ghost use Rattle.typing_rules.specs.Rules.Sides.{seen};
 
-use crate::refuse::refuse;
+use arithmetic::Op;
 use pl_tree::BinaryOperator;
-use pl_types::{Fail, Primitive, Ty, class_below, classes, rules};
+use pl_types::{Ty, class_below, classes};
 use typed_tree::Operator;
 
 /// What a side is to an operator.
@@ -103,26 +102,6 @@ fn only_if(test: bool, operator: Operator) -> Option<Operator>
     if test { Some(operator) } else { None }
 }
 
-fn relation_of(operator: BinaryOperator, x: Side, y: Side) -> Option<Operator>
-    ensures { result ≡ spec.relation_of operator (seen x) (seen y) }
-{
-    match operator {
-        BinaryOperator::Add => only_if(joins(x, y), Operator::Concat),
-        BinaryOperator::Equal => only_if(compares(x, y), Operator::Equal),
-        BinaryOperator::NotEqual => only_if(compares(x, y), Operator::NotEqual),
-        BinaryOperator::Same => only_if(identifies(x, y), Operator::Same),
-        BinaryOperator::NotSame => only_if(identifies(x, y), Operator::NotSame),
-        _ => None,
-    }
-}
-
-/// What is done with two sides that are not both primitives to an operator. `None` where nothing is.
-pub(crate) fn relation_between(operator: BinaryOperator, x: &Ty, y: &Ty) -> Option<Operator>
-    ensures { result ≡ spec.relation_between operator x.now y.now }
-{
-    relation_of(operator, side_of(x), side_of(y))
-}
-
 /// Whether one side has a type that is found when the script runs, and the other may be a value.
 fn is_dynamic(x: Side, y: Side) -> bool
     ensures { result ≡ spec.is_dynamic (seen x) (seen y) }
@@ -136,43 +115,90 @@ fn is_dynamic(x: Side, y: Side) -> bool
     }
 }
 
-fn is_identity(operator: BinaryOperator) -> bool
-    ensures { result ≡ spec.is_identity operator }
+/// An operator as it is found when the script runs. The equalities have operators of their own.
+fn dynamic_op(operator: BinaryOperator) -> Option<Op>
+    ensures { result ≡ spec.dynamic_op operator }
 {
     match operator {
-        BinaryOperator::Same => true,
-        BinaryOperator::NotSame => true,
+        BinaryOperator::Multiply => Some(Op::Mul),
+        BinaryOperator::Divide => Some(Op::Div),
+        BinaryOperator::Remainder => Some(Op::Rem),
+        BinaryOperator::Add => Some(Op::Add),
+        BinaryOperator::Subtract => Some(Op::Sub),
+        BinaryOperator::ShiftLeft => Some(Op::Shl),
+        BinaryOperator::ShiftRight => Some(Op::Shr),
+        BinaryOperator::ShiftRightUnsigned => Some(Op::Ushr),
+        BinaryOperator::Less => Some(Op::Lt),
+        BinaryOperator::LessEqual => Some(Op::Le),
+        BinaryOperator::Greater => Some(Op::Gt),
+        BinaryOperator::GreaterEqual => Some(Op::Ge),
+        BinaryOperator::And => Some(Op::And),
+        BinaryOperator::Xor => Some(Op::Xor),
+        BinaryOperator::Or => Some(Op::Or),
+        _ => None,
+    }
+}
+
+fn dynamic_if(test: bool, op: Option<Op>) -> Option<Operator>
+    ensures { result ≡ spec.dynamic_if test op }
+{
+    match (test, op) {
+        (true, Some(op)) => Some(Operator::Def(op)),
+        _ => None,
+    }
+}
+
+fn dynamic_of(operator: BinaryOperator, x: Side, y: Side) -> Option<Operator>
+    ensures { result ≡ spec.dynamic_of operator (seen x) (seen y) }
+{
+    dynamic_if(is_dynamic(x, y), dynamic_op(operator))
+}
+
+/// What is done with two sides of which one has a type that is found when the script runs. `None` where none has.
+pub(crate) fn dynamic_between(operator: BinaryOperator, x: &Ty, y: &Ty) -> Option<Operator>
+    ensures { result ≡ spec.dynamic_between operator x.now y.now }
+{
+    dynamic_of(operator, side_of(x), side_of(y))
+}
+
+fn sum_of(x: Side, y: Side) -> Option<Operator>
+    ensures { result ≡ spec.relation_of binary.Add (seen x) (seen y) }
+{
+    if joins(x, y) {
+        Some(Operator::Concat)
+    } else {
+        dynamic_of(BinaryOperator::Add, x, y)
+    }
+}
+
+fn relation_of(operator: BinaryOperator, x: Side, y: Side) -> Option<Operator>
+    ensures { result ≡ spec.relation_of operator (seen x) (seen y) }
+{
+    match operator {
+        BinaryOperator::Add => sum_of(x, y),
+        BinaryOperator::Equal => only_if(compares(x, y), Operator::Equal),
+        BinaryOperator::NotEqual => only_if(compares(x, y), Operator::NotEqual),
+        BinaryOperator::Same => only_if(identifies(x, y), Operator::Same),
+        BinaryOperator::NotSame => only_if(identifies(x, y), Operator::NotSame),
+        _ => dynamic_of(operator, x, y),
+    }
+}
+
+/// What is done with two sides that are not both primitives to an operator. `None` where nothing is.
+pub(crate) fn relation_between(operator: BinaryOperator, x: &Ty, y: &Ty) -> Option<Operator>
+    ensures { result ≡ spec.relation_between operator x.now y.now }
+{
+    relation_of(operator, side_of(x), side_of(y))
+}
+
+/// Whether a type is found when the script runs.
+pub(crate) fn is_def(of: &Ty) -> bool
+    ensures { result ≡ spec.is_def_side (spec.side_of of.now) }
+{
+    match side_of(of) {
+        Side::Def => true,
         _ => false,
     }
-}
-
-fn broken_by(operator: BinaryOperator, x: Side, y: Side) -> u8
-    ensures { result ≡ spec.broken_by operator (seen x) (seen y) }
-{
-    if !is_identity(operator) && is_dynamic(x, y) {
-        rules::OUT_OF_PROFILE
-    } else {
-        rules::BAD_OPERAND
-    }
-}
-
-/// What is told where an operator does nothing with two sides.
-///
-/// OutOfProfile (19): the type of one is found when the script runs. BadOperand (10): the operator does not take them.
-pub(crate) fn refused_between(operator: BinaryOperator, at: u32, x: &Ty, y: &Ty) -> Fail
-    ensures { result ≡ Fail.Refused (refusal (spec.broken_by operator (spec.side_of x.now) (spec.side_of y.now)) at) }
-{
-    refuse(broken_by(operator, side_of(x), side_of(y)), at)
-}
-
-/// What is told where an operator does nothing with its one operand. The refusals are those of [`refused_between`].
-pub(crate) fn refused_alone(at: u32, x: &Ty) -> Fail
-    ensures { result ≡ Fail.Refused (refusal (spec.broken_by binary.Add (spec.side_of x.now) (spec.side_of (Ty.Prim Primitive.Int))) at) }
-{
-    refuse(
-        broken_by(BinaryOperator::Add, side_of(x), Side::Primitive),
-        at,
-    )
 }
 
 /// Whether a side may be an instance of a class.

@@ -36,7 +36,7 @@ fn step(
 }
 
 /// The same, as a rule ends.
-fn made(
+pub(crate) fn made(
     alloc: Global,
     escapes: bool,
     breaks: bool,

@@ -1,12 +1,14 @@
 //! Types as they are written.
 
-ghost use Rattle.std.specs.Prelude.{◌≡◌};
+ghost use Rattle.std.specs.Prelude.{◌≡◌, IfOk};
 ghost use Rattle.typing_rules.specs.Outcomes.{Keeps};
 ghost use Rattle.typing_rules.specs.Rules.Types as spec;
 
 use crate::refuse::refuse;
 use pl_tree::{TypeBase, TypeName};
 use pl_types::{Fail, Ty, classes, rules};
+use plain_data::Boxed;
+use std::alloc::{AllocError, Global};
 
 /// Whether a class is built: those from Object to Collections, the boxes and the containers among them, those of exceptions, and
 /// ScriptDocValues.
@@ -25,6 +27,7 @@ pub(crate) fn is_built(of: &Ty) -> bool
         Ty::Prim(_) => true,
         Ty::Def => true,
         Ty::Class(class) => is_built_class(*class),
+        Ty::Array(element) => is_built(element.get()),
         _ => false,
     }
 }
@@ -41,17 +44,30 @@ fn base_of(at: u32, base: &TypeBase) -> Result<Ty, Fail>
     }
 }
 
-/// The type that is written. Built are the primitive types, def, and some classes.
+/// Arrays of a type, of so many dimensions.
+pub(crate) fn arrays(alloc: Global, dimensions: usize, of: Ty) -> Result<Ty, AllocError>
+    ensures { IfOk result (λ arrays. arrays ≡ spec.arrays dimensions of) }
+{
+    let mut arrays = of;
+    let mut made = 0;
+    while made < dimensions {
+        arrays = Ty::Array(Boxed::new(alloc, arrays)?);
+        made += 1;
+    }
+    Ok(arrays)
+}
+
+/// The type that is written. Built are the primitive types, def, some classes, and arrays of these.
 ///
 /// UnknownType (6): a name that means no class. OutOfProfile (19): any other type.
-pub fn type_of(of: &TypeName) -> Result<Ty, Fail>
+pub fn type_of(alloc: Global, of: &TypeName) -> Result<Ty, Fail>
     ensures { Keeps (spec.type_of of.now) result }
 {
     let base = base_of(of.at, &of.base)?;
-    if !of.brackets.is_empty() {
-        return Err(refuse(rules::OUT_OF_PROFILE, of.at));
+    match arrays(alloc, of.brackets.len(), base) {
+        Ok(of) => Ok(of),
+        Err(_) => Err(Fail::NoMemory),
     }
-    Ok(base)
 }
 
 fn is_void_name(of: &TypeName) -> bool
@@ -64,13 +80,13 @@ fn is_void_name(of: &TypeName) -> bool
 }
 
 /// The type of a function's result, which may be the name `void`. The refusals are those of [`type_of`].
-pub fn result_of(of: &TypeName) -> Result<Ty, Fail>
+pub fn result_of(alloc: Global, of: &TypeName) -> Result<Ty, Fail>
     ensures { Keeps (spec.result_of of.now) result }
 {
     if is_void_name(of) {
         return Ok(Ty::Void);
     }
-    type_of(of)
+    type_of(alloc, of)
 }
 
 fn caught_base(at: u32, base: &TypeBase) -> Result<u32, Fail>

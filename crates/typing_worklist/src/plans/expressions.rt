@@ -1,15 +1,16 @@
 //! What is to be done for each kind of expression.
 
-ghost use Rattle.std.specs.Prelude.{◌≡◌, ◌∷◌, ◌++◌, slice_get, OnOk};
+ghost use Rattle.std.specs.Prelude.{◌≡◌, ◌∷◌, ◌++◌, slice_get, Some, OnOk};
 ghost use Rattle.pl_tree.specs.declared.tree.Argument.{out-Argument};
 ghost use Rattle.pl_tree.specs.declared.tree.Expr.{out-Expr};
 ghost use Rattle.pl_tree.specs.declared.tree.LambdaBody.{out-LambdaBody};
+ghost use Rattle.typing_rules.specs.Typing.{read_at};
 ghost use Rattle.typing_worklist.specs.Item as Item;
 ghost use Rattle.typing_worklist.specs.Items.{item_of, word_item};
 ghost use Rattle.typing_worklist.specs.Plans as spec;
 
 use crate::item::{Act, ExpressionItem, StatementItem, UnbuiltItem, WordItem, WorkItem, Worklist};
-use pl_tree::{Access, Argument, Expr, LambdaBody, TypeName, UnaryOperator};
+use pl_tree::{Access, Argument, BinaryOperator, Entry, Expr, LambdaBody, TypeName, UnaryOperator};
 use plain_data::{Items, Subtree, Text};
 use std::alloc::AllocError;
 use typed_tree::Gives;
@@ -41,17 +42,58 @@ fn two<'a>(
     ])
 }
 
-/// The same with what is written to.
+/// The same with what is read and written at a place.
 fn written<'a>(
     worklist: &mut Worklist<'a>,
     target: &'a Subtree<Expr>,
+    at: u32,
     then: Act,
 ) -> Result<(), AllocError>
-    ensures { OnOk result (worklist.new ≡ Item.Target target.now ∷ Item.Do then ∷ worklist.old) }
+    ensures { OnOk result (worklist.new ≡ Item.Target target.now (Some at) ∷ Item.Do then ∷ worklist.old) }
 {
     worklist.put(&[
-        WorkItem::Expression(ExpressionItem::Target(target)),
+        WorkItem::Expression(ExpressionItem::Target(target, Some(at))),
         WorkItem::Do(then),
+    ])
+}
+
+/// Where an assignment stands that reads too: one with an operator does.
+fn read_at(at: u32, operator: Option<BinaryOperator>) -> Option<u32>
+    ensures { result ≡ read_at at operator }
+{
+    match operator {
+        None => None,
+        Some(_) => Some(at),
+    }
+}
+
+/// Puts on a value, and then what is done with it and a word.
+fn with_word<'a>(
+    worklist: &mut Worklist<'a>,
+    e: &'a Subtree<Expr>,
+    then: WordItem<'a>,
+) -> Result<(), AllocError>
+    ensures { OnOk result (worklist.new ≡ Item.Value e.now ∷ word_item then.entry ∷ worklist.old) }
+{
+    worklist.put(&[
+        WorkItem::Expression(ExpressionItem::Value(e)),
+        WorkItem::Word(then),
+    ])
+}
+
+/// The same with a value and its index.
+fn with_index<'a>(
+    worklist: &mut Worklist<'a>,
+    e: &'a Subtree<Expr>,
+    index: &'a Subtree<Expr>,
+    then: WordItem<'a>,
+) -> Result<(), AllocError>
+    ensures { OnOk result (worklist.new ≡ Item.Value e.now ∷ Item.Value index.now ∷ word_item then.entry ∷ worklist.old) }
+{
+    worklist.put(&[
+        WorkItem::Expression(ExpressionItem::Value(e)),
+        WorkItem::Expression(ExpressionItem::Value(index)),
+        WorkItem::Word(then),
     ])
 }
 
@@ -95,10 +137,7 @@ fn member<'a>(
 {
     match receiver.get() {
         Expr::Type { of } => worklist.push(WorkItem::Word(WordItem::Field(at, access, of, name))),
-        _ => worklist.put(&[
-            WorkItem::Expression(ExpressionItem::Value(receiver)),
-            WorkItem::Word(WordItem::Read(at, access, name)),
-        ]),
+        _ => with_word(worklist, receiver, WordItem::Read(at, access, name)),
     }
 }
 
@@ -128,14 +167,16 @@ fn method<'a>(
 /// The same, for an element by its number, of a value or of a type.
 fn element<'a>(
     worklist: &mut Worklist<'a>,
+    access: Access,
     at: u32,
     receiver: &'a Subtree<Expr>,
+    digits: &'a Text,
 ) -> Result<(), AllocError>
-    ensures { OnOk result (worklist.new ≡ spec.element_plan at receiver.now (spec.type_in (out-Expr receiver.now)) ++ worklist.old) }
+    ensures { OnOk result (worklist.new ≡ spec.element_plan access at receiver.now (spec.type_in (out-Expr receiver.now)) digits.now ++ worklist.old) }
 {
     match receiver.get() {
         Expr::Type { of } => behind_type(worklist, of, WorkItem::Do(Act::NoMember(at))),
-        _ => one(worklist, receiver, Act::Unbuilt(at)),
+        _ => with_word(worklist, receiver, WordItem::Numbered(at, access, digits)),
     }
 }
 
@@ -150,7 +191,7 @@ fn value<'a>(worklist: &mut Worklist<'a>, e: &'a Subtree<Expr>) -> Result<(), Al
             target,
             value,
         } => worklist.put(&[
-            WorkItem::Expression(ExpressionItem::Target(target)),
+            WorkItem::Expression(ExpressionItem::Target(target, read_at(*at, *operator))),
             WorkItem::Expression(ExpressionItem::Value(value)),
             WorkItem::Do(Act::Assign(*at, *operator)),
         ]),
@@ -184,11 +225,13 @@ fn value<'a>(worklist: &mut Worklist<'a>, e: &'a Subtree<Expr>) -> Result<(), Al
         Expr::Prefix { step, at, target } => written(
             worklist,
             target,
+            *at,
             Act::Step(*at, *step, Gives::New),
         ),
         Expr::Postfix { step, at, target } => written(
             worklist,
             target,
+            *at,
             Act::Step(*at, *step, Gives::Old),
         ),
         Expr::Cast { at, of, operand } => worklist.put(&[
@@ -204,11 +247,11 @@ fn value<'a>(worklist: &mut Worklist<'a>, e: &'a Subtree<Expr>) -> Result<(), Al
         Expr::Constant { constant, at } => worklist.push(WorkItem::Do(Act::Constant(
             *at, *constant,
         ))),
-        Expr::List { at, items } => worklist.push(WorkItem::Unbuilt(UnbuiltItem::Values(
-            items, 0, *at,
+        Expr::List { at, items } => worklist.push(WorkItem::Expression(ExpressionItem::List(
+            *at, items,
         ))),
-        Expr::Map { at, entries } => worklist.push(WorkItem::Unbuilt(UnbuiltItem::Entries(
-            entries, 0, *at,
+        Expr::Map { at, entries } => worklist.push(WorkItem::Expression(ExpressionItem::Map(
+            *at, entries,
         ))),
         Expr::Name { at, spelling } => worklist.push(WorkItem::Word(WordItem::Name(*at, spelling))),
         Expr::Call {
@@ -224,12 +267,12 @@ fn value<'a>(worklist: &mut Worklist<'a>, e: &'a Subtree<Expr>) -> Result<(), Al
         Expr::NewArray { at, of, sizes } => behind_type(
             worklist,
             of,
-            WorkItem::Unbuilt(UnbuiltItem::Values(sizes, 0, *at)),
+            WorkItem::Expression(ExpressionItem::Array(*at, of, sizes)),
         ),
         Expr::NewItems { at, of, items } => behind_type(
             worklist,
             of,
-            WorkItem::Unbuilt(UnbuiltItem::Values(items, 0, *at)),
+            WorkItem::Expression(ExpressionItem::ArrayWith(*at, of, items)),
         ),
         Expr::Type { of } => behind_type(worklist, of, WorkItem::Do(Act::Unbuilt(of.at))),
         Expr::Member {
@@ -246,16 +289,16 @@ fn value<'a>(worklist: &mut Worklist<'a>, e: &'a Subtree<Expr>) -> Result<(), Al
             arguments,
         } => method(worklist, *access, *at, receiver, spelling, arguments),
         Expr::Element {
-            access: _,
+            access,
             at,
             receiver,
-            spelling: _,
-        } => element(worklist, *at, receiver),
+            spelling,
+        } => element(worklist, *access, *at, receiver, spelling),
         Expr::Index {
             at,
             receiver,
             index,
-        } => two(worklist, receiver, index, Act::Unbuilt(*at)),
+        } => with_index(worklist, receiver, index, WordItem::Indexed(*at)),
     }
 }
 
@@ -281,12 +324,31 @@ fn plain_target<'a>(
     e: &'a Subtree<Expr>,
     at: u32,
     receiver: &'a Subtree<Expr>,
+    name: &'a Text,
+    by: Option<u32>,
 ) -> Result<(), AllocError>
-    ensures { OnOk result (worklist.new ≡ spec.member_target Access.Plain at e.now receiver.now (spec.type_in (out-Expr receiver.now)) ++ worklist.old) }
+    ensures { OnOk result (worklist.new ≡ spec.member_target Access.Plain at e.now receiver.now (spec.type_in (out-Expr receiver.now)) name.now by ++ worklist.old) }
 {
     match receiver.get() {
         Expr::Type { of: _ } => one(worklist, e, Act::Fixed),
-        _ => one(worklist, receiver, Act::Unbuilt(at)),
+        _ => with_word(worklist, receiver, WordItem::WrittenName(at, by, name)),
+    }
+}
+
+/// The same, for a number.
+fn plain_element<'a>(
+    worklist: &mut Worklist<'a>,
+    e: &'a Subtree<Expr>,
+    at: u32,
+    receiver: &'a Subtree<Expr>,
+    digits: &'a Text,
+    by: Option<u32>,
+) -> Result<(), AllocError>
+    ensures { OnOk result (worklist.new ≡ spec.element_target Access.Plain at e.now receiver.now (spec.type_in (out-Expr receiver.now)) digits.now by ++ worklist.old) }
+{
+    match receiver.get() {
+        Expr::Type { of: _ } => one(worklist, e, Act::Fixed),
+        _ => with_word(worklist, receiver, WordItem::WrittenNumber(at, by, digits)),
     }
 }
 
@@ -297,18 +359,42 @@ fn member_target<'a>(
     access: Access,
     at: u32,
     receiver: &'a Subtree<Expr>,
+    name: &'a Text,
+    by: Option<u32>,
 ) -> Result<(), AllocError>
-    ensures { OnOk result (worklist.new ≡ spec.member_target access at e.now receiver.now (spec.type_in (out-Expr receiver.now)) ++ worklist.old) }
+    ensures { OnOk result (worklist.new ≡ spec.member_target access at e.now receiver.now (spec.type_in (out-Expr receiver.now)) name.now by ++ worklist.old) }
 {
     match access {
-        Access::Plain => plain_target(worklist, e, at, receiver),
+        Access::Plain => plain_target(worklist, e, at, receiver, name, by),
         Access::Guarded => one(worklist, e, Act::Fixed),
     }
 }
 
-/// The same, as what is written to.
-fn target<'a>(worklist: &mut Worklist<'a>, e: &'a Subtree<Expr>) -> Result<(), AllocError>
-    ensures { OnOk result (worklist.new ≡ spec.target_plan e.now (out-Expr e.now) ++ worklist.old) }
+/// The same, for a number.
+fn element_target<'a>(
+    worklist: &mut Worklist<'a>,
+    e: &'a Subtree<Expr>,
+    access: Access,
+    at: u32,
+    receiver: &'a Subtree<Expr>,
+    digits: &'a Text,
+    by: Option<u32>,
+) -> Result<(), AllocError>
+    ensures { OnOk result (worklist.new ≡ spec.element_target access at e.now receiver.now (spec.type_in (out-Expr receiver.now)) digits.now by ++ worklist.old) }
+{
+    match access {
+        Access::Plain => plain_element(worklist, e, at, receiver, digits, by),
+        Access::Guarded => one(worklist, e, Act::Fixed),
+    }
+}
+
+/// The same, as what is written to, and read too where an assignment stands at a place.
+fn target<'a>(
+    worklist: &mut Worklist<'a>,
+    e: &'a Subtree<Expr>,
+    by: Option<u32>,
+) -> Result<(), AllocError>
+    ensures { OnOk result (worklist.new ≡ spec.target_plan e.now by (out-Expr e.now) ++ worklist.old) }
 {
     match e.get() {
         Expr::Name { at, spelling } => worklist.push(WorkItem::Word(WordItem::Written(
@@ -318,8 +404,19 @@ fn target<'a>(worklist: &mut Worklist<'a>, e: &'a Subtree<Expr>) -> Result<(), A
             access,
             at,
             receiver,
-            spelling: _,
-        } => member_target(worklist, e, *access, *at, receiver),
+            spelling,
+        } => member_target(worklist, e, *access, *at, receiver, spelling, by),
+        Expr::Element {
+            access,
+            at,
+            receiver,
+            spelling,
+        } => element_target(worklist, e, *access, *at, receiver, spelling, by),
+        Expr::Index {
+            at,
+            receiver,
+            index,
+        } => with_index(worklist, receiver, index, WordItem::WrittenIndex(*at, by)),
         _ => one(worklist, e, Act::Fixed),
     }
 }
@@ -390,6 +487,54 @@ fn arguments<'a>(
     }
 }
 
+/// Expressions from one on: this one, and then the rest.
+fn values<'a>(
+    worklist: &mut Worklist<'a>,
+    all: &'a Items<Subtree<Expr>>,
+    at: usize,
+) -> Result<(), AllocError>
+    ensures { OnOk result (worklist.new ≡ spec.values_plan all.now at (slice_get all.now at) ++ worklist.old) }
+{
+    let _count = all.len();
+    match all.get(at) {
+        None => Ok(()),
+        Some(one) => worklist.put(&[
+            WorkItem::Expression(ExpressionItem::Value(one)),
+            WorkItem::Expression(ExpressionItem::Values(all, at + 1)),
+        ]),
+    }
+}
+
+/// Entries of a map from one on: this one, and then the rest.
+fn entries<'a>(
+    worklist: &mut Worklist<'a>,
+    all: &'a Items<Entry>,
+    at: usize,
+) -> Result<(), AllocError>
+    ensures { OnOk result (worklist.new ≡ spec.entries_plan all.now at (slice_get all.now at) ++ worklist.old) }
+{
+    let _count = all.len();
+    match all.get(at) {
+        None => Ok(()),
+        Some(one) => worklist.put(&[
+            WorkItem::Expression(ExpressionItem::Value(&one.key)),
+            WorkItem::Expression(ExpressionItem::Value(&one.value)),
+            WorkItem::Expression(ExpressionItem::Entries(all, at + 1)),
+        ]),
+    }
+}
+
+/// Values, and then what is done with them.
+fn behind_values<'a>(
+    worklist: &mut Worklist<'a>,
+    all: &'a Items<Subtree<Expr>>,
+    then: WorkItem<'a>,
+) -> Result<(), AllocError>
+    ensures { OnOk result (worklist.new ≡ Item.Values all.now 0 ∷ item_of then.entry ∷ worklist.old) }
+{
+    worklist.put(&[WorkItem::Expression(ExpressionItem::Values(all, 0)), then])
+}
+
 /// A call: its arguments, and then what is done with them.
 fn call<'a>(
     worklist: &mut Worklist<'a>,
@@ -415,7 +560,7 @@ pub fn plan<'a>(
     match item {
         ExpressionItem::Value(e) => value(worklist, e),
         ExpressionItem::Negated(e, minus) => negated(worklist, e, minus),
-        ExpressionItem::Target(e) => target(worklist, e),
+        ExpressionItem::Target(e, by) => target(worklist, e, by),
         ExpressionItem::Given(e) => argument(worklist, e),
         ExpressionItem::Arguments(all, at) => arguments(worklist, all, at),
         ExpressionItem::Call(at, name, all) => {
@@ -438,5 +583,26 @@ pub fn plan<'a>(
         ExpressionItem::New(at, of, all) => {
             call(worklist, all, WordItem::Made(at, of, config.parts.len()))
         }
+        ExpressionItem::Values(all, at) => values(worklist, all, at),
+        ExpressionItem::Entries(all, at) => entries(worklist, all, at),
+        ExpressionItem::List(at, all) => behind_values(
+            worklist,
+            all,
+            WorkItem::Do(Act::List(at, config.parts.len())),
+        ),
+        ExpressionItem::Map(at, all) => worklist.put(&[
+            WorkItem::Expression(ExpressionItem::Entries(all, 0)),
+            WorkItem::Do(Act::Map(at, config.parts.len())),
+        ]),
+        ExpressionItem::Array(at, of, all) => behind_values(
+            worklist,
+            all,
+            WorkItem::Word(WordItem::ArrayMade(at, of, config.parts.len())),
+        ),
+        ExpressionItem::ArrayWith(at, of, all) => behind_values(
+            worklist,
+            all,
+            WorkItem::Word(WordItem::ArrayFilled(at, of, config.parts.len())),
+        ),
     }
 }

@@ -9,11 +9,11 @@ ghost use Rattle.typing_worklist.specs.Plans as spec;
 ghost use Rattle.typing_worklist.specs.declared.item.StatementAct.TheVariants as Acts;
 
 use crate::item::{
-    DeclarationItem, ExpressionItem, LoopItem, StatementAct, StatementItem, WordItem, WorkItem,
-    Worklist,
+    BindingItem, DeclarationItem, ExpressionItem, LoopItem, StatementAct, StatementItem, WordItem,
+    WorkItem, Worklist,
 };
 use crate::plans::statements::{deed, has_body};
-use pl_tree::{Body, Expr, First};
+use pl_tree::{Body, Expr, First, Spelled, TypeName};
 use plain_data::Subtree;
 use std::alloc::AllocError;
 use typing_actions::Config;
@@ -121,6 +121,48 @@ fn looping<'a>(
     ])
 }
 
+/// The same, for a loop over elements in a scope of its own, where so many names are in sight.
+fn each<'a>(
+    worklist: &mut Worklist<'a>,
+    names: usize,
+    at: u32,
+    of: &'a TypeName,
+    name: &'a Spelled,
+    over: &'a Subtree<Expr>,
+    body: &'a Body,
+) -> Result<(), AllocError>
+    ensures { OnOk result (worklist.new ≡ spec.each_plan names at of.now name.now over.now body.now ++ worklist.old) }
+{
+    worklist.put(&[
+        WorkItem::Word(WordItem::TypeOf(of)),
+        WorkItem::Expression(ExpressionItem::Value(over)),
+        WorkItem::Binding(BindingItem::Each(at, name, of)),
+        WorkItem::Loop(LoopItem::Looping(body)),
+        WorkItem::DoStatement(StatementAct::EachLoop(at)),
+        WorkItem::DoStatement(StatementAct::Close(names)),
+    ])
+}
+
+/// The same, with a variable of type def.
+fn each_def<'a>(
+    worklist: &mut Worklist<'a>,
+    names: usize,
+    at: u32,
+    name: &'a Spelled,
+    over: &'a Subtree<Expr>,
+    body: &'a Body,
+) -> Result<(), AllocError>
+    ensures { OnOk result (worklist.new ≡ spec.each_def_plan names at name.now over.now body.now ++ worklist.old) }
+{
+    worklist.put(&[
+        WorkItem::Expression(ExpressionItem::Value(over)),
+        WorkItem::Binding(BindingItem::EachDef(at, name)),
+        WorkItem::Loop(LoopItem::Looping(body)),
+        WorkItem::DoStatement(StatementAct::EachLoop(at)),
+        WorkItem::DoStatement(StatementAct::Close(names)),
+    ])
+}
+
 /// Puts on what is to be done for a loop or a part of one, in what is known.
 pub fn plan<'a>(
     config: &Config,
@@ -139,6 +181,20 @@ pub fn plan<'a>(
         ]),
         LoopItem::ForParts(at, first, condition, update, body) => {
             for_parts(worklist, at, first, condition, update, body)
+        }
+        LoopItem::Each(at, of, name, over, body) => {
+            each(
+                worklist,
+                config.state.scopes.len(),
+                at,
+                of,
+                name,
+                over,
+                body,
+            )
+        }
+        LoopItem::EachDef(at, name, over, body) => {
+            each_def(worklist, config.state.scopes.len(), at, name, over, body)
         }
         LoopItem::FirstIf(e) => first_if(worklist, e),
         LoopItem::First(e) => first(worklist, e),

@@ -9,8 +9,8 @@ ghost use Rattle.typing_worklist.specs.Item as Item;
 ghost use Rattle.typing_worklist.specs.Plans as spec;
 
 use crate::item::{
-    Act, BindingItem, CatchItem, DeclarationItem, ExpressionItem, LoopItem, StatementAct,
-    StatementItem, WordItem, WorkItem, Worklist,
+    CatchItem, DeclarationItem, ExpressionItem, LoopItem, StatementAct, StatementItem, WorkItem,
+    Worklist,
 };
 use pl_tree::{Argument, Block, Body, Expr, Statement};
 use plain_data::{Items, Subtree};
@@ -85,24 +85,13 @@ fn statement<'a>(
             name,
             over,
             body,
-        } => worklist.put(&[
-            WorkItem::Word(WordItem::TypeOf(of)),
-            WorkItem::Expression(ExpressionItem::Value(over)),
-            WorkItem::Binding(BindingItem::Named(name, of)),
-            WorkItem::Loop(LoopItem::Looping(body)),
-            WorkItem::Do(Act::Unbuilt(*at)),
-        ]),
+        } => worklist.push(WorkItem::Loop(LoopItem::Each(*at, of, name, over, body))),
         Statement::ForIn {
             at,
             name,
             over,
             body,
-        } => worklist.put(&[
-            WorkItem::Expression(ExpressionItem::Value(over)),
-            WorkItem::Binding(BindingItem::NamedDef(name)),
-            WorkItem::Loop(LoopItem::Looping(body)),
-            WorkItem::Do(Act::Unbuilt(*at)),
-        ]),
+        } => worklist.push(WorkItem::Loop(LoopItem::EachDef(*at, name, over, body))),
         Statement::Try { at, block, catches } => {
             worklist.put(&[
                 WorkItem::Statement(StatementItem::Block(block)),

@@ -4,50 +4,11 @@ ghost use Rattle.std.specs.Prelude.{◌≡◌, ◌++◌, slice_get, OnOk};
 ghost use Rattle.typing_worklist.specs.Items.{binding_item};
 ghost use Rattle.typing_worklist.specs.Plans as spec;
 
-use crate::item::{Act, BindingItem, ExpressionItem, UnbuiltItem, WorkItem, Worklist};
+use crate::item::{BindingItem, UnbuiltItem, WorkItem, Worklist};
 use crate::plans::expressions::inner;
-use pl_tree::{Entry, Expr, Parameter};
-use plain_data::{Items, Subtree};
+use pl_tree::Parameter;
+use plain_data::Items;
 use std::alloc::AllocError;
-
-/// Expressions from one on: this one, and then the rest.
-fn values<'a>(
-    worklist: &mut Worklist<'a>,
-    all: &'a Items<Subtree<Expr>>,
-    i: usize,
-    at: u32,
-) -> Result<(), AllocError>
-    ensures { OnOk result (worklist.new ≡ spec.values_plan all.now i at (slice_get all.now i) ++ worklist.old) }
-{
-    let _count = all.len();
-    match all.get(i) {
-        None => worklist.push(WorkItem::Do(Act::Unbuilt(at))),
-        Some(one) => worklist.put(&[
-            WorkItem::Expression(ExpressionItem::Value(one)),
-            WorkItem::Unbuilt(UnbuiltItem::Values(all, i + 1, at)),
-        ]),
-    }
-}
-
-/// Entries of a map from one on: this one, and then the rest.
-fn entries<'a>(
-    worklist: &mut Worklist<'a>,
-    all: &'a Items<Entry>,
-    i: usize,
-    at: u32,
-) -> Result<(), AllocError>
-    ensures { OnOk result (worklist.new ≡ spec.entries_plan all.now i at (slice_get all.now i) ++ worklist.old) }
-{
-    let _count = all.len();
-    match all.get(i) {
-        None => worklist.push(WorkItem::Do(Act::Unbuilt(at))),
-        Some(one) => worklist.put(&[
-            WorkItem::Expression(ExpressionItem::Value(&one.key)),
-            WorkItem::Expression(ExpressionItem::Value(&one.value)),
-            WorkItem::Unbuilt(UnbuiltItem::Entries(all, i + 1, at)),
-        ]),
-    }
-}
 
 /// What is done for a parameter of a function value.
 fn parameter<'a>(e: &'a Parameter) -> BindingItem<'a>
@@ -84,7 +45,5 @@ pub fn plan<'a>(worklist: &mut Worklist<'a>, item: UnbuiltItem<'a>) -> Result<()
     match item {
         UnbuiltItem::Parameters(all, at) => parameters(worklist, all, at),
         UnbuiltItem::Inner(e, at) => inner(worklist, e, at),
-        UnbuiltItem::Values(all, i, at) => values(worklist, all, i, at),
-        UnbuiltItem::Entries(all, i, at) => entries(worklist, all, i, at),
     }
 }

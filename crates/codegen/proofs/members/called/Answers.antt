@@ -1,17 +1,19 @@
-use Rattle.std.proofs.Common.{sym, ◌∙◌}
-use Rattle.codegen.proofs.Called.{not_beyond, other_text, named_so}
+use Rattle.std.proofs.Common.{sym, ◌∙◌, ap}
+use Rattle.std.proofs.lemmas.Result.{err_from_is_err_and}
+use Rattle.allowlist.specs.declared.member.MemberType.{MemberType}
+use Rattle.compiler_relation.specs.Representation.{representation_of}
+use Rattle.codegen.proofs.Called.{same_member}
 use Rattle.codegen.proofs.members.called.Goals as goal
 
-pub returns-then-named-count-clause-total : goal.returns-then-named-count-clause-total
-returns-then-named-count-clause-total c = λ member h. absurd (not_beyond c.member_count-count.result c.args.named.now.number member c.member_count-count.ensures.whole c.if-named-count.true h.is)
-
-pub returns-in_err-same_text-clause-total : goal.returns-in_err-same_text-clause-total
-returns-in_err-same_text-clause-total c = λ member h. absurd (other_text c.args.kind c.args.named.now c.args.of.now member h _ c.in_ok-text.ensures c.in_err-same_text.ensures)
-
 pub returns-clause-found : goal.returns-clause-found
-returns-clause-found c = record {
-  is = c.member_type-member.ensures;
-  sort = c.in_ok-same_kind.ensures;
-  text = named_so c.args.named.now.number c.member_type-member.result.now _ _ c.member_type-member.ensures c.in_ok-text.ensures c.in_ok-same_text.ensures;
-  gives = sym c.representation_of.ensures ∙ c.in_ok-alike.ensures ∙ c.representation_of-2.ensures;
-}
+returns-clause-found c = record { named = c.in_ok-member.ensures.found; gives = sym c.representation_of.ensures ∙ c.in_ok-alike.ensures ∙ c.representation_of-2.ensures }
+
+pub returns-in_err-member-clause-total : goal.returns-in_err-member-clause-total
+returns-in_err-member-clause-total c = λ member h.
+    let p = err_from_is_err_and c.from_residual.result c.from_residual.ensures.1 in
+    rw p.1 (p.2 ∙ c.in_err-member.ensures.total member h.named)
+
+pub returns-in_err-alike-clause-total : goal.returns-in_err-alike-clause-total
+returns-in_err-alike-clause-total c = λ member h.
+    let same = same_member c.args.named.now.number member c.in_ok-member.member.now h.named.is c.in_ok-member.ensures.found.is in
+    absurd (c.in_err-alike.ensures (c.representation_of.ensures ∙ h.gives ∙ sym (ap (λ (m : MemberType). representation_of m.result) same) ∙ sym c.representation_of-2.ensures))

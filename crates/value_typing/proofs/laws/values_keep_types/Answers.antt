@@ -5,6 +5,7 @@ use Rattle.run_fit.proofs.Leaving.{there_trans}
 use Rattle.value_typing.proofs.Elements.{elements_are_typed}
 use Rattle.value_typing.proofs.Kept.{kept_is_typed, boxed_is_typed}
 use Rattle.value_typing.proofs.Operators.{comparisons_give_flags, equality_gives_types}
+use Rattle.value_typing.proofs.Containers.{containers_give_types}
 use Rattle.value_typing.proofs.laws.values_keep_types.Goals as goal
 
 pub returns-clause-stay : goal.returns-clause-stay
@@ -45,3 +46,6 @@ returns-clause-go_on c = there_trans
 
 pub returns-clause-elements : goal.returns-clause-elements
 returns-clause-elements c = elements_are_typed
+
+pub returns-clause-containers : goal.returns-clause-containers
+returns-clause-containers c = containers_give_types

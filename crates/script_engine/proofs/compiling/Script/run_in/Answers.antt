@@ -19,7 +19,7 @@ returns-clause-heap c = λ rules f g.
     c.finish_with_memory.ensures.heap rules c.args.heap.objects (began_fits c.args.self.now c.args.heap c.args.args.items c.args.limits _ c.in_ok-activation.ensures rules f g)
 
 pub returns-clause-typed : goal.returns-clause-typed
-returns-clause-typed c = λ rules f.
-    IfOk-weaker c.finish_with_memory.result _ _ (λ ran comes. scripts_give rules c.args.self.now c.args.heap c.args.args.items c.args.limits ran.outcome f
+returns-clause-typed c = λ rules every f.
+    IfOk-weaker c.finish_with_memory.result _ _ (λ ran comes. scripts_give rules c.args.self.now c.args.heap c.args.args.items c.args.limits ran.outcome every f
     (ending_runs c.programs_end.ensures.ends c.args.self.now c.args.heap c.args.args.items c.args.limits ran.outcome
     (subst (λ (a : Activation). Comes c.args.self.now.result (ending a) ran.outcome) c.in_ok-activation.ensures comes))) c.finish_with_memory.ensures.comes

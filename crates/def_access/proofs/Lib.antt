@@ -1,0 +1,5 @@
+pub mod CastLemmas
+pub mod Coming
+pub mod Confined
+pub mod Keeping
+pub mod Listing

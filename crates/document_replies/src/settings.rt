@@ -1,0 +1,27 @@
+//! What is made once for a job over documents, beside its script.
+
+use search_ctx::{Fields, SearchKind};
+use serde_json::Value as Json;
+use std::alloc::Global;
+
+/// What is made once for a job over documents, beside its script.
+pub struct Settings {
+    pub alloc: Global,
+    pub kind: SearchKind,
+    pub fields: Fields,
+    pub params: Json,
+    /// The room of each run.
+    pub room: u64,
+}
+
+impl Drop for Settings {
+    fn drop(self) {
+        let Settings {
+            alloc: _,
+            kind: _,
+            fields: _fields,
+            params: _params,
+            room: _,
+        } = self;
+    }
+}

@@ -1,0 +1,5 @@
+pub mod Delivered
+pub mod Once
+pub mod Runs
+pub mod Utf8
+pub mod Some

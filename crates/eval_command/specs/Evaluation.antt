@@ -1,0 +1,43 @@
+-- What `eval` is to write, and how it is to end: from what the file holds.
+use Rattle.std.specs.Prelude.{◌≡◌, ℕ, ◌≤◌, ◌<◌, List, [], ◌∷◌, Bool, if◌then◌else◌, Option, Some, None, Result, Ok, Err, ◌⊎◌, length, codes}
+use Rattle.pl_types.specs.declared.refusal.Refusal.{Refusal}
+use Rattle.command_parts.specs.declared.status.Status.{Status}
+use Rattle.command_parts.specs.declared.status.Status.TheVariants as s
+use Rattle.command_parts.specs.Told.{Told, silent, file_limit}
+use Rattle.serde_json.specs.Data.{Data}
+use Rattle.object_values.specs.declared.value.Value.{Value}
+use Rattle.object_heap.specs.declared.outcome.Which.{Which}
+use Rattle.object_heap.specs.declared.outcome.Which.TheVariants as which
+use Rattle.object_heap.specs.declared.outcome.End.TheVariants as e
+use Rattle.run_state.specs.World.{Limit, Loop, Depth, Ticks, Room, End, Result as Gives, Uncaught, Limited}
+use Rattle.json_replies.specs.Replies.{is_error, line_of, refusal_of, reply_of}
+use Rattle.eval_command.specs.Script.{Means}
+
+abbrev pub which_of : Limit → Which
+which_of Loop = which.Loop
+which_of Depth = which.Depth
+which_of Ticks = which.Ticks
+which_of Room = which.Room
+
+-- the reply to an end
+abbrev pub reply_to : End Value → Data
+reply_to (Gives value w) = reply_of (e.Value value) w.store.objects
+reply_to (Uncaught id w) = reply_of (e.Thrown id) w.store.objects
+reply_to (Limited limit w) = reply_of (e.Limit (which_of limit)) w.store.objects
+
+abbrev pub status_of : Bool → Status
+status_of error = if error then s.SomeErrors else s.Done
+
+-- what is told of what a script comes to: its reply, or its refusal
+abbrev pub told_of : Result (End Value) Refusal → Told
+told_of (Ok end) = record { status = status_of (is_error (reply_to end)); bytes = line_of (reply_to end) }
+told_of (Err refusal) = record { status = s.Refused; bytes = line_of (refusal_of refusal) }
+
+-- what is told of a script's bytes
+abbrev pub TellsScript : List ℕ → Told → Type 0
+TellsScript script told = (answer : Result (End Value) Refusal) × Means script answer × (told ≡ told_of answer)
+
+-- what is told of a script's file, where there is one
+abbrev pub TellsFile : Option (List ℕ) → Told → Type 0
+TellsFile None told = told ≡ silent s.FileAbsent
+TellsFile (Some script) told = ((file_limit < length script) × (told ≡ silent s.FileLong)) ⊎ ((length script ≤ file_limit) × TellsScript script told)

@@ -1,0 +1,4 @@
+pub mod Script
+pub mod Evaluation
+pub mod Answers
+pub mod Outcomes

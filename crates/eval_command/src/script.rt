@@ -1,0 +1,111 @@
+//! From a script's bytes to what they come to.
+
+ghost use Rattle.std.specs.Prelude.{◌≡◌, ◌≤◌, ℕ, IfOk, List, [], Result, length};
+ghost use Rattle.verifier_soundness.specs.Rows.{HaveRows};
+ghost use Rattle.pl_types.specs.Answers.{Answers};
+ghost use Rattle.pl_types.specs.declared.refusal.Refusal.{Refusal};
+ghost use Rattle.allowlist.specs.Allow.{full_list};
+ghost use Rattle.object_values.specs.declared.value.Value.{Value};
+ghost use Rattle.run_state.specs.World.{End};
+ghost use Rattle.typed_tree.specs.declared.program.Program.{Program};
+ghost use Rattle.script_engine.specs.Programs.{IsProgramOf};
+ghost use Rattle.script_engine.specs.Compiling.{Compiles};
+ghost use Rattle.script_engine.specs.Running.{TakesArguments};
+ghost use Rattle.eval_command.specs.Script.{Decodes, Means, MeansText, eval_types};
+ghost use Rattle.eval_command.specs.Outcomes.{Comes, RunsAsEval};
+ghost use Rattle.command_parts.specs.Told.{file_limit};
+
+use allowlist::{Allow, Catalogue};
+use machine::Limits;
+use object_heap::{Heap, Outcome};
+use pl_types::{Fail, Refusal, Ty, rules};
+use plain_data::Items;
+use script_engine::{Script, compile};
+use static_types::ContextTypes;
+use std::alloc::{AllocError, Global};
+
+/// The text that bytes are. BadToken: they are no UTF-8, from the offset on.
+fn decode(bytes: &[u8]) -> Result<&str, Fail>
+    requires { length bytes.now ≤ file_limit }
+    ensures exact { Answers (λ text. text.now) result (Decodes bytes.now) }
+    ensures only { (reading : Result (List ℕ) Refusal) → Decodes bytes.now reading → Answers (λ text. text.now) result (λ a. a ≡ reading) }
+{
+    match str::from_utf8(bytes) {
+        Ok(text) => Ok(text),
+        Err(error) => Err(Fail::Refused(Refusal {
+            number: rules::BAD_TOKEN,
+            offset: error.valid_up_to() as u32,
+        })),
+    }
+}
+
+/// The context of `eval`: no variables, and any result.
+fn context(alloc: Global) -> ContextTypes
+    ensures { result ≡ eval_types }
+{
+    ContextTypes {
+        variables: Items::new(alloc),
+        result: Ty::Def,
+    }
+}
+
+/// The script of a text under the full catalogue.
+fn compiled(alloc: Global, text: &str, allow: &Allow) -> Result<Script, Fail>
+    requires full { allow.now ≡ full_list }
+    ensures exact { Compiles full_list eval_types (IsProgramOf full_list eval_types text.now) result }
+    ensures only { (reading : Result Program Refusal) → IsProgramOf full_list eval_types text.now reading → Compiles full_list eval_types (λ a. a ≡ reading) result }
+    ensures rows { IfOk result (λ script. HaveRows script.executable.allow script.executable.code.functions) }
+    ensures takes { IfOk result (λ script. TakesArguments script []) }
+{
+    let context = context(alloc);
+    compile(alloc, text, allow, &context)
+}
+
+/// Runs a script with the default limits.
+fn run(alloc: Global, script: &Script) -> Result<Outcome, AllocError>
+    requires rows { HaveRows script.now.executable.allow script.now.executable.code.functions }
+    requires takes { TakesArguments script.now [] }
+    ensures { IfOk result (RunsAsEval script.now) }
+{
+    let heap = Heap::new(alloc, 16_000_000);
+    let limits = Limits {
+        loops: 1_000_000,
+        depth: 256,
+        ticks: 10_000_000,
+    };
+    let args = Vec::new(alloc);
+    script.run(heap, args, limits)
+}
+
+/// What a text comes to under the full catalogue.
+fn run_under(alloc: Global, allow: &Allow, text: &str) -> Result<Outcome, Fail>
+    requires full { allow.now ≡ full_list }
+    ensures exact { Comes (MeansText text.now) result }
+    ensures only { (reading : Result (End Value) Refusal) → MeansText text.now reading → Comes (λ a. a ≡ reading) result }
+{
+    match compiled(alloc, text, allow) {
+        Ok(script) => Ok(run(alloc, &script)?),
+        Err(fail) => Err(fail),
+    }
+}
+
+/// What a text comes to.
+fn run_text(alloc: Global, text: &str) -> Result<Outcome, Fail>
+    ensures exact { Comes (MeansText text.now) result }
+    ensures only { (reading : Result (End Value) Refusal) → MeansText text.now reading → Comes (λ a. a ≡ reading) result }
+{
+    let allow = Catalogue::full(alloc)?;
+    run_under(alloc, &allow, text)
+}
+
+/// What a script's bytes come to: how their program's run ends, and what it leaves, or the first rule by which they are refused.
+pub fn run_script(alloc: Global, script: &[u8]) -> Result<Outcome, Fail>
+    requires { length script.now ≤ file_limit }
+    ensures exact { Comes (Means script.now) result }
+    ensures only { (reading : Result (End Value) Refusal) → Means script.now reading → Comes (λ a. a ≡ reading) result }
+{
+    match decode(script) {
+        Ok(text) => run_text(alloc, text),
+        Err(fail) => Err(fail),
+    }
+}

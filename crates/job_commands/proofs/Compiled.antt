@@ -1,0 +1,76 @@
+-- What the code prepares is what is told.
+use Rattle.std.proofs.Common.{◌≡◌, ℕ, List, Option, Some, None, IfSome, IfOk, Result, Ok, Err, refl, sym, ap, subst}
+use Rattle.std.specs.declared.alloc.AllocError.{AllocError}
+use Rattle.object_values.specs.declared.value.Value.{Value}
+use Rattle.object_heap.specs.Store.{Store}
+use Rattle.object_heap.specs.declared.outcome.Outcome.{Outcome}
+use Rattle.pl_types.specs.declared.refusal.Refusal.{Refusal}
+use Rattle.typed_tree.specs.declared.program.Program.{Program}
+use Rattle.typing_rules.specs.declared.header.ContextTypes.{ContextTypes}
+use Rattle.script_engine.specs.declared.compiling.Script.{Script}
+use Rattle.script_engine.specs.Compiling.{Compiles, IsScriptOf}
+use Rattle.script_engine.specs.Programs.{IsProgramOf}
+use Rattle.script_engine.specs.Running.{RunsAsItsProgram, world_left}
+use Rattle.job_file.specs.declared.context.JobCommand.{JobCommand}
+use Rattle.command_parts.specs.declared.stop.Stop.{Stop}
+use Rattle.command_parts.specs.Stops.{stop_told, ComesSo}
+use Rattle.command_parts.specs.Told.{Told}
+use Rattle.job_loading.specs.declared.reading.ReadJob.{ReadJob}
+use Rattle.json_replies.specs.Replies.{refusal_of}
+use Rattle.job_loading.specs.Loading.{JobUnder, refusal, job_under}
+use Rattle.job_loading.specs.Seen.{read_view}
+use Rattle.job_commands.specs.Preparing.{CompilesJob, PreparesSo, EndsAsItsProgram, with_program}
+use Rattle.job_commands.specs.Contexts.{types_of}
+use Rattle.job_commands.specs.Scripts.{Prepared, Prepares, PreparesRead, PreparesJob, script_of}
+use Rattle.job_commands.specs.declared.script.LimitedScript.{LimitedScript}
+
+pub if_some : (found : Option Told) (P Q : Told → Type 0) → ((told : Told) → P told → Q told) → IfSome found P → IfSome found Q
+if_some None P Q to h = tt
+if_some (Some told) P Q to h = to told h
+
+-- the script is refused
+pub refused_so : (under : JobUnder) (wrong : Refusal) (stop : Stop) → IsProgramOf under.allow (types_of under.job.context) (script_of under) (Err wrong)
+    → IfSome (stop_told stop) (λ told. told ≡ refusal (refusal_of wrong)) → CompilesJob under (Err stop)
+refused_so under wrong stop is h =
+    if_some (stop_told stop) (λ told. told ≡ refusal (refusal_of wrong)) (λ told. Prepares under (Err told)) (λ told at. (Err wrong, is, ap Err at)) h
+
+-- the script of a text in a context, where these are the job's
+pub script_so : (under : JobUnder) (context : ContextTypes) (text : List ℕ) (script : Script) → context ≡ types_of under.job.context → text ≡ script_of under
+    → Compiles under.allow context (IsProgramOf under.allow context text) (Ok script) → CompilesJob under (Ok script)
+script_so under context text script in_it of h =
+    subst (λ (t : List ℕ). (p : Program) × IsProgramOf under.allow (types_of under.job.context) t (Ok p) × IsScriptOf under.allow (types_of under.job.context) p script) of
+    (subst (λ (k : ContextTypes). (p : Program) × IsProgramOf under.allow k text (Ok p) × IsScriptOf under.allow k p script) in_it h)
+
+pub wrong_so : (under : JobUnder) (context : ContextTypes) (text : List ℕ) (wrong : Refusal) → context ≡ types_of under.job.context → text ≡ script_of under
+    → IsProgramOf under.allow context text (Err wrong) → IsProgramOf under.allow (types_of under.job.context) (script_of under) (Err wrong)
+wrong_so under context text wrong in_it of h =
+    subst (λ (t : List ℕ). IsProgramOf under.allow (types_of under.job.context) t (Err wrong)) of (subst (λ (k : ContextTypes). IsProgramOf under.allow k text (Err wrong)) in_it h)
+
+-- the job is not read
+pub job_stops : (with : JobCommand) (content : List ℕ → Option (List ℕ)) (name : List ℕ) (stop : Stop) → ComesSo read_view (Err stop) (job_under with content name)
+    → IfSome (stop_told stop) (λ told. PreparesJob with content name (Err told))
+job_stops with content name stop h =
+    if_some (stop_told stop) (λ told. job_under with content name ≡ Err told) (λ told. PreparesJob with content name (Err told))
+    (λ told is. subst (λ (r : Result JobUnder Told). PreparesRead r (Err told)) (sym is) refl) h
+
+-- the job is read, and its script is refused
+pub script_stops : (with : JobCommand) (content : List ℕ → Option (List ℕ)) (name : List ℕ) (found : ReadJob) (stop : Stop) → job_under with content name ≡ Ok (read_view found)
+    → CompilesJob (read_view found) (Err stop) → IfSome (stop_told stop) (λ told. PreparesJob with content name (Err told))
+script_stops with content name found stop is h =
+    if_some (stop_told stop) (λ told. Prepares (read_view found) (Err told)) (λ told. PreparesJob with content name (Err told))
+    (λ told k. subst (λ (r : Result JobUnder Told). PreparesRead r (Err told)) (sym is) k) h
+
+-- the job has a script
+pub prepares_script : (with : JobCommand) (content : List ℕ → Option (List ℕ)) (name : List ℕ) (found : ReadJob) (script : Script) → job_under with content name ≡ Ok (read_view found)
+    → CompilesJob (read_view found) (Ok script) → PreparesSo (PreparesJob with content name) (Ok (record { found = found; script = script }))
+prepares_script with content name found script is (p, program, of) = (
+  p,
+  subst (λ (r : Result JobUnder Told). PreparesRead r (Ok (with_program (record { found = found; script = script }) p))) (sym is) (Ok p, program, refl),
+  of,
+)
+
+-- a run of the code is that of each program of which the script is
+pub runs_so : (s : LimitedScript) (store : Store) (args : List Value) (result : Result Outcome AllocError) → IfOk result (RunsAsItsProgram s.script store args s.limits)
+    → IfOk result (λ (o : Outcome). EndsAsItsProgram s store args o.end o.heap.objects)
+runs_so s store args (Ok o) runs = λ allow context p is has. let out = runs allow context p is has in (world_left o out.left, out.ends, refl)
+runs_so s store args (Err wrong) runs = tt

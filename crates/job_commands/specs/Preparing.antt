@@ -1,0 +1,56 @@
+-- What the code prepares as what is meant.
+use Rattle.std.specs.Prelude.{◌≡◌, ℕ, List, map, Result, Ok, Err, IfSome}
+use Rattle.pl_types.specs.declared.refusal.Refusal.{Refusal}
+use Rattle.object_heap.specs.Store.{Store}
+use Rattle.object_heap.specs.declared.outcome.End.{End}
+use Rattle.object_values.specs.declared.object.Object.{Object}
+use Rattle.object_values.specs.declared.value.Value.{Value}
+use Rattle.run_state.specs.World.{World}
+use Rattle.allowlist.specs.Allow.{AllowList}
+use Rattle.typed_tree.specs.declared.program.Program.{Program}
+use Rattle.typing_rules.specs.declared.header.ContextTypes.{ContextTypes}
+use Rattle.source_meaning.specs.Programs.{variable_of}
+use Rattle.program_typing.specs.Types.{HaveAll}
+use Rattle.program_typing.specs.Agreeing.{types_in}
+use Rattle.machine.specs.Seen.{limits_of}
+use Rattle.verifier_soundness.specs.Rows.{HaveRows}
+use Rattle.script_engine.specs.declared.compiling.Script.{Script}
+use Rattle.script_engine.specs.Compiling.{IsScriptOf}
+use Rattle.script_engine.specs.Ends.{RunsTo}
+use Rattle.script_engine.specs.Programs.{IsProgramOf}
+use Rattle.script_engine.specs.Running.{TakesArguments, end_seen, world_at}
+use Rattle.command_parts.specs.Stops.{stop_told}
+use Rattle.command_parts.specs.Told.{Told}
+use Rattle.command_parts.specs.declared.stop.Stop.{Stop}
+use Rattle.job_loading.specs.Loading.{JobUnder}
+use Rattle.job_loading.specs.Seen.{read_view}
+use Rattle.job_commands.specs.Contexts.{types_of}
+use Rattle.job_commands.specs.Scripts.{Prepared, Prepares, script_of}
+use Rattle.job_commands.specs.declared.preparing.PreparedJob.{PreparedJob}
+use Rattle.job_commands.specs.declared.script.LimitedScript.{LimitedScript}
+
+-- the script of the program of a job's text under its list, or what is told
+abbrev pub CompilesJob : JobUnder → Result Script Stop → Type 0
+CompilesJob under (Ok script) =
+    (p : Program) × IsProgramOf under.allow (types_of under.job.context) (script_of under) (Ok p) × IsScriptOf under.allow (types_of under.job.context) p script
+CompilesJob under (Err stop) = IfSome (stop_told stop) (λ told. Prepares under (Err told))
+
+-- a job of the code with a program
+abbrev pub with_program : PreparedJob → Program → Prepared
+with_program job p = record { under = read_view job.found; program = p }
+
+-- the job is prepared with the program of which it has a script, or something is told
+abbrev pub PreparesSo : (Result Prepared Told → Type 0) → Result PreparedJob Stop → Type 0
+PreparesSo prepares (Ok job) =
+    (p : Program) × prepares (Ok (with_program job p)) × IsScriptOf (read_view job.found).allow (types_of job.found.job.context) p job.script
+PreparesSo prepares (Err stop) = IfSome (stop_told stop) (λ told. prepares (Err told))
+
+-- a script that can be run on these arguments
+abbrev pub TakesThem : LimitedScript → List Value → Type 0
+TakesThem s args = HaveRows s.script.executable.allow s.script.executable.code.functions × TakesArguments s.script args
+
+-- a run of the script ends as that of each program that it is of
+abbrev pub EndsAsItsProgram : LimitedScript → Store → List Value → End → List Object → Type 0
+EndsAsItsProgram s store args end objects =
+    (allow : AllowList) (context : ContextTypes) (p : Program) → IsScriptOf allow context p s.script → HaveAll (types_in (map variable_of context.variables)) args
+    → (w : World) × RunsTo p (limits_of s.limits allow) args (world_at store s.limits) (end_seen end w) × (objects ≡ w.store.objects)

@@ -1,0 +1,95 @@
+-- What `run` is to write over an input, and how it is to end: a job that is read, and then a reply for each line of the input, which
+-- depends on the job and the line alone.
+use Rattle.std.specs.Prelude.{◌≡◌, ℕ, List, [], Option, Some, None, Result, Ok, Err, codes}
+use Rattle.pl_types.specs.Host.{no_host}
+use Rattle.object_values.specs.declared.object.Object.{Object}
+use Rattle.object_heap.specs.Store.{Store}
+use Rattle.object_values.specs.declared.value.Value.{Value}
+use Rattle.object_heap.specs.declared.outcome.End.{End}
+use Rattle.object_heap.specs.declared.outcome.End.TheVariants as e
+use Rattle.object_heap.specs.declared.outcome.Which.{Which}
+use Rattle.object_heap.specs.declared.outcome.Which.TheVariants as which
+use Rattle.run_state.specs.World.{World, Limits, Limit, Loop, Depth, Ticks, Room, End as Ended, Result as Gives, Uncaught, Limited}
+use Rattle.outer_io.specs.Lines.{InputLine}
+use Rattle.script_engine.specs.Ends.{RunsTo}
+use Rattle.job_file.specs.declared.context.JobCommand.TheVariants as command
+use Rattle.job_file.specs.Jobs.{field}
+use Rattle.search_ctx.specs.declared.line.SearchKind.{SearchKind}
+use Rattle.search_ctx.specs.Lines.{Start}
+use Rattle.job_replies.specs.Refusals.{job_refusal}
+use Rattle.command_parts.specs.Told.{Told}
+use Rattle.line_run.specs.Replies.{Reply, TellsInput, TellsTaken}
+use Rattle.document_replies.specs.Replies.{Documents, IsReply}
+use Rattle.job_loading.specs.Loading.{refusal}
+use Rattle.job_commands.specs.Contexts.{kind_of}
+use Rattle.job_commands.specs.Scripts.{Prepared, PreparesJob}
+
+-- ---- runs of the job's script
+
+abbrev pub limits_in : Prepared → Limits
+limits_in p = record {
+  loop = p.under.job.limits.loops;
+  depth = p.under.job.limits.depth;
+  allowed = p.under.allow;
+  prelude_allowed = record { classes = []; members = [] };
+  host = no_host;
+}
+
+-- each run begins with all its ticks, and no member was reached
+abbrev pub world_in : Prepared → Store → World
+world_in p store = record { store = store; ticks = p.under.job.limits.ticks; reached = [] }
+
+abbrev pub which_of : Limit → Which
+which_of Loop = which.Loop
+which_of Depth = which.Depth
+which_of Ticks = which.Ticks
+which_of Room = which.Room
+
+-- an end of a run without the world that it leaves
+abbrev pub end_of : Ended Value → End
+end_of (Gives value w) = e.Value value
+end_of (Uncaught id w) = e.Thrown id
+end_of (Limited limit w) = e.Limit (which_of limit)
+
+-- the objects of that world
+abbrev pub objects_of : Ended Value → List Object
+objects_of (Gives value w) = w.store.objects
+objects_of (Uncaught id w) = w.store.objects
+objects_of (Limited limit w) = w.store.objects
+
+-- how a run of the script ends, and which objects it leaves
+abbrev pub EndsOver : Prepared → Start → End → List Object → Type 0
+EndsOver p start end objects =
+    (ended : Ended Value) × RunsTo p.program (limits_in p) start.args (world_in p start.store) ended × (end ≡ end_of ended) × (objects ≡ objects_of ended)
+
+-- ---- lines
+
+abbrev pub documents_in : SearchKind → Prepared → Documents
+documents_in kind p = record { kind = kind; fields = p.under.job.mapping; params = p.under.job.params; room = p.under.job.limits.room }
+
+-- the reply to a line
+abbrev pub IsReplyOf : SearchKind → Prepared → InputLine → Reply → Type 0
+IsReplyOf kind p = IsReply (documents_in kind p) (EndsOver p)
+
+-- ---- the input
+
+-- a job of a context without documents, which none is that is read, would be refused
+abbrev pub no_documents : Told
+no_documents = refusal (job_refusal (field (codes "context")))
+
+abbrev pub TellsOver : Option SearchKind → Prepared → List ℕ → Told → Type 0
+TellsOver (Some kind) p input told = TellsInput (IsReplyOf kind p) p.under.job.limits.input input told
+TellsOver None p input told = told ≡ no_documents
+
+abbrev pub TellsPrepared : Result Prepared Told → List ℕ → Told → Type 0
+TellsPrepared (Ok p) input told = TellsOver (kind_of p.under.job.context) p input told
+TellsPrepared (Err wrong) input told = told ≡ wrong
+
+-- what is told of a job's file and of an input
+abbrev pub TellsRun : (List ℕ → Option (List ℕ)) → List ℕ → List ℕ → Told → Type 0
+TellsRun content name input told = (answer : Result Prepared Told) × PreparesJob command.Run content name answer × TellsPrepared answer input told
+
+-- what is told of the bytes that were taken of the input before it failed
+abbrev pub TellsRunTaken : (List ℕ → Option (List ℕ)) → List ℕ → List ℕ → Told → Type 0
+TellsRunTaken content name front told =
+    (p : Prepared) × PreparesJob command.Run content name (Ok p) × (kind : SearchKind) × (kind_of p.under.job.context ≡ Some kind) × TellsTaken (IsReplyOf kind p) p.under.job.limits.input front told

@@ -1,0 +1,9 @@
+//! A job and its allowlist, read from files.
+#![tactic(auto)]
+
+mod flags;
+mod reading;
+mod stops;
+
+pub use reading::{ReadJob, read_job};
+pub use stops::key_refused;

@@ -1,0 +1,116 @@
+//! Refusals of jobs and of allowlists.
+
+ghost use Rattle.std.specs.Prelude.{◌≡◌, false, string_bytes, IfOk};
+ghost use Rattle.serde_json.specs.View.{view};
+ghost use Rattle.serde_json.specs.Written.{has_float};
+ghost use Rattle.job_file.specs.Jobs as job;
+ghost use Rattle.json_replies.specs.Replies.{line_of};
+ghost use Rattle.job_replies.specs.Errors.{IsJobLine, IsListLine};
+ghost use Rattle.job_replies.specs.Refusals.{accepted, job_refusal, named, refused, refused_field, refused_line};
+
+use allowlist::AllowErr;
+use job_file::JobErr;
+use serde_json::{Value as Json, json};
+use std::alloc::{AllocError, Global};
+
+/// The line of some JSON without floats.
+fn line_of(alloc: Global, json: &Json) -> Result<String, AllocError>
+    ensures { has_float (view json.now) ≡ false → IfOk result (λ line. string_bytes line ≡ line_of (view json.now)) }
+{
+    let mut line = json.to_string(alloc)?;
+    line.push_str("\n")?;
+    Ok(line)
+}
+
+/// A refusal that has a name and a number alone.
+fn refused(alloc: Global, name: &str, number: u32) -> Result<Json, AllocError>
+    ensures { IfOk result (λ json. view json ≡ refused (named name.now number)) }
+{
+    json!(in alloc; {"refused": {"name": name, "number": number}})
+}
+
+/// A refusal of a key or a field.
+fn refused_field(alloc: Global, field: &str, name: &str, number: u32) -> Result<Json, AllocError>
+    ensures { IfOk result (λ json. view json ≡ refused_field field.now name.now number) }
+{
+    json!(in alloc; {"refused": {"field": field, "name": name, "number": number}})
+}
+
+/// A refusal of a line of a file.
+fn refused_line(alloc: Global, line: u32, name: &str, number: u32) -> Result<Json, AllocError>
+    ensures { IfOk result (λ json. view json ≡ refused_line line name.now number) }
+{
+    json!(in alloc; {"refused": {"line": line, "name": name, "number": number}})
+}
+
+/// The line of a refusal that has a name and a number alone.
+fn line_refused(alloc: Global, name: &str, number: u32) -> Result<String, AllocError>
+    ensures { IfOk result (λ line. string_bytes line ≡ line_of (refused (named name.now number))) }
+{
+    let json = refused(alloc, name, number)?;
+    line_of(alloc, &json)
+}
+
+/// The line of a refusal of a key or a field.
+fn line_refused_field(
+    alloc: Global,
+    field: &str,
+    name: &str,
+    number: u32,
+) -> Result<String, AllocError>
+    ensures { IfOk result (λ line. string_bytes line ≡ line_of (refused_field field.now name.now number)) }
+{
+    let json = refused_field(alloc, field, name, number)?;
+    line_of(alloc, &json)
+}
+
+/// The line of a refusal of a line of a file.
+fn line_refused_line(
+    alloc: Global,
+    line: u32,
+    name: &str,
+    number: u32,
+) -> Result<String, AllocError>
+    ensures { IfOk result (λ text. string_bytes text ≡ line_of (refused_line line name.now number)) }
+{
+    let json = refused_line(alloc, line, name, number)?;
+    line_of(alloc, &json)
+}
+
+/// The line of a key of a job that is refused.
+pub fn field_refusal_line(alloc: Global, key: &str) -> Result<String, AllocError>
+    ensures { IfOk result (λ line. string_bytes line ≡ line_of (job_refusal (job.field key.now))) }
+{
+    line_refused_field(alloc, key, "JobField", 22)
+}
+
+/// The line of what is wrong with a job.
+pub fn job_refusal_line(alloc: Global, error: &JobErr) -> Result<String, AllocError>
+    ensures { IfOk result (λ line. IsJobLine error.now (string_bytes line)) }
+{
+    match error {
+        JobErr::Syntax => line_refused(alloc, "JobSyntax", 21),
+        JobErr::Field(key) => line_refused_field(alloc, key.as_str(), "JobField", 22),
+        JobErr::Range(key) => line_refused_field(alloc, key.as_str(), "LimitRange", 25),
+        JobErr::Mapping(field) => line_refused_field(alloc, field.as_str(), "MappingBad", 26),
+        JobErr::NoMemory => Err(AllocError),
+    }
+}
+
+/// The line of what is wrong with an allowlist.
+pub fn list_refusal_line(alloc: Global, error: &AllowErr) -> Result<String, AllocError>
+    ensures { IfOk result (λ line. IsListLine error.now (string_bytes line)) }
+{
+    match error {
+        AllowErr::Syntax(line) => line_refused_line(alloc, *line, "AllowSyntax", 23),
+        AllowErr::Unknown(line) => line_refused_line(alloc, *line, "AllowUnknown", 24),
+        AllowErr::NoMemory => Err(AllocError),
+    }
+}
+
+/// The line of a job that is accepted.
+pub fn accepted_line() -> &'static str
+    ensures { result.now ≡ line_of accepted }
+{
+    "{\"ok\":true}\n"
+}

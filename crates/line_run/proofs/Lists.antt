@@ -1,0 +1,66 @@
+-- Replies that are put behind others.
+use Rattle.std.proofs.Common.{◌≡◌, ℕ, ◌||◌, Bool, true, false, List, [], ◌∷◌, ◌++◌, refl, sym, ap, subst, ◌∙◌, append_assoc, append-nil}
+use Rattle.std.specs.Prelude.{Option}
+use Rattle.std.specs.Io.KnownBytes.{Appends}
+use Rattle.std.proofs.KnownBytes.{Appends-trans}
+use Rattle.outer_io.specs.Front.{AppendsFront}
+use Rattle.outer_io.specs.Lines.{InputLine}
+use Rattle.line_run.specs.Replies.{Reply, AreReplies, bytes_of, has_error}
+use Rattle.line_run.specs.Steps.{Gives}
+
+pub are_push : (gives : InputLine → Reply → Type 0) (lines : List InputLine) (replies : List Reply) (line : InputLine) (reply : Reply) → AreReplies gives lines replies → gives line reply
+    → AreReplies gives (lines ++ line ∷ []) (replies ++ reply ∷ [])
+are_push gives [] [] line reply are is = (is, tt)
+are_push gives (l ∷ lines) (r ∷ replies) line reply are is = (are.0, are_push gives lines replies line reply are.1 is)
+are_push gives [] (r ∷ replies) line reply are is = absurd are
+are_push gives (l ∷ lines) [] line reply are is = absurd are
+
+pub bytes_push : (replies : List Reply) (reply : Reply) → bytes_of (replies ++ reply ∷ []) ≡ bytes_of replies ++ reply.bytes
+bytes_push [] reply = append-nil reply.bytes
+bytes_push (r ∷ replies) reply = ap (λ (l : List ℕ). r.bytes ++ l) (bytes_push replies reply) ∙ sym (append_assoc r.bytes (bytes_of replies) reply.bytes)
+
+or_false : (a : Bool) → (a || false) ≡ a
+or_false true = refl
+or_false false = refl
+
+or_assoc : (a b c : Bool) → (a || (b || c)) ≡ ((a || b) || c)
+or_assoc true b c = refl
+or_assoc false b c = refl
+
+pub error_push : (replies : List Reply) (reply : Reply) → has_error (replies ++ reply ∷ []) ≡ (has_error replies || reply.error)
+error_push [] reply = or_false reply.error
+error_push (r ∷ replies) reply = ap (λ (b : Bool). r.error || b) (error_push replies reply) ∙ or_assoc r.error (has_error replies) reply.error
+
+-- what two calls gave
+pub gives_trans : {a b c : Option (List ℕ)} {x y z : List ℕ} → Gives a b x y → Gives b c y z → Gives a c x z
+gives_trans {a} {b} {c} {x} {y} {z} first second = record {
+  given = first.given ++ second.given;
+  parts = append_assoc first.given second.given z ∙ ap (λ (l : List ℕ). first.given ++ l) second.parts ∙ first.parts;
+  appended = Appends-trans a b c first.given second.given first.appended second.appended;
+}
+
+-- what was put behind what is held
+pub gives_more : {a b : Option (List ℕ)} {x y : List ℕ} (more : List ℕ) → Gives a b x y → Gives a b (x ++ more) (y ++ more)
+gives_more {a} {b} {x} {y} more first = record {
+  given = first.given;
+  parts = sym (append_assoc first.given y more) ∙ ap (λ (l : List ℕ). l ++ more) first.parts;
+  appended = first.appended;
+}
+
+-- a front of what is held was given
+pub gives_front : {a b c : Option (List ℕ)} {x y : List ℕ} → Gives a b x y → AppendsFront b c y → AppendsFront a c x
+gives_front {a} {b} {c} {x} {y} first front = record {
+  front = first.given ++ front.front;
+  behind = front.behind;
+  parts = append_assoc first.given front.front front.behind ∙ ap (λ (l : List ℕ). first.given ++ l) front.parts ∙ first.parts;
+  appended = Appends-trans a b c first.given front.front first.appended front.appended;
+}
+
+-- all that is held was given
+pub gives_all : (a b c : Option (List ℕ)) (x y : List ℕ) → Gives a b x y → Appends b c y → Appends a c x
+gives_all a b c x y first all =
+    subst (λ (l : List ℕ). Appends a c l) first.parts (Appends-trans a b c first.given y first.appended all)
+
+pub gives_whole : (a b : Option (List ℕ)) (x y : List ℕ) → Gives a b x y → y ≡ [] → Appends a b x
+gives_whole a b x y first none =
+    subst (λ (l : List ℕ). Appends a b l) (sym (append-nil first.given) ∙ ap (λ (l : List ℕ). first.given ++ l) (sym none) ∙ first.parts) first.appended

@@ -1,0 +1,4 @@
+pub mod Replies
+pub mod Shown
+pub mod Passing
+pub mod Steps

@@ -1,0 +1,62 @@
+-- What single calls of a run over lines do.
+use Rattle.std.specs.Prelude.{◌≡◌, ℕ, ◌||◌, Bool, true, false, List, [], ◌++◌, Option, Result, Ok, Err, ◌⊎◌, string_bytes}
+use Rattle.std.specs.Io.KnownBytes.{Appends}
+use Rattle.outer_io.specs.Front.{AppendsFront}
+use Rattle.outer_io.specs.Lines.{InputLine, IsUnbroken}
+use Rattle.outer_io.specs.Reading.{Intake, Reads}
+use Rattle.outer_io.specs.Runs.{line_shown}
+use Rattle.outer_io.specs.declared.lines.Line.{Line}
+use Rattle.outer_io.specs.declared.lines.Line.TheVariants.{Whole, Long, End}
+use Rattle.outer_io.specs.declared.lines.ReadErr.TheVariants as e
+use Rattle.command_parts.specs.declared.status.Status.{Status}
+use Rattle.command_parts.specs.declared.status.Status.TheVariants as s
+use Rattle.line_run.specs.declared.replies.Replies.{Replies}
+use Rattle.line_run.specs.Replies.{Reply}
+
+-- the replies that are held were given to the sink up to what is held now
+pub record Gives (old new : Option (List ℕ)) (before now : List ℕ) : Type 0 where
+  pub given : List ℕ
+  pub parts : given ++ now ≡ before
+  pub appended : Appends old new given
+
+-- A reply to this line was put behind those that are held.
+pub record Adds (gives : InputLine → Reply → Type 0) (line : InputLine) (before now : Replies) : Type 0 where
+  pub reply : Reply
+  pub is : gives line reply
+  pub bytes : now.bytes.items ≡ before.bytes.items ++ reply.bytes
+  pub error : now.any_error ≡ (before.any_error || reply.error)
+
+-- A line was read. Before the end no reply is held.
+abbrev pub HoldsNone : Line → List ℕ → Type 0
+HoldsNone (Whole bytes) held = Unit {0}
+HoldsNone Long held = Unit {0}
+HoldsNone End held = held ≡ []
+
+-- The next line was read, after the replies were given where that could take more of the source.
+pub record ReadsNext (old new : Intake) (left left' held held' : Option (List ℕ)) (before now : Replies) (line : Line) : Type 0 where
+  pub reads : Reads old new left left' (Ok line)
+  pub gives : Gives held held' before.bytes.items now.bytes.items
+  pub none : HoldsNone line now.bytes.items
+  pub error : now.any_error ≡ before.any_error
+
+-- .. or there is no line: all replies were given before the source was asked, or a front of them was
+abbrev pub ReadsNot : Intake → Intake → Option (List ℕ) → Option (List ℕ) → Option (List ℕ) → Option (List ℕ) → Replies → Status → Type 0
+ReadsNot old new left left' held held' before s.ReadFault = Reads old new left left' (Err e.Fault) × Appends held held' before.bytes.items
+ReadsNot old new left left' held held' before s.InputLong = Reads old new left left' (Err e.InputLong) × Appends held held' before.bytes.items
+ReadsNot old new left left' held held' before s.WriteFault = AppendsFront held held' before.bytes.items
+ReadsNot old new left left' held held' before s.NoMemory = AppendsFront held held' before.bytes.items
+ReadsNot old new left left' held held' before other = ⊥
+
+-- The reply to a line was put behind the others, which were then given where they are many.
+pub record Answers (gives : InputLine → Reply → Type 0) (line : InputLine) (held held' : Option (List ℕ)) (before now : Replies) : Type 0 where
+  pub between : Replies
+  pub adds : Adds gives line before between
+  pub given : Gives held held' between.bytes.items now.bytes.items
+  pub error : now.any_error ≡ between.any_error
+
+-- .. or the run ends: by want of memory before the reply was there, or where the replies were given
+abbrev pub AnswersNot : (InputLine → Reply → Type 0) → InputLine → Option (List ℕ) → Option (List ℕ) → Replies → Status → Type 0
+AnswersNot gives line held held' before s.WriteFault = (between : Replies) × Adds gives line before between × AppendsFront held held' between.bytes.items
+AnswersNot gives line held held' before s.NoMemory =
+    Appends held held' [] ⊎ ((between : Replies) × Adds gives line before between × AppendsFront held held' between.bytes.items)
+AnswersNot gives line held held' before other = ⊥

@@ -1,0 +1,9 @@
+//! Lines of an input, each with its reply, from a source into a sink.
+#![tactic(auto)]
+
+mod passing;
+mod replier;
+mod replies;
+
+pub use passing::run_lines;
+pub use replier::{Replier, ReplyLine};

@@ -1,0 +1,141 @@
+//! Replies that are held until they are given to a sink.
+
+ghost use Rattle.std.specs.Prelude.{◌≡◌, ◌≢◌, ◌||◌, ◌++◌, [], false, IfErr, IfOk, OnErr, OnOk};
+ghost use Rattle.std.specs.Io.KnownBytes.{Appends};
+ghost use Rattle.outer_io.specs.Faults.{HasCause};
+ghost use Rattle.outer_io.specs.Front.{AppendsFront};
+ghost use Rattle.outer_io.specs.Lines.{IsUnbroken};
+ghost use Rattle.outer_io.specs.Runs.{line_shown};
+ghost use Rattle.command_parts.specs.Writing.{IsWriteFault};
+ghost use Rattle.line_run.specs.Replies.{status_of};
+ghost use Rattle.line_run.specs.Shown.{reply_shown};
+ghost use Rattle.line_run.specs.Steps.{Adds, Gives};
+
+use crate::replier::{Replier, ReplyLine};
+use command_parts::{Status, write_bytes};
+use json_reading::Scratch;
+use outer_io::{Line, LineReader, Sink};
+use std::alloc::{AllocError, Global};
+
+/// So many bytes of replies are given at once, where no more are wanted before.
+const FULL: usize = 65_536;
+
+/// Replies that were not given to the sink yet, and whether one of all so far is an error.
+#[derive(Drop)]
+pub(crate) struct Replies {
+    pub(crate) bytes: Vec<u8>,
+    pub(crate) any_error: bool,
+}
+
+/// The reply to a line.
+fn reply_to<R: Replier>(
+    replier: &R,
+    line: &Line,
+    scratch: &mut Scratch,
+) -> Result<ReplyLine, AllocError>
+    requires ready { R.ready replier.now }
+    requires some { line.now ≢ Line.End }
+    ensures { IfOk result (λ reply. R.gives replier.now (line_shown line.now) (reply_shown reply)) }
+{
+    match line {
+        Line::Whole(bytes) => replier.reply(bytes.as_slice(), scratch),
+        Line::Long => replier.reply_to_long(),
+        Line::End => unreachable!(),
+    }
+}
+
+impl Replies {
+    /// No reply yet.
+    pub(crate) fn new(alloc: Global) -> Replies
+        ensures bytes { result.bytes.items ≡ [] }
+        ensures error { result.any_error ≡ false }
+    {
+        Replies {
+            bytes: Vec::new(alloc),
+            any_error: false,
+        }
+    }
+
+    /// How a run ends whose replies these are.
+    pub(crate) fn status(&self) -> Status
+        ensures { result ≡ status_of self.now.any_error }
+    {
+        if self.any_error {
+            Status::SomeErrors
+        } else {
+            Status::Done
+        }
+    }
+
+    /// Puts a reply behind the others.
+    fn push(&mut self, reply: ReplyLine) -> Result<(), AllocError>
+        ensures bytes { OnOk result (self.new.bytes.items ≡ self.old.bytes.items ++ (reply_shown reply).bytes) }
+        ensures error { OnOk result (self.new.any_error ≡ (self.old.any_error || reply.is_error)) }
+    {
+        self.bytes.extend_from_slice(reply.text.as_bytes())?;
+        self.any_error = self.any_error || reply.is_error;
+        Ok(())
+    }
+
+    /// Puts the reply to a line behind the others.
+    pub(crate) fn add<R: Replier>(
+        &mut self,
+        replier: &R,
+        line: &Line,
+        scratch: &mut Scratch,
+    ) -> Result<(), AllocError>
+        requires ready { R.ready replier.now }
+        requires some { line.now ≢ Line.End }
+        ensures { OnOk result (Adds (R.gives replier.now) (line_shown line.now) self.old self.new) }
+    {
+        let reply = reply_to(replier, line, scratch)?;
+        self.push(reply)
+    }
+
+    /// Gives all replies to a sink.
+    fn give<K: Sink>(&mut self, out: &mut K) -> Result<(), Status>
+        ensures whole { OnOk result (Gives (K.held out.old) (K.held out.new) self.old.bytes.items self.new.bytes.items) }
+        ensures none { OnOk result (self.new.bytes.items ≡ []) }
+        ensures front { AppendsFront (K.held out.old) (K.held out.new) self.old.bytes.items }
+        ensures error { self.new.any_error ≡ self.old.any_error }
+        ensures fault { IfErr result IsWriteFault }
+        ensures cause { HasCause Status.WriteFault (K.faults out.old) (K.faults out.new) result }
+    {
+        write_bytes(self.bytes.as_slice(), out)?;
+        self.bytes.clear();
+        Ok(())
+    }
+
+    /// Gives all replies to a sink, where they are many.
+    pub(crate) fn give_many<K: Sink>(&mut self, out: &mut K) -> Result<(), Status>
+        ensures whole { OnOk result (Gives (K.held out.old) (K.held out.new) self.old.bytes.items self.new.bytes.items) }
+        ensures front { OnErr result (AppendsFront (K.held out.old) (K.held out.new) self.old.bytes.items) }
+        ensures error { self.new.any_error ≡ self.old.any_error }
+        ensures fault { IfErr result IsWriteFault }
+        ensures cause { HasCause Status.WriteFault (K.faults out.old) (K.faults out.new) result }
+    {
+        if self.bytes.len() < FULL {
+            return Ok(());
+        }
+        self.give(out)
+    }
+
+    /// Gives all replies to a sink, where a reader has no line without asking its source.
+    pub(crate) fn give_before<K: Sink>(
+        &mut self,
+        reader: &LineReader,
+        out: &mut K,
+    ) -> Result<(), Status>
+        ensures whole { OnOk result (Gives (K.held out.old) (K.held out.new) self.old.bytes.items self.new.bytes.items) }
+        ensures none { OnOk result (IsUnbroken reader.now.intake.pending → self.new.bytes.items ≡ []) }
+        ensures front { OnErr result (AppendsFront (K.held out.old) (K.held out.new) self.old.bytes.items) }
+        ensures error { self.new.any_error ≡ self.old.any_error }
+        ensures fault { IfErr result IsWriteFault }
+        ensures cause { HasCause Status.WriteFault (K.faults out.old) (K.faults out.new) result }
+    {
+        if reader.has_line() {
+            return Ok(());
+        }
+        self.give(out)
+    }
+}
