@@ -7,6 +7,7 @@ mod catches;
 mod containers;
 mod dynamic;
 mod elements;
+mod instances;
 mod literals;
 mod operands;
 mod operators;
@@ -199,7 +200,7 @@ fn values_of_any_type_end(rt: HostRuntime) -> Result<(), Fail> {
         dynamic::ACCESSES,
         dynamic::INDEXES,
         dynamic::REACHED,
-        pair_tables::INSTANCES,
+        instances::INSTANCES,
     ] {
         all_end(&rt, &compiler, USUAL, table)?;
     }

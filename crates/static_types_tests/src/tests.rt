@@ -1,6 +1,7 @@
 //! Scripts that break no rule, and scripts that break one.
 
 mod crossing;
+mod element_rows;
 mod pairs;
 mod reading;
 mod rows;
@@ -61,11 +62,11 @@ fn catches_are_typed_or_refused(rt: HostRuntime) -> Result<(), TestFail> {
 #[test]
 fn elements_are_typed_or_refused(rt: HostRuntime) -> Result<(), TestFail> {
     let reader = Reader::new(rt.alloc(), Wanted::Number)?;
-    are_typed(&rt, &reader, &rows::TYPED_ELEMENTS);
-    are_refused(&rt, &reader, &rows::ELEMENTS);
-    are_refused(&rt, &reader, &rows::CONTAINERS);
-    are_refused(&rt, &reader, &rows::LOOPS);
-    are_refused(&rt, &reader, &rows::DYNAMIC);
+    are_typed(&rt, &reader, &element_rows::TYPED_ELEMENTS);
+    are_refused(&rt, &reader, &element_rows::ELEMENTS);
+    are_refused(&rt, &reader, &element_rows::CONTAINERS);
+    are_refused(&rt, &reader, &element_rows::LOOPS);
+    are_refused(&rt, &reader, &element_rows::DYNAMIC);
     Ok(())
 }
 
