@@ -46,20 +46,20 @@ some_input None = ([], tt)
 some_input (Some known) = (known, refl)
 
 -- what is delivered where the input does not matter
-pub delivers_over : (tells : Told → Type 0) (over taken : List ℕ → Told → Type 0) → ((input : List ℕ) (told : Told) → tells told → over input told)
+pub delivers_over : (tells : Told → Type 0) (over taken : List ℕ → Told → Type 0) (past : List ℕ → Type 0) → ((input : List ℕ) (told : Told) → tells told → over input told)
     → ((input : List ℕ) (told : Told) → over input told → tells told) → (status : Status) (left left' old new : Option (List ℕ)) → Delivers tells status old new
-    → DeliversOver over taken status left left' old new
-delivers_over tells over taken to from s.Done left left' old new h = let i = some_input left in (i.0, i.1, h.0, to i.0 h.0 h.1, h.2, h.3)
-delivers_over tells over taken to from s.SomeErrors left left' old new h = let i = some_input left in (i.0, i.1, h.0, to i.0 h.0 h.1, h.2, h.3)
-delivers_over tells over taken to from s.Refused left left' old new h = let i = some_input left in (i.0, i.1, h.0, to i.0 h.0 h.1, h.2, h.3)
-delivers_over tells over taken to from s.Usage left left' old new h = let i = some_input left in (i.0, i.1, h.0, to i.0 h.0 h.1, h.2, h.3)
-delivers_over tells over taken to from s.FileAbsent left left' old new h = let i = some_input left in (i.0, i.1, h.0, to i.0 h.0 h.1, h.2, h.3)
-delivers_over tells over taken to from s.FileLong left left' old new h = let i = some_input left in (i.0, i.1, h.0, to i.0 h.0 h.1, h.2, h.3)
-delivers_over tells over taken to from s.WriteFault left left' old new h = let i = some_input left in (i.0, i.1, h.0, to i.0 h.0 h.1, h.2)
-delivers_over tells over taken to from s.NoMemory left left' old new h = let i = some_input left in (i.0, i.1, λ told k. h told (from i.0 told k))
-delivers_over tells over taken to from s.FileFault left left' old new h = h
-delivers_over tells over taken to from s.ReadFault left left' old new h = absurd h
-delivers_over tells over taken to from s.InputLong left left' old new h = absurd h
+    → DeliversOver over taken past status left left' old new
+delivers_over tells over taken past to from s.Done left left' old new h = let i = some_input left in (i.0, i.1, h.0, to i.0 h.0 h.1, h.2, h.3)
+delivers_over tells over taken past to from s.SomeErrors left left' old new h = let i = some_input left in (i.0, i.1, h.0, to i.0 h.0 h.1, h.2, h.3)
+delivers_over tells over taken past to from s.Refused left left' old new h = let i = some_input left in (i.0, i.1, h.0, to i.0 h.0 h.1, h.2, h.3)
+delivers_over tells over taken past to from s.Usage left left' old new h = let i = some_input left in (i.0, i.1, h.0, to i.0 h.0 h.1, h.2, h.3)
+delivers_over tells over taken past to from s.FileAbsent left left' old new h = let i = some_input left in (i.0, i.1, h.0, to i.0 h.0 h.1, h.2, h.3)
+delivers_over tells over taken past to from s.FileLong left left' old new h = let i = some_input left in (i.0, i.1, h.0, to i.0 h.0 h.1, h.2, h.3)
+delivers_over tells over taken past to from s.WriteFault left left' old new h = let i = some_input left in (i.0, i.1, h.0, to i.0 h.0 h.1, h.2)
+delivers_over tells over taken past to from s.NoMemory left left' old new h = let i = some_input left in (i.0, i.1, λ told k. h told (from i.0 told k))
+delivers_over tells over taken past to from s.FileFault left left' old new h = h
+delivers_over tells over taken past to from s.ReadFault left left' old new h = absurd h
+delivers_over tells over taken past to from s.InputLong left left' old new h = absurd h
 
 -- one thing is told, and the run ends by a stop that tells it
 pub stop_delivers : (tells : Told → Type 0) (end : Stop) (status : Status) (old new : Option (List ℕ)) → ((a b : Told) → tells a → tells b → a ≡ b)

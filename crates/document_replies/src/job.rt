@@ -29,6 +29,13 @@ pub struct DocumentJob<D> {
     pub script: D,
 }
 
+/// The memory that is kept from one line to the next: what reads lines, and what runs scripts.
+#[derive(Drop)]
+pub struct DocumentScratch<M> {
+    pub reading: Scratch,
+    pub running: M,
+}
+
 /// No reply.
 fn nothing(alloc: Global) -> ReplyLine
     ensures { reply_shown result ≡ no_reply }
@@ -62,17 +69,21 @@ fn reply_to_outcome(settings: &Settings, outcome: &Outcome) -> Result<ReplyLine,
 
 impl<D: DocumentScript> DocumentJob<D> {
     /// The reply to a line that is bound.
-    fn reply_to_bound(&self, bound: Bound) -> Result<ReplyLine, AllocError>
+    fn reply_to_bound(&self, bound: Bound, memory: &mut D::Memory) -> Result<ReplyLine, AllocError>
         requires { D.takes self.now.script bound.args }
         ensures { IfOk result (λ reply. IsReplyTo self.now.settings.kind (by_start (D.ends self.now.script)) (Ok (start_view bound)) (reply_shown reply)) }
     {
         let (heap, args) = bound.into_parts();
-        let outcome = self.script.run(heap, args.into_vec())?;
+        let outcome = self.script.run(memory, heap, args.into_vec())?;
         reply_to_outcome(&self.settings, &outcome)
     }
 
     /// The reply to a line that is not blank.
-    fn reply_to_document(&self, line: &[u8], scratch: &mut Scratch) -> Result<ReplyLine, AllocError>
+    fn reply_to_document(
+        &self,
+        line: &[u8],
+        scratch: &mut DocumentScratch<D::Memory>,
+    ) -> Result<ReplyLine, AllocError>
         requires { (args : List Value) → HasArguments self.now.settings.kind args → D.takes self.now.script args }
         ensures { IfOk result (λ reply. IsReplyTo self.now.settings.kind (by_start (D.ends self.now.script)) (start_of (documents_of self.now.settings) line.now) (reply_shown reply)) }
     {
@@ -84,9 +95,9 @@ impl<D: DocumentScript> DocumentJob<D> {
             &settings.params,
             line,
             settings.room,
-            scratch,
+            &mut scratch.reading,
         ) {
-            Ok(bound) => self.reply_to_bound(bound),
+            Ok(bound) => self.reply_to_bound(bound, &mut scratch.running),
             Err(BindErr::Syntax) => reply_to_fault(settings.alloc, LineFault::Syntax),
             Err(BindErr::Number) => reply_to_fault(settings.alloc, LineFault::Number),
             Err(BindErr::Field) => reply_to_fault(settings.alloc, LineFault::Field),
@@ -96,11 +107,24 @@ impl<D: DocumentScript> DocumentJob<D> {
 }
 
 impl<D: DocumentScript> Replier for DocumentJob<D> {
+    type Scratch = DocumentScratch<D::Memory>;
+
     ghost ready = { λ job. (args : List Value) → HasArguments job.settings.kind args → D.takes job.script args };
 
     ghost gives = { λ job line reply. IsReply (documents_of job.settings) (by_start (D.ends job.script)) line reply };
 
-    fn reply(&self, line: &[u8], scratch: &mut Scratch) -> Result<ReplyLine, AllocError> {
+    fn scratch(&self, alloc: Global) -> DocumentScratch<D::Memory> {
+        DocumentScratch {
+            reading: Scratch::new(alloc),
+            running: self.script.memory(alloc),
+        }
+    }
+
+    fn reply(
+        &self,
+        line: &[u8],
+        scratch: &mut DocumentScratch<D::Memory>,
+    ) -> Result<ReplyLine, AllocError> {
         if is_blank(line) {
             return Ok(nothing(self.settings.alloc));
         }

@@ -6,6 +6,6 @@ mod job;
 mod script;
 mod settings;
 
-pub use job::DocumentJob;
+pub use job::{DocumentJob, DocumentScratch};
 pub use script::DocumentScript;
 pub use settings::Settings;

@@ -1,6 +1,5 @@
 -- What the code prepares is what is told.
-use Rattle.std.proofs.Common.{◌≡◌, ℕ, List, Option, Some, None, IfSome, IfOk, Result, Ok, Err, refl, sym, ap, subst}
-use Rattle.std.specs.declared.alloc.AllocError.{AllocError}
+use Rattle.std.proofs.Common.{◌≡◌, ℕ, List, Option, Some, None, IfSome, Result, Ok, Err, refl, sym, ap, subst}
 use Rattle.object_values.specs.declared.value.Value.{Value}
 use Rattle.object_heap.specs.Store.{Store}
 use Rattle.object_heap.specs.declared.outcome.Outcome.{Outcome}
@@ -21,7 +20,7 @@ use Rattle.job_loading.specs.Loading.{JobUnder, refusal, job_under}
 use Rattle.job_loading.specs.Seen.{read_view}
 use Rattle.job_commands.specs.Preparing.{CompilesJob, PreparesSo, EndsAsItsProgram, with_program}
 use Rattle.job_commands.specs.Contexts.{types_of}
-use Rattle.job_commands.specs.Scripts.{Prepared, Prepares, PreparesRead, PreparesJob, script_of}
+use Rattle.job_commands.specs.Scripts.{Prepares, PreparesRead, PreparesJob, script_of}
 use Rattle.job_commands.specs.declared.script.LimitedScript.{LimitedScript}
 
 pub if_some : (found : Option Told) (P Q : Told → Type 0) → ((told : Told) → P told → Q told) → IfSome found P → IfSome found Q
@@ -70,7 +69,5 @@ prepares_script with content name found script is (p, program, of) = (
 )
 
 -- a run of the code is that of each program of which the script is
-pub runs_so : (s : LimitedScript) (store : Store) (args : List Value) (result : Result Outcome AllocError) → IfOk result (RunsAsItsProgram s.script store args s.limits)
-    → IfOk result (λ (o : Outcome). EndsAsItsProgram s store args o.end o.heap.objects)
-runs_so s store args (Ok o) runs = λ allow context p is has. let out = runs allow context p is has in (world_left o out.left, out.ends, refl)
-runs_so s store args (Err wrong) runs = tt
+pub ran_so : (s : LimitedScript) (store : Store) (args : List Value) (o : Outcome) → RunsAsItsProgram s.script store args s.limits o → EndsAsItsProgram s store args o.end o.heap.objects
+ran_so s store args o runs = λ allow context p is has. let out = runs allow context p is has in (world_left o out.left, out.ends, refl)

@@ -1,5 +1,5 @@
 -- The documents of a job that is prepared.
-use Rattle.std.proofs.Common.{◌≡◌, ℕ, List, [], Option, Some, None, IfSome, sym, ap, ◌∙◌, refl, subst}
+use Rattle.std.proofs.Common.{◌≡◌, ℕ, List, Option, Some, None, IfSome, sym, ap, ◌∙◌, subst}
 use Rattle.object_values.specs.declared.value.Value.{Value}
 use Rattle.verifier_soundness.specs.Rows.{HaveRows}
 use Rattle.script_engine.specs.Running.{TakesTyped}
@@ -9,10 +9,8 @@ use Rattle.command_parts.specs.declared.status.Status.{Status}
 use Rattle.command_parts.specs.declared.status.Status.TheVariants as s
 use Rattle.command_parts.proofs.Delivering.{nothing, stop_delivers}
 use Rattle.command_parts.specs.declared.stop.Stop.{Stop}
-use Rattle.command_parts.specs.Delivers.{Delivers}
 use Rattle.command_parts.specs.Ending.{EndsSo}
 use Rattle.command_parts.specs.Stops.{stop_told}
-use Rattle.command_parts.specs.Told.{Told}
 use Rattle.line_run.specs.Passing.{Passes}
 use Rattle.line_run.specs.Replies.{Reply}
 use Rattle.line_run.proofs.Pass.{pass_nothing}

@@ -1,17 +1,15 @@
 -- The replies of the code are those of the definition, and each line has one.
-use Rattle.std.proofs.Common.{◌≡◌, ℕ, Bool, true, false, List, [], ◌∷◌, ◌++◌, Option, Some, None, Result, Ok, Err, map, refl, sym, ap, ◌∙◌, subst, append_assoc}
+use Rattle.std.proofs.Common.{◌≡◌, ℕ, Bool, true, false, List, [], ◌∷◌, ◌++◌, Some, Result, Ok, Err, refl, sym, ap, ◌∙◌, append_assoc}
 use Rattle.object_values.specs.declared.object.Object.{Object}
-use Rattle.object_values.specs.declared.value.Value.{Value}
 use Rattle.object_heap.specs.declared.outcome.End.{End}
 use Rattle.object_heap.specs.declared.outcome.End.TheVariants as o
 use Rattle.object_heap.specs.declared.outcome.Which.{Which}
 use Rattle.object_heap.specs.declared.outcome.Which.TheVariants as which
-use Rattle.run_state.specs.World.{World, End as Ended}
+use Rattle.run_state.specs.World.{World}
 use Rattle.machine.specs.Seen.{limit_of}
 use Rattle.outer_io.specs.Lines.{InputLine, Within, Beyond, Nothing}
 use Rattle.typed_tree.specs.declared.program.Program.{Program}
 use Rattle.script_engine.specs.Compiling.{IsScriptOf}
-use Rattle.script_engine.specs.Ends.{RunsTo}
 use Rattle.script_engine.specs.Laws.{ProgramsEnd, ProgramsEndOnce}
 use Rattle.script_engine.specs.Programs.{IsProgramOf}
 use Rattle.script_engine.specs.Running.{end_seen}
@@ -22,14 +20,14 @@ use Rattle.json_replies.specs.Searching.{search_reply_of}
 use Rattle.job_replies.specs.Refusals.{line_error}
 use Rattle.job_replies.specs.declared.line_fault.LineFault.TheVariants as fault
 use Rattle.document_replies.specs.Jobs.{HasArguments, by_start}
-use Rattle.document_replies.specs.Replies.{Documents, is_blank, start_of, as_line, fault_of, IsReplyTo, IsReplyUnless, IsReply}
+use Rattle.document_replies.specs.Replies.{Documents, is_blank, start_of, as_line, fault_of, IsReplyTo, IsReplyUnless}
 use Rattle.document_replies.proofs.Starts.{documents_take}
 use Rattle.job_loading.specs.Seen.{read_view}
 use Rattle.job_commands.specs.Contexts.{kind_of, types_of}
 use Rattle.job_commands.specs.Documents.{documents_for, limited, GivesReplies}
 use Rattle.job_commands.specs.Preparing.{with_program, EndsAsItsProgram}
 use Rattle.job_commands.specs.Running.{limits_in, world_in, which_of, end_of, objects_of, EndsOver, documents_in, IsReplyOf}
-use Rattle.job_commands.specs.Scripts.{Prepared, Prepares, prepared, script_of}
+use Rattle.job_commands.specs.Scripts.{Prepared, script_of}
 use Rattle.job_commands.specs.declared.preparing.PreparedJob.{PreparedJob}
 use Rattle.job_commands.proofs.Typed.{kind_context, has_all}
 

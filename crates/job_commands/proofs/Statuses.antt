@@ -7,7 +7,6 @@ use Rattle.command_parts.specs.declared.status.Status.{Status}
 use Rattle.command_parts.specs.declared.status.Status.TheVariants as s
 use Rattle.command_parts.specs.declared.stop.Stop.{Stop}
 use Rattle.command_parts.specs.declared.stop.Stop.TheVariants as stop
-use Rattle.command_parts.specs.Delivers.{Delivers}
 use Rattle.command_parts.specs.Ending.{EndsSo}
 use Rattle.command_parts.specs.Told.{Told}
 use Rattle.command_parts.specs.Writing.{IsWriteFault}
@@ -15,7 +14,6 @@ use Rattle.line_run.specs.Passing.{Passes}
 use Rattle.line_run.specs.Replies.{Reply}
 use Rattle.job_commands.specs.Documents.{EndsBy, EndsPrepared, LeavesInput}
 use Rattle.job_commands.specs.Contexts.{kind_of}
-use Rattle.job_commands.specs.Running.{no_documents}
 use Rattle.job_commands.specs.declared.preparing.PreparedJob.{PreparedJob}
 
 -- those of a run that ends before its work

@@ -1,6 +1,6 @@
 -- One thing is told of a job, and what is delivered of it.
-use Rattle.std.proofs.Common.{◌≡◌, ◌≢◌, ℕ, Bool, true, false, List, [], ◌∷◌, ◌++◌, Option, Some, None, IfSome, Result, Ok, Err, map, inl, inr, ◌⊎◌, refl, sym, ap, ◌∙◌, subst, append_assoc, string_bytes}
-use Rattle.std.specs.Io.KnownBytes.{IsAtEnd, Appends, Consumes}
+use Rattle.std.proofs.Common.{◌≡◌, ℕ, List, [], ◌++◌, Option, Some, None, IfSome, Result, Ok, Err, map, refl, sym, ap, ◌∙◌, subst, append_assoc, string_bytes}
+use Rattle.std.specs.Io.KnownBytes.{Appends}
 use Rattle.pl_types.specs.declared.refusal.Refusal.{Refusal}
 use Rattle.typed_tree.specs.declared.program.Program.{Program}
 use Rattle.outer_io.specs.Front.{AppendsFront}
@@ -14,23 +14,22 @@ use Rattle.search_ctx.specs.declared.line.SearchKind.{SearchKind}
 use Rattle.command_parts.specs.declared.status.Status.{Status}
 use Rattle.command_parts.specs.declared.status.Status.TheVariants as s
 use Rattle.command_parts.specs.Delivers.{Delivers}
-use Rattle.command_parts.specs.DeliversOver.{IsInput, DeliversOver}
+use Rattle.command_parts.specs.DeliversOver.{DeliversOver}
 use Rattle.command_parts.specs.declared.stop.Stop.{Stop}
 use Rattle.command_parts.specs.declared.stop.Stop.TheVariants as stop
 use Rattle.command_parts.specs.Ending.{EndsSo}
 use Rattle.command_parts.specs.Stops.{stop_told}
 use Rattle.command_parts.specs.Told.{Told, silent}
 use Rattle.command_parts.proofs.Delivering.{nothing, no_front, some_input, delivers_same, delivers_over, stop_delivers}
-use Rattle.line_run.specs.Passing.{PassesAll, PassesTaken, PassesFront, Passes}
+use Rattle.line_run.specs.Passing.{PassesFront, Passes}
 use Rattle.line_run.specs.Replies.{Reply, AreReplies, bytes_of, lines_told, status_told, TellsInput, TellsTaken}
-use Rattle.job_loading.specs.Loading.{JobUnder, refusal, job_under}
+use Rattle.job_loading.specs.Loading.{JobUnder, job_under}
 use Rattle.job_loading.specs.Seen.{read_view}
-use Rattle.json_replies.specs.Replies.{refusal_of}
 use Rattle.job_commands.specs.Checking.{accepts_told, told_of_check, TellsCheck}
 use Rattle.job_commands.specs.Contexts.{kind_of, types_of}
 use Rattle.job_commands.specs.Documents.{GivesReplies, EndsBy, EndsPrepared}
 use Rattle.job_commands.specs.Preparing.{with_program}
-use Rattle.job_commands.specs.Running.{IsReplyOf, no_documents, TellsOver, TellsPrepared, TellsRun, TellsRunTaken}
+use Rattle.job_commands.specs.Running.{IsReplyOf, no_documents, TellsOver, TellsPrepared, TellsRun, TellsRunTaken, RunsPast}
 use Rattle.job_commands.specs.Scripts.{Prepared, prepared, Prepares, PreparesRead, PreparesJob, script_of}
 use Rattle.job_commands.specs.declared.preparing.PreparedJob.{PreparedJob}
 use Rattle.job_commands.proofs.Replies.{are_map, are_some, are_front, are_once, bytes_append, gives_reply, reply_once, reply_some}
@@ -161,10 +160,11 @@ module _ (texts : TextsAreAnsweredOnce) (ends : ProgramsEndOnce) (some_texts : T
         (subst (λ (l : List Reply). AppendsFront old new (bytes_of l)) (sym more.1) (front_told old new passes.replies more.0 passes.appended))
 
     passes_deliver : (status : Status) (left left' old new : Option (List ℕ)) → Passes (GivesReplies kind job) limit status left left' old new
-        → DeliversOver (TellsRun content name) (TellsRunTaken content name) status left left' old new
+        → DeliversOver (TellsRun content name) (TellsRunTaken content name) (RunsPast content name) status left left' old new
     passes_deliver s.Done left left' old new (h, end) = (h.input, h.is, h.told, tells_all h.input h.told h.tells, h.ends, h.appended)
     passes_deliver s.SomeErrors left left' old new (h, end) = (h.input, h.is, h.told, tells_all h.input h.told h.tells, h.ends, h.appended)
-    passes_deliver s.InputLong left left' old new h = (h.input, h.is, h.told, tells_all h.input h.told h.tells, h.ends, h.appended)
+    passes_deliver s.InputLong left left' old new (h, more) =
+        ((h.input, h.is, h.told, tells_all h.input h.told h.tells, h.ends, h.appended), (more.front, more.consumed, (with_program job p, is, more.past)))
     passes_deliver s.ReadFault left left' old new h = (h.front, h.consumed, h.told, tells_taken h.front h.told h.tells, h.appended)
     passes_deliver s.WriteFault left left' old new h =
         let t = run_some some_ends some_texts content name h.input in
@@ -178,20 +178,20 @@ module _ (texts : TextsAreAnsweredOnce) (ends : ProgramsEndOnce) (some_texts : T
 
   -- no documents
   none_deliver : (status : Status) (left left' old new : Option (List ℕ)) → kind_of job.found.job.context ≡ None → Delivers (λ told. told ≡ no_documents) status old new
-      → DeliversOver (TellsRun content name) (TellsRunTaken content name) status left left' old new
+      → DeliversOver (TellsRun content name) (TellsRunTaken content name) (RunsPast content name) status left left' old new
   none_deliver status left left' old new of =
-      delivers_over (λ told. told ≡ no_documents) (TellsRun content name) (TellsRunTaken content name)
+      delivers_over (λ told. told ≡ no_documents) (TellsRun content name) (TellsRunTaken content name) (RunsPast content name)
       (λ input told told_is. (Ok (with_program job p), is, subst (λ (k : Option SearchKind). TellsOver k (with_program job p) input told) (sym of) told_is))
       (λ input told tells. subst (λ (k : Option SearchKind). TellsOver k (with_program job p) input told) of
       (subst (λ (r : Result Prepared Told). TellsPrepared r input told) (job_once texts command.Run content name tells.0 (Ok (with_program job p)) tells.1 is) tells.2)) status left left' old new
 
   by_kind : (kind : Option SearchKind) → kind_of job.found.job.context ≡ kind → (status : Status) (left left' old new : Option (List ℕ)) → EndsBy kind job status left left' old new
-      → DeliversOver (TellsRun content name) (TellsRunTaken content name) status left left' old new
+      → DeliversOver (TellsRun content name) (TellsRunTaken content name) (RunsPast content name) status left left' old new
   by_kind (Some kind) of status left left' old new h = passes_deliver kind of status left left' old new h
   by_kind None of status left left' old new h = none_deliver status left left' old new of h
 
   pub prepared_delivers : (status : Status) (left left' old new : Option (List ℕ)) → EndsPrepared job status left left' old new
-      → DeliversOver (TellsRun content name) (TellsRunTaken content name) status left left' old new
+      → DeliversOver (TellsRun content name) (TellsRunTaken content name) (RunsPast content name) status left left' old new
   prepared_delivers = by_kind (kind_of job.found.job.context) refl
 
 -- ---- what is delivered of a job that is checked, or that is not prepared
@@ -214,14 +214,14 @@ module _ (texts : TextsAreAnsweredOnce) (content : List ℕ → Option (List ℕ
 
   -- the same for `run`, whatever the input is
   run_told : (told : Told) → PreparesJob command.Run content name (Err told) → (status : Status) (left left' old new : Option (List ℕ)) → Delivers (λ other. other ≡ told) status old new
-      → DeliversOver (TellsRun content name) (TellsRunTaken content name) status left left' old new
+      → DeliversOver (TellsRun content name) (TellsRunTaken content name) (RunsPast content name) status left left' old new
   run_told told is status left left' old new =
-      delivers_over (λ other. other ≡ told) (TellsRun content name) (TellsRunTaken content name) (λ input other at. (Err told, is, at))
+      delivers_over (λ other. other ≡ told) (TellsRun content name) (TellsRunTaken content name) (RunsPast content name) (λ input other at. (Err told, is, at))
       (λ input other tells. subst (λ (r : Result Prepared Told). TellsPrepared r input other) (job_once texts command.Run content name tells.0 (Err told) tells.1 is) tells.2)
       status left left' old new
 
   pub run_stops : (end : Stop) → IfSome (stop_told end) (λ told. PreparesJob command.Run content name (Err told)) → (status : Status) (left left' old new : Option (List ℕ)) → EndsSo end status old new
-      → DeliversOver (TellsRun content name) (TellsRunTaken content name) status left left' old new
+      → DeliversOver (TellsRun content name) (TellsRunTaken content name) (RunsPast content name) status left left' old new
   run_stops (stop.Refused line) is status left left' old new ended =
       run_told (record { status = s.Refused; bytes = string_bytes line }) is status left left' old new (stop_delivers (λ told. told ≡ record { status = s.Refused; bytes = string_bytes line }) (stop.Refused line) status old new (λ a b h k. h ∙ sym k) refl ended)
   run_stops stop.FileAbsent is status left left' old new ended =
@@ -229,9 +229,9 @@ module _ (texts : TextsAreAnsweredOnce) (content : List ℕ → Option (List ℕ
   run_stops stop.FileLong is status left left' old new ended =
       run_told (silent s.FileLong) is status left left' old new (stop_delivers (λ told. told ≡ silent s.FileLong) stop.FileLong status old new (λ a b h k. h ∙ sym k) refl ended)
   run_stops stop.FileFault is status left left' old new (ends, same) =
-      subst (λ (t : Status). DeliversOver (TellsRun content name) (TellsRunTaken content name) t left left' old new) (sym ends)
+      subst (λ (t : Status). DeliversOver (TellsRun content name) (TellsRunTaken content name) (RunsPast content name) t left left' old new) (sym ends)
       (subst (λ (n : Option (List ℕ)). Appends old n []) (sym same) (nothing old))
   run_stops stop.NoMemory is status left left' old new (ends, same) =
       let i = some_input left in
-      subst (λ (t : Status). DeliversOver (TellsRun content name) (TellsRunTaken content name) t left left' old new) (sym ends)
+      subst (λ (t : Status). DeliversOver (TellsRun content name) (TellsRunTaken content name) (RunsPast content name) t left left' old new) (sym ends)
       (i.0, i.1, λ told k. subst (λ (n : Option (List ℕ)). AppendsFront old n told.bytes) (sym same) (no_front old told.bytes))

@@ -1,5 +1,5 @@
 -- The contexts are contexts, and the arguments of a kind are of their types.
-use Rattle.std.proofs.Common.{◌≡◌, ◌≢◌, ℕ, List, [], ◌∷◌, Option, Some, None, codes, get_or, length, map, refl, sym, ap, subst, arith}
+use Rattle.std.proofs.Common.{◌≡◌, ◌≢◌, ℕ, List, Option, Some, None, codes, get_or, length, map, refl, sym, ap, subst, arith}
 use Rattle.pl_types.specs.declared.ty.Ty.{out-Ty}
 use Rattle.pl_types.specs.declared.ty.Ty.TheVariants as t
 use Rattle.pl_types.specs.declared.primitive.Primitive.TheVariants as prim

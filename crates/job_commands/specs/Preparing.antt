@@ -1,6 +1,5 @@
 -- What the code prepares as what is meant.
-use Rattle.std.specs.Prelude.{◌≡◌, ℕ, List, map, Result, Ok, Err, IfSome}
-use Rattle.pl_types.specs.declared.refusal.Refusal.{Refusal}
+use Rattle.std.specs.Prelude.{◌≡◌, List, map, Result, Ok, Err, IfSome}
 use Rattle.object_heap.specs.Store.{Store}
 use Rattle.object_heap.specs.declared.outcome.End.{End}
 use Rattle.object_values.specs.declared.object.Object.{Object}

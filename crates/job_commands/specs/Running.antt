@@ -1,6 +1,6 @@
 -- What `run` is to write over an input, and how it is to end: a job that is read, and then a reply for each line of the input, which
 -- depends on the job and the line alone.
-use Rattle.std.specs.Prelude.{◌≡◌, ℕ, List, [], Option, Some, None, Result, Ok, Err, codes}
+use Rattle.std.specs.Prelude.{◌≡◌, ℕ, ◌+◌, List, [], Option, Some, None, Result, Ok, Err, codes, length}
 use Rattle.pl_types.specs.Host.{no_host}
 use Rattle.object_values.specs.declared.object.Object.{Object}
 use Rattle.object_heap.specs.Store.{Store}
@@ -93,3 +93,7 @@ TellsRun content name input told = (answer : Result Prepared Told) × PreparesJo
 abbrev pub TellsRunTaken : (List ℕ → Option (List ℕ)) → List ℕ → List ℕ → Told → Type 0
 TellsRunTaken content name front told =
     (p : Prepared) × PreparesJob command.Run content name (Ok p) × (kind : SearchKind) × (kind_of p.under.job.context ≡ Some kind) × TellsTaken (IsReplyOf kind p) p.under.job.limits.input front told
+
+-- as many bytes were taken of the input as the job allows, and one more
+abbrev pub RunsPast : (List ℕ → Option (List ℕ)) → List ℕ → List ℕ → Type 0
+RunsPast content name front = (p : Prepared) × PreparesJob command.Run content name (Ok p) × (length front ≡ p.under.job.limits.input + 1)

@@ -11,7 +11,7 @@ ghost use Rattle.command_parts.specs.DeliversOver.{DeliversOver};
 ghost use Rattle.line_run.specs.Passing.{Passes};
 ghost use Rattle.job_commands.specs.Contexts.{kind_of, types_of};
 ghost use Rattle.job_commands.specs.Documents.{EndsPrepared, GivesReplies, IsDocumentJob, LeavesInput};
-ghost use Rattle.job_commands.specs.Running.{TellsRun, TellsRunTaken};
+ghost use Rattle.job_commands.specs.Running.{RunsPast, TellsRun, TellsRunTaken};
 
 use crate::contexts::kind_of;
 use crate::preparing::{PreparedJob, prepare};
@@ -119,7 +119,7 @@ pub fn run<F: Files, S: Source, K: Sink>(
     out: &mut K,
 ) -> Status
     ensures told { (content : List ℕ → Option (List ℕ)) × IfSome (F.content files.old) (λ known. known ≡ content)
-        × DeliversOver (TellsRun content name.now) (TellsRunTaken content name.now) result (S.left input.old) (S.left input.new) (K.held out.old) (K.held out.new) }
+        × DeliversOver (TellsRun content name.now) (TellsRunTaken content name.now) (RunsPast content name.now) result (S.left input.old) (S.left input.new) (K.held out.old) (K.held out.new) }
     ensures command { result ≢ Status.Usage }
     // With status 0 or 1 the input was read to its end.
     ensures ended { (result ≡ Status.Done) ⊎ (result ≡ Status.SomeErrors) → IsAtEnd (S.left input.new) }

@@ -3,11 +3,12 @@
 ghost use Rattle.job_commands.specs.Preparing.{EndsAsItsProgram, TakesThem};
 
 use document_replies::DocumentScript;
-use machine::Limits;
+use machine::{Limits, RunMemory};
 use object_heap::{Heap, Outcome};
 use object_values::Value;
-use script_engine::Script;
-use std::alloc::AllocError;
+use script_engine::{Script, ScriptRun};
+use std::alloc::{AllocError, Global};
+use std::mem;
 
 /// A script with its limits but for the room.
 pub(crate) struct LimitedScript {
@@ -25,12 +26,29 @@ impl Drop for LimitedScript {
 }
 
 impl DocumentScript for LimitedScript {
+    type Memory = RunMemory;
+
     ghost takes = { λ s args. TakesThem s args };
 
     ghost ends = { λ s store args end objects. EndsAsItsProgram s store args end objects };
 
-    #[tactic(auto, using(crate::proofs::Compiled::runs_so))]
-    fn run(&self, heap: Heap, args: Vec<Value>) -> Result<Outcome, AllocError> {
-        self.script.run(heap, args, self.limits)
+    fn memory(&self, alloc: Global) -> RunMemory {
+        RunMemory::new(alloc)
+    }
+
+    fn run(
+        &self,
+        memory: &mut RunMemory,
+        heap: Heap,
+        args: Vec<Value>,
+    ) -> Result<Outcome, AllocError> {
+        let kept = mem::replace(memory, RunMemory::new(heap.alloc()));
+        let ran = self.script.run_in(kept, heap, args, self.limits)?;
+        let ScriptRun {
+            outcome,
+            memory: left,
+        } = ran;
+        *memory = left;
+        Ok(outcome)
     }
 }

@@ -228,8 +228,11 @@ pass_not gives limit mid now left left' left'' held held' held'' replies faults 
 pass_not gives limit mid now left left' left'' held held' held'' replies faults faults' s.InputLong p n within =
     let front = run_err now left'' e.InputLong p.run within n.0 in
     let input = limit_input left left'' front.front front.next front.consumed in
-    limit_told gives limit left left'' held held'' p.lines p.all front.front front.next input.0 front.reached (p.run.grown ∙ front.lines) p.are input.1
-    (gives_all held held' held'' (bytes_of p.all) replies.bytes.items p.written n.1)
+    let count : length (front.front ++ front.next ∷ []) ≡ length front.front + 1 = length-append front.front (front.next ∷ []) in (
+      limit_told gives limit left left'' held held'' p.lines p.all front.front front.next input.0 front.reached (p.run.grown ∙ front.lines) p.are input.1
+          (gives_all held held' held'' (bytes_of p.all) replies.bytes.items p.written n.1),
+      record { front = front.front ++ front.next ∷ []; consumed = front.consumed; past = omega (arith, count, front.reached) },
+    )
 pass_not gives limit mid now left left' left'' held held' held'' replies faults faults' s.WriteFault p n within = pass_front held'' p n
 pass_not gives limit mid now left left' left'' held held' held'' replies faults faults' s.NoMemory p n within = pass_front held'' p n
 pass_not gives limit mid now left left' left'' held held' held'' replies faults faults' s.Done p n within = absurd n

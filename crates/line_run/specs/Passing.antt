@@ -1,5 +1,5 @@
 -- What a run over an input leaves, by the status with which it ends and by the replies that were given.
-use Rattle.std.specs.Prelude.{◌≡◌, ℕ, List, ◌++◌, Option, length, ◌≤◌, map}
+use Rattle.std.specs.Prelude.{◌≡◌, ℕ, ◌+◌, List, ◌++◌, Option, length, ◌≤◌, map}
 use Rattle.std.specs.Io.KnownBytes.{Consumes, Appends, IsAtEnd}
 use Rattle.outer_io.specs.Front.{AppendsFront}
 use Rattle.outer_io.specs.Lines.{InputLine, input_line, ended_of}
@@ -26,6 +26,12 @@ pub record PassesTaken (gives : InputLine → Reply → Type 0) (limit : ℕ) (l
   pub tells : TellsTaken gives limit front told
   pub appended : Appends old new told.bytes
 
+-- As many bytes were taken as may be, and one more.
+pub record TakesPast (limit : ℕ) (left left' : Option (List ℕ)) : Type 0 where
+  pub front : List ℕ
+  pub consumed : Consumes left left' front
+  pub past : length front ≡ limit + 1
+
 -- Some of the first lines that are told of have replies, and a front of these was appended.
 pub record PassesFront (gives : InputLine → Reply → Type 0) (limit : ℕ) (left old new : Option (List ℕ)) : Type 0 where
   pub input : List ℕ
@@ -40,7 +46,7 @@ pub record PassesFront (gives : InputLine → Reply → Type 0) (limit : ℕ) (l
 abbrev pub Passes : (InputLine → Reply → Type 0) → ℕ → Status → Option (List ℕ) → Option (List ℕ) → Option (List ℕ) → Option (List ℕ) → Type 0
 Passes gives limit s.Done left left' old new = PassesAll gives limit s.Done left old new × IsAtEnd left'
 Passes gives limit s.SomeErrors left left' old new = PassesAll gives limit s.SomeErrors left old new × IsAtEnd left'
-Passes gives limit s.InputLong left left' old new = PassesAll gives limit s.InputLong left old new
+Passes gives limit s.InputLong left left' old new = PassesAll gives limit s.InputLong left old new × TakesPast limit left left'
 Passes gives limit s.ReadFault left left' old new = PassesTaken gives limit left left' old new
 Passes gives limit s.WriteFault left left' old new = PassesFront gives limit left old new
 Passes gives limit s.NoMemory left left' old new = PassesFront gives limit left old new

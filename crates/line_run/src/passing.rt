@@ -9,7 +9,6 @@ ghost use Rattle.line_run.specs.Steps.{Answers, AnswersNot, ReadsNext, ReadsNot}
 use crate::replier::Replier;
 use crate::replies::Replies;
 use command_parts::Status;
-use json_reading::Scratch;
 use outer_io::{Line, LineReader, ReadErr, Sink, Source};
 use std::alloc::Global;
 
@@ -50,7 +49,7 @@ fn next_line<S: Source, K: Sink>(
 fn answer<R: Replier, K: Sink>(
     replier: &R,
     line: Line,
-    scratch: &mut Scratch,
+    scratch: &mut R::Scratch,
     replies: &mut Replies,
     out: &mut K,
 ) -> Result<(), Status>
@@ -93,7 +92,7 @@ pub fn run_lines<R: Replier, S: Source, K: Sink>(
     let Ok(mut reader) = LineReader::new(alloc, limit) else {
         return Status::NoMemory;
     };
-    let mut scratch = Scratch::new(alloc);
+    let mut scratch = replier.scratch(alloc);
     let mut replies = Replies::new(alloc);
     'lines: loop {
         let line = match next_line(&mut reader, &mut replies, input, out) {

@@ -5,8 +5,7 @@ ghost use Rattle.outer_io.specs.Lines.{InputLine, Within, Beyond};
 ghost use Rattle.line_run.specs.Replies.{Reply};
 ghost use Rattle.line_run.specs.Shown.{reply_shown};
 
-use json_reading::Scratch;
-use std::alloc::AllocError;
+use std::alloc::{AllocError, Global};
 
 /// A reply as it is written: its line with the newline, or nothing where a line has no reply.
 #[derive(Drop)]
@@ -17,14 +16,20 @@ pub struct ReplyLine {
 
 /// What replies to lines. No reply depends on a line before.
 pub trait Replier {
+    /// The memory that is kept from one line to the next. What lies in it changes no reply.
+    type Scratch: Drop;
+
     /// That it can reply.
     ghost ready: { Self → Type 0 };
 
     /// Which reply it gives to a line.
     ghost gives: { Self → InputLine → Reply → Type 0 };
 
-    /// The reply to a line of at most 1,048,576 bytes. What lies in the scratch changes nothing.
-    fn reply(&self, line: &[u8], scratch: &mut Scratch) -> Result<ReplyLine, AllocError>
+    /// The memory for the first line.
+    fn scratch(&self, alloc: Global) -> Self::Scratch;
+
+    /// The reply to a line of at most 1,048,576 bytes.
+    fn reply(&self, line: &[u8], scratch: &mut Self::Scratch) -> Result<ReplyLine, AllocError>
         requires { ready self.now }
         ensures { IfOk result (λ reply. gives self.now (Within line.now) (reply_shown reply)) };
 

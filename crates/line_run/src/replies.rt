@@ -13,7 +13,6 @@ ghost use Rattle.line_run.specs.Steps.{Adds, Gives};
 
 use crate::replier::{Replier, ReplyLine};
 use command_parts::{Status, write_bytes};
-use json_reading::Scratch;
 use outer_io::{Line, LineReader, Sink};
 use std::alloc::{AllocError, Global};
 
@@ -31,7 +30,7 @@ pub(crate) struct Replies {
 fn reply_to<R: Replier>(
     replier: &R,
     line: &Line,
-    scratch: &mut Scratch,
+    scratch: &mut R::Scratch,
 ) -> Result<ReplyLine, AllocError>
     requires ready { R.ready replier.now }
     requires some { line.now ≢ Line.End }
@@ -82,7 +81,7 @@ impl Replies {
         &mut self,
         replier: &R,
         line: &Line,
-        scratch: &mut Scratch,
+        scratch: &mut R::Scratch,
     ) -> Result<(), AllocError>
         requires ready { R.ready replier.now }
         requires some { line.now ≢ Line.End }

@@ -5,7 +5,7 @@ use Rattle.command_parts.specs.declared.status.Status.TheVariants as s
 use Rattle.command_parts.specs.Told.{Told, silent}
 use Rattle.eval_command.specs.Evaluation.{TellsFile}
 use Rattle.job_commands.specs.Checking.{TellsCheck}
-use Rattle.job_commands.specs.Running.{TellsRun, TellsRunTaken}
+use Rattle.job_commands.specs.Running.{TellsRun, TellsRunTaken, RunsPast}
 use Rattle.painless_cli.specs.declared.words.Command.{Command}
 use Rattle.painless_cli.specs.declared.words.Command.TheVariants as c
 
@@ -57,6 +57,20 @@ TellsTakenCall None content front told = ⊥
 
 abbrev pub TellsTaken : List (List ℕ) → (List ℕ → Option (List ℕ)) → List ℕ → Told → Type 0
 TellsTaken words content front told = TellsTakenCall (call_of words) content front told
+
+-- ---- how many bytes are taken of the input where it has more of them than are allowed
+
+abbrev pub PastNamed : Command → List ℕ → (List ℕ → Option (List ℕ)) → List ℕ → Type 0
+PastNamed c.Eval name content front = ⊥
+PastNamed c.Check name content front = ⊥
+PastNamed c.Run name content front = RunsPast content name front
+
+abbrev pub PastCall : Option Call → (List ℕ → Option (List ℕ)) → List ℕ → Type 0
+PastCall (Some call) content front = PastNamed call.command call.name content front
+PastCall None content front = ⊥
+
+abbrev pub TakesPast : List (List ℕ) → (List ℕ → Option (List ℕ)) → List ℕ → Type 0
+TakesPast words content front = PastCall (call_of words) content front
 
 -- the words call this command
 abbrev pub IsCallOf : Command → Option Call → Type 0

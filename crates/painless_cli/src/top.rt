@@ -5,7 +5,7 @@ ghost use Rattle.std.specs.Io.KnownBytes.{IsAtEnd};
 ghost use Rattle.outer_io.specs.Faults.{next_count};
 ghost use Rattle.command_parts.specs.DeliversOver.{DeliversOver};
 ghost use Rattle.job_commands.specs.Documents.{LeavesInput};
-ghost use Rattle.painless_cli.specs.Whole.{IsCallOf, Tells, TellsNamed, TellsTaken, TellsTakenNamed, call_of};
+ghost use Rattle.painless_cli.specs.Whole.{IsCallOf, PastNamed, TakesPast, Tells, TellsNamed, TellsTaken, TellsTakenNamed, call_of};
 ghost use Rattle.painless_cli.specs.declared.words.Command.TheVariants as c;
 
 use crate::report::Report;
@@ -32,7 +32,7 @@ pub fn painless<F: Files, S: Source, K: Sink>(
 ) -> Report
     // The sink holds what is told of the words over the files' content and the input, and the report has the told status.
     ensures told { (content : List ℕ → Option (List ℕ)) × IfSome (F.content files.old) (λ known. known ≡ content)
-        × DeliversOver (Tells (map string_bytes words.now) content) (TellsTaken (map string_bytes words.now) content) result.status (S.left input.old) (S.left input.new) (K.held out.old) (K.held out.new) }
+        × DeliversOver (Tells (map string_bytes words.now) content) (TellsTaken (map string_bytes words.now) content) (TakesPast (map string_bytes words.now) content) result.status (S.left input.old) (S.left input.new) (K.held out.old) (K.held out.new) }
 
     // The words are not a command and its one word.
     ensures usage { (result.status ≡ Status.Usage) ↔ (call_of (map string_bytes words.now) ≡ None) }
@@ -70,7 +70,7 @@ fn called<F: Files, S: Source, K: Sink>(
     out: &mut K,
 ) -> Status
     ensures told { (content : List ℕ → Option (List ℕ)) × IfSome (F.content files.old) (λ known. known ≡ content)
-        × DeliversOver (TellsNamed command name.now content) (TellsTakenNamed command name.now content) result (S.left input.old) (S.left input.new) (K.held out.old) (K.held out.new) }
+        × DeliversOver (TellsNamed command name.now content) (TellsTakenNamed command name.now content) (PastNamed command name.now content) result (S.left input.old) (S.left input.new) (K.held out.old) (K.held out.new) }
     ensures command { result ≢ Status.Usage }
     ensures read { result ≡ Status.ReadFault → S.faults input.new ≡ next_count (S.faults input.old) }
     ensures write { result ≡ Status.WriteFault → K.faults out.new ≡ next_count (K.faults out.old) }

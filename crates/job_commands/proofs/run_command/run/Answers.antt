@@ -1,7 +1,7 @@
 -- What is told of the job is delivered, or of why there is none.
 use Rattle.job_commands.proofs.Telling.{prepared_delivers, run_stops}
 use Rattle.job_commands.proofs.Statuses.{IsStopped, stopped, stopped_ended, fault_stopped, stopped_fault, prepared_usage, prepared_ended}
-use Rattle.std.proofs.Common.{◌≡◌, Err, ap, subst}
+use Rattle.std.proofs.Common.{Err, ap, subst}
 use Rattle.job_commands.proofs.run_command.run.Goals as goal
 
 pub returns-in-Ok-clause-told : goal.returns-in-Ok-clause-told

@@ -2,7 +2,7 @@ use Rattle.std.proofs.Common.{◌≡◌, ℕ, List, Some, None, map, string_byte
 use Rattle.command_parts.specs.declared.status.Status.{Status}
 use Rattle.command_parts.specs.DeliversOver.{DeliversOver}
 use Rattle.command_parts.proofs.Delivering.{some_content}
-use Rattle.painless_cli.specs.Whole.{call_of, Tells, TellsTaken}
+use Rattle.painless_cli.specs.Whole.{call_of, Tells, TellsTaken, TakesPast}
 use Rattle.painless_cli.proofs.Delivered.{words_deliver, usage_delivers}
 use Rattle.painless_cli.proofs.top.painless.Goals as goal
 
@@ -17,7 +17,7 @@ returns-in-Some-clause-told g c =
     let is : call_of words ≡ Some (record { command = c.in-Some.command; name = c.in-Some.name.now }) = cc c.in-Some.ensures in (
       h.0,
       h.1,
-      subst (λ (t : Status). DeliversOver (Tells words h.0) (TellsTaken words h.0) t left left_then held held_then) (sym c.report.ensures.status)
+      subst (λ (t : Status). DeliversOver (Tells words h.0) (TellsTaken words h.0) (TakesPast words h.0) t left left_then held held_then) (sym c.report.ensures.status)
           (words_deliver words h.0 (Some (record { command = c.in-Some.command; name = c.in-Some.name.now })) c.called.result left left_then held held_then is h.2),
     )
 
