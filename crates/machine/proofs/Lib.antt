@@ -14,6 +14,7 @@ pub mod Accessing
 pub mod Handling
 pub mod Landing
 pub mod Linked
+pub mod Methods
 pub mod Listed
 pub mod Taking
 pub mod Places
@@ -23,3 +24,4 @@ pub mod Most
 pub mod Distinct
 pub mod Spaces
 pub mod Found
+pub mod Indexed

@@ -2,6 +2,7 @@
 use Rattle.std.proofs.Common.{◌≡◌, ℕ, suc, List, [], Option, Some, None, option_map, refl, sym, ap, subst, ◌∙◌, slice_get}
 use Rattle.pl_types.specs.declared.ty.Ty.{Ty}
 use Rattle.pl_types.specs.Texts.{type_of_full}
+use Rattle.pl_units.specs.Utf16.{units}
 use Rattle.object_values.specs.declared.object.Object.{Object}
 use Rattle.object_heap.specs.Store.{Store}
 use Rattle.def_access.specs.Access.{method_called}
@@ -14,7 +15,7 @@ use Rattle.pl_code.specs.declared.kinds.Way.{Way}
 use Rattle.run_state.specs.World.{World, Limits, allowed_in}
 use Rattle.code_meaning.specs.Members.{references_in}
 use Rattle.code_meaning.specs.Machine.{Codes, Frame, Next, act, on_access, on_first, on_values, on_words, take_words, sized_act, typed_act, cast_act, member_act, on_type, is_written, code_in}
-use Rattle.machine.specs.Links.{Executable, instruction_at, link_at, link_of, type_link, member_link, type_in, member_in, lines_in, text_link}
+use Rattle.machine.specs.Links.{Executable, instruction_at, link_at, link_of, type_link, member_link, type_in, member_in, text_in, lines_in, methods_in, methods_of}
 use Rattle.machine.specs.Sparing.{InstructionSpares, MemberSpares, CastSpares, OnType, OnValue, TypedSpares}
 use Rattle.pl_code.specs.declared.kinds.Quoting.{Quoting}
 use Rattle.machine.specs.Seen.{codes_alone}
@@ -79,9 +80,13 @@ module _ (e : Executable) (limits : Limits) (line : Instruction) (f : Frame) (sa
   unfolding link_of
   field_names field is = ap member_in (names (i.Field field) is) ∙ linked_member (field_of limits.allowed field)
 
-  pub text_names : (kind : Quoting) (text : List ℕ) → line ≡ i.Quoted kind text → link_at e f ≡ Some (text_link kind text)
+  pub text_names : (kind : Quoting) (text : List ℕ) → line ≡ i.Quoted kind text → text_in (link_at e f) ≡ Some (units text)
   unfolding link_of
-  text_names kind text is = names (i.Quoted kind text) is
+  text_names kind text is = ap text_in (names (i.Quoted kind text) is)
+
+  pub methods_names : (name : List ℕ) (n : ℕ) → line ≡ i.DefCall name n → methods_in (link_at e f) ≡ Some (methods_of limits.allowed name n)
+  unfolding link_of
+  methods_names name n is = ap methods_in (names (i.DefCall name n) is)
 
   -- what such an instruction does is what its link makes of it
   module _ (below : List Frame) (w : World) where

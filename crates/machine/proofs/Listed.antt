@@ -1,5 +1,5 @@
 -- The members that instructions name are those of the list.
-use Rattle.std.proofs.Common.{◌≡◌, ℕ, ◌<◌, List, Option, Some, None, IfSome, length, option_map, sym, subst}
+use Rattle.std.proofs.Common.{◌≡◌, ℕ, ◌<◌, Option, Some, None, IfSome, length, option_map, sym, subst}
 use Rattle.allowlist.specs.Allow.{AllowList}
 use Rattle.instruction_types.specs.Members.{method_of, constructor_of, field_of}
 use Rattle.instruction_types.proofs.Named.{method_listed, constructor_listed, field_listed}
@@ -7,10 +7,8 @@ use Rattle.pl_types.specs.declared.ty.Ty.{Ty}
 use Rattle.pl_types.specs.Texts.{type_of_full}
 use Rattle.pl_code.specs.declared.code.Instruction.{Instruction}
 use Rattle.pl_code.specs.declared.code.Instruction.TheVariants as i
-use Rattle.pl_code.specs.declared.kinds.Quoting.{Quoting}
-use Rattle.pl_code.specs.declared.kinds.Quoting.TheVariants as quoting
 use Rattle.code_meaning.specs.Machine.{Frame}
-use Rattle.machine.specs.Links.{Executable, instruction_at, link_at, link_of, type_link, member_link, member_in, text_link}
+use Rattle.machine.specs.Links.{Executable, instruction_at, link_at, link_of, type_link, member_link, member_in}
 use Rattle.machine.specs.declared.executable.Link.{Link}
 
 module _ (allow : AllowList) where
@@ -25,11 +23,6 @@ module _ (allow : AllowList) where
   member None h = tt
   member (Some number) h = h
 
-  no_text : (kind : Quoting) (text : List ℕ) → IsListed (Some (text_link kind text))
-  no_text quoting.Constant text = tt
-  no_text quoting.GetName text = tt
-  no_text quoting.PutName text = tt
-
   line_listed : (line : Instruction) → IsListed (Some (link_of allow line))
   unfolding link_of
   line_listed (i.Typed kind of) = no_member (type_of_full of)
@@ -42,7 +35,7 @@ module _ (allow : AllowList) where
   line_listed (i.Dynamic op) = tt
   line_listed (i.Int n) = tt
   line_listed (i.Long n) = tt
-  line_listed (i.Quoted kind text) = no_text kind text
+  line_listed (i.Quoted kind text) = tt
   line_listed (i.Numbered kind n) = tt
   line_listed (i.Boxing p) = tt
   line_listed (i.Unboxing p way) = tt

@@ -6,6 +6,7 @@ pub mod Rows
 pub mod Memory
 pub mod Members
 pub mod Links
+pub mod Indexes
 pub mod Sparing
 pub mod Runs
 pub mod Fast

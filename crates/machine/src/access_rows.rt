@@ -1,7 +1,8 @@
 //! Indexes, names and calls on values whose classes are found when the code runs: what is found is looked up, paid and called, or done at
 //! once.
-ghost use Rattle.std.specs.Prelude.{◌≡◌, ◌≤◌, ◌<◌, List, [], ◌∷◌, suc, length};
+ghost use Rattle.std.specs.Prelude.{◌≡◌, ◌≤◌, ◌<◌, List, [], ◌∷◌, Some, suc, length};
 ghost use Rattle.object_heap.specs.Store.{Store};
+ghost use Rattle.pl_units.specs.Utf16.{units};
 ghost use Rattle.pl_types.specs.Host.{no_host};
 ghost use Rattle.member_calls.specs.Members.{does};
 ghost use Rattle.def_access.specs.Access as access;
@@ -12,19 +13,25 @@ ghost use Rattle.code_meaning.specs.declared.word.Word.{Word};
 ghost use Rattle.code_meaning.specs.Machine as spec;
 ghost use Rattle.code_meaning.specs.Machine.{on_access, on_first, on_reference, on_top, on_values, on_words, on_write, take_words};
 ghost use Rattle.code_meaning.specs.Members.{references_in};
+ghost use Rattle.machine.specs.Links.{link_at, methods_in, methods_of};
 ghost use Rattle.machine.specs.Rows.{CallsWithin, on_pair, on_references, on_triple, on_three};
 ghost use Rattle.machine.specs.Seen.{Comes, room_of, with_stack, world_of, codes_alone, limits_in};
 
 use crate::configuration::{Configuration, RunEnd, Step};
+use crate::executable::Executable;
 use crate::linked_code::LinkedCode;
+use crate::method_table::{MethodTable, method_by_class};
+use crate::name_keys::{name_found, name_put_found};
 use crate::parts::{parts_off, references_of};
 use crate::paying::pay_member;
 use crate::receiving::reference_in;
 use crate::rules::Rules;
 use crate::throwing::{answered_done, answered_whole};
 use code_meaning::Word;
-use def_access::{Accessed, index_read, index_written, method_called, name_read, name_written};
+use def_access::{Accessed, index_found, index_put_found};
+use def_resolve::Purpose;
 use object_values::Value;
+use pl_units::UText;
 
 // ---- members that were found
 
@@ -213,7 +220,7 @@ fn get_index_words(
     }
 }
 
-#[tactic(auto, using(crate::proofs::Accessing::index_read_within))]
+#[tactic(auto, using(crate::proofs::Accessing::index_read_within), unfolding(def_access::specs::Access::index_read))]
 fn get_index_values(
     run: &mut Configuration,
     code: &LinkedCode,
@@ -225,7 +232,8 @@ fn get_index_values(
     ensures exact { (stack : List Word) → Comes (on_access (codes_alone code.now.functions) (limits_in limits.now) (access.index_read limits.now.allowed run.old.world.heap receiver index) (with_stack run.old.frames.top stack) run.old.frames.below (world_of run.old.world) run.old.frames.top.stack) result run.new }
     ensures room { room_of run.new ≡ room_of run.old }
 {
-    let accessed = index_read(limits.allow(), &mut run.world.heap, &receiver, index);
+    let found = limits.index_access(&run.world.heap, &receiver, Purpose::Read);
+    let accessed = index_found(&mut run.world.heap, &receiver, index, found);
     read_accessed(run, code, limits, accessed, receiver)
 }
 
@@ -271,7 +279,7 @@ fn put_index_words(
     }
 }
 
-#[tactic(auto, using(crate::proofs::Accessing::index_written_within))]
+#[tactic(auto, using(crate::proofs::Accessing::index_written_within), unfolding(def_access::specs::Access::index_written))]
 fn put_index_values(
     run: &mut Configuration,
     code: &LinkedCode,
@@ -284,26 +292,28 @@ fn put_index_values(
     ensures exact { (stack : List Word) → Comes (on_write (codes_alone code.now.functions) (limits_in limits.now) (access.index_written limits.now.allowed run.old.world.heap receiver index value) (with_stack run.old.frames.top stack) run.old.frames.below (world_of run.old.world) run.old.frames.top.stack) result run.new }
     ensures room { room_of run.new ≡ room_of run.old }
 {
-    let accessed = index_written(
-        limits.allow(),
-        &mut run.world.heap,
-        &receiver,
-        index,
-        &value,
-    );
+    let found = limits.index_access(&run.world.heap, &receiver, Purpose::Write);
+    let accessed = index_put_found(&mut run.world.heap, &receiver, index, &value, found);
     write_accessed(run, code, limits, accessed, receiver, value)
 }
 
 // ---- names
 
 /// What a name behind the dot of a value means.
-pub fn get_name(run: &mut Configuration, code: &LinkedCode, limits: &Rules<'_>, name: &str) -> Step
+pub fn get_name(
+    run: &mut Configuration,
+    code: &LinkedCode,
+    limits: &Rules<'_>,
+    name: &str,
+    shared: &UText,
+) -> Step
     requires reached { length limits.now.allowed.members ≤ run.old.world.reached.room }
+    requires shared { shared.now ≡ units name.now }
     ensures exact { Comes (on_top run.old.frames.top.stack (λ word stack. on_reference word (λ receiver. on_access (codes_alone code.now.functions) (limits_in limits.now) (access.name_read limits.now.allowed run.old.world.heap receiver name.now) run.old.frames.top run.old.frames.below (world_of run.old.world) stack))) result run.new }
     ensures room { room_of run.new ≡ room_of run.old }
 {
     match run.frames.pop() {
-        Some(word) => get_name_word(run, code, limits, name, word),
+        Some(word) => get_name_word(run, code, limits, name, shared, word),
         None => Step::Stuck,
     }
 }
@@ -313,43 +323,55 @@ fn get_name_word(
     code: &LinkedCode,
     limits: &Rules<'_>,
     name: &str,
+    shared: &UText,
     word: Word,
 ) -> Step
     requires reached { length limits.now.allowed.members ≤ run.old.world.reached.room }
+    requires shared { shared.now ≡ units name.now }
     ensures exact { (stack : List Word) → Comes (on_reference word (λ receiver. on_access (codes_alone code.now.functions) (limits_in limits.now) (access.name_read limits.now.allowed run.old.world.heap receiver name.now) (with_stack run.old.frames.top stack) run.old.frames.below (world_of run.old.world) run.old.frames.top.stack)) result run.new }
     ensures room { room_of run.new ≡ room_of run.old }
 {
     match reference_in(word) {
-        Some(receiver) => get_name_value(run, code, limits, name, receiver),
+        Some(receiver) => get_name_value(run, code, limits, name, shared, receiver),
         None => Step::Stuck,
     }
 }
 
-#[tactic(auto, using(crate::proofs::Accessing::name_read_within))]
+#[tactic(auto, using(crate::proofs::Accessing::name_read_within), unfolding(def_access::specs::Access::name_read))]
 fn get_name_value(
     run: &mut Configuration,
     code: &LinkedCode,
     limits: &Rules<'_>,
     name: &str,
+    shared: &UText,
     receiver: Value,
 ) -> Step
     requires reached { length limits.now.allowed.members ≤ run.old.world.reached.room }
+    requires shared { shared.now ≡ units name.now }
     ensures exact { (stack : List Word) → Comes (on_access (codes_alone code.now.functions) (limits_in limits.now) (access.name_read limits.now.allowed run.old.world.heap receiver name.now) (with_stack run.old.frames.top stack) run.old.frames.below (world_of run.old.world) run.old.frames.top.stack) result run.new }
     ensures room { room_of run.new ≡ room_of run.old }
 {
-    let accessed = name_read(limits.allow(), &mut run.world.heap, &receiver, name);
+    let found = limits.name_access(&run.world.heap, &receiver, name, Purpose::Read);
+    let accessed = name_found(&mut run.world.heap, &receiver, name, shared, found);
     read_accessed(run, code, limits, accessed, receiver)
 }
 
 /// Writes a value under the name behind the dot of another.
-pub fn put_name(run: &mut Configuration, code: &LinkedCode, limits: &Rules<'_>, name: &str) -> Step
+pub fn put_name(
+    run: &mut Configuration,
+    code: &LinkedCode,
+    limits: &Rules<'_>,
+    name: &str,
+    shared: &UText,
+) -> Step
     requires reached { length limits.now.allowed.members ≤ run.old.world.reached.room }
+    requires shared { shared.now ≡ units name.now }
     ensures exact { Comes (on_pair run.old.frames.top.stack (λ receiver value stack. on_write (codes_alone code.now.functions) (limits_in limits.now) (access.name_written limits.now.allowed run.old.world.heap receiver name.now value) run.old.frames.top run.old.frames.below (world_of run.old.world) stack)) result run.new }
     ensures room { room_of run.new ≡ room_of run.old }
 {
     match run.frames.pop() {
         Some(upper) => match run.frames.pop() {
-            Some(lower) => put_name_words(run, code, limits, name, lower, upper),
+            Some(lower) => put_name_words(run, code, limits, name, shared, lower, upper),
             None => Step::Stuck,
         },
         None => Step::Stuck,
@@ -361,42 +383,49 @@ fn put_name_words(
     code: &LinkedCode,
     limits: &Rules<'_>,
     name: &str,
+    shared: &UText,
     lower: Word,
     upper: Word,
 ) -> Step
     requires reached { length limits.now.allowed.members ≤ run.old.world.reached.room }
+    requires shared { shared.now ≡ units name.now }
     ensures exact { (stack : List Word) → Comes (on_references lower upper (λ receiver value. on_write (codes_alone code.now.functions) (limits_in limits.now) (access.name_written limits.now.allowed run.old.world.heap receiver name.now value) (with_stack run.old.frames.top stack) run.old.frames.below (world_of run.old.world) run.old.frames.top.stack)) result run.new }
     ensures room { room_of run.new ≡ room_of run.old }
 {
     match reference_in(upper) {
         Some(value) => match reference_in(lower) {
-            Some(receiver) => put_name_values(run, code, limits, name, receiver, value),
+            Some(receiver) => put_name_values(run, code, limits, name, shared, receiver, value),
             None => Step::Stuck,
         },
         None => Step::Stuck,
     }
 }
 
-#[tactic(auto, using(crate::proofs::Accessing::name_written_within))]
+#[tactic(auto, using(crate::proofs::Accessing::name_written_within), unfolding(def_access::specs::Access::name_written))]
 fn put_name_values(
     run: &mut Configuration,
     code: &LinkedCode,
     limits: &Rules<'_>,
     name: &str,
+    shared: &UText,
     receiver: Value,
     value: Value,
 ) -> Step
     requires reached { length limits.now.allowed.members ≤ run.old.world.reached.room }
+    requires shared { shared.now ≡ units name.now }
     ensures exact { (stack : List Word) → Comes (on_write (codes_alone code.now.functions) (limits_in limits.now) (access.name_written limits.now.allowed run.old.world.heap receiver name.now value) (with_stack run.old.frames.top stack) run.old.frames.below (world_of run.old.world) run.old.frames.top.stack) result run.new }
     ensures room { room_of run.new ≡ room_of run.old }
 {
     let mut value = value;
-    let accessed = name_written(
+    let found = limits.name_access(&run.world.heap, &receiver, name, Purpose::Write);
+    let accessed = name_put_found(
         limits.allow(),
         &mut run.world.heap,
         &receiver,
         name,
+        shared,
         &mut value,
+        found,
     );
     write_accessed(run, code, limits, accessed, receiver, value)
 }
@@ -406,29 +435,60 @@ fn put_name_values(
 /// Calls the method of a name on a value, with so many arguments that lie above it.
 pub fn call_method(
     run: &mut Configuration,
-    code: &LinkedCode,
+    executable: &Executable,
     limits: &Rules<'_>,
     name: &str,
     count: u32,
 ) -> Step
     requires reached { length limits.now.allowed.members ≤ run.old.world.reached.room }
+    requires linked { methods_in (link_at executable.now run.old.frames.top) ≡ Some (methods_of limits.now.allowed name.now count) }
+    ensures exact { Comes (on_words (take_words (suc count) run.old.frames.top.stack []) (λ words stack. on_values (references_in words) (λ values. on_first values (λ receiver arguments. on_access (codes_alone executable.now.code.functions) (limits_in limits.now) (access.method_called limits.now.allowed run.old.world.heap receiver name.now arguments) run.old.frames.top run.old.frames.below (world_of run.old.world) stack)))) result run.new }
+    ensures room { room_of run.new ≡ room_of run.old }
+{
+    match executable.methods(&run.frames) {
+        Some(methods) => call_linked(run, executable.linked(), limits, methods, name, count),
+        None => Step::Stuck,
+    }
+}
+
+// The same with what the name means on a value of each class.
+fn call_linked(
+    run: &mut Configuration,
+    code: &LinkedCode,
+    limits: &Rules<'_>,
+    methods: &MethodTable,
+    name: &str,
+    count: u32,
+) -> Step
+    requires reached { length limits.now.allowed.members ≤ run.old.world.reached.room }
+    requires methods { methods.now ≡ methods_of limits.now.allowed name.now count }
     ensures exact { Comes (on_words (take_words (suc count) run.old.frames.top.stack []) (λ words stack. on_values (references_in words) (λ values. on_first values (λ receiver arguments. on_access (codes_alone code.now.functions) (limits_in limits.now) (access.method_called limits.now.allowed run.old.world.heap receiver name.now arguments) run.old.frames.top run.old.frames.below (world_of run.old.world) stack)))) result run.new }
     ensures room { room_of run.new ≡ room_of run.old }
 {
     match parts_off(&mut run.frames, count as usize + 1, &mut run.words) {
-        Ok(true) => call_words(run, code, limits, name),
+        Ok(true) => call_words(run, code, limits, methods, name, count),
         Ok(false) => Step::Stuck,
         Err(_) => Step::NoMemory,
     }
 }
 
-fn call_words(run: &mut Configuration, code: &LinkedCode, limits: &Rules<'_>, name: &str) -> Step
+fn call_words(
+    run: &mut Configuration,
+    code: &LinkedCode,
+    limits: &Rules<'_>,
+    methods: &MethodTable,
+    name: &str,
+    count: u32,
+) -> Step
     requires reached { length limits.now.allowed.members ≤ run.old.world.reached.room }
+    requires methods { methods.now ≡ methods_of limits.now.allowed name.now count }
     ensures exact { (stack : List Word) → Comes (on_values (references_in run.old.words.items) (λ values. on_first values (λ receiver arguments. on_access (codes_alone code.now.functions) (limits_in limits.now) (access.method_called limits.now.allowed run.old.world.heap receiver name.now arguments) (with_stack run.old.frames.top stack) run.old.frames.below (world_of run.old.world) run.old.frames.top.stack))) result run.new }
     ensures room { room_of run.new ≡ room_of run.old }
 {
     match references_of(run.world.heap.alloc(), &mut run.words) {
-        Ok(Some(values)) => call_values(run, code, limits, name, values.into_vec()),
+        Ok(Some(values)) => {
+            call_values(run, code, limits, methods, name, count, values.into_vec())
+        }
         Ok(None) => Step::Stuck,
         Err(_) => Step::NoMemory,
     }
@@ -439,10 +499,13 @@ fn call_values(
     run: &mut Configuration,
     code: &LinkedCode,
     limits: &Rules<'_>,
+    methods: &MethodTable,
     name: &str,
+    count: u32,
     values: Vec<Value>,
 ) -> Step
     requires reached { length limits.now.allowed.members ≤ run.old.world.reached.room }
+    requires methods { methods.now ≡ methods_of limits.now.allowed name.now count }
     ensures exact { (stack : List Word) → Comes (on_first values.items (λ receiver arguments. on_access (codes_alone code.now.functions) (limits_in limits.now) (access.method_called limits.now.allowed run.old.world.heap receiver name.now arguments) (with_stack run.old.frames.top stack) run.old.frames.below (world_of run.old.world) run.old.frames.top.stack)) result run.new }
     ensures room { room_of run.new ≡ room_of run.old }
 {
@@ -450,10 +513,12 @@ fn call_values(
         return Step::Stuck;
     }
     let mut values = values;
-    let accessed = method_called(
+    let accessed = method_by_class(
         limits.allow(),
         &mut run.world.heap,
+        methods,
         name,
+        count,
         values.as_mut_slice(),
     );
     call_accessed(run, code, limits, accessed, values.as_slice())

@@ -148,7 +148,11 @@ impl<'c> Activation<'c> {
         ensures memory { SparesFor q self.old → HasTurned result }
     {
         if self.last.goes() {
-            let rules = Rules::new(self.limits, self.executable.allow());
+            let rules = Rules::new(
+                self.limits,
+                self.executable.allow(),
+                self.executable.indexes(),
+            );
             let Ran { last, steps } = run_on(&mut self.run, self.executable, &rules, q);
             self.last = last;
             self.steps = self.steps.saturating_add(steps);

@@ -3,18 +3,22 @@ ghost use Rattle.std.specs.Prelude.{◌≡◌, ◌≤◌, ◌<◌, ◌^◌, ℕ,
 ghost use Rattle.std.specs.Option.{option_copied};
 ghost use Rattle.allowlist.specs.Index.{member_at};
 ghost use Rattle.code_meaning.specs.Members.{count_of};
-ghost use Rattle.machine.specs.Links.{instruction_at, link_at, link_of, links_of, links_in, member_in, member_link, text_link, type_link};
+ghost use Rattle.machine.specs.Indexes.{index_rows};
+ghost use Rattle.machine.specs.Links.{instruction_at, link_at, link_of, links_of, links_in, member_in, member_link, method_link, methods_in, text_link, type_link};
 ghost use Rattle.pl_types.specs.Texts.{type_of_full};
 
 use crate::frames::Frames;
+use crate::index_table::IndexTable;
 use crate::linked_code::LinkedCode;
 use crate::members::count_of;
+use crate::method_table::MethodTable;
 use allowlist::Allow;
 use instruction_types::{constructor_of, field_of, method_of};
-use listing_parts::TypeName;
+use listing_parts::{TypeName, Word};
 use object_values::Owner;
-use pl_code::{Code, FunCode, Instruction, Quoting};
+use pl_code::{Code, FunCode, Instruction};
 use pl_types::Ty;
+use pl_types::classes::CLASS_COUNT;
 use pl_units::UText;
 use plain_data::{Items, Text};
 use std::alloc::{AllocError, Global};
@@ -56,8 +60,10 @@ pub enum Link {
     Nothing,
     Member(MemberNumber),
     Type(Ty),
-    /// A text constant.
+    /// A text constant, or a name.
     Text(UText),
+    /// What a call of a method means on a value of each class.
+    Methods(MethodTable),
 }
 
 impl Drop for Link {
@@ -67,6 +73,7 @@ impl Drop for Link {
             Link::Member(_number) => {}
             Link::Type(_of) => {}
             Link::Text(_text) => {}
+            Link::Methods(_methods) => {}
         }
     }
 }
@@ -80,6 +87,8 @@ pub struct Executable {
     frame: usize,
     /// What each line of each function names.
     links: Items<Items<Link>>,
+    /// By which members an index reads and writes.
+    indexes: IndexTable,
     /// What the member that takes most is called with.
     arguments: usize,
 }
@@ -88,9 +97,11 @@ impl Model for Executable {
     ghost use Rattle.std.specs.Prelude.{ℕ, ◌≡◌, ◌≤◌, ◌<◌, length};
     ghost use Rattle.allowlist.specs.Index.{member_at};
     ghost use Rattle.code_meaning.specs.Members.{count_of};
+    ghost use Rattle.machine.specs.Indexes.{index_rows};
     ghost use Rattle.machine.specs.Links.{Executable, links_in};
     ghost use Rattle.std.specs.Coded.{codes};
     ghost use Rattle.pl_types.specs.contracts.ty.Ty as ty;
+    ghost use Rattle.pl_types.specs.declared.classes.TheConstants.{CLASS_COUNT};
 
     ghost Value = { Executable };
 
@@ -98,7 +109,7 @@ impl Model for Executable {
 
     ghost view = { λ e. record { code = e.code; allow = e.allow; frame = e.frame } };
 
-    ghost invariant = { λ e. (e.links ≡ links_in e.allow e.code.functions) × ((number : ℕ) → number < length e.allow.members → count_of (member_at number) ≤ e.arguments) };
+    ghost invariant = { λ e. (e.links ≡ links_in e.allow e.code.functions) × (e.indexes ≡ index_rows e.allow CLASS_COUNT) × ((number : ℕ) → number < length e.allow.members → count_of (member_at number) ≤ e.arguments) };
 }
 
 impl Executable {
@@ -117,12 +128,14 @@ impl Executable {
         ensures { IfOk result (λ e. e ≡ record { code = code; allow = allow; frame = frame }) }
     {
         let links = links_in(alloc, &allow, code.functions.as_slice())?;
+        let indexes = IndexTable::new(alloc, &allow)?;
         let arguments = most_arguments(&allow);
         Ok(Executable {
             code: LinkedCode::new(alloc, code)?,
             allow,
             frame,
             links,
+            indexes,
             arguments,
         })
     }
@@ -156,6 +169,13 @@ impl Executable {
         self.frame
     }
 
+    /// By which members an index reads and writes.
+    pub(crate) fn indexes(&self) -> &IndexTable
+        ensures { result.now ≡ index_rows self.now.allow CLASS_COUNT }
+    {
+        &self.indexes
+    }
+
     /// What the member that takes most is called with.
     pub fn arguments(&self) -> usize
         ensures { (number : ℕ) → number < length self.now.allow.members → count_of (member_at number) ≤ result }
@@ -183,6 +203,16 @@ impl Executable {
         ensures within { IfSome (member_in (option_copied result)) (λ number. number < length self.now.allow.members) }
     {
         self.named_at(frames)
+    }
+
+    /// What a call of a method means there on a value of each class.
+    pub(crate) fn methods(&self, frames: &Frames) -> Option<&MethodTable>
+        ensures { option_copied result ≡ methods_in (link_at self.now frames.now.top) }
+    {
+        match self.named_at(frames) {
+            Some(Link::Methods(methods)) => Some(methods),
+            _ => None,
+        }
     }
 
     fn named_at(&self, frames: &Frames) -> Option<&Link>
@@ -242,7 +272,8 @@ fn link_of(alloc: Global, allow: &Allow, line: &Instruction) -> Result<Link, All
         Instruction::Invoke(method) => Ok(member_link(method_of(allow, method))),
         Instruction::New(constructor) => Ok(member_link(constructor_of(allow, constructor))),
         Instruction::Field(field) => Ok(member_link(field_of(allow, field))),
-        Instruction::Quoted(kind, text) => text_link(alloc, *kind, text),
+        Instruction::Quoted(_, text) => text_link(alloc, text),
+        Instruction::DefCall(name, count) => method_link(alloc, allow, name, *count),
         _ => Ok(Link::Nothing),
     }
 }
@@ -256,14 +287,18 @@ fn type_link(alloc: Global, of: &TypeName) -> Result<Link, AllocError>
     }
 }
 
-// A text is converted from its bytes here, once for all its loads.
-fn text_link(alloc: Global, kind: Quoting, text: &Text) -> Result<Link, AllocError>
-    ensures { IfOk result (λ link. link ≡ text_link kind text.now) }
+// A text is converted from its bytes here, once for all its loads, and a name once for all maps of which it is a key.
+fn text_link(alloc: Global, text: &Text) -> Result<Link, AllocError>
+    ensures { IfOk result (λ link. link ≡ text_link text.now) }
 {
-    match kind {
-        Quoting::Constant => Ok(Link::Text(UText::from_utf8(alloc, text.as_str())?)),
-        _ => Ok(Link::Nothing),
-    }
+    Ok(Link::Text(UText::from_utf8(alloc, text.as_str())?))
+}
+
+// The member that a name means is found here, once for all calls at this place.
+fn method_link(alloc: Global, allow: &Allow, name: &Word, count: u32) -> Result<Link, AllocError>
+    ensures { IfOk result (λ link. link ≡ method_link allow.now name.now count) }
+{
+    Ok(Link::Methods(MethodTable::new(alloc, allow, name.as_str(), count)?))
 }
 
 fn member_link(number: Option<u32>) -> Link

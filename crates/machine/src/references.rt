@@ -1,10 +1,12 @@
 //! Texts, and what is asked of references: whether two are equal or one, their texts joined, and whether one is null.
 ghost use Rattle.std.specs.Prelude.{◌≡◌, ◌≤◌, ◌<◌, ◌^◌, List, length, suc, Some};
+ghost use Rattle.std.specs.Option.{option_copied};
+ghost use Rattle.pl_units.specs.Utf16.{units};
 ghost use Rattle.object_values.specs.declared.object.Owner.TheVariants.{Script};
 ghost use Rattle.code_meaning.specs.declared.word.Word.{Word};
 ghost use Rattle.code_meaning.specs.Machine.{quoted_act, on_reference, on_top, if_null, to_line};
 ghost use Rattle.machine.specs.Seen.{Comes, room_of, with_stack, world_of, codes_alone, limits_in};
-ghost use Rattle.machine.specs.Links.{link_at, text_in, text_link};
+ghost use Rattle.machine.specs.Links.{link_at, text_in};
 ghost use Rattle.machine.specs.Sparing.{OnReference, OnValues};
 ghost use Rattle.machine.specs.Memory.{HasMemory, PairSpares};
 ghost use Rattle.machine.specs.Rows.{null_in, on_pair, on_references, paired, text_act};
@@ -12,6 +14,7 @@ ghost use Rattle.machine.specs.Rows.{null_in, on_pair, on_references, paired, te
 use crate::access_rows::{get_name, put_name};
 use crate::configuration::{Configuration, Step};
 use crate::executable::{Executable, Link};
+use crate::frames::Frames;
 use crate::linked_code::LinkedCode;
 use crate::rules::Rules;
 use crate::throwing::{answered, answered_whole};
@@ -22,7 +25,7 @@ use pl_code::Quoting;
 use pl_units::UText;
 use plain_data::Text;
 
-/// An instruction with a text: its constant, which was linked, is put on the stack and shared; an access by name looks its text up.
+/// An instruction with a text, which was linked: a constant is put on the stack and shared, and so is a name that is a key of a map.
 pub fn quoted(
     run: &mut Configuration,
     executable: &Executable,
@@ -32,26 +35,45 @@ pub fn quoted(
 ) -> Step
     requires script { run.old.frames.top.text ≡ Script }
     requires reached { length limits.now.allowed.members ≤ run.old.world.reached.room }
-    requires linked { link_at executable.now run.old.frames.top ≡ Some (text_link kind text.now) }
+    requires linked { text_in (link_at executable.now run.old.frames.top) ≡ Some (units text.now) }
     ensures exact { Comes (quoted_act (codes_alone executable.now.code.functions) (limits_in limits.now) kind text.now run.old.frames.top run.old.frames.below (world_of run.old.world)) result run.new }
     ensures room { room_of run.new ≡ room_of run.old }
 {
-    let code = executable.linked();
-    match kind {
-        Quoting::Constant => linked_text(run, executable),
-        Quoting::GetName => get_name(run, code, limits, text.as_str()),
-        Quoting::PutName => put_name(run, code, limits, text.as_str()),
+    match linked_text(executable, &run.frames) {
+        Some(shared) => quoted_as(run, executable.linked(), limits, kind, text, shared),
+        None => Step::Stuck,
     }
 }
 
-// Puts the text of the instruction on the stack, which is shared.
-fn linked_text(run: &mut Configuration, executable: &Executable) -> Step
-    ensures exact { Comes (text_act (text_in (link_at executable.now run.old.frames.top)) run.old.frames.top run.old.frames.below (world_of run.old.world)) result run.new }
+// The text of the instruction.
+fn linked_text<'e>(executable: &'e Executable, frames: &Frames) -> Option<&'e UText>
+    ensures { option_copied result ≡ text_in (link_at executable.now frames.now.top) }
+{
+    match executable.link(frames) {
+        Some(Link::Text(text)) => Some(text),
+        _ => None,
+    }
+}
+
+// The same with the text as it is shared.
+fn quoted_as(
+    run: &mut Configuration,
+    code: &LinkedCode,
+    limits: &Rules<'_>,
+    kind: Quoting,
+    text: &Text,
+    shared: &UText,
+) -> Step
+    requires script { run.old.frames.top.text ≡ Script }
+    requires reached { length limits.now.allowed.members ≤ run.old.world.reached.room }
+    requires shared { shared.now ≡ units text.now }
+    ensures exact { Comes (quoted_act (codes_alone code.now.functions) (limits_in limits.now) kind text.now run.old.frames.top run.old.frames.below (world_of run.old.world)) result run.new }
     ensures room { room_of run.new ≡ room_of run.old }
 {
-    match executable.link(&run.frames) {
-        Some(Link::Text(text)) => constant(run, text),
-        _ => Step::Stuck,
+    match kind {
+        Quoting::Constant => constant(run, shared),
+        Quoting::GetName => get_name(run, code, limits, text.as_str(), shared),
+        Quoting::PutName => put_name(run, code, limits, text.as_str(), shared),
     }
 }
 

@@ -70,7 +70,7 @@ fn execute(
             sized_by_name(run, executable, limits, *kind, *count)
         }
         Instruction::DefCall(name, count) => {
-            call_method(run, code, limits, name.as_str(), *count)
+            call_method(run, executable, limits, name.as_str(), *count)
         }
         Instruction::Cast(_, way) => cast(run, executable, limits, *way),
         Instruction::Invoke(_) => named(run, executable, limits),

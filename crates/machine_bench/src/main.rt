@@ -1,5 +1,6 @@
-//! Prints what a loop of a million turns, as many calls, fib(24), 100,000 appends, and a million instructions in a straight line take, in
-//! nanoseconds an instruction, and what a run of eleven instructions takes, in new memory and in the memory of the run before. It measures where it is given an argument, and else prints nothing: `rt run -- times`.
+//! Prints, in nanoseconds an instruction, what listings take that mostly do one thing each, as the script above each says; what a straight
+//! line of a million instructions takes; and what a run of eleven instructions takes, in new memory and in the memory of the run before.
+//! It measures where it is given an argument, and else prints nothing: `rt run -- times`.
 #![tactic(auto)]
 
 use allowlist::{Allow, Catalogue};
@@ -17,6 +18,14 @@ use task_core::Turn;
 const LOOP: &str =
     "painless 1\nfun 0 loop R - II\ni 0\nstore 0\ni 0\nstore 1\ngoto 13\nload 0\nload 1\nadd.i\nstore 0\nload 1\ni 1\nadd.i\nstore 1\nload 1\ni 1000000\nlt.i\nloop 5\nload 0\nbox int\nret\nend\n";
 
+// int n = 0; int a = 3; for (int i = 0; i < 1000000; i++) { n = n + a } n
+const INT_ADDITIONS: &str =
+    "painless 1\nfun 0 loop R - III\ni 0\nstore 0\ni 3\nstore 1\ni 0\nstore 2\ngoto 15\nload 0\nload 1\nadd.i\nstore 0\nload 2\ni 1\nadd.i\nstore 2\nload 2\ni 1000000\nlt.i\nloop 7\nload 0\nbox int\nret\nend\n";
+
+// def n = 0; def a = 3; for (int i = 0; i < 1000000; i++) { n = n + a } n
+const DEF_ADDITIONS: &str =
+    "painless 1\nfun 0 loop R - RRI\ni 0\nbox int\nstore 0\ni 3\nbox int\nstore 1\ni 0\nstore 2\ngoto 17\nload 0\nload 1\ndef.add\nstore 0\nload 2\ni 1\nadd.i\nstore 2\nload 2\ni 1000000\nlt.i\nloop 9\nload 0\nret\nend\n";
+
 // int f(int n) { return n } for (int i = 0; i < 1000000; i++) { f(i) }
 const CALLS: &str =
     "painless 1\nfun 0 loop V - I\ni 0\nstore 0\ngoto 10\nload 0\ncall 1\npop\nload 0\ni 1\nadd.i\nstore 0\nload 0\ni 1000000\nlt.i\nloop 3\nret\nend\nfun 1 loop I I -\nload 0\nret\nend\n";
@@ -29,6 +38,26 @@ const FIB: &str =
 const APPEND: &str =
     "painless 1\nfun 0 loop R - RI\nnew java.lang.StringBuilder/0\nstore 0\ni 0\nstore 1\ngoto 13\nload 0\ntext \"ab\"\ninvoke java.lang.StringBuilder.append/1\npop\nload 1\ni 1\nadd.i\nstore 1\nload 1\ni 100000\nlt.i\nloop 5\nload 1\nbox int\nret\nend\n";
 
+// List l = new ArrayList(); for (int i = 0; i < 300000; i++) { l.size() }
+const STATIC_METHOD: &str =
+    "painless 1\nfun 0 loop R - RI\nnew java.util.ArrayList/0\nstore 0\ni 0\nstore 1\ngoto 12\nload 0\ninvoke java.util.Collection.size/0\npop\nload 1\ni 1\nadd.i\nstore 1\nload 1\ni 300000\nlt.i\nloop 5\nload 1\nbox int\nret\nend\n";
+
+// def l = new ArrayList(); for (int i = 0; i < 300000; i++) { l.size() }
+const DEF_METHOD: &str =
+    "painless 1\nfun 0 loop R - RI\nnew java.util.ArrayList/0\nstore 0\ni 0\nstore 1\ngoto 12\nload 0\ndefcall size 0\npop\nload 1\ni 1\nadd.i\nstore 1\nload 1\ni 300000\nlt.i\nloop 5\nload 1\nbox int\nret\nend\n";
+
+// List l = [1, 2, 3, 4]; for (int i = 0; i < 300000; i++) { l[i & 3] }
+const ITEMS: &str =
+    "painless 1\nfun 0 loop R - RI\ni 1\nbox int\ni 2\nbox int\ni 3\nbox int\ni 4\nbox int\nlist 4\nstore 0\ni 0\nstore 1\ngoto 24\nload 0\nload 1\ni 3\nand.i\nbox int\ngetidx\npop\nload 1\ni 1\nadd.i\nstore 1\nload 1\ni 300000\nlt.i\nloop 13\nload 1\nbox int\nret\nend\n";
+
+// Map m = ['k': 7]; for (int i = 0; i < 300000; i++) { m.k }
+const KEYS: &str =
+    "painless 1\nfun 0 loop R - RI\ntext \"k\"\ni 7\nbox int\nmap 1\nstore 0\ni 0\nstore 1\ngoto 15\nload 0\ngetname \"k\"\npop\nload 1\ni 1\nadd.i\nstore 1\nload 1\ni 300000\nlt.i\nloop 8\nload 1\nbox int\nret\nend\n";
+
+// List l of 15,625 elements, six times l.addAll(l), for (def e : l) { e }: a million elements
+const EACH: &str =
+    "painless 1\nfun 0 loop R - RIR\nnew java.util.ArrayList/0\nstore 0\ni 0\nstore 1\ngoto 14\nload 0\nload 1\nbox int\ninvoke java.util.Collection.add/1\npop\nload 1\ni 1\nadd.i\nstore 1\nload 1\ni 15625\nlt.i\nloop 5\nload 0\nload 0\ninvoke java.util.Collection.addAll/1\npop\nload 0\nload 0\ninvoke java.util.Collection.addAll/1\npop\nload 0\nload 0\ninvoke java.util.Collection.addAll/1\npop\nload 0\nload 0\ninvoke java.util.Collection.addAll/1\npop\nload 0\nload 0\ninvoke java.util.Collection.addAll/1\npop\nload 0\nload 0\ninvoke java.util.Collection.addAll/1\npop\nload 0\niter\nstore 2\ngoto 49\nload 2\nnext\npop\nload 2\nhas\nloop 46\nload 1\nbox int\nret\nend\n";
+
 // int a = 2; int b = 3; a * b + 1, with sixteen locals
 const SHORT: &str =
     "painless 1\nfun 0 loop R - IIIIIIIIIIIIIIII\ni 2\nstore 0\ni 3\nstore 1\nload 0\nload 1\nmul.i\ni 1\nadd.i\nbox int\nret\nend\n";
@@ -40,10 +69,13 @@ const RUNS: u32 = 200_000;
 const SUMS: usize = 250_000;
 
 const LIMITS: Limits = Limits {
-    loops: 1_000_000,
+    loops: 2_000_000,
     depth: 256,
-    ticks: 2_000_000,
+    ticks: 4_000_000,
 };
+
+// How much room the objects of a run have.
+const ROOM: u64 = 2_000_000;
 
 // How many words each frame may have.
 const FRAME: usize = 20;
@@ -59,7 +91,7 @@ fn straight(alloc: Global) -> Result<String, AllocError> {
 
 /// How many instructions a run takes, in turns of so many. It is 0 where the run does not end.
 fn run(alloc: Global, executable: &Executable, q: u64) -> Result<u64, AllocError> {
-    let heap = Heap::new(alloc, 1_000_000);
+    let heap = Heap::new(alloc, ROOM);
     let mut activation = Activation::start(executable, heap, Elements::new(alloc), LIMITS)?;
     for _ in 0..100_000_000 {
         if activation.turn(q) != Turn::More {
@@ -102,7 +134,7 @@ fn run_in(
     executable: &Executable,
     memory: RunMemory,
 ) -> Result<RunMemory, AllocError> {
-    let heap = Heap::new(alloc, 1_000_000);
+    let heap = Heap::new(alloc, ROOM);
     let mut activation = Activation::start_in(
         executable,
         memory,
@@ -167,9 +199,16 @@ fn main(rt: HostRuntime) -> io::Result<()> {
     };
     for (name, listing) in [
         ("a loop", LOOP),
+        ("int additions", INT_ADDITIONS),
+        ("def additions", DEF_ADDITIONS),
         ("calls", CALLS),
         ("fib(24)", FIB),
         ("append", APPEND),
+        ("size() on a list", STATIC_METHOD),
+        ("size() on a def", DEF_METHOD),
+        ("l[i & 3]", ITEMS),
+        ("m.k", KEYS),
+        ("for-each", EACH),
         ("a straight line", line.as_str()),
     ] {
         let Ok(executable) = ready(rt.alloc(), listing, &allow) else {

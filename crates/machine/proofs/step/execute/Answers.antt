@@ -1,7 +1,8 @@
-use Rattle.std.proofs.Common.{ℕ, List, subst, arith}
+use Rattle.std.proofs.Common.{◌≡◌, ℕ, List, Some, sym, subst, arith}
+use Rattle.machine.specs.Links.{link_at, methods_in, methods_of}
 use Rattle.machine.specs.Seen.{Comes, codes_alone, world_of, limits_in}
 use Rattle.machine.proofs.Calling.{as_well}
-use Rattle.machine.proofs.Linked.{typed_acts, typed_spares, sized_acts, called_acts, called_by_list, cast_acts, cast_spares, method_acts, method_spares, constructor_acts, constructor_spares, field_acts, field_spares, text_names}
+use Rattle.machine.proofs.Linked.{typed_acts, typed_spares, sized_acts, called_acts, called_by_list, cast_acts, cast_spares, method_acts, method_spares, constructor_acts, constructor_spares, field_acts, field_spares, methods_names, text_names}
 use Rattle.machine.proofs.step.execute.Goals as goal
 
 pub quoted-requires-clause-linked : goal.quoted-requires-clause-linked
@@ -20,11 +21,16 @@ pub returns-in-Sized-clause-exact : goal.returns-in-Sized-clause-exact
 returns-in-Sized-clause-exact c =
     as_well _ _ _ _ (sized_acts c.args.executable.now (limits_in c.args.limits.now) c.args.instruction.now c.args.run.now.frames.top c.requires.allowed c.requires.instruction c.args.run.now.frames.below (world_of c.args.run.now.world) c.in-Sized.kind _ c.in-Sized.count c.in-Sized.is) c.sized_by_name.ensures.exact
 
+pub call_method-requires-clause-linked : goal.call_method-requires-clause-linked
+call_method-requires-clause-linked c =
+    subst (λ (name : List ℕ). methods_in (link_at c.args.executable.now c.args.run.now.frames.top) ≡ Some (methods_of c.args.limits.now.allowed name c.in-DefCall.count)) (sym c.as_str.ensures.text)
+    (methods_names c.args.executable.now (limits_in c.args.limits.now) c.args.instruction.now c.args.run.now.frames.top c.requires.allowed c.requires.instruction _ c.in-DefCall.count c.in-DefCall.is)
+
 pub returns-in-DefCall-clause-exact : goal.returns-in-DefCall-clause-exact
 returns-in-DefCall-clause-exact c =
     as_well _ _ _ _ (called_acts c.args.executable.now (limits_in c.args.limits.now) c.args.instruction.now c.args.run.now.frames.top c.requires.allowed c.requires.instruction c.args.run.now.frames.below (world_of c.args.run.now.world) _ c.in-DefCall.count c.in-DefCall.is)
     (subst (λ (name : List ℕ). Comes (called_by_list (codes_alone c.args.executable.now.code.functions) (limits_in c.args.limits.now) c.args.limits.now.allowed name c.in-DefCall.count c.args.run.now.frames.top c.args.run.now.frames.below (world_of c.args.run.now.world)) c.call_method.result c.call_method.new.run) c.as_str.ensures.text
-    (rw c.linked-code.ensures at c.call_method.ensures.exact))
+    c.call_method.ensures.exact)
 
 pub returns-in-Cast-clause-exact : goal.returns-in-Cast-clause-exact
 returns-in-Cast-clause-exact c =
