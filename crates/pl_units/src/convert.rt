@@ -8,6 +8,11 @@ use std::alloc::AllocError;
 pub fn push_scalar(text: &mut Vec<u16>, scalar: char) -> Result<(), AllocError>
     ensures { OnOk result (text.new.items ≡ text.old.items ++ units_of_scalar scalar) }
 {
+    let code = scalar as u32;
+    if code < 0x1_0000 {
+        text.push(code as u16)?;
+        return Ok(());
+    }
     let mut pair = [0; 2];
     text.extend_from_slice(scalar.encode_utf16(&mut pair))
 }

@@ -208,7 +208,8 @@ impl UText {
 fn encoded(alloc: Global, s: &str) -> Result<Vec<u16>, AllocError>
     ensures { IfOk result (λ content. content.items ≡ units s.now) }
 {
-    let mut content = Vec::new(alloc);
+    // A scalar value has as many units as bytes, or fewer.
+    let mut content = Vec::with_capacity(alloc, s.len())?;
     for scalar in s.chars() {
         push_scalar(&mut content, scalar)?;
     }
