@@ -3,6 +3,7 @@
 
 mod arguments;
 mod bulk;
+mod comparing;
 mod entering;
 mod indexing;
 mod laws;
@@ -14,6 +15,7 @@ mod searching;
 mod taking;
 mod told;
 
+pub use comparing::compare;
 pub use indexing::{read_index, write_index};
 pub use laws::members_keep_fit;
 pub use member::call;

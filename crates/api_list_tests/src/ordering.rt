@@ -1,4 +1,4 @@
-//! Rows of the members of Collections that need natural order.
+//! Rows of natural order: the members of Collections that need it, and 226, which the prelude asks for it.
 use crate::sample::{Lists, OBJECTS};
 use member_rows::first_wrong;
 use std::test::Fail;
@@ -69,7 +69,43 @@ const ROWS: &str = "\
 172 @3 | !ClassCastException: Cannot compare [Long] and [Integer] | 36 | @3 2 [1, 1, true]
 172 @27 | -5s | 0 | @27 0 [5, -5]
 172 @0 | !NullPointerException | 1 | @0 5 [1, b, 1, null]
-172 null | !NullPointerException | 1 | @1 0 []";
+172 null | !NullPointerException | 1 | @1 0 []
+# Prelude: int compare(def, def)
+226 1 2 | -1 | 0 | @0 5 [1, b, 1, null]
+226 2 1 | 1 | 0 | @0 5 [1, b, 1, null]
+226 7 7 | 0 | 0 | @0 5 [1, b, 1, null]
+226 -2147483648 2147483647 | -1 | 0 | @0 5 [1, b, 1, null]
+226 9223372036854775807L -9223372036854775808L | 1 | 0 | @0 5 [1, b, 1, null]
+226 4294967296L 4294967297L | -1 | 0 | @0 5 [1, b, 1, null]
+226 -5L -5L | 0 | 0 | @0 5 [1, b, 1, null]
+226 false true | -1 | 0 | @0 5 [1, b, 1, null]
+226 true false | 1 | 0 | @0 5 [1, b, 1, null]
+226 true true | 0 | 0 | @0 5 [1, b, 1, null]
+226 127b -128b | 255 | 0 | @0 5 [1, b, 1, null]
+226 3b 5b | -2 | 0 | @0 5 [1, b, 1, null]
+226 -32768s 32767s | -65535 | 0 | @0 5 [1, b, 1, null]
+226 9s 2s | 7 | 0 | @0 5 [1, b, 1, null]
+226 'B'c 'a'c | -31 | 0 | @0 5 [1, b, 1, null]
+226 'a'c 'B'c | 31 | 0 | @0 5 [1, b, 1, null]
+226 'abc' 'abd' | -1 | 0 | @0 5 [1, b, 1, null]
+226 'b' 'a' | 1 | 0 | @0 5 [1, b, 1, null]
+226 'ab' 'abcd' | -2 | 0 | @0 5 [1, b, 1, null]
+226 'abcd' 'a' | 3 | 0 | @0 5 [1, b, 1, null]
+226 '' '' | 0 | 0 | @0 5 [1, b, 1, null]
+226 '～' '𐀀' | 10078 | 0 | @0 5 [1, b, 1, null]
+226 null 1 | !NullPointerException | 1 | @0 5 [1, b, 1, null]
+226 'a' null | !NullPointerException | 1 | @0 5 [1, b, 1, null]
+226 null null | !NullPointerException | 1 | @0 5 [1, b, 1, null]
+226 null @0 | !NullPointerException | 1 | @0 5 [1, b, 1, null]
+226 @0 null | !NullPointerException | 1 | @0 5 [1, b, 1, null]
+226 1 | !NullPointerException | 1 | @0 5 [1, b, 1, null]
+226 1 1L | !ClassCastException: Cannot compare [Integer] and [Long] | 36 | @0 5 [1, b, 1, null]
+226 1L 1 | !ClassCastException: Cannot compare [Long] and [Integer] | 36 | @0 5 [1, b, 1, null]
+226 1b 1s | !ClassCastException: Cannot compare [Byte] and [Short] | 34 | @0 5 [1, b, 1, null]
+226 'a' 'a'c | !ClassCastException: Cannot compare [String] and [Character] | 40 | @0 5 [1, b, 1, null]
+226 true 1 | !ClassCastException: Cannot compare [Boolean] and [Integer] | 39 | @0 5 [1, b, 1, null]
+226 @0 @0 | !ClassCastException: Cannot compare [ArrayList] and [ArrayList] | 43 | @0 5 [1, b, 1, null]
+226 'x' @2 | !ClassCastException: Cannot compare [String] and [ArrayList] | 40 | @0 5 [1, b, 1, null]";
 
 #[test]
 fn ordering(rt: HostRuntime) -> Result<(), Fail> {

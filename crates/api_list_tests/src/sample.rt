@@ -3,12 +3,13 @@ use member_rows::Members;
 use object_heap::{Answer, Heap};
 use object_values::Value;
 
-/// The members of lists, and indexes in brackets.
+/// The members of lists, natural order, and indexes in brackets.
 pub struct Lists;
 
 impl Members for Lists {
     fn call(number: u32, heap: &mut Heap, args: &[Value]) -> Answer {
         match number {
+            226 => api_list::compare(heap, args),
             1000 => api_list::read_index(heap, args),
             1001 => api_list::write_index(heap, args),
             _ => api_list::call(number, heap, args),
