@@ -3,6 +3,7 @@
 
 mod errors;
 mod line;
+mod plain;
 mod refusals;
 mod replies;
 mod results;

@@ -1,17 +1,14 @@
 //! What a run over a document comes to as a line of JSON.
 
-ghost use Rattle.std.specs.Prelude.{◌≡◌, string_bytes, IfOk};
-ghost use Rattle.serde_json.specs.View.{view};
-ghost use Rattle.json_replies.specs.Replies.{is_error, line_of};
+ghost use Rattle.std.specs.Prelude.{◌≡◌, codes, string_bytes, IfOk};
+ghost use Rattle.json_replies.specs.Replies.{is_error, kind_reply, line_of};
 ghost use Rattle.json_replies.specs.Searching.{gives_below_zero, is_below_zero, is_negative_score, search_reply_of};
 
-use crate::line::{Line, line_of_reply};
-use crate::replies::reply_of;
+use crate::line::{Line, line_of_reply, reply_line};
 use crate::results::kind_reply;
 use object_heap::{End, Heap};
 use object_values::Value;
 use search_ctx::SearchKind;
-use serde_json::Value as Json;
 use std::alloc::{AllocError, Global};
 
 fn is_below_zero(value: &Value) -> bool
@@ -43,19 +40,13 @@ fn is_negative_score(kind: SearchKind, end: &End) -> bool
     }
 }
 
-fn search_reply_of(
-    alloc: Global,
-    kind: SearchKind,
-    end: &End,
-    heap: &Heap,
-) -> Result<Json, AllocError>
-    ensures { IfOk result (λ reply. view reply ≡ search_reply_of kind end.now heap.now.objects) }
+/// The line of a score below 0.
+fn negative_line(alloc: Global) -> Result<Line, AllocError>
+    ensures text { IfOk result (λ line. string_bytes line.text ≡ line_of (kind_reply (codes "negative-score"))) }
+    ensures error { IfOk result (λ line. line.is_error ≡ is_error (kind_reply (codes "negative-score"))) }
 {
-    if is_negative_score(kind, end) {
-        kind_reply(alloc, "negative-score")
-    } else {
-        reply_of(alloc, end, heap)
-    }
+    let json = kind_reply(alloc, "negative-score")?;
+    line_of_reply(alloc, &json)
 }
 
 /// The reply line of a run over a document that ended so over a heap: that of a script, but that a score below 0 is the error
@@ -69,6 +60,9 @@ pub fn search_reply_line(
     ensures text { IfOk result (λ line. string_bytes line.text ≡ line_of (search_reply_of kind end.now heap.now.objects)) }
     ensures error { IfOk result (λ line. line.is_error ≡ is_error (search_reply_of kind end.now heap.now.objects)) }
 {
-    let json = search_reply_of(alloc, kind, end, heap)?;
-    line_of_reply(alloc, &json)
+    if is_negative_score(kind, end) {
+        negative_line(alloc)
+    } else {
+        reply_line(alloc, end, heap)
+    }
 }

@@ -1,5 +1,6 @@
 mod FieldLemmas
 mod Fitting
+mod Passing
 mod Reading
 mod Sorting
 mod Taking

@@ -4,10 +4,11 @@ use Rattle.serde_json.specs.Data.{Data, item}
 use Rattle.serde_json.specs.View.{view, items_view}
 use Rattle.serde_json.specs.declared.value.Value.{Value as Json}
 use Rattle.job_file.specs.declared.mapping.FieldKind.{FieldKind}
-use Rattle.json_bridge.specs.Binding.{BoundMembers}
+use Rattle.json_bridge.specs.Binding.{BoundMembers, with_next_member}
 use Rattle.search_ctx.specs.declared.values.FieldValues.{FieldValues}
 use Rattle.search_ctx.specs.DocValues.{all_taken, taken, ordered, ordered_in, ordered_at, found, found_items}
-use Rattle.search_ctx.specs.Placing.{lists_placed}
+use Rattle.search_ctx.specs.Fields.{texts_of}
+use Rattle.search_ctx.specs.Placing.{lists_placed, lists_under, values_placed}
 
 onward : List (ℕ × Data) → Option (List FieldValues) → Option (List FieldValues)
 onward more doc = option_and_then (λ next. all_taken next more) doc
@@ -72,7 +73,19 @@ pub items_not : (doc : List FieldValues) (fields : List (List ℕ × FieldKind))
 items_not doc fields path place values at one h e t =
     rw (items_left values at one h e) (taken_not doc (found fields path place (view one)) (found_items fields path place (items_view (drop (suc at) values))) t)
 
--- where no fields are left, no list is placed
-pub no_more_fields : (lists : BoundMembers) (doc : List FieldValues) → lists_placed lists doc [] ≡ lists
-no_more_fields lists [] = refl
-no_more_fields lists (values ∷ doc) = refl
+-- where no names are left, no list is placed
+none_left : (lists : BoundMembers) (doc : List FieldValues) → lists_under lists doc [] ≡ lists
+none_left lists [] = refl
+none_left lists (values ∷ doc) = refl
+
+pub no_more_names : (lists : BoundMembers) (doc : List FieldValues) (at : ℕ) (texts : List (List ℕ)) → length texts ≤ at → lists_under lists doc (drop at texts) ≡ lists
+no_more_names lists doc zero [] h = none_left lists doc
+no_more_names lists doc (suc at) [] h = none_left lists doc
+no_more_names lists doc zero (text ∷ texts) h = absurd (omega arith)
+no_more_names lists doc (suc at) (text ∷ texts) h = no_more_names lists doc at texts (omega arith)
+
+-- lists under the texts of the names of fields are those of the fields
+pub lists_by_texts : (lists : BoundMembers) (doc : List FieldValues) (fields : List (List ℕ × FieldKind)) → lists_under lists doc (texts_of fields) ≡ lists_placed lists doc fields
+lists_by_texts lists [] fields = refl
+lists_by_texts lists (values ∷ doc) [] = refl
+lists_by_texts lists (values ∷ doc) (field ∷ fields) = lists_by_texts (with_next_member lists field.0 (values_placed lists.objects values)) doc fields

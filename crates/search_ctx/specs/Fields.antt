@@ -1,7 +1,8 @@
 -- The fields that a script sees of a document: their names and kinds, and at which place a name stands among them.
-use Rattle.std.specs.Prelude.{◌≡◌, ℕ, false, List, [], ◌∷◌, Option, map, if◌then◌else◌}
-use Rattle.std.specs.List.{position, AllByRecursion}
+use Rattle.std.specs.Prelude.{◌≡◌, ℕ, ◌||◌, Bool, false, List, [], ◌∷◌, Option, map, nat_eq, if◌then◌else◌}
+use Rattle.std.specs.List.{position, starts_with, AllByRecursion}
 use Rattle.std.specs.Str.{bytes_eq}
+use Rattle.pl_units.specs.Utf16.{units}
 use Rattle.job_file.specs.declared.mapping.FieldKind.{FieldKind}
 
 -- with a kind under a name: a name that is there keeps its place, and a new one goes last
@@ -17,6 +18,15 @@ with_fields fields (field ∷ more) = with_fields (with_field fields field.0 fie
 -- the place of the field of this name, if there is one
 abbrev pub place_of : List ℕ → List (List ℕ × FieldKind) → Option ℕ
 place_of name fields = position (bytes_eq name) (map (λ (field : List ℕ × FieldKind). field.0) fields)
+
+-- the names of the fields as texts of scripts
+abbrev pub texts_of : List (List ℕ × FieldKind) → List (List ℕ)
+texts_of fields = map (λ (field : List ℕ × FieldKind). units field.0) fields
+
+-- whether the name of some field begins with this text
+abbrev pub begins_some : List ℕ → List (List ℕ × FieldKind) → Bool
+begins_some front [] = false
+begins_some front (field ∷ fields) = starts_with nat_eq field.0 front || begins_some front fields
 
 -- no field has this name
 abbrev pub IsNewName : List ℕ → List (List ℕ × FieldKind) → Type 0

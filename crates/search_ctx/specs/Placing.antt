@@ -7,6 +7,7 @@ use Rattle.object_values.specs.declared.value.Value.TheVariants as v
 use Rattle.object_values.specs.declared.object.Object.{Object}
 use Rattle.object_values.specs.declared.object.Object.TheVariants as o
 use Rattle.object_values.specs.declared.object.Guard.TheVariants as g
+use Rattle.object_values.specs.Pairs.{with_pair}
 use Rattle.job_file.specs.declared.mapping.FieldKind.{FieldKind}
 use Rattle.json_bridge.specs.Binding.{Bound, BoundMembers, placed, with_next_member}
 use Rattle.search_ctx.specs.declared.values.FieldValues.{FieldValues}
@@ -28,6 +29,15 @@ lists_placed lists [] fields = lists
 lists_placed lists (values ∷ doc) [] = lists
 lists_placed lists (values ∷ doc) (field ∷ fields) =
     lists_placed (with_next_member lists field.0 (values_placed lists.objects values)) doc fields
+
+-- the same by the texts of the names
+abbrev pub with_list : BoundMembers → List ℕ → Bound → BoundMembers
+with_list lists text next = record { pairs = with_pair lists.pairs (v.Str text) next.value; objects = next.objects }
+
+abbrev pub lists_under : BoundMembers → List FieldValues → List (List ℕ) → BoundMembers
+lists_under lists [] texts = lists
+lists_under lists (values ∷ doc) [] = lists
+lists_under lists (values ∷ doc) (text ∷ texts) = lists_under (with_list lists text (values_placed lists.objects values)) doc texts
 
 -- the map of the lists, which nothing may change and which only the names of fields may be asked of
 abbrev pub mapped : BoundMembers → Bound

@@ -201,7 +201,7 @@ fn args_of(
 ) -> Result<Elements<Value>, AllocError>
     ensures { IfOk result (λ args. args ≡ params ∷ doc ∷ score_args score) }
 {
-    let mut args = Elements::new(alloc);
+    let mut args = Elements::from_vec(Vec::with_capacity(alloc, 3)?);
     args.push(params)?;
     args.push(doc)?;
     if let Some(score) = score {

@@ -1,8 +1,7 @@
 //! The doc values of a document in a heap.
 
-ghost use Rattle.std.specs.Prelude.{◌≡◌, IfOk, OnOk};
-ghost use Rattle.json_bridge.specs.Binding.{with_next_member};
-ghost use Rattle.search_ctx.specs.Placing.{doc_placed, values_placed};
+ghost use Rattle.std.specs.Prelude.{◌≡◌, [], IfOk, OnOk};
+ghost use Rattle.search_ctx.specs.Placing.{doc_placed, lists_under, values_placed, with_list};
 
 use crate::doc::FieldDoc;
 use crate::fields::Fields;
@@ -28,20 +27,41 @@ fn place_values(heap: &mut Heap, values: &FieldValues) -> Result<Value, AllocErr
     Ok(Value::Ref(heap.place(list)?))
 }
 
-/// Places the list of a field's values, and puts it under the name of the field.
-pub(crate) fn place_field(
+/// Places the list of a field's values, and puts it under the name of the field, which it shares.
+fn place_field(
     heap: &mut Heap,
     pairs: &mut Pairs,
-    name: &str,
+    name: &UText,
     values: &FieldValues,
 ) -> Result<(), AllocError>
-    ensures pairs { OnOk result (pairs.new ≡ (with_next_member (record { pairs = pairs.old; objects = heap.old.objects }) name.now (values_placed heap.old.objects values.now)).pairs) }
+    ensures pairs { OnOk result (pairs.new ≡ (with_list (record { pairs = pairs.old; objects = heap.old.objects }) name.now (values_placed heap.old.objects values.now)).pairs) }
     ensures store { OnOk result (heap.new ≡ record heap.old { objects = (values_placed heap.old.objects values.now).objects }) }
 {
     let value = place_values(heap, values)?;
-    let key = Value::Str(UText::from_utf8(heap.alloc(), name)?);
+    let key = Value::Str(name.share()?);
     pairs.put(key, value)?;
     Ok(())
+}
+
+/// Places the list of each field's values, and gives the lists under these names.
+pub(crate) fn place_lists(
+    heap: &mut Heap,
+    names: &[UText],
+    doc: &[FieldValues],
+) -> Result<Pairs, AllocError>
+    ensures pairs { IfOk result (λ pairs. pairs ≡ (lists_under (record { pairs = []; objects = heap.old.objects }) doc.now names.now).pairs) }
+    ensures store { OnOk result (heap.new ≡ record heap.old { objects = (lists_under (record { pairs = []; objects = heap.old.objects }) doc.now names.now).objects }) }
+{
+    let mut pairs = Pairs::new(heap.alloc());
+    let mut rest = doc;
+    for name in names {
+        let Some((values, behind)) = rest.split_first() else {
+            return Ok(pairs);
+        };
+        place_field(heap, &mut pairs, name, values)?;
+        rest = behind;
+    }
+    Ok(pairs)
 }
 
 /// Places the doc values of a document in a heap, as the map `doc`: under the name of each field a list of class

@@ -149,7 +149,7 @@ fn order_flags(alloc: Global, flags: &mut Elements<bool>)
 fn long_values(alloc: Global, longs: &[i64]) -> Result<Elements<Value>, AllocError>
     ensures { IfOk result (λ values. values ≡ map v.Long longs.now) }
 {
-    let mut values = Elements::new(alloc);
+    let mut values = Elements::from_vec(Vec::with_capacity(alloc, longs.len())?);
     for long in longs {
         values.push(Value::Long(*long))?;
     }
@@ -160,7 +160,7 @@ fn long_values(alloc: Global, longs: &[i64]) -> Result<Elements<Value>, AllocErr
 fn flag_values(alloc: Global, flags: &[bool]) -> Result<Elements<Value>, AllocError>
     ensures { IfOk result (λ values. values ≡ map v.Bool flags.now) }
 {
-    let mut values = Elements::new(alloc);
+    let mut values = Elements::from_vec(Vec::with_capacity(alloc, flags.len())?);
     for flag in flags {
         values.push(Value::Bool(*flag))?;
     }

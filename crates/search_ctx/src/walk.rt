@@ -20,7 +20,8 @@ pub(crate) const SCORE_KEY: &str = "_score";
 fn joined(alloc: Global, front: &str, behind: &str) -> Result<String, AllocError>
     ensures { IfOk result (λ text. string_bytes text ≡ front.now ++ behind.now) }
 {
-    let mut text = String::from_str(alloc, front)?;
+    let mut text = String::with_capacity(alloc, front.len() + behind.len())?;
+    text.push_str(front)?;
     text.push_str(behind)?;
     Ok(text)
 }
@@ -82,8 +83,8 @@ fn take_items(
     Ok(())
 }
 
-/// Takes what stands in the members of an object of this path.
-#[tactic(auto, using(crate::proofs::Taking::taken_on, crate::proofs::Taking::taken_not))]
+/// Takes what stands in the members of an object of this path, which are passed over where no field's name begins so.
+#[tactic(auto, using(crate::proofs::Passing::none_taken))]
 #[cycle(walk)]
 fn take_object(
     doc: &mut FieldDoc,
@@ -95,6 +96,9 @@ fn take_object(
     ensures ok { OnOk result (all_taken doc.old (found_members fields.now (path.now ++ codes ".") (members_view members.now.entries)) ≡ Some doc.new) }
     ensures error { IfErr result (λ e. (e ≡ doc_err.Field) → (all_taken doc.old (found_members fields.now (path.now ++ codes ".") (members_view members.now.entries)) ≡ None)) }
 {
+    if !fields.may_begin(path) {
+        return Ok(());
+    }
     let front = joined(alloc, path, ".")?;
     take_members(doc, alloc, fields, front.as_str(), members)
 }

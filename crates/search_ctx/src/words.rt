@@ -73,7 +73,7 @@ impl Words {
     pub(crate) fn to_values(&self, alloc: Global) -> Result<Elements<Value>, AllocError>
         ensures { IfOk result (λ values. values ≡ map (λ word. v.Str (units word)) self.now) }
     {
-        let mut values = Elements::new(alloc);
+        let mut values = Elements::from_vec(Vec::with_capacity(alloc, self.words.len())?);
         for word in &self.words {
             values.push(Value::Str(UText::from_utf8(alloc, word.as_str())?))?;
         }

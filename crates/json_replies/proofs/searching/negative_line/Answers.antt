@@ -1,15 +1,14 @@
-use Rattle.std.proofs.Common.{◌≡◌, IfOk, string_bytes, ap, ◌∙◌, subst}
+use Rattle.std.proofs.Common.{◌≡◌, IfOk, string_bytes, ap, subst}
 use Rattle.serde_json.specs.Data.{Data}
 use Rattle.serde_json.specs.Written.{has_float}
 use Rattle.json_replies.specs.Replies.{is_error, line_of}
 use Rattle.json_replies.specs.declared.line.Line.{Line}
-use Rattle.json_replies.proofs.Lines.{reply_has_none}
-use Rattle.json_replies.proofs.line.reply_line.Goals as goal
+use Rattle.json_replies.proofs.searching.negative_line.Goals as goal
 
 pub returns-clause-text : goal.returns-clause-text
 returns-clause-text c =
     subst (λ (d : Data). IfOk c.line_of_reply.result (λ (line : Line). string_bytes line.text ≡ line_of d)) c.in_ok-json.ensures
-    (c.line_of_reply.ensures.text (ap has_float c.in_ok-json.ensures ∙ reply_has_none c.args.end.now c.args.heap.now.objects))
+    (c.line_of_reply.ensures.text (ap has_float c.in_ok-json.ensures))
 
 pub returns-clause-error : goal.returns-clause-error
 returns-clause-error c =
