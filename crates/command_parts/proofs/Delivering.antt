@@ -6,7 +6,7 @@ use Rattle.command_parts.specs.declared.status.Status.{Status}
 use Rattle.command_parts.specs.declared.status.Status.TheVariants as s
 use Rattle.command_parts.specs.declared.stop.Stop.{Stop}
 use Rattle.command_parts.specs.declared.stop.Stop.TheVariants as stop
-use Rattle.command_parts.specs.Told.{Told, silent}
+use Rattle.command_parts.specs.Told.{Told, silent, uncounted}
 use Rattle.command_parts.specs.Stops.{stop_told}
 use Rattle.command_parts.specs.Ending.{EndsSo}
 use Rattle.command_parts.specs.Delivers.{Delivers}
@@ -65,12 +65,12 @@ delivers_over tells over taken past to from s.InputLong left left' old new h = a
 pub stop_delivers : (tells : Told → Type 0) (end : Stop) (status : Status) (old new : Option (List ℕ)) → ((a b : Told) → tells a → tells b → a ≡ b)
     → IfSome (stop_told end) tells → EndsSo end status old new → Delivers tells status old new
 stop_delivers tells (stop.Refused line) status old new once is (inl (ends, appended)) =
-    subst (λ (t : Status). Delivers tells t old new) (sym ends) (record { status = s.Refused; bytes = string_bytes line }, is, refl, appended)
+    subst (λ (t : Status). Delivers tells t old new) (sym ends) (uncounted s.Refused (string_bytes line), is, refl, appended)
 stop_delivers tells (stop.Refused line) status old new once is (inr (inl ends, front)) =
-    subst (λ (t : Status). Delivers tells t old new) (sym ends) (record { status = s.Refused; bytes = string_bytes line }, is, front)
+    subst (λ (t : Status). Delivers tells t old new) (sym ends) (uncounted s.Refused (string_bytes line), is, front)
 stop_delivers tells (stop.Refused line) status old new once is (inr (inr ends, front)) =
     subst (λ (t : Status). Delivers tells t old new) (sym ends)
-    (λ told k. subst (λ (t : Told). AppendsFront old new t.bytes) (once (record { status = s.Refused; bytes = string_bytes line }) told is k) front)
+    (λ told k. subst (λ (t : Told). AppendsFront old new t.bytes) (once (uncounted s.Refused (string_bytes line)) told is k) front)
 stop_delivers tells stop.FileAbsent status old new once is (ends, same) =
     subst (λ (t : Status). Delivers tells t old new) (sym ends)
     (silent s.FileAbsent, is, refl, subst (λ (n : Option (List ℕ)). Appends old n []) (sym same) (nothing old))

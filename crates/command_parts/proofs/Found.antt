@@ -1,5 +1,5 @@
 -- What reading a file answered is what is told of some content.
-use Rattle.std.proofs.Common.{◌≡◌, ℕ, ◌<◌, ◌≤◌, List, length, replicate, Option, None, Some, IfSome, Ok, Err, refl, ◌∙◌, suc, arith}
+use Rattle.std.proofs.Common.{◌≡◌, ℕ, ◌<◌, ◌≤◌, List, length, replicate, Option, None, Some, IfSome, Ok, Err, refl, suc, arith}
 use Rattle.std.proofs.lemmas.List.{length-replicate}
 use Rattle.std.proofs.lemmas.Bool.{le-leb, lt-leb}
 use Rattle.command_parts.specs.declared.status.Status.TheVariants as s

@@ -1,5 +1,5 @@
 -- How a run ends that ends before its work.
-use Rattle.std.specs.Prelude.{◌≡◌, ◌⊎◌, ℕ, List, [], Option, Some, None, string_bytes}
+use Rattle.std.specs.Prelude.{◌≡◌, ◌⊎◌, ℕ, List, Option, string_bytes}
 use Rattle.std.specs.Io.KnownBytes.{Appends}
 use Rattle.outer_io.specs.Front.{AppendsFront}
 use Rattle.command_parts.specs.declared.status.Status.{Status}

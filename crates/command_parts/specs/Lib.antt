@@ -1,8 +1,10 @@
 pub mod Told
+pub mod Reports
 pub mod Files
 pub mod Stops
 pub mod Ending
 pub mod Writing
 pub mod Delivers
 pub mod DeliversOver
+pub mod Before
 pub mod Process

@@ -3,11 +3,11 @@ use Rattle.std.specs.Prelude.{◌≡◌, Option, Some, None, Result, Ok, Err, If
 use Rattle.command_parts.specs.declared.status.Status.TheVariants as s
 use Rattle.command_parts.specs.declared.stop.Stop.{Stop}
 use Rattle.command_parts.specs.declared.stop.Stop.TheVariants as stop
-use Rattle.command_parts.specs.Told.{Told, silent}
+use Rattle.command_parts.specs.Told.{Told, silent, uncounted}
 
 -- what is told; a fault and want of memory tell nothing
 abbrev pub stop_told : Stop → Option Told
-stop_told (stop.Refused line) = Some (record { status = s.Refused; bytes = string_bytes line })
+stop_told (stop.Refused line) = Some (uncounted s.Refused (string_bytes line))
 stop_told stop.FileAbsent = Some (silent s.FileAbsent)
 stop_told stop.FileLong = Some (silent s.FileLong)
 stop_told stop.FileFault = None

@@ -11,6 +11,8 @@ use Rattle.search_ctx.specs.declared.line.SearchKind.{SearchKind}
 use Rattle.search_ctx.specs.Lines.{Start, Fault, syntax, number_outside, field, bound_line}
 use Rattle.json_replies.specs.Replies.{is_error, line_of}
 use Rattle.json_replies.specs.Searching.{search_reply_of}
+use Rattle.json_replies.specs.Showing.{shown_reply}
+use Rattle.json_replies.specs.declared.showing.ShownKeys.{ShownKeys}
 use Rattle.job_replies.specs.declared.line_fault.LineFault.{LineFault}
 use Rattle.job_replies.specs.declared.line_fault.LineFault.TheVariants as fault
 use Rattle.job_replies.specs.Refusals.{line_error}
@@ -22,6 +24,15 @@ pub record Documents : Type 0 where
   pub fields : List (List ℕ × FieldKind)
   pub params : Data
   pub room : ℕ
+  -- what is shown beside the reply to a run
+  pub keys : ShownKeys
+
+-- what a run leaves: its end, the objects, the members that were called, by their first calls, and how many instructions were run
+pub record Ended : Type 0 where
+  pub end : End
+  pub objects : List Object
+  pub reached : List ℕ
+  pub steps : ℕ
 
 -- ---- lines
 
@@ -40,28 +51,35 @@ start_of documents line = if is_utf8 line then bound_line documents.kind documen
 
 -- ---- replies
 
--- a reply as a line of JSON
+-- a reply as a line of JSON, behind so many instructions
+abbrev pub as_line_after : ℕ → Data → Reply
+as_line_after steps d = record { bytes = line_of d; error = is_error d; steps = steps }
+
+-- one without a run
 abbrev pub as_line : Data → Reply
-as_line d = record { bytes = line_of d; error = is_error d }
+as_line d = as_line_after 0 d
+
+-- the reply to a run
+abbrev pub reply_to_run : Documents → Ended → Reply
+reply_to_run documents ran = as_line_after ran.steps (shown_reply documents.keys ran.reached ran.steps (search_reply_of documents.kind ran.end ran.objects))
 
 abbrev pub fault_of : Fault → LineFault
 fault_of syntax = fault.Syntax
 fault_of number_outside = fault.Number
 fault_of field = fault.Field
 
--- The reply to what a line is bound to: what is wrong with the line, or how the run that starts so ends, with the objects that it
--- leaves.
-abbrev pub IsReplyTo : SearchKind → (Start → End → List Object → Type 0) → Result Start Fault → Reply → Type 0
-IsReplyTo kind Ends (Err wrong) reply = reply ≡ as_line (line_error (fault_of wrong))
-IsReplyTo kind Ends (Ok start) reply = (end : End) × (objects : List Object) × Ends start end objects × (reply ≡ as_line (search_reply_of kind end objects))
+-- The reply to what a line is bound to: what is wrong with the line, or what the run that starts so leaves.
+abbrev pub IsReplyTo : Documents → (Start → Ended → Type 0) → Result Start Fault → Reply → Type 0
+IsReplyTo documents Ends (Err wrong) reply = reply ≡ as_line (line_error (fault_of wrong))
+IsReplyTo documents Ends (Ok start) reply = (ran : Ended) × Ends start ran × (reply ≡ reply_to_run documents ran)
 
 -- a blank line has no reply
-abbrev pub IsReplyUnless : Bool → Documents → (Start → End → List Object → Type 0) → List ℕ → Reply → Type 0
+abbrev pub IsReplyUnless : Bool → Documents → (Start → Ended → Type 0) → List ℕ → Reply → Type 0
 IsReplyUnless true documents Ends line reply = reply ≡ no_reply
-IsReplyUnless false documents Ends line reply = IsReplyTo documents.kind Ends (start_of documents line) reply
+IsReplyUnless false documents Ends line reply = IsReplyTo documents Ends (start_of documents line) reply
 
 -- The reply to a line, where runs end so. It depends on nothing else: not on the lines before.
-abbrev pub IsReply : Documents → (Start → End → List Object → Type 0) → InputLine → Reply → Type 0
+abbrev pub IsReply : Documents → (Start → Ended → Type 0) → InputLine → Reply → Type 0
 IsReply documents Ends (Within line) reply = IsReplyUnless (is_blank line) documents Ends line reply
 IsReply documents Ends Beyond reply = reply ≡ as_line (line_error fault.Long)
 IsReply documents Ends Nothing reply = reply ≡ no_reply

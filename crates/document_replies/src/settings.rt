@@ -1,5 +1,6 @@
 //! What is made once for a job over documents, beside its script.
 
+use json_replies::ShownKeys;
 use search_ctx::{Fields, SearchKind};
 use serde_json::Value as Json;
 use std::alloc::Global;
@@ -12,6 +13,8 @@ pub struct Settings {
     pub params: Json,
     /// The room of each run.
     pub room: u64,
+    /// What is shown beside the reply to a run.
+    pub keys: ShownKeys,
 }
 
 impl Drop for Settings {
@@ -22,6 +25,7 @@ impl Drop for Settings {
             fields: _fields,
             params: _params,
             room: _,
+            keys: _,
         } = self;
     }
 }

@@ -1,19 +1,25 @@
 -- What a run leaves in its sink.
-use Rattle.std.proofs.Common.{◌≡◌, ℕ, ◌<◌, ◌≤◌, inl, inr, List, [], length, replicate, Option, None, Some, IfSome, Bool, true, false, Result, Ok, Err, refl, sym, ap, subst, append-nil, suc, arith}
+use Rattle.std.proofs.Common.{◌≡◌, ◌≢◌, ℕ, ◌<◌, ◌≤◌, ◌⊎◌, inl, inr, List, length, replicate, Option, None, Some, IfSome, Bool, true, false, Result, Ok, Err, refl, sym, ap, subst, suc, arith, string_bytes}
 use Rattle.std.proofs.lemmas.List.{length-replicate}
 use Rattle.std.specs.Io.KnownBytes.{Appends}
 use Rattle.outer_io.specs.Front.{AppendsFront}
-use Rattle.command_parts.specs.declared.status.Status.{Status}
-use Rattle.command_parts.specs.declared.status.Status.TheVariants as s
 use Rattle.pl_types.specs.declared.refusal.Refusal.{Refusal}
 use Rattle.object_values.specs.declared.value.Value.{Value}
 use Rattle.run_state.specs.World.{End}
 use Rattle.json_replies.specs.Replies.{is_error}
-use Rattle.eval_command.specs.Script.{Means}
-use Rattle.command_parts.specs.Told.{Told, silent, file_limit}
-use Rattle.eval_command.specs.Evaluation.{reply_to, status_of, told_of, TellsScript, TellsFile}
+use Rattle.script_engine.specs.Codes.{ScriptCodes, prelude_code}
+use Rattle.command_parts.specs.declared.report.Report.{Report}
+use Rattle.command_parts.specs.declared.status.Status.{Status}
+use Rattle.command_parts.specs.declared.status.Status.TheVariants as s
+use Rattle.command_parts.specs.Before.{EndsBefore}
 use Rattle.command_parts.specs.Delivers.{Delivers}
-use Rattle.command_parts.proofs.Delivering.{nothing, delivers_same}
+use Rattle.command_parts.specs.Reports.{texts_of, IsQuiet, ReportsBy, Reports}
+use Rattle.command_parts.specs.Told.{Told, silent, file_limit}
+use Rattle.command_parts.proofs.Delivering.{nothing, no_front, delivers_same}
+use Rattle.eval_command.specs.declared.reply.Answer.{Answer}
+use Rattle.eval_command.specs.Answers.{told_by}
+use Rattle.eval_command.specs.Codes.{AreCodesOf, AreCodesIn}
+use Rattle.eval_command.specs.Evaluation.{reply_to, status_of, TellsEnd, TellsScript, TellsFile}
 
 -- Files may tell no content; then there is some content that shows an answer.
 
@@ -32,40 +38,191 @@ pub shown_long : (known : Option (List ℕ → Option (List ℕ))) (name : List 
 shown_long None name h = let long = long_list file_limit in (λ _. Some long.0, tt, (long.0, refl, long.1))
 shown_long (Some k) name h = (k, refl, h)
 
-delivers_reply : (script : List ℕ) (end : End Value) (old new : Option (List ℕ)) → Means script (Ok end) → Appends old new (told_of (Ok end)).bytes
-    → (error : Bool) → is_error (reply_to end) ≡ error → Delivers (TellsScript script) (status_of error) old new
-delivers_reply script end old new m appended true is = (told_of (Ok end), (Ok end, m, refl), ap status_of is, appended)
-delivers_reply script end old new m appended false is = (told_of (Ok end), (Ok end, m, refl), ap status_of is, appended)
+-- ---- answers
 
-delivers_answer : (script : List ℕ) (answer : Result (End Value) Refusal) (old new : Option (List ℕ)) → Means script answer → Appends old new (told_of answer).bytes
-    → Delivers (TellsScript script) (told_of answer).status old new
-delivers_answer script (Ok end) old new m appended = delivers_reply script end old new m appended (is_error (reply_to end)) refl
-delivers_answer script (Err refusal) old new m appended = (told_of (Err refusal), (Err refusal, m, refl), refl, appended)
+-- the statuses of answers
+abbrev pub IsAnswered : Status → Type 0
+IsAnswered s.Done = Unit {0}
+IsAnswered s.SomeErrors = Unit {0}
+IsAnswered s.Refused = Unit {0}
+IsAnswered other = ⊥
 
--- what is told of a script was written whole
-pub delivers_told : (script : List ℕ) (told : Told) (old new : Option (List ℕ)) → TellsScript script told → Appends old new told.bytes → Delivers (TellsScript script) told.status old new
-delivers_told script told old new h appended =
-    subst (λ (t : Told). Delivers (TellsScript script) t.status old new) (sym h.2)
-    (delivers_answer script h.0 old new h.1 (subst (λ (t : Told). Appends old new t.bytes) h.2 appended))
+ends_answered : (error : Bool) → IsAnswered (status_of error)
+ends_answered true = tt
+ends_answered false = tt
 
--- a front of all that could be told was written
-pub front_of_told : (old new : Option (List ℕ)) (told told' : Told) → told ≡ told' → AppendsFront old new told'.bytes → AppendsFront old new told.bytes
-front_of_told old new told told' e h = subst (λ (t : Told). AppendsFront old new t.bytes) (sym e) h
+told_answered : (codes : ScriptCodes) (answer : Result (End Value) Refusal) (told : Told) → TellsEnd codes answer told → IsAnswered told.status
+told_answered codes (Ok end) told (steps, counts, is) = subst (λ (t : Told). IsAnswered t.status) (sym is) (ends_answered (is_error (reply_to end)))
+told_answered codes (Err refusal) told is = subst (λ (t : Told). IsAnswered t.status) (sym is) tt
+
+pub answered : (codes : ScriptCodes) (script : List ℕ) (told : Told) → TellsScript codes script told → IsAnswered told.status
+answered codes script told (answer, means, h) = told_answered codes answer told h
+
+end_reports : (told : Told) (r : Report) (error : Bool) → r.status ≡ status_of error → texts_of r ≡ told.listings → r.steps ≡ told.steps → Reports told r
+end_reports told r true is texts steps = subst (λ (t : Status). ReportsBy t told r) (sym is) (texts, steps)
+end_reports told r false is texts steps = subst (λ (t : Status). ReportsBy t told r) (sym is) (texts, steps)
+
+told_reports : (codes : ScriptCodes) (answer : Result (End Value) Refusal) (a : Answer) → TellsEnd codes answer (told_by a) → Reports (told_by a) a.report
+told_reports codes (Ok end) a (steps, counts, is) = end_reports (told_by a) a.report (is_error (reply_to end)) (ap (λ (t : Told). t.status) is) refl refl
+told_reports codes (Err refusal) a is =
+    let status : a.report.status ≡ s.Refused = ap (λ (t : Told). t.status) is in
+    subst (λ (t : Status). ReportsBy t (told_by a) a.report) (sym status) (ap (λ (t : Told). t.listings) is, ap (λ (t : Told). t.steps) is)
+
+-- the report of an answer is that of what it tells
+pub reports : (codes : ScriptCodes) (script : List ℕ) (a : Answer) → TellsScript codes script (told_by a) → Reports (told_by a) a.report
+reports codes script a (answer, means, h) = told_reports codes answer a h
+
+quiet_by : (status : Status) (told : Told) (r : Report) → status ≢ s.Done → status ≢ s.SomeErrors → ReportsBy status told r → IsQuiet r
+quiet_by s.Done told r done errors h = absurd (done refl)
+quiet_by s.SomeErrors told r done errors h = absurd (errors refl)
+quiet_by s.Refused told r done errors h = h
+quiet_by s.ReadFault told r done errors h = h
+quiet_by s.WriteFault told r done errors h = h
+quiet_by s.NoMemory told r done errors h = h
+quiet_by s.InputLong told r done errors h = h
+quiet_by s.Usage told r done errors h = h
+quiet_by s.FileFault told r done errors h = h
+quiet_by s.FileAbsent told r done errors h = h
+quiet_by s.FileLong told r done errors h = h
+
+pub reports_quiet : (codes : ScriptCodes) (script : List ℕ) (a : Answer) → TellsScript codes script (told_by a) → a.report.status ≢ s.Done → a.report.status ≢ s.SomeErrors → IsQuiet a.report
+reports_quiet codes script a h done errors = quiet_by a.report.status (told_by a) a.report done errors (reports codes script a h)
+
+-- ---- what is written of them
+
+delivers_by : (tells : Told → Type 0) (told : Told) (status : Status) (old new : Option (List ℕ)) → IsAnswered status → tells told → told.status ≡ status → Appends old new told.bytes
+    → Delivers tells status old new
+delivers_by tells told s.Done old new can h is appended = (told, h, is, appended)
+delivers_by tells told s.SomeErrors old new can h is appended = (told, h, is, appended)
+delivers_by tells told s.Refused old new can h is appended = (told, h, is, appended)
+delivers_by tells told s.ReadFault old new can h is appended = absurd can
+delivers_by tells told s.WriteFault old new can h is appended = absurd can
+delivers_by tells told s.NoMemory old new can h is appended = absurd can
+delivers_by tells told s.InputLong old new can h is appended = absurd can
+delivers_by tells told s.Usage old new can h is appended = absurd can
+delivers_by tells told s.FileFault old new can h is appended = absurd can
+delivers_by tells told s.FileAbsent old new can h is appended = absurd can
+delivers_by tells told s.FileLong old new can h is appended = absurd can
+
+-- codes where there are none
+pub some_codes : ScriptCodes
+some_codes = record { script = prelude_code; prelude = prelude_code }
+
+-- what a script's report has
+abbrev pub ScriptReports : ScriptCodes → List ℕ → Report → Told → Type 0
+ScriptReports codes script r told = TellsScript codes script told × Reports told r
+
+-- the codes of which a script's report tells, and what is delivered
+abbrev pub ScriptDelivers : List ℕ → Report → Option (List ℕ) → Option (List ℕ) → Type 0
+ScriptDelivers script r old new =
+    (codes : ScriptCodes) × (AreCodesOf script codes ⊎ EndsBefore r.status old new) × Delivers (λ told. TellsScript codes script told × Reports told r) r.status old new
+
+-- memory ran out before there was an answer
+pub no_answer : (script : List ℕ) (r : Report) (old : Option (List ℕ)) → r.status ≡ s.NoMemory → ScriptDelivers script r old old
+no_answer script r old is = (
+  some_codes,
+  inr (subst (λ (t : Status). EndsBefore t old old) (sym is) (nothing old)),
+  subst (λ (t : Status). Delivers (ScriptReports some_codes script r) t old old) (sym is) (λ told h. no_front old told.bytes),
+)
+
+module _ (codes : ScriptCodes) (script : List ℕ) (a : Answer) (old new : Option (List ℕ)) (are : AreCodesOf script codes) (tells : TellsScript codes script (told_by a)) where
+  -- it was written whole
+  pub answer_whole : Appends old new (string_bytes a.line) → ScriptDelivers script a.report old new
+  answer_whole appended = (
+    codes,
+    inl are,
+    delivers_by (ScriptReports codes script a.report) (told_by a) a.report.status old new (answered codes script (told_by a) tells) (tells, reports codes script a tells) refl appended,
+  )
+
+  -- the sink failed
+  pub answer_failed : (r : Report) → r.status ≡ s.WriteFault → IsQuiet r → AppendsFront old new (string_bytes a.line) → ScriptDelivers script r old new
+  answer_failed r is quiet front = (
+    codes,
+    inl are,
+    subst (λ (t : Status). Delivers (ScriptReports codes script r) t old new) (sym is)
+        (told_by a, (tells, subst (λ (t : Status). ReportsBy t (told_by a) r) (sym is) quiet), front),
+  )
+
+  -- memory ran out
+  pub answer_cut : (r : Report) → r.status ≡ s.NoMemory → ((x y : Told) → TellsScript codes script x → TellsScript codes script y → x ≡ y) → AppendsFront old new (string_bytes a.line)
+      → ScriptDelivers script r old new
+  answer_cut r is once front = (
+    codes,
+    inl are,
+    subst (λ (t : Status). Delivers (ScriptReports codes script r) t old new) (sym is)
+        (λ told h. subst (λ (t : Told). AppendsFront old new t.bytes) (once (told_by a) told tells h.0) front),
+  )
+
+-- ---- files
+
+abbrev pub FileReports : ScriptCodes → Option (List ℕ) → Report → Told → Type 0
+FileReports codes found r told = TellsFile codes found told × Reports told r
+
+abbrev pub FileDelivers : Option (List ℕ) → Report → Option (List ℕ) → Option (List ℕ) → Type 0
+FileDelivers found r old new =
+    (codes : ScriptCodes) × (AreCodesIn found codes ⊎ EndsBefore r.status old new) × Delivers (λ told. TellsFile codes found told × Reports told r) r.status old new
 
 -- the file is short enough, and its script is told of
-pub delivers_script : (found : Option (List ℕ)) (script : List ℕ) (status : Status) (old new : Option (List ℕ)) → found ≡ Some script → length script ≤ file_limit
-    → Delivers (TellsScript script) status old new → Delivers (TellsFile found) status old new
-delivers_script found script status old new is short h =
-    subst (λ (f : Option (List ℕ)). Delivers (TellsFile f) status old new) (sym is)
-    (delivers_same (TellsScript script) (TellsFile (Some script)) (λ told k. inr (short, k)) back status old new h) where
-      back : (told : Told) → TellsFile (Some script) told → TellsScript script told
-      back told (inl (long, k)) = absurd (omega arith)
-      back told (inr (small, k)) = k
+pub delivers_script : (found : Option (List ℕ)) (script : List ℕ) (r : Report) (old new : Option (List ℕ)) → found ≡ Some script → length script ≤ file_limit
+    → ScriptDelivers script r old new → FileDelivers found r old new
+delivers_script found script r old new is short (codes, are, h) = (
+  codes,
+  in_file are,
+  subst (λ (f : Option (List ℕ)). Delivers (FileReports codes f r) r.status old new) (sym is)
+      (delivers_same (ScriptReports codes script r) (FileReports codes (Some script) r) (λ told k. (inr (short, k.0), k.1)) (λ told k. (back told k.0, k.1)) r.status old new h),
+) where
+  back : (told : Told) → TellsFile codes (Some script) told → TellsScript codes script told
+  back told (inl (long, k)) = absurd (omega arith)
+  back told (inr (small, k)) = k
+
+  in_file : AreCodesOf script codes ⊎ EndsBefore r.status old new → AreCodesIn found codes ⊎ EndsBefore r.status old new
+  in_file (inl are) = inl (subst (λ (f : Option (List ℕ)). AreCodesIn f codes) (sym is) (λ within. are))
+  in_file (inr before) = inr before
 
 -- nothing is told of a file that is not there
-pub absent_told : (found : Option (List ℕ)) (old : Option (List ℕ)) → found ≡ None → Delivers (TellsFile found) s.FileAbsent old old
-absent_told found old is = (silent s.FileAbsent, subst (λ (f : Option (List ℕ)). TellsFile f (silent s.FileAbsent)) (sym is) refl, refl, nothing old)
+pub absent_told : (found : Option (List ℕ)) (r : Report) (old : Option (List ℕ)) → found ≡ None → r.status ≡ s.FileAbsent → IsQuiet r → FileDelivers found r old old
+absent_told found r old none is quiet = (
+  some_codes,
+  inl (subst (λ (f : Option (List ℕ)). AreCodesIn f some_codes) (sym none) tt),
+  subst (λ (t : Status). Delivers (FileReports some_codes found r) t old old) (sym is) (
+    silent s.FileAbsent,
+    (
+      subst (λ (f : Option (List ℕ)). TellsFile some_codes f (silent s.FileAbsent)) (sym none) refl,
+      subst (λ (t : Status). ReportsBy t (silent s.FileAbsent) r) (sym is) quiet,
+    ),
+    refl,
+    nothing old,
+  ),
+)
 
 -- .. nor of one that is too long
-pub long_told : (found : Option (List ℕ)) (bytes : List ℕ) (old : Option (List ℕ)) → found ≡ Some bytes → file_limit < length bytes → Delivers (TellsFile found) s.FileLong old old
-long_told found bytes old is long = (silent s.FileLong, subst (λ (f : Option (List ℕ)). TellsFile f (silent s.FileLong)) (sym is) (inl (long, refl)), refl, nothing old)
+pub long_told : (found : Option (List ℕ)) (bytes : List ℕ) (r : Report) (old : Option (List ℕ)) → found ≡ Some bytes → file_limit < length bytes → r.status ≡ s.FileLong → IsQuiet r
+    → FileDelivers found r old old
+long_told found bytes r old some long is quiet = (
+  some_codes,
+  inl (subst (λ (f : Option (List ℕ)). AreCodesIn f some_codes) (sym some) (λ within. absurd (omega arith))),
+  subst (λ (t : Status). Delivers (FileReports some_codes found r) t old old) (sym is) (
+    silent s.FileLong,
+    (
+      subst (λ (f : Option (List ℕ)). TellsFile some_codes f (silent s.FileLong)) (sym some) (inl (long, refl)),
+      subst (λ (t : Status). ReportsBy t (silent s.FileLong) r) (sym is) quiet,
+    ),
+    refl,
+    nothing old,
+  ),
+)
+
+-- the files failed, or memory, before anything was read
+pub file_failed : (found : Option (List ℕ)) (r : Report) (old : Option (List ℕ)) → r.status ≡ s.FileFault → FileDelivers found r old old
+file_failed found r old is = (
+  some_codes,
+  inr (subst (λ (t : Status). EndsBefore t old old) (sym is) (nothing old)),
+  subst (λ (t : Status). Delivers (FileReports some_codes found r) t old old) (sym is) (nothing old),
+)
+
+pub file_unread : (found : Option (List ℕ)) (r : Report) (old : Option (List ℕ)) → r.status ≡ s.NoMemory → FileDelivers found r old old
+file_unread found r old is = (
+  some_codes,
+  inr (subst (λ (t : Status). EndsBefore t old old) (sym is) (nothing old)),
+  subst (λ (t : Status). Delivers (FileReports some_codes found r) t old old) (sym is) (λ told h. no_front old told.bytes),
+)

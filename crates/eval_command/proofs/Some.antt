@@ -1,10 +1,9 @@
 -- Each stage has an answer, and so something is told.
-use Rattle.std.proofs.Common.{◌≡◌, ℕ, zero, suc, ◌<◌, ◌≤◌, Bool, true, false, List, [], ◌∷◌, length, take, codes, Option, None, Some, Result, Ok, Err, inl, inr, ◌⊎◌, refl, subst, ap, arith, rules}
+use Rattle.std.proofs.Common.{◌≡◌, ℕ, zero, suc, ◌<◌, ◌≤◌, Bool, true, false, List, [], length, take, Option, None, Some, Result, Ok, Err, inl, inr, ◌⊎◌, refl, subst, arith}
 use Rattle.std.proofs.lemmas.Bool.{cases_order}
 use Rattle.std.proofs.lemmas.List.{take_all}
 use Rattle.std.proofs.lemmas.Str.{IsUtf8-nil, IsUtf8-from_is_utf8, is_utf8-from_IsUtf8}
-use Rattle.std.proofs.lemmas.Slice.Eq.{bytes_eq-Decides}
-use Rattle.std.specs.Str.{IsUtf8, is_utf8, IsValidUpTo, bytes_eq}
+use Rattle.std.specs.Str.{IsUtf8, is_utf8, IsValidUpTo}
 use Rattle.pl_types.specs.declared.refusal.Refusal.{Refusal}
 use Rattle.pl_types.specs.declared.ty.Ty.{out-Ty}
 use Rattle.pl_types.specs.declared.ty.Ty.TheVariants as t
@@ -12,13 +11,17 @@ use Rattle.allowlist.specs.Allow.{full_list}
 use Rattle.typed_tree.specs.declared.program.Program.{Program}
 use Rattle.typing_soundness.specs.Laws.{IsContext}
 use Rattle.typing_soundness.proofs.Types.{built_named, def_built}
+use Rattle.json_replies.specs.Replies.{line_of, refusal_of}
+use Rattle.script_engine.specs.Codes.{ScriptCodes}
 use Rattle.script_engine.specs.Programs.{IsProgramOf}
-use Rattle.script_engine.specs.Laws.{TextsAreAnswered, ProgramsEnd}
-use Rattle.script_engine.proofs.Texts.{Answered, then_some}
+use Rattle.script_engine.specs.Laws.{TextsAreAnswered, ProgramsEnd, ListedCodesCount}
+use Rattle.script_engine.proofs.Texts.{Answered}
 use Rattle.command_parts.specs.declared.status.Status.TheVariants as s
-use Rattle.eval_command.specs.Script.{Decodes, eval_types, eval_limits, eval_world, MeansText, Means}
-use Rattle.command_parts.specs.Told.{silent, file_limit}
-use Rattle.eval_command.specs.Evaluation.{told_of, TellsScript, TellsFile}
+use Rattle.command_parts.specs.Told.{Told, silent, uncounted, file_limit}
+use Rattle.eval_command.specs.Codes.{AreCodesOfText, AreCodesOf, AreCodesIn}
+use Rattle.eval_command.specs.Script.{Decodes, eval_types, eval_limits, eval_world}
+use Rattle.eval_command.specs.Evaluation.{end_told, TellsScript, TellsFile}
+use Rattle.eval_command.specs.Outcomes.{machine_limits}
 
 contradicts : {b : Bool} → b ≡ true → b ≡ false → ⊥
 contradicts holds fails = cc
@@ -59,27 +62,29 @@ pub is_context : IsContext eval_types
 unfolding out-Ty denote.Hole.Carrier.out
 is_context = record { distinct = tt; present = tt; result = built_named t.Def def_built }
 
-module _ (texts : TextsAreAnswered) (ends : ProgramsEnd) where
-  goes_on : (text : List ℕ) (reading : Result Program Refusal) → IsProgramOf full_list eval_types text reading → Answered (MeansText text)
-  goes_on text (Ok p) is =
+module _ (texts : TextsAreAnswered) (ends : ProgramsEnd) (counted : ListedCodesCount) (codes : ScriptCodes) where
+  -- .. of the codes of its program
+  program_some : (script text : List ℕ) → Decodes script (Ok text) → AreCodesOfText text codes → (reading : Result Program Refusal) → IsProgramOf full_list eval_types text reading
+      → (told : Told) × TellsScript codes script told
+  program_some script text decodes are (Ok p) is =
       let end = ends full_list eval_types text p is_context is eval_limits refl [] tt eval_world in
-      (Ok end.0, (Ok p, is, (end.0, end.1, refl)))
-  goes_on text (Err refusal) is = (Err refusal, (Err refusal, is, refl))
+      let count = counted full_list eval_types p codes.script (are p is).0 machine_limits eval_world.store [] tt in
+      (end_told codes end.0 count.0, (Ok end.0, (Ok text, decodes, (Ok p, is, (end.0, end.1, refl))), (count.0, count.1, refl)))
+  program_some script text decodes are (Err refusal) is =
+      (uncounted s.Refused (line_of (refusal_of refusal)), (Err refusal, (Ok text, decodes, (Err refusal, is, refl)), refl))
 
-  text_some : (text : List ℕ) → Answered (MeansText text)
-  text_some text = let read = texts full_list eval_types text in goes_on text read.0 read.1
+  bytes_some : (script : List ℕ) → AreCodesOf script codes → (reading : Result (List ℕ) Refusal) → Decodes script reading → (told : Told) × TellsScript codes script told
+  bytes_some script are (Ok text) decodes = let read = texts full_list eval_types text in program_some script text decodes (are text decodes) read.0 read.1
+  bytes_some script are (Err refusal) decodes = (uncounted s.Refused (line_of (refusal_of refusal)), (Err refusal, (Err refusal, decodes, refl), refl))
 
-  means_some : (script : List ℕ) → Answered (Means script)
-  means_some script = then_some (Decodes script) MeansText (decodes_some script) text_some
+  script_some : (script : List ℕ) → AreCodesOf script codes → (told : Told) × TellsScript codes script told
+  script_some script are = let read = decodes_some script in bytes_some script are read.0 read.1
 
-  script_some : (script : List ℕ) → Answered (TellsScript script)
-  script_some script = let m = means_some script in (told_of m.0, (m.0, m.1, refl))
-
-  pub file_some : (found : Option (List ℕ)) → Answered (TellsFile found)
-  file_some None = (silent s.FileAbsent, refl)
-  file_some (Some script) = elim (long_or_short (length script) file_limit) [
+  pub file_some : (found : Option (List ℕ)) → AreCodesIn found codes → (told : Told) × TellsFile codes found told
+  file_some None are = (silent s.FileAbsent, refl)
+  file_some (Some script) are = elim (long_or_short (length script) file_limit) [
     | inl long ↦ (silent s.FileLong, inl (long, refl))
-    | inr short ↦ (let t = script_some script in (t.0, inr (short, t.1)))
+    | inr short ↦ (let t = script_some script (are short) in (t.0, inr (short, t.1)))
   ] where
     long_or_short : (n limit : ℕ) → (limit < n) ⊎ (n ≤ limit)
     long_or_short n limit = elim (cases_order n limit) [

@@ -1,24 +1,27 @@
 //! The line that a run writes.
 
-ghost use Rattle.std.specs.Prelude.{◌≡◌, ◌≤◌, Err, IfOk, Ok, length};
+ghost use Rattle.std.specs.Prelude.{◌≡◌, ◌≤◌, IfOk, length, map, string_bytes};
 ghost use Rattle.object_values.specs.declared.value.Value.{Value};
 ghost use Rattle.run_state.specs.World.{End};
-ghost use Rattle.eval_command.specs.Outcomes.{EndsSo};
-ghost use Rattle.command_parts.specs.Told.{Told, file_limit};
-ghost use Rattle.eval_command.specs.Evaluation.{TellsScript, told_of, status_of};
+ghost use Rattle.script_engine.specs.Codes.{ScriptCodes};
+ghost use Rattle.json_replies.specs.Replies.{line_of, refusal_of};
+ghost use Rattle.command_parts.specs.Told.{file_limit, uncounted};
 ghost use Rattle.eval_command.specs.Answers.{told_by};
+ghost use Rattle.eval_command.specs.Codes.{AreCodesOf};
+ghost use Rattle.eval_command.specs.Evaluation.{TellsScript, end_told, listings_of, status_of};
+ghost use Rattle.eval_command.specs.Outcomes.{EndsSo};
 
-use crate::script::run_script;
-use command_parts::Status;
+use crate::script::{EvalRun, run_script};
+use command_parts::{Report, Status};
 use json_replies::{refusal_line, reply_line};
-use object_heap::Outcome;
 use pl_types::{Fail, Refusal};
+use script_engine::script_laws;
 use std::alloc::{AllocError, Global};
 
-/// A line to write, and the status with which the run ends once it is written.
+/// A line to write, and the report of the run once it is written.
 #[derive(Drop)]
 pub struct Answer {
-    pub status: Status,
+    pub report: Report,
     pub line: String,
 }
 
@@ -34,22 +37,28 @@ fn status_of(is_error: bool) -> Status
 }
 
 /// The reply to a script that has ended.
-fn reply_to(alloc: Global, outcome: &Outcome) -> Result<Answer, AllocError>
-    ensures { IfOk result (λ answer. (end : End Value) → EndsSo outcome.now end → told_by answer ≡ told_of (Ok end)) }
+fn reply_to(alloc: Global, ran: EvalRun) -> Result<Answer, AllocError>
+    ensures { IfOk result (λ answer. (codes : ScriptCodes) (end : End Value) → map string_bytes ran.listings.items ≡ listings_of codes → EndsSo ran.outcome end
+        → told_by answer ≡ end_told codes end ran.outcome.steps) }
 {
+    let EvalRun { outcome, listings } = ran;
     let line = reply_line(alloc, &outcome.end, &outcome.heap)?;
     Ok(Answer {
-        status: status_of(line.is_error),
+        report: Report {
+            status: status_of(line.is_error),
+            listings,
+            steps: outcome.steps,
+        },
         line: line.text,
     })
 }
 
 /// The answer to a script that is refused.
 fn answer_to_refused(alloc: Global, refusal: Refusal) -> Result<Answer, AllocError>
-    ensures { IfOk result (λ answer. told_by answer ≡ told_of (Err refusal)) }
+    ensures { IfOk result (λ answer. told_by answer ≡ uncounted Status.Refused (line_of (refusal_of refusal))) }
 {
     Ok(Answer {
-        status: Status::Refused,
+        report: Report::quiet(alloc, Status::Refused),
         line: refusal_line(alloc, refusal)?,
     })
 }
@@ -57,11 +66,11 @@ fn answer_to_refused(alloc: Global, refusal: Refusal) -> Result<Answer, AllocErr
 /// The answer to a script: its reply, or its refusal.
 pub fn answer_to(alloc: Global, script: &[u8]) -> Result<Answer, AllocError>
     requires { length script.now ≤ file_limit }
-    ensures exact { IfOk result (λ answer. TellsScript script.now (told_by answer)) }
-    ensures only { (told : Told) → TellsScript script.now told → IfOk result (λ answer. told ≡ told_by answer) }
+    ensures { IfOk result (λ answer. (codes : ScriptCodes) × AreCodesOf script.now codes × TellsScript codes script.now (told_by answer)) }
 {
+    script_laws();
     match run_script(alloc, script) {
-        Ok(outcome) => reply_to(alloc, &outcome),
+        Ok(ran) => reply_to(alloc, ran),
         Err(Fail::Refused(refusal)) => answer_to_refused(alloc, refusal),
         Err(Fail::NoMemory) => Err(AllocError),
     }

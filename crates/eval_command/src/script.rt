@@ -1,18 +1,18 @@
 //! From a script's bytes to what they come to.
 
-ghost use Rattle.std.specs.Prelude.{◌≡◌, ◌≤◌, ℕ, IfOk, List, [], Result, length};
+ghost use Rattle.std.specs.Prelude.{◌≡◌, ◌≤◌, ℕ, IfOk, List, [], None, Result, length, map, string_bytes};
 ghost use Rattle.verifier_soundness.specs.Rows.{HaveRows};
 ghost use Rattle.pl_types.specs.Answers.{Answers};
 ghost use Rattle.pl_types.specs.declared.refusal.Refusal.{Refusal};
 ghost use Rattle.allowlist.specs.Allow.{full_list};
-ghost use Rattle.object_values.specs.declared.value.Value.{Value};
-ghost use Rattle.run_state.specs.World.{End};
-ghost use Rattle.typed_tree.specs.declared.program.Program.{Program};
+ghost use Rattle.verifier.specs.Faults.{shape_fault};
 ghost use Rattle.script_engine.specs.Programs.{IsProgramOf};
 ghost use Rattle.script_engine.specs.Compiling.{Compiles};
 ghost use Rattle.script_engine.specs.Running.{TakesArguments};
 ghost use Rattle.eval_command.specs.Script.{Decodes, Means, MeansText, eval_types};
-ghost use Rattle.eval_command.specs.Outcomes.{Comes, RunsAsEval};
+ghost use Rattle.eval_command.specs.Evaluation.{listings_of};
+ghost use Rattle.eval_command.specs.Codes.{AreCodesOf, AreCodesOfText};
+ghost use Rattle.eval_command.specs.Outcomes.{Comes, CountsAsEval, RunsAsEval, RunsCodes, RunsListed, codes_of};
 ghost use Rattle.command_parts.specs.Told.{file_limit};
 
 use allowlist::{Allow, Catalogue};
@@ -20,7 +20,7 @@ use machine::Limits;
 use object_heap::{Heap, Outcome};
 use pl_types::{Fail, Refusal, Ty, rules};
 use plain_data::Items;
-use script_engine::{Script, compile};
+use script_engine::{Script, code_laws, compile, script_laws};
 use static_types::ContextTypes;
 use std::alloc::{AllocError, Global};
 
@@ -53,7 +53,7 @@ fn context(alloc: Global) -> ContextTypes
 fn compiled(alloc: Global, text: &str, allow: &Allow) -> Result<Script, Fail>
     requires full { allow.now ≡ full_list }
     ensures exact { Compiles full_list eval_types (IsProgramOf full_list eval_types text.now) result }
-    ensures only { (reading : Result Program Refusal) → IsProgramOf full_list eval_types text.now reading → Compiles full_list eval_types (λ a. a ≡ reading) result }
+    ensures sound { IfOk result (λ script. shape_fault full_list script.executable.code ≡ None) }
     ensures rows { IfOk result (λ script. HaveRows script.executable.allow script.executable.code.functions) }
     ensures takes { IfOk result (λ script. TakesArguments script []) }
 {
@@ -61,11 +61,19 @@ fn compiled(alloc: Global, text: &str, allow: &Allow) -> Result<Script, Fail>
     compile(alloc, text, allow, &context)
 }
 
+/// What the run of a script leaves, and the listings of its code and of the prelude's.
+#[derive(Drop)]
+pub struct EvalRun {
+    pub outcome: Outcome,
+    pub listings: Vec<String>,
+}
+
 /// Runs a script with the default limits.
 fn run(alloc: Global, script: &Script) -> Result<Outcome, AllocError>
     requires rows { HaveRows script.now.executable.allow script.now.executable.code.functions }
     requires takes { TakesArguments script.now [] }
-    ensures { IfOk result (RunsAsEval script.now) }
+    ensures program { IfOk result (RunsAsEval script.now) }
+    ensures counts { IfOk result (CountsAsEval script.now) }
 {
     let heap = Heap::new(alloc, 16_000_000);
     let limits = Limits {
@@ -77,32 +85,56 @@ fn run(alloc: Global, script: &Script) -> Result<Outcome, AllocError>
     script.run(heap, args, limits)
 }
 
+/// The listings of a script's code and of the prelude's.
+fn listings(alloc: Global, script: &Script) -> Result<Vec<String>, AllocError>
+    ensures { IfOk result (λ texts. map string_bytes texts.items ≡ listings_of (codes_of script.now)) }
+{
+    let mut texts = Vec::new(alloc);
+    texts.push(script.listing(alloc)?)?;
+    texts.push(script.prelude_listing(alloc)?)?;
+    Ok(texts)
+}
+
+/// Runs a script, and lists its code.
+fn run_listed(alloc: Global, script: &Script) -> Result<EvalRun, AllocError>
+    requires rows { HaveRows script.now.executable.allow script.now.executable.code.functions }
+    requires takes { TakesArguments script.now [] }
+    ensures { IfOk result (RunsListed script.now) }
+{
+    let listings = listings(alloc, script)?;
+    let outcome = run(alloc, script)?;
+    Ok(EvalRun { outcome, listings })
+}
+
 /// What a text comes to under the full catalogue.
-fn run_under(alloc: Global, allow: &Allow, text: &str) -> Result<Outcome, Fail>
+fn run_under(alloc: Global, allow: &Allow, text: &str) -> Result<EvalRun, Fail>
     requires full { allow.now ≡ full_list }
     ensures exact { Comes (MeansText text.now) result }
-    ensures only { (reading : Result (End Value) Refusal) → MeansText text.now reading → Comes (λ a. a ≡ reading) result }
+    ensures codes { IfOk result (RunsCodes (AreCodesOfText text.now)) }
 {
+    script_laws();
+    code_laws();
     match compiled(alloc, text, allow) {
-        Ok(script) => Ok(run(alloc, &script)?),
+        Ok(script) => Ok(run_listed(alloc, &script)?),
         Err(fail) => Err(fail),
     }
 }
 
 /// What a text comes to.
-fn run_text(alloc: Global, text: &str) -> Result<Outcome, Fail>
+fn run_text(alloc: Global, text: &str) -> Result<EvalRun, Fail>
     ensures exact { Comes (MeansText text.now) result }
-    ensures only { (reading : Result (End Value) Refusal) → MeansText text.now reading → Comes (λ a. a ≡ reading) result }
+    ensures codes { IfOk result (RunsCodes (AreCodesOfText text.now)) }
 {
     let allow = Catalogue::full(alloc)?;
     run_under(alloc, &allow, text)
 }
 
-/// What a script's bytes come to: how their program's run ends, and what it leaves, or the first rule by which they are refused.
-pub fn run_script(alloc: Global, script: &[u8]) -> Result<Outcome, Fail>
+/// What a script's bytes come to: how their program's run ends, what it leaves, and the listings of its codes, or the first rule by which
+/// they are refused.
+pub fn run_script(alloc: Global, script: &[u8]) -> Result<EvalRun, Fail>
     requires { length script.now ≤ file_limit }
     ensures exact { Comes (Means script.now) result }
-    ensures only { (reading : Result (End Value) Refusal) → Means script.now reading → Comes (λ a. a ≡ reading) result }
+    ensures codes { IfOk result (RunsCodes (AreCodesOf script.now)) }
 {
     match decode(script) {
         Ok(text) => run_text(alloc, text),

@@ -1,15 +1,37 @@
 //! The worked rows of `eval`: scripts, files and sinks, with the exact bytes and statuses.
 ghost use Rattle.std.specs.Prelude.{◌≤◌};
 
-use command_parts::Status;
+use command_parts::{Report, Status};
 use eval_command::eval as eval_file;
 use outer_io::{MemFiles, MemSink};
 use std::alloc::{AllocError, Global};
 use std::process::Abort;
 use std::test::Fail;
 
-/// What is written to a sink that is given `most` bytes a call and fails at the calls in `sink_fails`, and the status,
+/// What is written to a sink that is given `most` bytes a call and fails at the calls in `sink_fails`, and the report,
 /// for the file of a name among the one file `script`, where the files fail at the calls in `file_fails`.
+fn report(
+    alloc: Global,
+    name: &str,
+    script: &[u8],
+    most: usize,
+    sink_fails: &[u64],
+    file_fails: &[u64],
+) -> Result<(Vec<u8>, Report), AllocError>
+    requires { 1 ≤ most }
+{
+    let mut contents = Vec::new(alloc);
+    contents.push((
+        String::from_str(alloc, "script")?,
+        Vec::from_slice(alloc, script)?,
+    ))?;
+    let mut files = MemFiles::new(contents, Vec::from_slice(alloc, file_fails)?);
+    let mut out = MemSink::new(alloc, most, Vec::from_slice(alloc, sink_fails)?);
+    let report = eval_file(alloc, name, &mut files, &mut out);
+    Ok((Vec::from_slice(alloc, out.bytes())?, report))
+}
+
+/// The same with the status alone.
 fn run(
     alloc: Global,
     name: &str,
@@ -20,15 +42,8 @@ fn run(
 ) -> Result<(Vec<u8>, Status), AllocError>
     requires { 1 ≤ most }
 {
-    let mut contents = Vec::new(alloc);
-    contents.push((
-        String::from_str(alloc, "script")?,
-        Vec::from_slice(alloc, script)?,
-    ))?;
-    let mut files = MemFiles::new(contents, Vec::from_slice(alloc, file_fails)?);
-    let mut out = MemSink::new(alloc, most, Vec::from_slice(alloc, sink_fails)?);
-    let status = eval_file(alloc, name, &mut files, &mut out);
-    Ok((Vec::from_slice(alloc, out.bytes())?, status))
+    let (bytes, report) = report(alloc, name, script, most, sink_fails, file_fails)?;
+    Ok((bytes, report.status))
 }
 
 fn eval(alloc: Global, script: &[u8]) -> Result<(Vec<u8>, Status), AllocError> {
@@ -567,5 +582,46 @@ fn sinks(rt: HostRuntime) -> Result<(), Fail> {
     let cut = run(alloc, "script", b"1", 4, &[3], &[])?;
     assert_eq!(rt; cut.1, Status::WriteFault);
     assert_eq!(rt; cut.0.as_slice(), b"{\"result".as_slice());
+    Ok(())
+}
+
+#[test]
+fn reports(rt: HostRuntime) -> Result<(), Fail> {
+    let alloc = rt.alloc();
+    for (script, listing, steps) in [
+        (
+            "1+2",
+            "painless 1\nfun 0 loop R - -\ni 1\ni 2\nadd.i\nbox int\nret\nend\n",
+            5,
+        ),
+        (
+            "1/0",
+            "painless 1\nfun 0 loop R - -\ni 1\ni 0\ndiv.i\nbox int\nret\nend\n",
+            3,
+        ),
+        // Two instructions of each turn, of which one is one too many, and the one before them.
+        (
+            "while (true) { }",
+            "painless 1\nfun 0 loop R - -\ngoto 1\ni 1\nloop 1\nnull\nret\nend\n",
+            2_000_003,
+        ),
+    ] {
+        let answer = report(alloc, "script", script.as_bytes(), 4096, &[], &[])?;
+        assert!(rt; answer.1.steps == steps, "{script}");
+        assert_eq!(rt; answer.1.listings.len(), 2);
+        for (at, text) in answer.1.listings.iter().enumerate() {
+            let same = if at == 0 {
+                text.as_str() == listing
+            } else {
+                text.as_str() == "painless 1\nfun 0 free V - -\nret\nend\n"
+            };
+            assert!(rt; same, "{script}");
+        }
+    }
+    for (name, script) in [("script", "1 +"), ("none", "1")] {
+        let answer = report(alloc, name, script.as_bytes(), 4096, &[], &[])?;
+        assert_eq!(rt; answer.1.listings.len(), 0);
+        assert_eq!(rt; answer.1.steps, 0);
+    }
     Ok(())
 }

@@ -7,9 +7,12 @@ use Rattle.pl_types.specs.declared.refusal.Refusal.{Refusal}
 use Rattle.typed_tree.specs.declared.program.Program.{Program}
 use Rattle.typing_rules.specs.declared.header.ContextTypes.{ContextTypes}
 use Rattle.script_engine.specs.declared.compiling.Script.{Script}
+use Rattle.machine.specs.Seen.{limits_of}
+use Rattle.script_engine.specs.Codes.{Counts}
 use Rattle.script_engine.specs.Compiling.{Compiles, IsScriptOf}
 use Rattle.script_engine.specs.Programs.{IsProgramOf}
-use Rattle.script_engine.specs.Running.{RunsAsItsProgram, world_left}
+use Rattle.script_engine.specs.Running.{RunsAsItsProgram, world_at, world_left}
+use Rattle.document_replies.specs.Jobs.{ended_of}
 use Rattle.job_file.specs.declared.context.JobCommand.{JobCommand}
 use Rattle.command_parts.specs.declared.stop.Stop.{Stop}
 use Rattle.command_parts.specs.Stops.{stop_told, ComesSo}
@@ -69,5 +72,9 @@ prepares_script with content name found script is (p, program, of) = (
 )
 
 -- a run of the code is that of each program of which the script is
-pub ran_so : (s : LimitedScript) (store : Store) (args : List Value) (o : Outcome) → RunsAsItsProgram s.script store args s.limits o → EndsAsItsProgram s store args o.end o.heap.objects
-ran_so s store args o runs = λ allow context p is has. let out = runs allow context p is has in (world_left o out.left, out.ends, refl)
+pub ran_so : (s : LimitedScript) (store : Store) (args : List Value) (o : Outcome) → RunsAsItsProgram s.script store args s.limits o
+    → Counts s.script.executable.code (limits_of s.limits s.script.executable.allow) args (world_at store s.limits) o.steps → EndsAsItsProgram s store args (ended_of o)
+ran_so s store args o runs counts = record {
+  leaves = λ allow context p is has. let out = runs allow context p is has in (world_left o out.left, out.ends, refl, refl);
+  counts = counts;
+}

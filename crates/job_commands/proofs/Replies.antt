@@ -1,32 +1,35 @@
 -- The replies of the code are those of the definition, and each line has one.
-use Rattle.std.proofs.Common.{◌≡◌, ℕ, Bool, true, false, List, [], ◌∷◌, ◌++◌, Some, Result, Ok, Err, refl, sym, ap, ◌∙◌, append_assoc}
+use Rattle.std.proofs.Common.{◌≡◌, ℕ, Bool, true, false, List, [], ◌∷◌, ◌++◌, Some, Result, Ok, Err, refl, sym, ap, ◌∙◌, subst, append_assoc}
 use Rattle.object_values.specs.declared.object.Object.{Object}
 use Rattle.object_heap.specs.declared.outcome.End.{End}
 use Rattle.object_heap.specs.declared.outcome.End.TheVariants as o
 use Rattle.object_heap.specs.declared.outcome.Which.{Which}
 use Rattle.object_heap.specs.declared.outcome.Which.TheVariants as which
 use Rattle.run_state.specs.World.{World}
-use Rattle.machine.specs.Seen.{limit_of}
+use Rattle.allowlist.specs.Allow.{AllowList}
+use Rattle.pl_code.specs.declared.code.Code.{Code}
+use Rattle.machine.specs.declared.configuration.Limits.{Limits}
+use Rattle.machine.specs.Seen.{limit_of, limits_of}
 use Rattle.outer_io.specs.Lines.{InputLine, Within, Beyond, Nothing}
 use Rattle.typed_tree.specs.declared.program.Program.{Program}
+use Rattle.script_engine.specs.Codes.{Counts, IsListed}
 use Rattle.script_engine.specs.Compiling.{IsScriptOf}
-use Rattle.script_engine.specs.Laws.{ProgramsEnd, ProgramsEndOnce}
+use Rattle.script_engine.specs.Laws.{ProgramsEnd, ProgramsEndOnce, CodesCountOnce, ListedCodesCount}
 use Rattle.script_engine.specs.Programs.{IsProgramOf}
 use Rattle.script_engine.specs.Running.{end_seen}
 use Rattle.search_ctx.specs.declared.line.SearchKind.{SearchKind}
 use Rattle.search_ctx.specs.Lines.{Start, Fault}
 use Rattle.line_run.specs.Replies.{Reply, AreReplies, bytes_of, no_reply}
-use Rattle.json_replies.specs.Searching.{search_reply_of}
 use Rattle.job_replies.specs.Refusals.{line_error}
 use Rattle.job_replies.specs.declared.line_fault.LineFault.TheVariants as fault
 use Rattle.document_replies.specs.Jobs.{HasArguments, by_start}
-use Rattle.document_replies.specs.Replies.{Documents, is_blank, start_of, as_line, fault_of, IsReplyTo, IsReplyUnless}
+use Rattle.document_replies.specs.Replies.{Documents, Ended, is_blank, start_of, as_line, reply_to_run, fault_of, IsReplyTo, IsReplyUnless}
 use Rattle.document_replies.proofs.Starts.{documents_take}
 use Rattle.job_loading.specs.Seen.{read_view}
 use Rattle.job_commands.specs.Contexts.{kind_of, types_of}
 use Rattle.job_commands.specs.Documents.{documents_for, limited, GivesReplies}
 use Rattle.job_commands.specs.Preparing.{with_program, EndsAsItsProgram}
-use Rattle.job_commands.specs.Running.{limits_in, world_in, which_of, end_of, objects_of, EndsOver, documents_in, IsReplyOf}
+use Rattle.job_commands.specs.Running.{limits_in, world_in, which_of, end_of, objects_of, reached_of, EndsOver, documents_in, IsReplyOf}
 use Rattle.job_commands.specs.Scripts.{Prepared, script_of}
 use Rattle.job_commands.specs.declared.preparing.PreparedJob.{PreparedJob}
 use Rattle.job_commands.proofs.Typed.{kind_context, has_all}
@@ -91,74 +94,105 @@ objects_back (o.Value value) w = refl
 objects_back (o.Thrown id) w = refl
 objects_back (o.Limit limit) w = refl
 
--- a run of the code ends as the program's
+reached_back : (end : End) (w : World) → w.reached ≡ reached_of (end_seen end w)
+reached_back (o.Value value) w = refl
+reached_back (o.Thrown id) w = refl
+reached_back (o.Limit limit) w = refl
+
+-- a run of the code leaves what the program's leaves
 ends_over : (job : PreparedJob) (p : Program) (kind : SearchKind) → IsScriptOf (read_view job.found).allow (types_of job.found.job.context) p job.script → kind_of job.found.job.context ≡ Some kind
-    → (start : Start) (end : End) (objects : List Object) → HasArguments kind start.args → by_start (EndsAsItsProgram (limited job)) start end objects → EndsOver (with_program job p) start end objects
-ends_over job p kind is of start end objects has ends =
-    let ran = ends (read_view job.found).allow (types_of job.found.job.context) p is (has_all job.found.job.context kind start.args of has) in
-    (end_seen end ran.0, ran.1, end_back end ran.0, ran.2 ∙ objects_back end ran.0)
+    → (start : Start) (ran : Ended) → HasArguments kind start.args → by_start (EndsAsItsProgram (limited job)) start ran → EndsOver (with_program job p) job.script.executable.code start ran
+ends_over job p kind is of start ran has ends =
+    let out = ends.leaves (read_view job.found).allow (types_of job.found.job.context) p is (has_all job.found.job.context kind start.args of has) in
+    record {
+      ended = end_seen ran.end out.0;
+      runs = out.1;
+      counts =
+          subst (λ (a : AllowList). Counts job.script.executable.code (limits_of (limited job).limits a) start.args (world_in (with_program job p) start.store) ran.steps) is.allowed
+          ends.counts;
+      end = end_back ran.end out.0;
+      objects = out.2 ∙ objects_back ran.end out.0;
+      reached = out.3 ∙ reached_back ran.end out.0;
+    }
 
--- what is wrong with a line, or how its run ends
-reply_to : (kind : SearchKind) (Code Means : Start → End → List Object → Type 0) (bound : Result Start Fault) (reply : Reply)
-    → ((start : Start) → bound ≡ Ok start → (end : End) (objects : List Object) → Code start end objects → Means start end objects) → IsReplyTo kind Code bound reply → IsReplyTo kind Means bound reply
-reply_to kind Code Means (Err wrong) reply to is = is
-reply_to kind Code Means (Ok start) reply to (end, objects, ends, is) = (end, objects, to start refl end objects ends, is)
+-- what is wrong with a line, or what its run leaves
+reply_to : (documents : Documents) (Code Means : Start → Ended → Type 0) (bound : Result Start Fault) (reply : Reply)
+    → ((start : Start) → bound ≡ Ok start → (ran : Ended) → Code start ran → Means start ran) → IsReplyTo documents Code bound reply → IsReplyTo documents Means bound reply
+reply_to documents Code Means (Err wrong) reply to is = is
+reply_to documents Code Means (Ok start) reply to (ran, ends, is) = (ran, to start refl ran ends, is)
 
-reply_unless : (blank : Bool) (documents : Documents) (Code Means : Start → End → List Object → Type 0) (line : List ℕ) (reply : Reply)
-    → ((start : Start) → start_of documents line ≡ Ok start → (end : End) (objects : List Object) → Code start end objects → Means start end objects)
-    → IsReplyUnless blank documents Code line reply → IsReplyUnless blank documents Means line reply
+reply_unless : (blank : Bool) (documents : Documents) (Code Means : Start → Ended → Type 0) (line : List ℕ) (reply : Reply)
+    → ((start : Start) → start_of documents line ≡ Ok start → (ran : Ended) → Code start ran → Means start ran) → IsReplyUnless blank documents Code line reply
+    → IsReplyUnless blank documents Means line reply
 reply_unless true documents Code Means line reply to is = is
-reply_unless false documents Code Means line reply to is = reply_to documents.kind Code Means (start_of documents line) reply to is
+reply_unless false documents Code Means line reply to is = reply_to documents Code Means (start_of documents line) reply to is
 
 pub gives_reply : (job : PreparedJob) (p : Program) (kind : SearchKind) → IsScriptOf (read_view job.found).allow (types_of job.found.job.context) p job.script → kind_of job.found.job.context ≡ Some kind
-    → (line : InputLine) (reply : Reply) → GivesReplies kind job line reply → IsReplyOf kind (with_program job p) line reply
+    → (line : InputLine) (reply : Reply) → GivesReplies kind job line reply → IsReplyOf kind (with_program job p) job.script.executable.code line reply
 gives_reply job p kind is of (Within line) reply gives =
-    reply_unless (is_blank line) (documents_for kind job) (by_start (EndsAsItsProgram (limited job))) (EndsOver (with_program job p)) line reply
-    (λ start bound end objects ends. ends_over job p kind is of start end objects (documents_take (documents_for kind job) line start bound) ends) gives
+    reply_unless (is_blank line) (documents_for kind job) (by_start (EndsAsItsProgram (limited job))) (EndsOver (with_program job p) job.script.executable.code) line reply
+    (λ start bound ran ends. ends_over job p kind is of start ran (documents_take (documents_for kind job) line start bound) ends) gives
 gives_reply job p kind is of Beyond reply gives = gives
 gives_reply job p kind is of Nothing reply gives = gives
 
 -- ---- each line has one reply
 
-module _ (ends : ProgramsEndOnce) where
-  to_once : (kind : SearchKind) (p : Prepared) (bound : Result Start Fault) (a b : Reply) → IsReplyTo kind (EndsOver p) bound a → IsReplyTo kind (EndsOver p) bound b → a ≡ b
-  to_once kind p (Err wrong) a b h k = h ∙ sym k
-  to_once kind p (Ok start) a b (end, objects, (ended, runs, ends_so, leaves), is) (other, others, (ended', goes, ends_as, leaves_as), at) =
-      let same : ended ≡ ended' = ends p.program (limits_in p) start.args (world_in p start.store) ended ended' runs goes in
-      let one : end ≡ other = ends_so ∙ ap end_of same ∙ sym ends_as in
-      let left : objects ≡ others = leaves ∙ ap objects_of same ∙ sym leaves_as in
-      is ∙ ap (λ (x : End). as_line (search_reply_of kind x objects)) one ∙ ap (λ (l : List Object). as_line (search_reply_of kind other l)) left ∙ sym at
+same_ended : (a b : Ended) → a.end ≡ b.end → a.objects ≡ b.objects → a.reached ≡ b.reached → a.steps ≡ b.steps → a ≡ b
+same_ended a b end objects reached steps =
+    ap (λ (x : End). record { end = x; objects = a.objects; reached = a.reached; steps = a.steps }) end
+    ∙ ap (λ (l : List Object). record { end = b.end; objects = l; reached = a.reached; steps = a.steps }) objects
+    ∙ ap (λ (l : List ℕ). record { end = b.end; objects = b.objects; reached = l; steps = a.steps }) reached
+    ∙ ap (λ (n : ℕ). record { end = b.end; objects = b.objects; reached = b.reached; steps = n }) steps
 
-  unless_once : (blank : Bool) (documents : Documents) (p : Prepared) (line : List ℕ) (a b : Reply) → IsReplyUnless blank documents (EndsOver p) line a
-      → IsReplyUnless blank documents (EndsOver p) line b → a ≡ b
-  unless_once true documents p line a b h k = h ∙ sym k
-  unless_once false documents p line a b h k = to_once documents.kind p (start_of documents line) a b h k
+module _ (ends : ProgramsEndOnce) (counts : CodesCountOnce) (p : Prepared) (code : Code) where
+  over_once : (start : Start) (a b : Ended) → EndsOver p code start a → EndsOver p code start b → a ≡ b
+  over_once start a b h k =
+      let same : h.ended ≡ k.ended = ends p.program (limits_in p) start.args (world_in p start.store) h.ended k.ended h.runs k.runs in
+      same_ended a b (h.end ∙ ap end_of same ∙ sym k.end) (h.objects ∙ ap objects_of same ∙ sym k.objects) (h.reached ∙ ap reached_of same ∙ sym k.reached)
+      (counts code (limits_in p) start.args (world_in p start.store) a.steps b.steps h.counts k.counts)
 
-  pub reply_once : (kind : SearchKind) (p : Prepared) (line : InputLine) (a b : Reply) → IsReplyOf kind p line a → IsReplyOf kind p line b → a ≡ b
-  reply_once kind p (Within line) a b h k = unless_once (is_blank line) (documents_in kind p) p line a b h k
-  reply_once kind p Beyond a b h k = h ∙ sym k
-  reply_once kind p Nothing a b h k = h ∙ sym k
+  to_once : (documents : Documents) (bound : Result Start Fault) (a b : Reply) → IsReplyTo documents (EndsOver p code) bound a → IsReplyTo documents (EndsOver p code) bound b → a ≡ b
+  to_once documents (Err wrong) a b h k = h ∙ sym k
+  to_once documents (Ok start) a b (ran, ended, is) (other, ended', at) = is ∙ ap (reply_to_run documents) (over_once start ran other ended ended') ∙ sym at
+
+  unless_once : (blank : Bool) (documents : Documents) (line : List ℕ) (a b : Reply) → IsReplyUnless blank documents (EndsOver p code) line a
+      → IsReplyUnless blank documents (EndsOver p code) line b → a ≡ b
+  unless_once true documents line a b h k = h ∙ sym k
+  unless_once false documents line a b h k = to_once documents (start_of documents line) a b h k
+
+  pub reply_once : (kind : SearchKind) (line : InputLine) (a b : Reply) → IsReplyOf kind p code line a → IsReplyOf kind p code line b → a ≡ b
+  reply_once kind (Within line) a b h k = unless_once (is_blank line) (documents_in kind p) line a b h k
+  reply_once kind Beyond a b h k = h ∙ sym k
+  reply_once kind Nothing a b h k = h ∙ sym k
 
 -- ---- .. and each line has some
 
-module _ (ends : ProgramsEnd) where
-  to_some : (kind : SearchKind) (p : Prepared) → kind_of p.under.job.context ≡ Some kind
-      → IsProgramOf p.under.allow (types_of p.under.job.context) (script_of p.under) (Ok p.program) → (bound : Result Start Fault)
-      → ((start : Start) → bound ≡ Ok start → HasArguments kind start.args) → (reply : Reply) × IsReplyTo kind (EndsOver p) bound reply
-  to_some kind p of is (Err wrong) has = (as_line (line_error (fault_of wrong)), refl)
-  to_some kind p of is (Ok start) has =
+-- the limits as the machine takes them
+abbrev machine_limits : Prepared → Limits
+machine_limits p = record { loops = p.under.job.limits.loops; depth = p.under.job.limits.depth; ticks = p.under.job.limits.ticks }
+
+module _ (ends : ProgramsEnd) (counted : ListedCodesCount) (kind : SearchKind) (p : Prepared) (code : Code) (of : kind_of p.under.job.context ≡ Some kind)
+    (is : IsProgramOf p.under.allow (types_of p.under.job.context) (script_of p.under) (Ok p.program)) (listed : IsListed p.under.allow (types_of p.under.job.context) p.program code) where
+  over_some : (start : Start) → HasArguments kind start.args → (ran : Ended) × EndsOver p code start ran
+  over_some start has =
+      let all = has_all p.under.job.context kind start.args of has in
       let end =
-      ends p.under.allow (types_of p.under.job.context) (script_of p.under) p.program (kind_context (kind_of p.under.job.context)) is (limits_in p) refl start.args
-      (has_all p.under.job.context kind start.args of (has start refl)) (world_in p start.store) in
-      (as_line (search_reply_of kind (end_of end.0) (objects_of end.0)), (end_of end.0, objects_of end.0, (end.0, end.1, refl, refl), refl))
+      ends p.under.allow (types_of p.under.job.context) (script_of p.under) p.program (kind_context (kind_of p.under.job.context)) is (limits_in p) refl start.args all
+      (world_in p start.store) in
+      let count = counted p.under.allow (types_of p.under.job.context) p.program code listed (machine_limits p) start.store start.args all in (
+        record { end = end_of end.0; objects = objects_of end.0; reached = reached_of end.0; steps = count.0 },
+        record { ended = end.0; runs = end.1; counts = count.1; end = refl; objects = refl; reached = refl },
+      )
 
-  unless_some : (blank : Bool) (kind : SearchKind) (p : Prepared) → kind_of p.under.job.context ≡ Some kind
-      → IsProgramOf p.under.allow (types_of p.under.job.context) (script_of p.under) (Ok p.program) → (line : List ℕ) → (reply : Reply) × IsReplyUnless blank (documents_in kind p) (EndsOver p) line reply
-  unless_some true kind p of is line = (no_reply, refl)
-  unless_some false kind p of is line = to_some kind p of is (start_of (documents_in kind p) line) (λ start bound. documents_take (documents_in kind p) line start bound)
+  to_some : (documents : Documents) (bound : Result Start Fault) → ((start : Start) → bound ≡ Ok start → HasArguments kind start.args) → (reply : Reply) × IsReplyTo documents (EndsOver p code) bound reply
+  to_some documents (Err wrong) has = (as_line (line_error (fault_of wrong)), refl)
+  to_some documents (Ok start) has = let ran = over_some start (has start refl) in (reply_to_run documents ran.0, (ran.0, ran.1, refl))
 
-  pub reply_some : (kind : SearchKind) (p : Prepared) → kind_of p.under.job.context ≡ Some kind
-      → IsProgramOf p.under.allow (types_of p.under.job.context) (script_of p.under) (Ok p.program) → (line : InputLine) → (reply : Reply) × IsReplyOf kind p line reply
-  reply_some kind p of is (Within line) = unless_some (is_blank line) kind p of is line
-  reply_some kind p of is Beyond = (as_line (line_error fault.Long), refl)
-  reply_some kind p of is Nothing = (no_reply, refl)
+  unless_some : (blank : Bool) (line : List ℕ) → (reply : Reply) × IsReplyUnless blank (documents_in kind p) (EndsOver p code) line reply
+  unless_some true line = (no_reply, refl)
+  unless_some false line = to_some (documents_in kind p) (start_of (documents_in kind p) line) (λ start bound. documents_take (documents_in kind p) line start bound)
+
+  pub reply_some : (line : InputLine) → (reply : Reply) × IsReplyOf kind p code line reply
+  reply_some (Within line) = unless_some (is_blank line) line
+  reply_some Beyond = (as_line (line_error fault.Long), refl)
+  reply_some Nothing = (no_reply, refl)

@@ -3,17 +3,24 @@ use Rattle.std.proofs.Common.{◌≡◌, ◌≢◌, ℕ, List, Option, Some, Non
 use Rattle.std.specs.Io.KnownBytes.{IsAtEnd}
 use Rattle.outer_io.specs.Lines.{InputLine}
 use Rattle.search_ctx.specs.declared.line.SearchKind.{SearchKind}
+use Rattle.command_parts.specs.declared.report.Report.{Report}
 use Rattle.command_parts.specs.declared.status.Status.{Status}
 use Rattle.command_parts.specs.declared.status.Status.TheVariants as s
 use Rattle.command_parts.specs.declared.stop.Stop.{Stop}
 use Rattle.command_parts.specs.declared.stop.Stop.TheVariants as stop
+use Rattle.command_parts.specs.Delivers.{Delivers}
 use Rattle.command_parts.specs.Ending.{EndsSo}
+use Rattle.command_parts.specs.Reports.{IsQuiet}
 use Rattle.command_parts.specs.Told.{Told}
 use Rattle.command_parts.specs.Writing.{IsWriteFault}
-use Rattle.line_run.specs.Passing.{Passes}
-use Rattle.line_run.specs.Replies.{Reply}
-use Rattle.job_commands.specs.Documents.{EndsBy, EndsPrepared, LeavesInput}
+use Rattle.line_run.specs.declared.ran.Ran.{Ran}
+use Rattle.line_run.specs.Passing.{Passes, PassesBy}
+use Rattle.line_run.specs.Replies.{Front, Reply}
+use Rattle.job_commands.specs.Documents.{EndsBy, EndsPrepared, GivesReplies, LeavesInput, Lists, ListsBy, front_for, ran_by}
 use Rattle.job_commands.specs.Contexts.{kind_of}
+use Rattle.job_commands.specs.Listing.{listings_of}
+use Rattle.job_commands.specs.Preparing.{codes_of}
+use Rattle.job_commands.specs.Running.{no_documents}
 use Rattle.job_commands.specs.declared.preparing.PreparedJob.{PreparedJob}
 
 -- those of a run that ends before its work
@@ -66,51 +73,105 @@ accepts status (inl is) = subst IsAccepted (sym is) tt
 accepts status (inr (inl is)) = subst IsAccepted (sym is) tt
 accepts status (inr (inr is)) = subst IsAccepted (sym is) tt
 
--- those of a run over an input
-pub passes_leave : (gives : InputLine → Reply → Type 0) (limit : ℕ) (status : Status) (left left' old new : Option (List ℕ)) → Passes gives limit status left left' old new
-    → LeavesInput status → ⊥
-passes_leave gives limit s.Done left left' old new h k = k
-passes_leave gives limit s.SomeErrors left left' old new h k = k
-passes_leave gives limit s.InputLong left left' old new h k = k
-passes_leave gives limit s.ReadFault left left' old new h k = k
-passes_leave gives limit s.WriteFault left left' old new h k = k
-passes_leave gives limit s.NoMemory left left' old new h k = k
-passes_leave gives limit s.Refused left left' old new h k = h
-passes_leave gives limit s.Usage left left' old new h k = h
-passes_leave gives limit s.FileFault left left' old new h k = h
-passes_leave gives limit s.FileAbsent left left' old new h k = h
-passes_leave gives limit s.FileLong left left' old new h k = h
+-- ---- reports
 
-pub passes_file : (gives : InputLine → Reply → Type 0) (limit : ℕ) (status : Status) (left left' old new : Option (List ℕ)) → Passes gives limit status left left' old new
-    → status ≢ s.FileFault
-passes_file gives limit status left left' old new h is = go (subst (λ (t : Status). Passes gives limit t left left' old new) is h) where
-  go : Passes gives limit s.FileFault left left' old new → ⊥
-  go k = k
+quiet_listed : (status : Status) (listings : List (List ℕ)) (r : Report) → status ≢ s.Done → status ≢ s.SomeErrors → ListsBy status listings r → IsQuiet r
+quiet_listed s.Done listings r done errors h = absurd (done refl)
+quiet_listed s.SomeErrors listings r done errors h = absurd (errors refl)
+quiet_listed s.Refused listings r done errors h = h
+quiet_listed s.ReadFault listings r done errors h = h
+quiet_listed s.WriteFault listings r done errors h = h
+quiet_listed s.NoMemory listings r done errors h = h
+quiet_listed s.InputLong listings r done errors h = h
+quiet_listed s.Usage listings r done errors h = h
+quiet_listed s.FileFault listings r done errors h = h
+quiet_listed s.FileAbsent listings r done errors h = h
+quiet_listed s.FileLong listings r done errors h = h
 
--- the told status of a job without documents is that of a refusal
-no_usage : (kind : Option SearchKind) (job : PreparedJob) (left left' old new : Option (List ℕ)) → EndsBy kind job s.Usage left left' old new → ⊥
-no_usage (Some kind) job left left' old new h = h
-no_usage None job left left' old new (told, is, status, appended) = let e : s.Refused ≡ s.Usage = ap (λ (t : Told). t.status) (sym is) ∙ status in absurd cc
+lists_quiet : (listings : List (List ℕ)) (r : Report) → r.status ≢ s.Done → r.status ≢ s.SomeErrors → Lists listings r → IsQuiet r
+lists_quiet listings r = quiet_listed r.status listings r
 
-pub prepared_usage : (job : PreparedJob) (status : Status) (left left' old new : Option (List ℕ)) → EndsPrepared job status left left' old new → status ≢ s.Usage
-prepared_usage job status left left' old new h is =
-    no_usage (kind_of job.found.job.context) job left left' old new (subst (λ (t : Status). EndsPrepared job t left left' old new) is h)
+listed_quiet : (status : Status) (listings : List (List ℕ)) (r : Report) → status ≢ s.Done → status ≢ s.SomeErrors → IsQuiet r → ListsBy status listings r
+listed_quiet s.Done listings r done errors h = absurd (done refl)
+listed_quiet s.SomeErrors listings r done errors h = absurd (errors refl)
+listed_quiet s.Refused listings r done errors h = h
+listed_quiet s.ReadFault listings r done errors h = h
+listed_quiet s.WriteFault listings r done errors h = h
+listed_quiet s.NoMemory listings r done errors h = h
+listed_quiet s.InputLong listings r done errors h = h
+listed_quiet s.Usage listings r done errors h = h
+listed_quiet s.FileFault listings r done errors h = h
+listed_quiet s.FileAbsent listings r done errors h = h
+listed_quiet s.FileLong listings r done errors h = h
 
-done_by : (kind : Option SearchKind) (job : PreparedJob) (left left' old new : Option (List ℕ)) → EndsBy kind job s.Done left left' old new → IsAtEnd left'
-done_by (Some kind) job left left' old new h = h.1
-done_by None job left left' old new (told, is, status, appended) = let e : s.Refused ≡ s.Done = ap (λ (t : Told). t.status) (sym is) ∙ status in absurd cc
+-- a quiet report lists nothing
+pub quiet_lists : (listings : List (List ℕ)) (r : Report) → r.status ≢ s.Done → r.status ≢ s.SomeErrors → IsQuiet r → Lists listings r
+quiet_lists listings r = listed_quiet r.status listings r
 
-errors_by : (kind : Option SearchKind) (job : PreparedJob) (left left' old new : Option (List ℕ)) → EndsBy kind job s.SomeErrors left left' old new → IsAtEnd left'
-errors_by (Some kind) job left left' old new h = h.1
-errors_by None job left left' old new (told, is, status, appended) = let e : s.Refused ≡ s.SomeErrors = ap (λ (t : Told). t.status) (sym is) ∙ status in absurd cc
+-- ---- those of a run over an input
 
--- with status 0 or 1 the input was read to its end
-pub prepared_ended : (job : PreparedJob) (status : Status) (left left' old new : Option (List ℕ)) → EndsPrepared job status left left' old new
-    → (status ≡ s.Done) ⊎ (status ≡ s.SomeErrors) → IsAtEnd left'
-prepared_ended job status left left' old new h (inl is) =
-    done_by (kind_of job.found.job.context) job left left' old new (subst (λ (t : Status). EndsPrepared job t left left' old new) is h)
-prepared_ended job status left left' old new h (inr is) =
-    errors_by (kind_of job.found.job.context) job left left' old new (subst (λ (t : Status). EndsPrepared job t left left' old new) is h)
+module _ (gives : InputLine → Reply → Type 0) (front : Front) (limit : ℕ) (ran : Ran) (left left' old new : Option (List ℕ)) where
+  leaves_by : (status : Status) → PassesBy status gives front limit ran left left' old new → LeavesInput status → ⊥
+  leaves_by s.Done h k = k
+  leaves_by s.SomeErrors h k = k
+  leaves_by s.Refused h k = h
+  leaves_by s.ReadFault h k = k
+  leaves_by s.WriteFault h k = k
+  leaves_by s.NoMemory h k = k
+  leaves_by s.InputLong h k = k
+  leaves_by s.Usage h k = h
+  leaves_by s.FileFault h k = h
+  leaves_by s.FileAbsent h k = h
+  leaves_by s.FileLong h k = h
+
+  pub passes_leave : Passes gives front limit ran left left' old new → LeavesInput ran.status → ⊥
+  passes_leave = leaves_by ran.status
+
+  -- with a status
+  pub passes_with : (status : Status) → ran.status ≡ status → Passes gives front limit ran left left' old new → PassesBy status gives front limit ran left left' old new
+  passes_with status is h = subst (λ (t : Status). PassesBy t gives front limit ran left left' old new) is h
+
+  pub passes_file : Passes gives front limit ran left left' old new → ran.status ≢ s.FileFault
+  passes_file h is = passes_with s.FileFault is h
+
+-- .. or where there are no documents
+none_with : (status : Status) → (told : Told) → told ≡ no_documents → told.status ≡ status → s.Refused ≡ status
+none_with status told is ends = ap (λ (t : Told). t.status) (sym is) ∙ ends
+
+module _ (job : PreparedJob) (r : Report) (left left' old new : Option (List ℕ)) where
+  no_usage : (kind : Option SearchKind) → r.status ≡ s.Usage → EndsBy kind job r left left' old new → ⊥
+  no_usage (Some kind) is (lists, h) = passes_with (GivesReplies kind job) (front_for job) job.found.job.limits.input (ran_by r) left left' old new s.Usage is h
+  no_usage None is (quiet, h) =
+      let d = subst (λ (t : Status). Delivers (λ told. told ≡ no_documents) t old new) is h in
+      let e : s.Refused ≡ s.Usage = none_with s.Usage d.0 d.1 d.2 in absurd cc
+
+  pub prepared_usage : EndsPrepared job r left left' old new → r.status ≢ s.Usage
+  prepared_usage h is = no_usage (kind_of job.found.job.context) is h
+
+  done_by : (kind : Option SearchKind) → r.status ≡ s.Done → EndsBy kind job r left left' old new → IsAtEnd left'
+  done_by (Some kind) is (lists, h) = (passes_with (GivesReplies kind job) (front_for job) job.found.job.limits.input (ran_by r) left left' old new s.Done is h).1
+  done_by None is (quiet, h) =
+      let d = subst (λ (t : Status). Delivers (λ told. told ≡ no_documents) t old new) is h in
+      let e : s.Refused ≡ s.Done = none_with s.Done d.0 d.1 d.2 in absurd cc
+
+  errors_by : (kind : Option SearchKind) → r.status ≡ s.SomeErrors → EndsBy kind job r left left' old new → IsAtEnd left'
+  errors_by (Some kind) is (lists, h) = (passes_with (GivesReplies kind job) (front_for job) job.found.job.limits.input (ran_by r) left left' old new s.SomeErrors is h).1
+  errors_by None is (quiet, h) =
+      let d = subst (λ (t : Status). Delivers (λ told. told ≡ no_documents) t old new) is h in
+      let e : s.Refused ≡ s.SomeErrors = none_with s.SomeErrors d.0 d.1 d.2 in absurd cc
+
+  -- with status 0 or 1 the input was read to its end
+  pub prepared_ended : EndsPrepared job r left left' old new → (r.status ≡ s.Done) ⊎ (r.status ≡ s.SomeErrors) → IsAtEnd left'
+  prepared_ended h (inl is) = done_by (kind_of job.found.job.context) is h
+  prepared_ended h (inr is) = errors_by (kind_of job.found.job.context) is h
+
+  quiet_by : (kind : Option SearchKind) → EndsBy kind job r left left' old new → r.status ≢ s.Done → r.status ≢ s.SomeErrors → IsQuiet r
+  quiet_by (Some kind) (lists, h) done errors = lists_quiet (listings_of (codes_of job.script)) r done errors lists
+  quiet_by None (quiet, h) done errors = quiet
+
+  -- with every other the report is quiet
+  pub prepared_quiet : EndsPrepared job r left left' old new → r.status ≢ s.Done → r.status ≢ s.SomeErrors → IsQuiet r
+  prepared_quiet h = quiet_by (kind_of job.found.job.context) h
 
 -- a run that ends before its work has neither
 pub stopped_ended : (end : Stop) (status : Status) (left' old new : Option (List ℕ)) → EndsSo end status old new → (status ≡ s.Done) ⊎ (status ≡ s.SomeErrors) → IsAtEnd left'

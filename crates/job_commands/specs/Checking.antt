@@ -4,12 +4,12 @@ use Rattle.job_file.specs.declared.context.JobCommand.TheVariants as command
 use Rattle.json_replies.specs.Replies.{line_of}
 use Rattle.job_replies.specs.Refusals.{accepted}
 use Rattle.command_parts.specs.declared.status.Status.TheVariants as s
-use Rattle.command_parts.specs.Told.{Told}
+use Rattle.command_parts.specs.Told.{Told, uncounted}
 use Rattle.job_commands.specs.Scripts.{Prepared, PreparesJob}
 
 -- a job that is accepted
 abbrev pub accepts_told : Told
-accepts_told = record { status = s.Done; bytes = line_of accepted }
+accepts_told = uncounted s.Done (line_of accepted)
 
 abbrev pub told_of_check : Result Prepared Told → Told
 told_of_check (Ok p) = accepts_told

@@ -1,8 +1,6 @@
 -- What the code prepares as what is meant.
 use Rattle.std.specs.Prelude.{◌≡◌, List, map, Result, Ok, Err, IfSome}
 use Rattle.object_heap.specs.Store.{Store}
-use Rattle.object_heap.specs.declared.outcome.End.{End}
-use Rattle.object_values.specs.declared.object.Object.{Object}
 use Rattle.object_values.specs.declared.value.Value.{Value}
 use Rattle.run_state.specs.World.{World}
 use Rattle.allowlist.specs.Allow.{AllowList}
@@ -14,6 +12,7 @@ use Rattle.program_typing.specs.Agreeing.{types_in}
 use Rattle.machine.specs.Seen.{limits_of}
 use Rattle.verifier_soundness.specs.Rows.{HaveRows}
 use Rattle.script_engine.specs.declared.compiling.Script.{Script}
+use Rattle.script_engine.specs.Codes.{Counts, ScriptCodes, prelude_code}
 use Rattle.script_engine.specs.Compiling.{IsScriptOf}
 use Rattle.script_engine.specs.Ends.{RunsTo}
 use Rattle.script_engine.specs.Programs.{IsProgramOf}
@@ -21,6 +20,7 @@ use Rattle.script_engine.specs.Running.{TakesArguments, end_seen, world_at}
 use Rattle.command_parts.specs.Stops.{stop_told}
 use Rattle.command_parts.specs.Told.{Told}
 use Rattle.command_parts.specs.declared.stop.Stop.{Stop}
+use Rattle.document_replies.specs.Replies.{Ended}
 use Rattle.job_loading.specs.Loading.{JobUnder}
 use Rattle.job_loading.specs.Seen.{read_view}
 use Rattle.job_commands.specs.Contexts.{types_of}
@@ -48,8 +48,17 @@ PreparesSo prepares (Err stop) = IfSome (stop_told stop) (λ told. prepares (Err
 abbrev pub TakesThem : LimitedScript → List Value → Type 0
 TakesThem s args = HaveRows s.script.executable.allow s.script.executable.code.functions × TakesArguments s.script args
 
--- a run of the script ends as that of each program that it is of
-abbrev pub EndsAsItsProgram : LimitedScript → Store → List Value → End → List Object → Type 0
-EndsAsItsProgram s store args end objects =
+-- the code of a script, and that of the prelude
+abbrev pub codes_of : Script → ScriptCodes
+codes_of script = record { script = script.executable.code; prelude = prelude_code }
+
+-- what a run leaves is what that of each program leaves of which the script is
+abbrev pub LeavesAsItsProgram : LimitedScript → Store → List Value → Ended → Type 0
+LeavesAsItsProgram s store args ran =
     (allow : AllowList) (context : ContextTypes) (p : Program) → IsScriptOf allow context p s.script → HaveAll (types_in (map variable_of context.variables)) args
-    → (w : World) × RunsTo p (limits_of s.limits allow) args (world_at store s.limits) (end_seen end w) × (objects ≡ w.store.objects)
+    → (w : World) × RunsTo p (limits_of s.limits allow) args (world_at store s.limits) (end_seen ran.end w) × (ran.objects ≡ w.store.objects) × (ran.reached ≡ w.reached)
+
+-- .. and as many instructions of the script's code are counted
+pub record EndsAsItsProgram (s : LimitedScript) (store : Store) (args : List Value) (ran : Ended) : Type 0 where
+  pub leaves : LeavesAsItsProgram s store args ran
+  pub counts : Counts s.script.executable.code (limits_of s.limits s.script.executable.allow) args (world_at store s.limits) ran.steps

@@ -3,11 +3,12 @@
 ghost use Rattle.std.specs.Prelude.{◌≡◌, ◌≢◌, ◌⊎◌, ℕ, List, Option, IfSome};
 ghost use Rattle.outer_io.specs.Faults.{next_count};
 ghost use Rattle.command_parts.specs.Delivers.{Delivers};
+ghost use Rattle.command_parts.specs.Reports.{IsQuiet, Reports};
 ghost use Rattle.command_parts.specs.Writing.{IsWriteFault};
 ghost use Rattle.job_commands.specs.Checking.{TellsCheck, accepts_told};
 
 use crate::preparing::prepare;
-use command_parts::{Status, end_with, write_bytes};
+use command_parts::{Report, Status, end_with, write_bytes};
 use job_file::JobCommand;
 use job_replies::accepted_line;
 use outer_io::{Files, Sink};
@@ -28,20 +29,22 @@ fn accept<K: Sink>(out: &mut K) -> Status
 }
 
 /// Compiles the script of the job in the file of a name, and writes that it is accepted, or why not.
-pub fn check<F: Files, K: Sink>(alloc: Global, name: &str, files: &mut F, out: &mut K) -> Status
+pub fn check<F: Files, K: Sink>(alloc: Global, name: &str, files: &mut F, out: &mut K) -> Report
     ensures told { (content : List ℕ → Option (List ℕ)) × IfSome (F.content files.old) (λ known. known ≡ content)
-        × Delivers (TellsCheck content name.now) result (K.held out.old) (K.held out.new) }
-    ensures command { result ≢ Status.Usage }
-    ensures reads { result ≢ Status.ReadFault }
-    ensures write { result ≡ Status.WriteFault → K.faults out.new ≡ next_count (K.faults out.old) }
-    ensures file { result ≡ Status.FileFault → F.faults files.new ≡ next_count (F.faults files.old) }
-    ensures written { result ≢ Status.WriteFault → K.faults out.new ≡ K.faults out.old }
-    ensures filed { result ≢ Status.FileFault → F.faults files.new ≡ F.faults files.old }
+        × Delivers (λ told. TellsCheck content name.now told × Reports told result) result.status (K.held out.old) (K.held out.new) }
+    // No script is run.
+    ensures quiet { IsQuiet result }
+    ensures command { result.status ≢ Status.Usage }
+    ensures reads { result.status ≢ Status.ReadFault }
+    ensures write { result.status ≡ Status.WriteFault → K.faults out.new ≡ next_count (K.faults out.old) }
+    ensures file { result.status ≡ Status.FileFault → F.faults files.new ≡ next_count (F.faults files.old) }
+    ensures written { result.status ≢ Status.WriteFault → K.faults out.new ≡ K.faults out.old }
+    ensures filed { result.status ≢ Status.FileFault → F.faults files.new ≡ F.faults files.old }
     ensures contents { F.content files.new ≡ F.content files.old }
 {
     script_laws();
     match prepare(alloc, JobCommand::Check, name, files) {
-        Ok(_job) => accept(out),
-        Err(stop) => end_with(&stop, out),
+        Ok(_job) => Report::quiet(alloc, accept(out)),
+        Err(stop) => Report::quiet(alloc, end_with(&stop, out)),
     }
 }

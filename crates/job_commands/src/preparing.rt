@@ -1,7 +1,8 @@
 //! From a job's file to a script that can be run.
 
-ghost use Rattle.std.specs.Prelude.{◌≡◌, ◌≢◌, ℕ, List, Option, IfErr, IfOk, IfSome};
+ghost use Rattle.std.specs.Prelude.{◌≡◌, ◌≢◌, ℕ, List, None, Option, IfErr, IfOk, IfSome};
 ghost use Rattle.outer_io.specs.Faults.{HasCause};
+ghost use Rattle.verifier.specs.Faults.{shape_fault};
 ghost use Rattle.verifier_soundness.specs.Rows.{HaveRows};
 ghost use Rattle.script_engine.specs.Running.{TakesTyped};
 ghost use Rattle.job_file.specs.Answers.{fields_view, scripts_view};
@@ -74,6 +75,7 @@ fn script_refused(alloc: Global, wrong: Refusal) -> Stop
 /// The script of a job.
 fn script_of(alloc: Global, found: &ReadJob) -> Result<Script, Stop>
     ensures told { CompilesJob (read_view found.now) result }
+    ensures sound { IfOk result (λ script. shape_fault found.now.allow script.executable.code ≡ None) }
     ensures rows { IfOk result (λ script. HaveRows script.executable.allow script.executable.code.functions) }
     ensures takes { IfOk result (λ script. TakesTyped (types_of found.now.job.context) script) }
     ensures quiet { IfErr result (λ stop. stop ≢ Stop.FileFault) }
@@ -95,6 +97,7 @@ pub(crate) fn prepare<F: Files>(
 ) -> Result<PreparedJob, Stop>
     ensures told { (content : List ℕ → Option (List ℕ)) × IfSome (F.content files.old) (λ known. known ≡ content)
         × PreparesSo (PreparesJob command content name.now) result }
+    ensures sound { IfOk result (λ job. shape_fault job.found.allow job.script.executable.code ≡ None) }
     ensures rows { IfOk result (λ job. HaveRows job.script.executable.allow job.script.executable.code.functions) }
     ensures takes { IfOk result (λ job. TakesTyped (types_of job.found.job.context) job.script) }
     ensures distinct { IfOk result (λ job. HasDistinctNames (fields_view job.found.job.mapping.fields.items)) }

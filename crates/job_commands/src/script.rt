@@ -2,6 +2,7 @@
 
 ghost use Rattle.job_commands.specs.Preparing.{EndsAsItsProgram, TakesThem};
 
+use allowlist::Allow;
 use document_replies::DocumentScript;
 use machine::{Limits, RunMemory};
 use object_heap::{Heap, Outcome};
@@ -30,7 +31,13 @@ impl DocumentScript for LimitedScript {
 
     ghost takes = { λ s args. TakesThem s args };
 
-    ghost ends = { λ s store args end objects. EndsAsItsProgram s store args end objects };
+    ghost list = { λ s. s.script.executable.allow };
+
+    ghost ends = { λ s store args ran. EndsAsItsProgram s store args ran };
+
+    fn allow(&self) -> &Allow {
+        self.script.allow()
+    }
 
     fn memory(&self, alloc: Global) -> RunMemory {
         RunMemory::new(alloc)

@@ -1,6 +1,6 @@
 //! Jobs that are checked.
 
-use crate::worlds::{WHOLE, checked, failed_at, ran};
+use crate::worlds::{checked, failed_at};
 use command_parts::Status;
 use std::test::Fail;
 
@@ -75,7 +75,7 @@ fn jobs(rt: HostRuntime) -> Result<(), Fail> {
 }
 
 #[test]
-fn files_and_flags(rt: HostRuntime) -> Result<(), Fail> {
+fn files(rt: HostRuntime) -> Result<(), Fail> {
     let alloc = rt.alloc();
     for (allow, status) in [
         ("none", Status::FileAbsent),
@@ -90,15 +90,6 @@ fn files_and_flags(rt: HostRuntime) -> Result<(), Fail> {
     }
     assert_eq!(rt; checked(alloc, "none", b"")?.1, Status::FileAbsent);
     assert_eq!(rt; checked(alloc, "long", b"")?.1, Status::FileLong);
-    for flag in ["listing", "steps", "members"] {
-        let job = format!(in alloc; "{{\"context\":\"field\",\"script\":\"1\",\"{flag}\":true}}")?;
-        let wanted = format!(in alloc;
-            "{{\"refused\":{{\"field\":\"{flag}\",\"name\":\"JobField\",\"number\":22}}}}\n"
-        )?;
-        let answer = ran(alloc, job.as_bytes(), b"{}", &WHOLE)?;
-        assert!(rt; answer.0.as_slice() == wanted.as_bytes(), "{flag}");
-        assert_eq!(rt; answer.1, Status::Refused);
-    }
     Ok(())
 }
 

@@ -8,4 +8,6 @@ mod inputs;
 #[cfg(test)]
 mod lines;
 #[cfg(test)]
+mod shown;
+#[cfg(test)]
 mod worlds;

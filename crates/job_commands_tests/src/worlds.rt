@@ -1,8 +1,8 @@
 //! Files, inputs and sinks in memory, and the commands over them.
 ghost use Rattle.std.specs.Prelude.{◌≤◌};
 
-use command_parts::Status;
-use job_commands::{check, run};
+use command_parts::{Report, Status};
+use job_commands::{check, list, run};
 use outer_io::{MemFiles, MemSink, MemSource};
 use std::alloc::{AllocError, Global};
 
@@ -39,15 +39,23 @@ fn files_of(alloc: Global, job: &[u8]) -> Result<Vec<(String, Vec<u8>)>, AllocEr
 pub fn checked(alloc: Global, name: &str, job: &[u8]) -> Result<(Vec<u8>, Status), AllocError> {
     let mut files = MemFiles::new(files_of(alloc, job)?, Vec::new(alloc));
     let mut out = MemSink::new(alloc, 7, Vec::new(alloc));
-    let status = check(alloc, name, &mut files, &mut out);
-    Ok((Vec::from_slice(alloc, out.bytes())?, status))
+    let report = check(alloc, name, &mut files, &mut out);
+    Ok((Vec::from_slice(alloc, out.bytes())?, report.status))
+}
+
+/// What `list` writes of a job, and its report.
+pub fn listed(alloc: Global, job: &[u8]) -> Result<(Vec<u8>, Report), AllocError> {
+    let mut files = MemFiles::new(files_of(alloc, job)?, Vec::new(alloc));
+    let mut out = MemSink::new(alloc, 7, Vec::new(alloc));
+    let report = list(alloc, "job", &mut files, &mut out);
+    Ok((Vec::from_slice(alloc, out.bytes())?, report))
 }
 
 /// How `check` ends of the job in `job`, where the call of the files with this number fails.
 pub fn failed_at(alloc: Global, job: &[u8], number: u64) -> Result<Status, AllocError> {
     let mut files = MemFiles::new(files_of(alloc, job)?, Vec::from_slice(alloc, &[number])?);
     let mut out = MemSink::new(alloc, 7, Vec::new(alloc));
-    Ok(check(alloc, "job", &mut files, &mut out))
+    Ok(check(alloc, "job", &mut files, &mut out).status)
 }
 
 /// How a source and a sink are called: how many bytes a call of each takes at most, and which calls fail.
@@ -67,13 +75,13 @@ pub const WHOLE: Pieces = Pieces {
     sink_fails: 0,
 };
 
-/// What `run` writes of the job in `job` over an input, and its status.
-pub fn ran(
+/// What `run` writes of the job in `job` over an input, and its report.
+pub fn reported(
     alloc: Global,
     job: &[u8],
     input: &[u8],
     pieces: &Pieces,
-) -> Result<(Vec<u8>, Status), AllocError>
+) -> Result<(Vec<u8>, Report), AllocError>
     requires taken { 1 ≤ pieces.now.taken }
     requires given { 1 ≤ pieces.now.given }
 {
@@ -88,6 +96,20 @@ pub fn ran(
         pieces.given,
         Vec::from_slice(alloc, &[pieces.sink_fails])?,
     );
-    let status = run(alloc, "job", &mut files, &mut source, &mut out);
-    Ok((Vec::from_slice(alloc, out.bytes())?, status))
+    let report = run(alloc, "job", &mut files, &mut source, &mut out);
+    Ok((Vec::from_slice(alloc, out.bytes())?, report))
+}
+
+/// What `run` writes of the job in `job` over an input, and its status.
+pub fn ran(
+    alloc: Global,
+    job: &[u8],
+    input: &[u8],
+    pieces: &Pieces,
+) -> Result<(Vec<u8>, Status), AllocError>
+    requires taken { 1 ≤ pieces.now.taken }
+    requires given { 1 ≤ pieces.now.given }
+{
+    let (bytes, report) = reported(alloc, job, input, pieces)?;
+    Ok((bytes, report.status))
 }

@@ -1,5 +1,5 @@
 -- What reading a job or an allowlist answered is what is told of its bytes.
-use Rattle.std.proofs.Common.{◌≡◌, ℕ, Bool, true, false, List, Option, Some, None, IfSome, IfOk, Result, Ok, Err, refl, sym, ap, subst, ◌∙◌, string_bytes}
+use Rattle.std.proofs.Common.{◌≡◌, ℕ, Bool, true, false, List, Option, Some, None, IfSome, Result, Ok, Err, refl, sym, ap, ◌∙◌, string_bytes}
 use Rattle.std.specs.Str.{IsUtf8, is_utf8}
 use Rattle.std.proofs.lemmas.Str.{IsUtf8-from_is_utf8, is_utf8-from_IsUtf8}
 use Rattle.serde_json.specs.Data.{Data}
@@ -22,8 +22,8 @@ use Rattle.search_ctx.specs.Laws.{JobFieldsAreDistinct}
 use Rattle.command_parts.specs.declared.status.Status.TheVariants as s
 use Rattle.command_parts.specs.declared.stop.Stop.{Stop}
 use Rattle.command_parts.specs.Stops.{ComesSo, stop_told}
-use Rattle.command_parts.specs.Told.{Told}
-use Rattle.job_loading.specs.Loading.{flag_fault, refusal, job_in_bytes, job_told, list_told, unless_flagged}
+use Rattle.command_parts.specs.Told.{Told, uncounted}
+use Rattle.job_loading.specs.Loading.{refusal, job_in_bytes, job_told, list_told}
 use Rattle.job_loading.specs.Seen.{RefusesJob, RefusesList}
 
 contradicts : {b : Bool} → b ≡ true → b ≡ false → ⊥
@@ -45,40 +45,33 @@ distinct_read law job command bytes text none = by (is_utf8 bytes) refl where
   by true is = law command bytes (job_view job) (text (IsUtf8-from_is_utf8 bytes is))
   by false is = (let e : Err syntax ≡ Ok (job_view job) = none (λ u. contradicts (is_utf8-from_IsUtf8 bytes u) is) in cc)
 
-pub distinct_kept : (result : Result Job Stop) (job : Job) → IfOk result (λ kept. kept ≡ job) → HasDistinctNames (fields_view job.mapping.fields.items)
-    → IfOk result (λ kept. HasDistinctNames (fields_view kept.mapping.fields.items))
-distinct_kept (Ok kept) job same is = subst (λ (k : Job). HasDistinctNames (fields_view k.mapping.fields.items)) (sym same) is
-distinct_kept (Err stop) job same is = tt
-
 -- what is told of a job that was read
-pub job_goes_on : (result : Result Job Stop) (command : JobCommand) (meaning : Result JobData Fault) (job : JobData) → meaning ≡ Ok job
-    → ComesSo job_view result (unless_flagged (flag_fault command job) job) → ComesSo job_view result (job_told command meaning)
-job_goes_on result command meaning job is h = subst (λ (m : Result JobData Fault). ComesSo job_view result (job_told command m)) (sym is) h
+pub job_read : (meaning : Result JobData Fault) (job : JobData) → meaning ≡ Ok job → job_told meaning ≡ Ok job
+job_read meaning job is = ap job_told is
 
 -- two ways to tell the same
-told_same : (told : Told) (d : Data) → told.status ≡ s.Refused → told.bytes ≡ line_of d → refusal d ≡ told
-told_same told d status bytes =
-    ap (λ (b : List ℕ). record { status = s.Refused; bytes = b }) (sym bytes) ∙ ap (λ st. record { status = st; bytes = told.bytes }) (sym status)
+told_same : (told : Told) (d : Data) → told ≡ uncounted s.Refused told.bytes → told.bytes ≡ line_of d → refusal d ≡ told
+told_same told d is bytes = ap (uncounted s.Refused) (sym bytes) ∙ sym is
 
-refused_so : (told : Option Told) (command : JobCommand) (meaning : Result JobData Fault) (fault : Fault) → meaning ≡ Err fault
-    → IfSome told (λ t. (t.status ≡ s.Refused) × (t.bytes ≡ line_of (job_refusal fault))) → IfSome told (λ t. job_told command meaning ≡ Err t)
-refused_so None command meaning fault is h = tt
-refused_so (Some t) command meaning fault is h = rw is (ap Err (told_same t (job_refusal fault) h.0 h.1))
+refused_so : (told : Option Told) (meaning : Result JobData Fault) (fault : Fault) → meaning ≡ Err fault
+    → IfSome told (λ t. (t ≡ uncounted s.Refused t.bytes) × (t.bytes ≡ line_of (job_refusal fault))) → IfSome told (λ t. job_told meaning ≡ Err t)
+refused_so None meaning fault is h = tt
+refused_so (Some t) meaning fault is h = rw is (ap Err (told_same t (job_refusal fault) h.0 h.1))
 
-never : (P : Told → Type 0) (told : Option Told) → IfSome told (λ t. (t.status ≡ s.Refused) × ⊥) → IfSome told P
+never : (P : Told → Type 0) (told : Option Told) → IfSome told (λ t. (t ≡ uncounted s.Refused t.bytes) × ⊥) → IfSome told P
 never P None h = tt
 never P (Some t) h = absurd h.1
 
-pub job_stops : (command : JobCommand) (error : JobErr) (stop : Stop) (meaning : Result JobData Fault) → Answered job_view (Err error) meaning → RefusesJob error stop
-    → ComesSo job_view (Err stop) (job_told command meaning)
-job_stops command j.Syntax stop meaning is h = refused_so (stop_told stop) command meaning syntax is h
-job_stops command (j.Field key) stop meaning is h = refused_so (stop_told stop) command meaning (field (string_bytes key)) is h
-job_stops command (j.Range key) stop meaning is h = refused_so (stop_told stop) command meaning (range (string_bytes key)) is h
-job_stops command (j.Mapping name) stop meaning is h = refused_so (stop_told stop) command meaning (mapping (string_bytes name)) is h
-job_stops command j.NoMemory stop meaning is h = never _ (stop_told stop) h
+pub job_stops : (error : JobErr) (stop : Stop) (meaning : Result JobData Fault) → Answered job_view (Err error) meaning → RefusesJob error stop
+    → ComesSo job_view (Err stop) (job_told meaning)
+job_stops j.Syntax stop meaning is h = refused_so (stop_told stop) meaning syntax is h
+job_stops (j.Field key) stop meaning is h = refused_so (stop_told stop) meaning (field (string_bytes key)) is h
+job_stops (j.Range key) stop meaning is h = refused_so (stop_told stop) meaning (range (string_bytes key)) is h
+job_stops (j.Mapping name) stop meaning is h = refused_so (stop_told stop) meaning (mapping (string_bytes name)) is h
+job_stops j.NoMemory stop meaning is h = never _ (stop_told stop) h
 
 list_refused_so : (told : Option Told) (meaning : Result AllowList list.Fault) (fault : list.Fault) → meaning ≡ Err fault
-    → IfSome told (λ t. (t.status ≡ s.Refused) × (t.bytes ≡ line_of (list_refusal fault))) → IfSome told (λ t. list_told meaning ≡ Err t)
+    → IfSome told (λ t. (t ≡ uncounted s.Refused t.bytes) × (t.bytes ≡ line_of (list_refusal fault))) → IfSome told (λ t. list_told meaning ≡ Err t)
 list_refused_so None meaning fault is h = tt
 list_refused_so (Some t) meaning fault is h = rw is (ap Err (told_same t (list_refusal fault) h.0 h.1))
 

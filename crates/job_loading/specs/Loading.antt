@@ -1,18 +1,17 @@
 -- A job and its allowlist, from the content of the files, or what is told where there is none.
-use Rattle.std.specs.Prelude.{ℕ, List, Option, Some, None, Result, Ok, Err, codes, if◌then◌else◌}
+use Rattle.std.specs.Prelude.{ℕ, List, Option, Some, None, Result, Ok, Err, if◌then◌else◌}
 use Rattle.std.specs.Str.{is_utf8}
 use Rattle.serde_json.specs.Data.{Data}
 use Rattle.serde_json.specs.Read.{read}
 use Rattle.allowlist.specs.Allow.{AllowList, full_list}
 use Rattle.allowlist.specs.Files as list
 use Rattle.job_file.specs.declared.context.JobCommand.{JobCommand}
-use Rattle.job_file.specs.declared.context.JobCommand.TheVariants as command
-use Rattle.job_file.specs.Jobs.{JobData, Fault, syntax, field, job_of_read, object_of}
+use Rattle.job_file.specs.Jobs.{JobData, Fault, syntax, job_of_read, object_of}
 use Rattle.json_replies.specs.Replies.{line_of}
 use Rattle.job_replies.specs.Refusals.{job_refusal, list_refusal}
 use Rattle.command_parts.specs.declared.status.Status.TheVariants as s
 use Rattle.command_parts.specs.Files.{file_told}
-use Rattle.command_parts.specs.Told.{Told}
+use Rattle.command_parts.specs.Told.{Told, uncounted}
 
 -- a job, and the list of what its scripts may use
 pub record JobUnder : Type 0 where
@@ -21,37 +20,21 @@ pub record JobUnder : Type 0 where
 
 -- something is refused
 abbrev pub refusal : Data → Told
-refusal d = record { status = s.Refused; bytes = line_of d }
+refusal d = uncounted s.Refused (line_of d)
 
 -- ---- the job's file
 
 abbrev pub job_in_bytes : JobCommand → List ℕ → Result JobData Fault
 job_in_bytes with bytes = if is_utf8 bytes then job_of_read with (object_of (read bytes)) else Err syntax
 
--- The first flag of replies that is set. Replies have none of these yet, and so a job that is to be run is refused for it.
-abbrev pub first_flag : JobData → Option Fault
-first_flag job =
-    if job.listing
-    then Some (field (codes "listing"))
-    else if job.steps then Some (field (codes "steps")) else if job.members then Some (field (codes "members")) else None
+-- the job, or the refusal of the first thing that is wrong with it
+abbrev pub job_told : Result JobData Fault → Result JobData Told
+job_told (Ok job) = Ok job
+job_told (Err fault) = Err (refusal (job_refusal fault))
 
-abbrev pub flag_fault : JobCommand → JobData → Option Fault
-flag_fault command.Check job = None
-flag_fault command.List job = None
-flag_fault command.Run job = first_flag job
-
-abbrev pub unless_flagged : Option Fault → JobData → Result JobData Told
-unless_flagged None job = Ok job
-unless_flagged (Some fault) job = Err (refusal (job_refusal fault))
-
--- the job for a command, or the refusal of the first thing that is wrong with it
-abbrev pub job_told : JobCommand → Result JobData Fault → Result JobData Told
-job_told with (Ok job) = unless_flagged (flag_fault with job) job
-job_told with (Err fault) = Err (refusal (job_refusal fault))
-
--- the same of a file
+-- the job of a file for a command
 abbrev pub job_in_file : JobCommand → Result (List ℕ) Told → Result JobData Told
-job_in_file with (Ok bytes) = job_told with (job_in_bytes with bytes)
+job_in_file with (Ok bytes) = job_told (job_in_bytes with bytes)
 job_in_file with (Err told) = Err told
 
 -- ---- its allowlist

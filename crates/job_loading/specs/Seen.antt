@@ -7,6 +7,7 @@ use Rattle.job_replies.specs.Errors.{IsJobLine, IsListLine}
 use Rattle.command_parts.specs.declared.status.Status.TheVariants as s
 use Rattle.command_parts.specs.declared.stop.Stop.{Stop}
 use Rattle.command_parts.specs.Stops.{stop_told}
+use Rattle.command_parts.specs.Told.{uncounted}
 use Rattle.job_loading.specs.declared.reading.ReadJob.{ReadJob}
 use Rattle.job_loading.specs.Loading.{JobUnder}
 
@@ -15,7 +16,7 @@ read_view found = record { job = job_view found.job; allow = found.allow }
 
 -- what is told is the refusal that an error is
 abbrev pub RefusesJob : JobErr → Stop → Type 0
-RefusesJob error stop = IfSome (stop_told stop) (λ told. (told.status ≡ s.Refused) × IsJobLine error told.bytes)
+RefusesJob error stop = IfSome (stop_told stop) (λ told. (told ≡ uncounted s.Refused told.bytes) × IsJobLine error told.bytes)
 
 abbrev pub RefusesList : AllowErr → Stop → Type 0
-RefusesList error stop = IfSome (stop_told stop) (λ told. (told.status ≡ s.Refused) × IsListLine error told.bytes)
+RefusesList error stop = IfSome (stop_told stop) (λ told. (told ≡ uncounted s.Refused told.bytes) × IsListLine error told.bytes)

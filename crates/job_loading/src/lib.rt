@@ -1,7 +1,6 @@
 //! A job and its allowlist, read from files.
 #![tactic(auto)]
 
-mod flags;
 mod reading;
 mod stops;
 

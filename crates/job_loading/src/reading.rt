@@ -9,11 +9,10 @@ ghost use Rattle.search_ctx.specs.Fields.{HasDistinctNames};
 ghost use Rattle.command_parts.specs.Files.{file_told};
 ghost use Rattle.command_parts.specs.Stops.{ComesSo};
 ghost use Rattle.command_parts.specs.Told.{file_limit};
-ghost use Rattle.job_loading.specs.Loading.{flag_fault, job_in_bytes, job_told, job_under, list_in_file, list_named, list_told, unless_flagged, with_list};
+ghost use Rattle.job_loading.specs.Loading.{job_in_bytes, job_told, job_under, list_in_file, list_named, list_told, with_list};
 ghost use Rattle.job_loading.specs.Seen.{read_view};
 
-use crate::flags::refused_flag;
-use crate::stops::{job_refused, key_refused, list_refused};
+use crate::stops::{job_refused, list_refused};
 use allowlist::{Allow, Catalogue};
 use command_parts::{Stop, read_file};
 use job_file::{Job, JobCommand};
@@ -36,27 +35,15 @@ impl Drop for ReadJob {
     }
 }
 
-/// The job, where no flag of it is refused.
-fn unflagged(alloc: Global, command: JobCommand, job: Job) -> Result<Job, Stop>
-    ensures told { ComesSo job_view result (unless_flagged (flag_fault command (job_view job)) (job_view job)) }
-    ensures same { IfOk result (λ kept. kept ≡ job) }
-    ensures quiet { IfErr result (λ stop. stop ≢ Stop.FileFault) }
-{
-    match refused_flag(command, &job) {
-        Some(key) => Err(key_refused(alloc, key)),
-        None => Ok(job),
-    }
-}
-
 /// The job of the bytes of a job file.
 fn job_of(alloc: Global, command: JobCommand, bytes: &[u8]) -> Result<Job, Stop>
-    ensures told { ComesSo job_view result (job_told command (job_in_bytes command bytes.now)) }
+    ensures told { ComesSo job_view result (job_told (job_in_bytes command bytes.now)) }
     ensures distinct { IfOk result (λ job. HasDistinctNames (fields_view job.mapping.fields.items)) }
     ensures quiet { IfErr result (λ stop. stop ≢ Stop.FileFault) }
 {
     job_fields_are_distinct();
     match Job::read(alloc, bytes, command) {
-        Ok(job) => unflagged(alloc, command, job),
+        Ok(job) => Ok(job),
         Err(error) => Err(job_refused(alloc, &error)),
     }
 }
@@ -136,7 +123,7 @@ fn job_with_list<F: Files>(
     requires short { length bytes.now ≤ file_limit }
     requires shown { IfSome (F.content files.old) (λ known. known name.now ≡ Some bytes.now) }
     ensures told { (content : List ℕ → Option (List ℕ)) × IfSome (F.content files.old) (λ known. known ≡ content) × (content name.now ≡ Some bytes.now)
-        × ComesSo read_view result (with_list content (job_told command (job_in_bytes command bytes.now))) }
+        × ComesSo read_view result (with_list content (job_told (job_in_bytes command bytes.now))) }
     ensures distinct { IfOk result (λ found. HasDistinctNames (fields_view found.job.mapping.fields.items)) }
     ensures kept { F.content files.new ≡ F.content files.old }
     ensures cause { HasCause Stop.FileFault (F.faults files.old) (F.faults files.new) result }

@@ -14,7 +14,7 @@ use serde_json::{Value as Json, json};
 use std::alloc::{AllocError, Global};
 
 /// The line of some JSON without floats.
-fn line_of(alloc: Global, json: &Json) -> Result<String, AllocError>
+pub(crate) fn line_of(alloc: Global, json: &Json) -> Result<String, AllocError>
     ensures { has_float (view json.now) ≡ false → IfOk result (λ line. string_bytes line ≡ line_of (view json.now)) }
 {
     let mut line = json.to_string(alloc)?;

@@ -8,6 +8,8 @@ mod refusals;
 mod replies;
 mod results;
 mod searching;
+mod showing;
 
 pub use line::{Line, refusal_line, reply_line};
 pub use searching::search_reply_line;
+pub use showing::{ShownKeys, shown_reply_line};

@@ -30,7 +30,7 @@ fn gives_below_zero(end: &End) -> bool
     }
 }
 
-fn is_negative_score(kind: SearchKind, end: &End) -> bool
+pub(crate) fn is_negative_score(kind: SearchKind, end: &End) -> bool
     ensures { result ≡ is_negative_score kind end.now }
 {
     match kind {

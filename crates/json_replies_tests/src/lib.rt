@@ -4,3 +4,5 @@
 
 #[cfg(test)]
 mod replies;
+#[cfg(test)]
+mod shown;

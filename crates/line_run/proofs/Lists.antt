@@ -1,11 +1,13 @@
 -- Replies that are put behind others.
-use Rattle.std.proofs.Common.{◌≡◌, ℕ, ◌||◌, Bool, true, false, List, [], ◌∷◌, ◌++◌, refl, sym, ap, subst, ◌∙◌, append_assoc, append-nil}
-use Rattle.std.specs.Prelude.{Option}
+use Rattle.std.proofs.Common.{◌≡◌, ℕ, ◌+◌, ◌-◌, ◌^◌, ◌<◌, ◌≤◌, ◌||◌, ◌⊎◌, Bool, true, false, List, [], ◌∷◌, ◌++◌, refl, sym, ap, subst, ◌∙◌, append_assoc, append-nil, inl, inr, arith}
+use Rattle.std.proofs.Math.Nat.{add_assoc, min-eq_left, min-eq_right}
+use Rattle.std.proofs.lemmas.Bool.{cases_order}
+use Rattle.std.specs.Prelude.{Option, min}
 use Rattle.std.specs.Io.KnownBytes.{Appends}
 use Rattle.std.proofs.KnownBytes.{Appends-trans}
 use Rattle.outer_io.specs.Front.{AppendsFront}
 use Rattle.outer_io.specs.Lines.{InputLine}
-use Rattle.line_run.specs.Replies.{Reply, AreReplies, bytes_of, has_error}
+use Rattle.line_run.specs.Replies.{Reply, AreReplies, bytes_of, has_error, sum_of, steps_of}
 use Rattle.line_run.specs.Steps.{Gives}
 
 pub are_push : (gives : InputLine → Reply → Type 0) (lines : List InputLine) (replies : List Reply) (line : InputLine) (reply : Reply) → AreReplies gives lines replies → gives line reply
@@ -30,6 +32,31 @@ or_assoc false b c = refl
 pub error_push : (replies : List Reply) (reply : Reply) → has_error (replies ++ reply ∷ []) ≡ (has_error replies || reply.error)
 error_push [] reply = or_false reply.error
 error_push (r ∷ replies) reply = ap (λ (b : Bool). r.error || b) (error_push replies reply) ∙ or_assoc r.error (has_error replies) reply.error
+
+-- the instructions of one more
+pub sum_push : (replies : List Reply) (reply : Reply) → sum_of (replies ++ reply ∷ []) ≡ sum_of replies + reply.steps
+sum_push [] reply = omega arith
+sum_push (r ∷ replies) reply = ap (λ (n : ℕ). r.steps + n) (sum_push replies reply) ∙ sym (add_assoc r.steps (sum_of replies) reply.steps)
+
+pub long_or_short : (n limit : ℕ) → (limit < n) ⊎ (n ≤ limit)
+long_or_short n limit = elim (cases_order n limit) [
+  | inl e ↦ inr (omega arith)
+  | inr lt ↦ elim lt [ inl below ↦ inr (omega arith) | inr above ↦ inl above ]
+]
+
+-- A sum that stands still at a number stands there behind one more too.
+min_add : (n more last : ℕ) → min (min n last + more) last ≡ min (n + more) last
+min_add n more last = elim (long_or_short n last) [
+  | inl past ↦
+      (let here : min n last ≡ last = min-eq_right (omega (arith, past)) in
+      let now : min (last + more) last ≡ last = min-eq_right (omega arith) in
+      let all : min (n + more) last ≡ last = min-eq_right (omega (arith, past)) in
+      ap (λ (l : ℕ). min (l + more) last) here ∙ now ∙ sym all)
+  | inr within ↦ ap (λ (l : ℕ). min (l + more) last) (min-eq_left within)
+]
+
+pub steps_push : (replies : List Reply) (reply : Reply) → steps_of (replies ++ reply ∷ []) ≡ min (steps_of replies + reply.steps) (2 ^ 64 - 1)
+steps_push replies reply = ap (λ (n : ℕ). min n (2 ^ 64 - 1)) (sum_push replies reply) ∙ sym (min_add (sum_of replies) reply.steps (2 ^ 64 - 1))
 
 -- what two calls gave
 pub gives_trans : {a b c : Option (List ℕ)} {x y z : List ℕ} → Gives a b x y → Gives b c y z → Gives a c x z

@@ -1,37 +1,45 @@
 -- A run over lines: what was read, which replies the lines have, and what was given of them.
-use Rattle.std.proofs.Common.{◌≡◌, ◌≢◌, ℕ, ◌+◌, ◌-◌, ◌<◌, ◌≤◌, Bool, true, false, leb, ◌||◌, ◌⊎◌, List, [], ◌∷◌, ◌++◌, length, map, take, Ok, Err, Some, None, IfSome, refl, sym, ap, ◌∙◌, subst, inl, inr, arith, append_assoc, append-nil, length-append}
+use Rattle.std.proofs.Common.{◌≡◌, ◌≢◌, ℕ, ◌+◌, ◌-◌, ◌^◌, ◌<◌, ◌≤◌, Bool, true, false, ◌||◌, ◌⊎◌, List, [], ◌∷◌, ◌++◌, length, map, take, Ok, Some, None, refl, sym, ap, ◌∙◌, subst, inl, inr, arith, append_assoc, append-nil, length-append}
 use Rattle.std.proofs.lemmas.List.{map-append}
 use Rattle.std.proofs.Math.Seq.{take-append-add, take-append_seam}
-use Rattle.std.proofs.lemmas.Bool.{le-leb, lt-leb, cases_order}
-use Rattle.std.specs.Prelude.{Option, Result}
+use Rattle.std.proofs.lemmas.Bool.{le-leb, lt-leb}
+use Rattle.std.specs.Prelude.{Option, min}
 use Rattle.std.specs.Io.KnownBytes.{Consumes, IsAtEnd, Appends}
 use Rattle.std.proofs.KnownBytes.{Consumes-whole}
 use Rattle.outer_io.specs.Front.{AppendsFront}
 use Rattle.outer_io.specs.Lines.{InputLine, input_line, lines_of, ended_of}
-use Rattle.outer_io.specs.Reading.{Intake, Reads, ReadsLine}
-use Rattle.outer_io.specs.Gathering as gathering
-use Rattle.outer_io.specs.Runs.{line_shown, shown, ReadsAll, ReadsFront, ReadsLimit}
+use Rattle.outer_io.specs.Reading.{Intake, Reads}
+use Rattle.outer_io.specs.Runs.{line_shown}
 use Rattle.outer_io.specs.declared.lines.Line.{Line}
-use Rattle.outer_io.specs.declared.lines.Line.TheVariants.{Whole, Long, End}
+use Rattle.outer_io.specs.declared.lines.Line.TheVariants.{End}
 use Rattle.outer_io.specs.declared.lines.ReadErr.TheVariants as e
 use Rattle.outer_io.proofs.RunLemmas.{Run, Goes, Ended, run_none, run_line, run_err, run_end, line_read, shown-given}
 use Rattle.command_parts.specs.declared.status.Status.{Status}
 use Rattle.command_parts.specs.declared.status.Status.TheVariants as s
 use Rattle.command_parts.specs.DeliversOver.{IsInput}
+use Rattle.command_parts.specs.Told.{uncounted}
 use Rattle.line_run.specs.declared.replies.Replies.{Replies}
-use Rattle.line_run.specs.Replies.{Reply, AreReplies, bytes_of, has_error, status_of, lines_told, status_told, TellsInput, TellsTaken}
-use Rattle.line_run.specs.Passing.{PassesAll, PassesTaken, PassesFront, Passes}
-use Rattle.line_run.specs.Steps.{Gives, Adds, ReadsNext, ReadsNot, Answers, AnswersNot, HoldsNone}
-use Rattle.line_run.proofs.Lists.{are_push, bytes_push, error_push, gives_trans, gives_more, gives_front, gives_all, gives_whole}
+use Rattle.line_run.specs.Replies.{Reply, Front, AreReplies, bytes_of, has_error, steps_of, status_of, lines_told, bytes_behind, whole_told, input_told}
+use Rattle.line_run.specs.declared.ran.Ran.{Ran}
+use Rattle.line_run.specs.Passing.{listings_by, PassesAll, PassesFront, Passes}
+use Rattle.line_run.specs.Steps.{Gives, Adds, ReadsNot, AnswersNot}
+use Rattle.line_run.proofs.Lists.{long_or_short, are_push, bytes_push, error_push, steps_push, gives_trans, gives_more, gives_front, gives_all, gives_whole}
 
--- the lines so far have their replies, of which those that are not held were given
-pub record Pass (gives : InputLine → Reply → Type 0) (limit : ℕ) (intake : Intake) (left left' held held' : Option (List ℕ)) (replies : Replies) (faults faults' : ℕ) : Type 0 where
+-- The lines so far have their replies. What stands before these, and they, were given up to what is held.
+pub record Pass (gives : InputLine → Reply → Type 0) (front : List ℕ) (limit : ℕ) (intake : Intake) (left left' held held' : Option (List ℕ)) (replies : Replies) (faults faults' : ℕ) : Type 0 where
   pub lines : List InputLine
   pub run : Run limit intake left left' [] lines faults faults'
   pub all : List Reply
   pub are : AreReplies gives lines all
-  pub written : Gives held held' (bytes_of all) replies.bytes.items
+  pub written : Gives held held' (front ++ bytes_of all) replies.bytes.items
   pub error : replies.any_error ≡ has_error all
+  pub steps : replies.steps ≡ steps_of all
+
+-- what stands before the replies is the front's bytes
+pub pass_behind : {gives : InputLine → Reply → Type 0} {before : List ℕ} {limit : ℕ} {intake : Intake} {left left' held held' : Option (List ℕ)} {replies : Replies} {faults faults' : ℕ} (front : Front)
+    → front.bytes ≡ before → Pass gives before limit intake left left' held held' replies faults faults' → Pass gives front.bytes limit intake left left' held held' replies faults faults'
+pass_behind {gives} {before} {limit} {intake} {left} {left'} {held} {held'} {replies} {faults} {faults'} front is p =
+    subst (λ (l : List ℕ). Pass gives l limit intake left left' held held' replies faults faults') (sym is) p
 
 -- ---- the lines so far are the first of those that are told of
 
@@ -42,12 +50,6 @@ told_within limit input within = let is = le-leb (length input) limit within in 
 -- those of one beyond it
 pub told_beyond : (limit : ℕ) (input : List ℕ) → limit < length input → lines_told limit input ≡ map input_line (ended_of (take limit input))
 told_beyond limit input beyond = let is = lt-leb (length input) limit beyond in rw is refl
-
-long_or_short : (n limit : ℕ) → (limit < n) ⊎ (n ≤ limit)
-long_or_short n limit = elim (cases_order n limit) [
-  | inl e ↦ inr (omega arith)
-  | inr lt ↦ elim lt [ inl below ↦ inr (omega arith) | inr above ↦ inl above ]
-]
 
 -- the first of all lines
 behind_all : (limit : ℕ) (input : List ℕ) (lines behind : List (List ℕ)) → length input ≤ limit → lines_of input ≡ lines ++ behind
@@ -106,45 +108,47 @@ pub first_of : {limit : ℕ} {intake : Intake} {left left' : Option (List ℕ)} 
 first_of {limit} {intake} {left} {left'} {lines} r =
     subst (First limit left) (sym r.grown) (first_state limit intake left left' r.front r.lines r.consumed (omega (arith, r.counted, r.within, r.limited)) r.state)
 
--- a front of the replies so far was given
-pub pass_front : {gives : InputLine → Reply → Type 0} {limit : ℕ} {intake : Intake} {left left' held held' : Option (List ℕ)} {replies : Replies} {faults faults' : ℕ} (held'' : Option (List ℕ))
-    → Pass gives limit intake left left' held held' replies faults faults' → AppendsFront held' held'' replies.bytes.items → PassesFront gives limit left held held''
-pass_front held'' p front =
+-- a front of what was to be given so far was given
+pub pass_front : {gives : InputLine → Reply → Type 0} {front : Front} {limit : ℕ} {intake : Intake} {left left' held held' : Option (List ℕ)} {replies : Replies} {faults faults' : ℕ} (held'' : Option (List ℕ))
+    → Pass gives front.bytes limit intake left left' held held' replies faults faults' → AppendsFront held' held'' replies.bytes.items → PassesFront gives front limit left held held''
+pass_front held'' p given =
     let first = first_of p.run in
-    record { input = first.input; is = first.is; lines = p.lines; behind = first.behind; parts = first.parts; replies = p.all; are = p.are; appended = gives_front p.written front }
+    record { input = first.input; is = first.is; lines = p.lines; behind = first.behind; parts = first.parts; replies = p.all; are = p.are; appended = gives_front p.written given }
 
 -- ---- the steps
 
-pub pass_none : (gives : InputLine → Reply → Type 0) (limit : ℕ) (intake : Intake) (left held : Option (List ℕ)) (replies : Replies) (faults : ℕ)
-    → intake ≡ record { limit = limit; taken = 0; pending = []; ended = false } → Appends held held [] → replies.bytes.items ≡ [] → replies.any_error ≡ false
-    → Pass gives limit intake left left held held replies faults faults
-pass_none gives limit intake left held replies faults is nothing empty error = record {
+pub pass_none : (gives : InputLine → Reply → Type 0) (front : List ℕ) (limit : ℕ) (intake : Intake) (left held : Option (List ℕ)) (replies : Replies) (faults : ℕ)
+    → intake ≡ record { limit = limit; taken = 0; pending = []; ended = false } → Appends held held [] → replies.bytes.items ≡ front → replies.any_error ≡ false → replies.steps ≡ 0
+    → Pass gives front limit intake left left held held replies faults faults
+pass_none gives front limit intake left held replies faults is nothing bytes error steps = record {
   lines = [];
   run = run_none limit intake left [] faults is;
   all = [];
   are = tt;
-  written = record { given = []; parts = empty; appended = nothing };
+  written = record { given = []; parts = bytes ∙ sym (append-nil front); appended = nothing };
   error = error;
+  steps = steps;
 }
 
 -- the replies were given before the next line was read
-pub pass_given : {gives : InputLine → Reply → Type 0} {limit : ℕ} {intake : Intake} {left left' held held' held'' : Option (List ℕ)} {replies : Replies} {faults faults' : ℕ} (now : Replies)
-    → Pass gives limit intake left left' held held' replies faults faults' → Gives held' held'' replies.bytes.items now.bytes.items → now.any_error ≡ replies.any_error
-    → Pass gives limit intake left left' held held'' now faults faults'
-pass_given now p given same = record {
+pub pass_given : {gives : InputLine → Reply → Type 0} {front : List ℕ} {limit : ℕ} {intake : Intake} {left left' held held' held'' : Option (List ℕ)} {replies : Replies} {faults faults' : ℕ} (now : Replies)
+    → Pass gives front limit intake left left' held held' replies faults faults' → Gives held' held'' replies.bytes.items now.bytes.items → now.any_error ≡ replies.any_error
+    → now.steps ≡ replies.steps → Pass gives front limit intake left left' held held'' now faults faults'
+pass_given now p given same counted = record {
   lines = p.lines;
   run = p.run;
   all = p.all;
   are = p.are;
   written = gives_trans p.written given;
   error = same ∙ p.error;
+  steps = counted ∙ p.steps;
 }
 
 -- a line was read, and has its reply
-pub pass_added : {gives : InputLine → Reply → Type 0} {limit : ℕ} {mid now : Intake} {left left' left'' held held' : Option (List ℕ)} {before after : Replies} {faults faults' : ℕ} (line : Line) (faults'' : ℕ)
-    → Pass gives limit mid left left' held held' before faults faults' → line ≢ End → Reads mid now left' left'' (Ok line) → now.taken ≤ now.limit → faults'' ≡ faults'
-    → Adds gives (line_shown line) before after → Pass gives limit now left left'' held held' after faults faults''
-pass_added {gives} {limit} {mid} {now} {left} {left'} {left''} {held} {held'} {before} {after} line faults'' p some reads within quiet adds =
+pub pass_added : {gives : InputLine → Reply → Type 0} {front : List ℕ} {limit : ℕ} {mid now : Intake} {left left' left'' held held' : Option (List ℕ)} {before after : Replies} {faults faults' : ℕ} (line : Line) (faults'' : ℕ)
+    → Pass gives front limit mid left left' held held' before faults faults' → line ≢ End → Reads mid now left' left'' (Ok line) → now.taken ≤ now.limit → faults'' ≡ faults'
+    → Adds gives (line_shown line) before after → Pass gives front limit now left left'' held held' after faults faults''
+pass_added {gives} {front} {limit} {mid} {now} {left} {left'} {left''} {held} {held'} {before} {after} line faults'' p some reads within quiet adds =
     let read = line_read mid now left' left'' line some reads in
     let one : line_shown line ∷ [] ≡ input_line read.0 ∷ [] = shown-given line read.0 read.2 in
     record {
@@ -153,59 +157,77 @@ pass_added {gives} {limit} {mid} {now} {left} {left'} {left''} {held} {held'} {b
       all = p.all ++ adds.reply ∷ [];
       are = are_push gives p.lines p.all (line_shown line) adds.reply p.are adds.is;
       written =
-          subst (λ (l : List ℕ). Gives held held' l after.bytes.items) (sym (bytes_push p.all adds.reply))
-          (subst (λ (l : List ℕ). Gives held held' (bytes_of p.all ++ adds.reply.bytes) l) (sym adds.bytes) (gives_more adds.reply.bytes p.written));
+          subst (λ (l : List ℕ). Gives held held' l after.bytes.items) (append_assoc front (bytes_of p.all) adds.reply.bytes ∙ ap (λ (l : List ℕ). front ++ l) (sym (bytes_push p.all adds.reply)))
+          (subst (λ (l : List ℕ). Gives held held' ((front ++ bytes_of p.all) ++ adds.reply.bytes) l) (sym adds.bytes) (gives_more adds.reply.bytes p.written));
       error = adds.error ∙ ap (λ (b : Bool). b || adds.reply.error) p.error ∙ sym (error_push p.all adds.reply);
+      steps = adds.steps ∙ ap (λ (n : ℕ). min (n + adds.reply.steps) (2 ^ 64 - 1)) p.steps ∙ sym (steps_push p.all adds.reply);
     }
 
 -- ---- the ends
 
+-- how a run ends over all of its input
+abbrev pub ended_by : Bool → ℕ → Ran
+ended_by error steps = record { status = status_of error; steps = steps }
+
+-- .. and one that does not come to its end
+abbrev pub cut_short : Status → Ran
+cut_short status = record { status = status; steps = 0 }
+
+input_within : (front : Front) (limit : ℕ) (input : List ℕ) (replies : List Reply) → length input ≤ limit → input_told front limit input replies ≡ whole_told front replies
+input_within front limit input replies short = let is = le-leb (length input) limit short in rw is refl
+
+input_beyond : (front : Front) (limit : ℕ) (input : List ℕ) (replies : List Reply) → limit < length input
+    → input_told front limit input replies ≡ uncounted s.InputLong (bytes_behind front replies)
+input_beyond front limit input replies beyond = let is = lt-leb (length input) limit beyond in rw is refl
+
 -- all lines have their replies
-pub pass_all : {gives : InputLine → Reply → Type 0} {limit : ℕ} {mid now : Intake} {left left' left'' held held' : Option (List ℕ)} {replies : Replies} {faults faults' : ℕ}
-    → Pass gives limit mid left left' held held' replies faults faults' → Reads mid now left' left'' (Ok End) → now.taken ≤ now.limit → replies.bytes.items ≡ []
-    → PassesAll gives limit (status_of replies.any_error) left held held' × IsAtEnd left''
-pass_all {gives} {limit} {mid} {now} {left} {left'} {left''} {held} {held'} {replies} p reads within none =
+pub pass_all : {gives : InputLine → Reply → Type 0} {front : Front} {limit : ℕ} {mid now : Intake} {left left' left'' held held' : Option (List ℕ)} {replies : Replies} {faults faults' : ℕ}
+    → Pass gives front.bytes limit mid left left' held held' replies faults faults' → Reads mid now left' left'' (Ok End) → now.taken ≤ now.limit → replies.bytes.items ≡ []
+    → PassesAll gives front limit (ended_by replies.any_error replies.steps) left held held' × IsAtEnd left''
+pass_all {gives} {front} {limit} {mid} {now} {left} {left'} {left''} {held} {held'} {replies} p reads within none =
     let all = run_end {now = now} p.run within reads in
-    let lines : p.lines ≡ lines_told limit all.front = p.run.grown ∙ all.lines ∙ sym (told_within limit all.front all.within) in
-    let status : status_told limit all.front p.all ≡ status_of replies.any_error = status_within all.front all.within ∙ ap status_of (sym p.error) in (
+    let lines : p.lines ≡ lines_told limit all.front = p.run.grown ∙ all.lines ∙ sym (told_within limit all.front all.within) in (
       record {
         input = all.front;
         is = Consumes-whole left left'' all.front (λ bytes. bytes ≡ all.front) all.consumed all.at_end refl;
-        told = record { status = status_told limit all.front p.all; bytes = bytes_of p.all };
-        tells = (p.all, subst (λ (l : List InputLine). AreReplies gives l p.all) lines p.are, refl);
-        ends = status;
-        appended = gives_whole held held' (bytes_of p.all) replies.bytes.items p.written none;
+        told = whole_told front p.all;
+        tells = (p.all, subst (λ (l : List InputLine). AreReplies gives l p.all) lines p.are, sym (input_within front limit all.front p.all all.within));
+        ends = ap status_of (sym p.error);
+        listings = listings_ended replies.any_error replies.steps;
+        steps = sym p.steps;
+        appended = gives_whole held held' (bytes_behind front p.all) replies.bytes.items p.written none;
       },
       all.at_end,
     ) where
-      status_within : (input : List ℕ) → length input ≤ limit → status_told limit input p.all ≡ status_of (has_error p.all)
-      status_within input short = let is = le-leb (length input) limit short in rw is refl
+      listings_ended : (error : Bool) (steps : ℕ) → front.listings ≡ listings_by (ended_by error steps).status front
+      listings_ended true steps = refl
+      listings_ended false steps = refl
 
 -- by its status
-pub passes_by : (gives : InputLine → Reply → Type 0) (limit : ℕ) (left left'' held held' : Option (List ℕ)) (error : Bool)
-    → PassesAll gives limit (status_of error) left held held' × IsAtEnd left'' → Passes gives limit (status_of error) left left'' held held'
-passes_by gives limit left left'' held held' true h = h
-passes_by gives limit left left'' held held' false h = h
+pub passes_by : (gives : InputLine → Reply → Type 0) (front : Front) (limit : ℕ) (left left'' held held' : Option (List ℕ)) (error : Bool) (steps : ℕ)
+    → PassesAll gives front limit (ended_by error steps) left held held' × IsAtEnd left'' → Passes gives front limit (ended_by error steps) left left'' held held'
+passes_by gives front limit left left'' held held' true steps h = h
+passes_by gives front limit left left'' held held' false steps h = h
 
 -- the source had more bytes than its limit
-limit_told : (gives : InputLine → Reply → Type 0) (limit : ℕ) (left left'' held held'' : Option (List ℕ)) (lines : List InputLine) (all : List Reply) (front : List ℕ) (next : ℕ) (rest : List ℕ)
-    → length front ≡ limit → lines ≡ map input_line (ended_of front) → AreReplies gives lines all → IsInput left (front ++ next ∷ rest) → Appends held held'' (bytes_of all)
-    → PassesAll gives limit s.InputLong left held held''
-limit_told gives limit left left'' held held'' lines all front next rest reached is are input appended =
-    let whole = front ++ next ∷ rest in
-    let long : limit < length whole = omega (arith, length-append front (next ∷ rest), reached) in
-    let cut : take limit whole ≡ front = subst (λ (n : ℕ). take n whole ≡ front) reached (take-append_seam front (next ∷ rest)) in
+limit_told : (gives : InputLine → Reply → Type 0) (front : Front) (limit : ℕ) (left left'' held held'' : Option (List ℕ)) (lines : List InputLine) (all : List Reply) (taken : List ℕ) (next : ℕ) (rest : List ℕ)
+    → length taken ≡ limit → lines ≡ map input_line (ended_of taken) → AreReplies gives lines all → IsInput left (taken ++ next ∷ rest) → Appends held held'' (bytes_behind front all)
+    → PassesAll gives front limit (cut_short s.InputLong) left held held''
+limit_told gives front limit left left'' held held'' lines all taken next rest reached is are input appended =
+    let whole = taken ++ next ∷ rest in
+    let long : limit < length whole = omega (arith, length-append taken (next ∷ rest), reached) in
+    let cut : take limit whole ≡ taken = subst (λ (n : ℕ). take n whole ≡ taken) reached (take-append_seam taken (next ∷ rest)) in
     let told : lines ≡ lines_told limit whole = is ∙ ap (λ (l : List ℕ). map input_line (ended_of l)) (sym cut) ∙ sym (told_beyond limit whole long) in
     record {
       input = whole;
       is = input;
-      told = record { status = status_told limit whole all; bytes = bytes_of all };
-      tells = (all, subst (λ (l : List InputLine). AreReplies gives l all) told are, refl);
-      ends = status_beyond whole long;
+      told = uncounted s.InputLong (bytes_behind front all);
+      tells = (all, subst (λ (l : List InputLine). AreReplies gives l all) told are, sym (input_beyond front limit whole all long));
+      ends = refl;
+      listings = refl;
+      steps = refl;
       appended = appended;
-    } where
-      status_beyond : (input : List ℕ) → limit < length input → status_told limit input all ≡ s.InputLong
-      status_beyond input beyond = let is = lt-leb (length input) limit beyond in rw is refl
+    }
 
 limit_input : (left left'' : Option (List ℕ)) (front : List ℕ) (next : ℕ) → Consumes left left'' (front ++ next ∷ []) → (rest : List ℕ) × IsInput left (front ++ next ∷ rest)
 limit_input None left'' front next consumed = ([], tt)
@@ -213,61 +235,69 @@ limit_input (Some known) None front next consumed = absurd consumed
 limit_input (Some known) (Some rest) front next consumed = (rest, consumed ∙ append_assoc front (next ∷ []) rest)
 
 -- the source failed, or had more bytes than its limit, or the sink failed, or memory
-pub pass_not : (gives : InputLine → Reply → Type 0) (limit : ℕ) (mid now : Intake) (left left' left'' held held' held'' : Option (List ℕ)) (replies : Replies) (faults faults' : ℕ) (status : Status)
-    → Pass gives limit mid left left' held held' replies faults faults' → ReadsNot mid now left' left'' held' held'' replies status → now.taken ≤ now.limit
-    → Passes gives limit status left left'' held held''
-pass_not gives limit mid now left left' left'' held held' held'' replies faults faults' s.ReadFault p n within =
-    let front = run_err now left'' e.Fault p.run within n.0 in
+pub pass_not : (gives : InputLine → Reply → Type 0) (front : Front) (limit : ℕ) (mid now : Intake) (left left' left'' held held' held'' : Option (List ℕ)) (replies : Replies) (faults faults' : ℕ) (status : Status)
+    → Pass gives front.bytes limit mid left left' held held' replies faults faults' → ReadsNot mid now left' left'' held' held'' replies status → now.taken ≤ now.limit
+    → Passes gives front limit (cut_short status) left left'' held held''
+pass_not gives front limit mid now left left' left'' held held' held'' replies faults faults' s.ReadFault p n within =
+    let taken = run_err now left'' e.Fault p.run within n.0 in
     record {
-      front = front.front;
-      consumed = front.consumed;
-      told = record { status = s.ReadFault; bytes = bytes_of p.all };
-      tells = (front.within, p.all, subst (λ (l : List InputLine). AreReplies gives l p.all) (p.run.grown ∙ front.lines) p.are, refl);
-      appended = gives_all held held' held'' (bytes_of p.all) replies.bytes.items p.written n.1;
+      taken = taken.front;
+      consumed = taken.consumed;
+      told = uncounted s.ReadFault (bytes_behind front p.all);
+      tells = (taken.within, p.all, subst (λ (l : List InputLine). AreReplies gives l p.all) (p.run.grown ∙ taken.lines) p.are, refl);
+      appended = gives_all held held' held'' (bytes_behind front p.all) replies.bytes.items p.written n.1;
     }
-pass_not gives limit mid now left left' left'' held held' held'' replies faults faults' s.InputLong p n within =
-    let front = run_err now left'' e.InputLong p.run within n.0 in
-    let input = limit_input left left'' front.front front.next front.consumed in
-    let count : length (front.front ++ front.next ∷ []) ≡ length front.front + 1 = length-append front.front (front.next ∷ []) in (
-      limit_told gives limit left left'' held held'' p.lines p.all front.front front.next input.0 front.reached (p.run.grown ∙ front.lines) p.are input.1
-          (gives_all held held' held'' (bytes_of p.all) replies.bytes.items p.written n.1),
-      record { front = front.front ++ front.next ∷ []; consumed = front.consumed; past = omega (arith, count, front.reached) },
+pass_not gives front limit mid now left left' left'' held held' held'' replies faults faults' s.InputLong p n within =
+    let taken = run_err now left'' e.InputLong p.run within n.0 in
+    let input = limit_input left left'' taken.front taken.next taken.consumed in
+    let count : length (taken.front ++ taken.next ∷ []) ≡ length taken.front + 1 = length-append taken.front (taken.next ∷ []) in (
+      limit_told gives front limit left left'' held held'' p.lines p.all taken.front taken.next input.0 taken.reached (p.run.grown ∙ taken.lines) p.are input.1
+          (gives_all held held' held'' (bytes_behind front p.all) replies.bytes.items p.written n.1),
+      record { front = taken.front ++ taken.next ∷ []; consumed = taken.consumed; past = omega (arith, count, taken.reached) },
     )
-pass_not gives limit mid now left left' left'' held held' held'' replies faults faults' s.WriteFault p n within = pass_front held'' p n
-pass_not gives limit mid now left left' left'' held held' held'' replies faults faults' s.NoMemory p n within = pass_front held'' p n
-pass_not gives limit mid now left left' left'' held held' held'' replies faults faults' s.Done p n within = absurd n
-pass_not gives limit mid now left left' left'' held held' held'' replies faults faults' s.SomeErrors p n within = absurd n
-pass_not gives limit mid now left left' left'' held held' held'' replies faults faults' s.Refused p n within = absurd n
-pass_not gives limit mid now left left' left'' held held' held'' replies faults faults' s.Usage p n within = absurd n
-pass_not gives limit mid now left left' left'' held held' held'' replies faults faults' s.FileFault p n within = absurd n
-pass_not gives limit mid now left left' left'' held held' held'' replies faults faults' s.FileAbsent p n within = absurd n
-pass_not gives limit mid now left left' left'' held held' held'' replies faults faults' s.FileLong p n within = absurd n
+pass_not gives front limit mid now left left' left'' held held' held'' replies faults faults' s.WriteFault p n within = pass_front held'' p n
+pass_not gives front limit mid now left left' left'' held held' held'' replies faults faults' s.NoMemory p n within = pass_front held'' p n
+pass_not gives front limit mid now left left' left'' held held' held'' replies faults faults' s.Done p n within = absurd n
+pass_not gives front limit mid now left left' left'' held held' held'' replies faults faults' s.SomeErrors p n within = absurd n
+pass_not gives front limit mid now left left' left'' held held' held'' replies faults faults' s.Refused p n within = absurd n
+pass_not gives front limit mid now left left' left'' held held' held'' replies faults faults' s.Usage p n within = absurd n
+pass_not gives front limit mid now left left' left'' held held' held'' replies faults faults' s.FileFault p n within = absurd n
+pass_not gives front limit mid now left left' left'' held held' held'' replies faults faults' s.FileAbsent p n within = absurd n
+pass_not gives front limit mid now left left' left'' held held' held'' replies faults faults' s.FileLong p n within = absurd n
 
 -- the reply to a line could not be made or given: before it is put behind the others, these are still held
-pub pass_unanswered : (gives : InputLine → Reply → Type 0) (limit : ℕ) (mid now : Intake) (left left' left'' held held' held'' : Option (List ℕ)) (before : Replies) (faults faults' faults'' : ℕ) (line : Line)
-    (status : Status) → Pass gives limit mid left left' held held' before faults faults' → line ≢ End → Reads mid now left' left'' (Ok line) → now.taken ≤ now.limit → faults'' ≡ faults'
-    → AnswersNot gives (line_shown line) held' held'' before status → Passes gives limit status left left'' held held''
-pass_unanswered gives limit mid now left left' left'' held held' held'' before faults faults' faults'' line s.WriteFault p some reads within quiet (between, adds, front) =
-    pass_front held'' (pass_added line faults'' p some reads within quiet adds) front
-pass_unanswered gives limit mid now left left' left'' held held' held'' before faults faults' faults'' line s.NoMemory p some reads within quiet (inl none) =
+pub pass_unanswered : (gives : InputLine → Reply → Type 0) (front : Front) (limit : ℕ) (mid now : Intake) (left left' left'' held held' held'' : Option (List ℕ)) (before : Replies) (faults faults' faults'' : ℕ) (line : Line)
+    (status : Status) → Pass gives front.bytes limit mid left left' held held' before faults faults' → line ≢ End → Reads mid now left' left'' (Ok line) → now.taken ≤ now.limit → faults'' ≡ faults'
+    → AnswersNot gives (line_shown line) held' held'' before status → Passes gives front limit (cut_short status) left left'' held held''
+pass_unanswered gives front limit mid now left left' left'' held held' held'' before faults faults' faults'' line s.WriteFault p some reads within quiet (between, adds, given) =
+    pass_front held'' (pass_added line faults'' p some reads within quiet adds) given
+pass_unanswered gives front limit mid now left left' left'' held held' held'' before faults faults' faults'' line s.NoMemory p some reads within quiet (inl none) =
     pass_front held'' p (record { front = []; behind = before.bytes.items; parts = refl; appended = none })
-pass_unanswered gives limit mid now left left' left'' held held' held'' before faults faults' faults'' line s.NoMemory p some reads within quiet (inr (between, adds, front)) =
-    pass_front held'' (pass_added line faults'' p some reads within quiet adds) front
-pass_unanswered gives limit mid now left left' left'' held held' held'' before faults faults' faults'' line s.Done p some reads within quiet never = absurd never
-pass_unanswered gives limit mid now left left' left'' held held' held'' before faults faults' faults'' line s.SomeErrors p some reads within quiet never = absurd never
-pass_unanswered gives limit mid now left left' left'' held held' held'' before faults faults' faults'' line s.Refused p some reads within quiet never = absurd never
-pass_unanswered gives limit mid now left left' left'' held held' held'' before faults faults' faults'' line s.ReadFault p some reads within quiet never = absurd never
-pass_unanswered gives limit mid now left left' left'' held held' held'' before faults faults' faults'' line s.InputLong p some reads within quiet never = absurd never
-pass_unanswered gives limit mid now left left' left'' held held' held'' before faults faults' faults'' line s.Usage p some reads within quiet never = absurd never
-pass_unanswered gives limit mid now left left' left'' held held' held'' before faults faults' faults'' line s.FileFault p some reads within quiet never = absurd never
-pass_unanswered gives limit mid now left left' left'' held held' held'' before faults faults' faults'' line s.FileAbsent p some reads within quiet never = absurd never
-pass_unanswered gives limit mid now left left' left'' held held' held'' before faults faults' faults'' line s.FileLong p some reads within quiet never = absurd never
+pass_unanswered gives front limit mid now left left' left'' held held' held'' before faults faults' faults'' line s.NoMemory p some reads within quiet (inr (between, adds, given)) =
+    pass_front held'' (pass_added line faults'' p some reads within quiet adds) given
+pass_unanswered gives front limit mid now left left' left'' held held' held'' before faults faults' faults'' line s.Done p some reads within quiet never = absurd never
+pass_unanswered gives front limit mid now left left' left'' held held' held'' before faults faults' faults'' line s.SomeErrors p some reads within quiet never = absurd never
+pass_unanswered gives front limit mid now left left' left'' held held' held'' before faults faults' faults'' line s.Refused p some reads within quiet never = absurd never
+pass_unanswered gives front limit mid now left left' left'' held held' held'' before faults faults' faults'' line s.ReadFault p some reads within quiet never = absurd never
+pass_unanswered gives front limit mid now left left' left'' held held' held'' before faults faults' faults'' line s.InputLong p some reads within quiet never = absurd never
+pass_unanswered gives front limit mid now left left' left'' held held' held'' before faults faults' faults'' line s.Usage p some reads within quiet never = absurd never
+pass_unanswered gives front limit mid now left left' left'' held held' held'' before faults faults' faults'' line s.FileFault p some reads within quiet never = absurd never
+pass_unanswered gives front limit mid now left left' left'' held held' held'' before faults faults' faults'' line s.FileAbsent p some reads within quiet never = absurd never
+pass_unanswered gives front limit mid now left left' left'' held held' held'' before faults faults' faults'' line s.FileLong p some reads within quiet never = absurd never
 
 -- nothing was read
-pub pass_nothing : (gives : InputLine → Reply → Type 0) (limit : ℕ) (left held : Option (List ℕ)) → Appends held held [] → PassesFront gives limit left held held
-pass_nothing gives limit None held none =
-    record { input = []; is = tt; lines = []; behind = lines_told limit []; parts = refl; replies = []; are = tt; appended = record { front = []; behind = []; parts = refl; appended = none } }
-pass_nothing gives limit (Some known) held none = record {
+pub pass_nothing : (gives : InputLine → Reply → Type 0) (front : Front) (limit : ℕ) (left held : Option (List ℕ)) → Appends held held [] → PassesFront gives front limit left held held
+pass_nothing gives front limit None held none = record {
+  input = [];
+  is = tt;
+  lines = [];
+  behind = lines_told limit [];
+  parts = refl;
+  replies = [];
+  are = tt;
+  appended = record { front = []; behind = bytes_behind front []; parts = refl; appended = none };
+}
+pass_nothing gives front limit (Some known) held none = record {
   input = known;
   is = refl;
   lines = [];
@@ -275,5 +305,5 @@ pass_nothing gives limit (Some known) held none = record {
   parts = refl;
   replies = [];
   are = tt;
-  appended = record { front = []; behind = []; parts = refl; appended = none };
+  appended = record { front = []; behind = bytes_behind front []; parts = refl; appended = none };
 }

@@ -4,4 +4,4 @@ use Rattle.line_run.specs.declared.replier.ReplyLine.{ReplyLine}
 use Rattle.line_run.specs.Replies.{Reply}
 
 abbrev pub reply_shown : ReplyLine → Reply
-reply_shown reply = record { bytes = string_bytes reply.text; error = reply.is_error }
+reply_shown reply = record { bytes = string_bytes reply.text; error = reply.is_error; steps = reply.steps }

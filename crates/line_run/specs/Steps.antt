@@ -1,10 +1,9 @@
 -- What single calls of a run over lines do.
-use Rattle.std.specs.Prelude.{◌≡◌, ℕ, ◌||◌, Bool, true, false, List, [], ◌++◌, Option, Result, Ok, Err, ◌⊎◌, string_bytes}
+use Rattle.std.specs.Prelude.{◌≡◌, ℕ, ◌+◌, ◌-◌, ◌^◌, min, ◌||◌, List, [], ◌++◌, Option, Ok, Err, ◌⊎◌}
 use Rattle.std.specs.Io.KnownBytes.{Appends}
 use Rattle.outer_io.specs.Front.{AppendsFront}
-use Rattle.outer_io.specs.Lines.{InputLine, IsUnbroken}
+use Rattle.outer_io.specs.Lines.{InputLine}
 use Rattle.outer_io.specs.Reading.{Intake, Reads}
-use Rattle.outer_io.specs.Runs.{line_shown}
 use Rattle.outer_io.specs.declared.lines.Line.{Line}
 use Rattle.outer_io.specs.declared.lines.Line.TheVariants.{Whole, Long, End}
 use Rattle.outer_io.specs.declared.lines.ReadErr.TheVariants as e
@@ -25,6 +24,7 @@ pub record Adds (gives : InputLine → Reply → Type 0) (line : InputLine) (bef
   pub is : gives line reply
   pub bytes : now.bytes.items ≡ before.bytes.items ++ reply.bytes
   pub error : now.any_error ≡ (before.any_error || reply.error)
+  pub steps : now.steps ≡ min (before.steps + reply.steps) (2 ^ 64 - 1)
 
 -- A line was read. Before the end no reply is held.
 abbrev pub HoldsNone : Line → List ℕ → Type 0
@@ -38,6 +38,7 @@ pub record ReadsNext (old new : Intake) (left left' held held' : Option (List �
   pub gives : Gives held held' before.bytes.items now.bytes.items
   pub none : HoldsNone line now.bytes.items
   pub error : now.any_error ≡ before.any_error
+  pub steps : now.steps ≡ before.steps
 
 -- .. or there is no line: all replies were given before the source was asked, or a front of them was
 abbrev pub ReadsNot : Intake → Intake → Option (List ℕ) → Option (List ℕ) → Option (List ℕ) → Option (List ℕ) → Replies → Status → Type 0
@@ -53,6 +54,7 @@ pub record Answers (gives : InputLine → Reply → Type 0) (line : InputLine) (
   pub adds : Adds gives line before between
   pub given : Gives held held' between.bytes.items now.bytes.items
   pub error : now.any_error ≡ between.any_error
+  pub steps : now.steps ≡ between.steps
 
 -- .. or the run ends: by want of memory before the reply was there, or where the replies were given
 abbrev pub AnswersNot : (InputLine → Reply → Type 0) → InputLine → Option (List ℕ) → Option (List ℕ) → Replies → Status → Type 0

@@ -2,8 +2,10 @@
 #![tactic(auto)]
 
 mod passing;
+mod ran;
 mod replier;
 mod replies;
 
 pub use passing::run_lines;
+pub use ran::Ran;
 pub use replier::{Replier, ReplyLine};

@@ -4,8 +4,10 @@ ghost use Rattle.std.specs.Prelude.{◌≡◌, ◌≢◌, ◌↔◌, ◌≤◌, 
 ghost use Rattle.outer_io.specs.Faults.{HasCause, next_count};
 ghost use Rattle.outer_io.specs.Runs.{line_shown};
 ghost use Rattle.line_run.specs.Passing.{Passes};
+ghost use Rattle.line_run.specs.Replies.{Front};
 ghost use Rattle.line_run.specs.Steps.{Answers, AnswersNot, ReadsNext, ReadsNot};
 
+use crate::ran::Ran;
 use crate::replier::Replier;
 use crate::replies::Replies;
 use command_parts::Status;
@@ -68,43 +70,55 @@ fn answer<R: Replier, K: Sink>(
     }
 }
 
-/// Reads a source to its end, of which at most `limit` bytes are taken, and gives a sink the reply to each line, in their order.
+/// Reads a source to its end, of which at most `limit` bytes are taken, and gives a sink the bytes of `front` and behind them the reply to
+/// each line, in their order.
 ///
-/// The replies are held, and given before the source is asked for more, where they are some 64 KB, and before the run ends. It ends
-/// with `Done`; with `SomeErrors` where a reply is an error; with `InputLong` where `limit` bytes were taken and one more
-/// follows; with `ReadFault` or `WriteFault` at the first call that fails; or with `NoMemory`.
+/// What is to be given is held, and given before the source is asked for more, where it is some 64 KB, and before the run ends; the bytes
+/// of `front` are held in their own memory. It ends with `Done`; with `SomeErrors` where a reply is an error; with `InputLong` where `limit`
+/// bytes were taken and one more follows; with `ReadFault` or `WriteFault` at the first call that fails; or with `NoMemory`. With `Done` and
+/// `SomeErrors` it tells how many instructions were run for all replies, `u64::MAX` where they are more.
 pub fn run_lines<R: Replier, S: Source, K: Sink>(
     alloc: Global,
     replier: &R,
+    front: Vec<u8>,
     limit: u64,
     input: &mut S,
     out: &mut K,
-) -> Status
+) -> Ran
     requires { R.ready replier.now }
-    ensures passes { Passes (R.gives replier.now) limit result (S.left input.old) (S.left input.new) (K.held out.old) (K.held out.new) }
+    ensures passes { (before : Front) → before.bytes ≡ front.items →
+        Passes (R.gives replier.now) before limit result (S.left input.old) (S.left input.new) (K.held out.old) (K.held out.new) }
+    // Where the run did not come to the end of its input, nothing is counted.
+    ensures uncounted { result.status ≢ Status.Done → result.status ≢ Status.SomeErrors → result.steps ≡ 0 }
     // A fault of the source or of the sink was counted, and only one: the call that failed was the last.
-    ensures read { result ≡ Status.ReadFault → S.faults input.new ≡ next_count (S.faults input.old) }
-    ensures write { result ≡ Status.WriteFault → K.faults out.new ≡ next_count (K.faults out.old) }
+    ensures read { result.status ≡ Status.ReadFault → S.faults input.new ≡ next_count (S.faults input.old) }
+    ensures write { result.status ≡ Status.WriteFault → K.faults out.new ≡ next_count (K.faults out.old) }
     // With every other status none was counted: no call failed.
-    ensures well_read { result ≢ Status.ReadFault → S.faults input.new ≡ S.faults input.old }
-    ensures written { result ≢ Status.WriteFault → K.faults out.new ≡ K.faults out.old }
+    ensures well_read { result.status ≢ Status.ReadFault → S.faults input.new ≡ S.faults input.old }
+    ensures written { result.status ≢ Status.WriteFault → K.faults out.new ≡ K.faults out.old }
 {
     let Ok(mut reader) = LineReader::new(alloc, limit) else {
-        return Status::NoMemory;
+        return Ran {
+            status: Status::NoMemory,
+            steps: 0,
+        };
     };
     let mut scratch = replier.scratch(alloc);
-    let mut replies = Replies::new(alloc);
+    let mut replies = Replies::new(front);
     'lines: loop {
         let line = match next_line(&mut reader, &mut replies, input, out) {
             Ok(line) => line,
-            Err(status) => return status,
+            Err(status) => return Ran { status, steps: 0 },
         };
         if is_end(&line) {
-            return replies.status();
+            return Ran {
+                status: replies.status(),
+                steps: replies.steps,
+            };
         }
         match answer(replier, line, &mut scratch, &mut replies, out) {
             Ok(()) => {}
-            Err(status) => return status,
+            Err(status) => return Ran { status, steps: 0 },
         }
     }
 }

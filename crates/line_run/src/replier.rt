@@ -12,6 +12,8 @@ use std::alloc::{AllocError, Global};
 pub struct ReplyLine {
     pub text: String,
     pub is_error: bool,
+    /// How many instructions were run for it.
+    pub steps: u64,
 }
 
 /// What replies to lines. No reply depends on a line before.

@@ -1,6 +1,6 @@
 //! Replies that are held until they are given to a sink.
 
-ghost use Rattle.std.specs.Prelude.{◌≡◌, ◌≢◌, ◌||◌, ◌++◌, [], false, IfErr, IfOk, OnErr, OnOk};
+ghost use Rattle.std.specs.Prelude.{◌≡◌, ◌≢◌, ◌+◌, ◌-◌, ◌^◌, ◌||◌, ◌++◌, [], false, min, IfErr, IfOk, OnErr, OnOk};
 ghost use Rattle.std.specs.Io.KnownBytes.{Appends};
 ghost use Rattle.outer_io.specs.Faults.{HasCause};
 ghost use Rattle.outer_io.specs.Front.{AppendsFront};
@@ -14,16 +14,18 @@ ghost use Rattle.line_run.specs.Steps.{Adds, Gives};
 use crate::replier::{Replier, ReplyLine};
 use command_parts::{Status, write_bytes};
 use outer_io::{Line, LineReader, Sink};
-use std::alloc::{AllocError, Global};
+use std::alloc::AllocError;
 
 /// So many bytes of replies are given at once, where no more are wanted before.
 const FULL: usize = 65_536;
 
-/// Replies that were not given to the sink yet, and whether one of all so far is an error.
+/// Replies that were not given to the sink yet, and before the first gift what stands before them; whether one of all so far is an error,
+/// and how many instructions were run for all so far, as far as 64 bits count them.
 #[derive(Drop)]
 pub(crate) struct Replies {
     pub(crate) bytes: Vec<u8>,
     pub(crate) any_error: bool,
+    pub(crate) steps: u64,
 }
 
 /// The reply to a line.
@@ -44,14 +46,16 @@ fn reply_to<R: Replier>(
 }
 
 impl Replies {
-    /// No reply yet.
-    pub(crate) fn new(alloc: Global) -> Replies
-        ensures bytes { result.bytes.items ≡ [] }
+    /// No reply yet, behind what is to stand before them.
+    pub(crate) fn new(front: Vec<u8>) -> Replies
+        ensures bytes { result.bytes.items ≡ front.items }
         ensures error { result.any_error ≡ false }
+        ensures steps { result.steps ≡ 0 }
     {
         Replies {
-            bytes: Vec::new(alloc),
+            bytes: front,
             any_error: false,
+            steps: 0,
         }
     }
 
@@ -70,9 +74,11 @@ impl Replies {
     fn push(&mut self, reply: ReplyLine) -> Result<(), AllocError>
         ensures bytes { OnOk result (self.new.bytes.items ≡ self.old.bytes.items ++ (reply_shown reply).bytes) }
         ensures error { OnOk result (self.new.any_error ≡ (self.old.any_error || reply.is_error)) }
+        ensures steps { OnOk result (self.new.steps ≡ min (self.old.steps + reply.steps) (2 ^ 64 - 1)) }
     {
         self.bytes.extend_from_slice(reply.text.as_bytes())?;
         self.any_error = self.any_error || reply.is_error;
+        self.steps = self.steps.saturating_add(reply.steps);
         Ok(())
     }
 
@@ -97,6 +103,7 @@ impl Replies {
         ensures none { OnOk result (self.new.bytes.items ≡ []) }
         ensures front { AppendsFront (K.held out.old) (K.held out.new) self.old.bytes.items }
         ensures error { self.new.any_error ≡ self.old.any_error }
+        ensures steps { self.new.steps ≡ self.old.steps }
         ensures fault { IfErr result IsWriteFault }
         ensures cause { HasCause Status.WriteFault (K.faults out.old) (K.faults out.new) result }
     {
@@ -110,6 +117,7 @@ impl Replies {
         ensures whole { OnOk result (Gives (K.held out.old) (K.held out.new) self.old.bytes.items self.new.bytes.items) }
         ensures front { OnErr result (AppendsFront (K.held out.old) (K.held out.new) self.old.bytes.items) }
         ensures error { self.new.any_error ≡ self.old.any_error }
+        ensures steps { self.new.steps ≡ self.old.steps }
         ensures fault { IfErr result IsWriteFault }
         ensures cause { HasCause Status.WriteFault (K.faults out.old) (K.faults out.new) result }
     {
@@ -129,6 +137,7 @@ impl Replies {
         ensures none { OnOk result (IsUnbroken reader.now.intake.pending → self.new.bytes.items ≡ []) }
         ensures front { OnErr result (AppendsFront (K.held out.old) (K.held out.new) self.old.bytes.items) }
         ensures error { self.new.any_error ≡ self.old.any_error }
+        ensures steps { self.new.steps ≡ self.old.steps }
         ensures fault { IfErr result IsWriteFault }
         ensures cause { HasCause Status.WriteFault (K.faults out.old) (K.faults out.new) result }
     {

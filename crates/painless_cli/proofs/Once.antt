@@ -1,37 +1,40 @@
--- One thing is told of the words, and something is.
+-- One thing is told of the words at most, and where the codes are those of the script that they name, something is.
 use Rattle.std.proofs.Common.{◌≡◌, ℕ, List, Option, Some, None, refl, sym, ◌∙◌}
 use Rattle.command_parts.specs.declared.status.Status.TheVariants as s
 use Rattle.command_parts.specs.Told.{Told, silent}
-use Rattle.script_engine.specs.Laws.{TextsAreAnswered, TextsAreAnsweredOnce, ProgramsEnd, ProgramsEndOnce}
+use Rattle.script_engine.specs.Codes.{ScriptCodes}
+use Rattle.script_engine.specs.Laws.{TextsAreAnswered, TextsAreAnsweredOnce, ProgramsEnd, ProgramsEndOnce, CodesCountOnce, ListedCodesCount}
 use Rattle.eval_command.proofs.Once.{file_once}
 use Rattle.eval_command.proofs.Some.{file_some}
-use Rattle.job_commands.proofs.Telling.{check_once, check_some, run_once, run_some}
+use Rattle.job_commands.proofs.Telling.{check_once, check_some, list_once, list_some, run_once, run_some}
 use Rattle.painless_cli.specs.declared.words.Command.{Command}
 use Rattle.painless_cli.specs.declared.words.Command.TheVariants as c
-use Rattle.painless_cli.specs.Whole.{Call, call_of, TellsNamed, TellsCall, Tells}
+use Rattle.painless_cli.specs.Whole.{Call, call_of, AreCodesNamed, AreCodesCall, AreCodes, TellsNamed, TellsCall, Tells}
 
-module _ (texts : TextsAreAnsweredOnce) (ends : ProgramsEndOnce) (content : List ℕ → Option (List ℕ)) (input : List ℕ) where
-  named_once : (command : Command) (name : List ℕ) (a b : Told) → TellsNamed command name content input a → TellsNamed command name content input b → a ≡ b
-  named_once c.Eval name a b h k = file_once texts ends (content name) a b h k
+module _ (texts : TextsAreAnsweredOnce) (ends : ProgramsEndOnce) (counts : CodesCountOnce) (content : List ℕ → Option (List ℕ)) (codes : ScriptCodes) (input : List ℕ) where
+  named_once : (command : Command) (name : List ℕ) (a b : Told) → TellsNamed command name content codes input a → TellsNamed command name content codes input b → a ≡ b
+  named_once c.Eval name a b h k = file_once texts ends counts codes (content name) a b h k
   named_once c.Check name a b h k = check_once texts content name a b h k
-  named_once c.Run name a b h k = run_once ends texts content name input a b h k
+  named_once c.List name a b h k = list_once texts content codes name a b h k
+  named_once c.Run name a b h k = run_once ends counts texts content codes name input a b h k
 
-  call_once : (call : Option Call) (a b : Told) → TellsCall call content input a → TellsCall call content input b → a ≡ b
+  call_once : (call : Option Call) (a b : Told) → TellsCall call content codes input a → TellsCall call content codes input b → a ≡ b
   call_once None a b h k = h ∙ sym k
   call_once (Some call) a b h k = named_once call.command call.name a b h k
 
-  pub tells_once : (words : List (List ℕ)) (a b : Told) → Tells words content input a → Tells words content input b → a ≡ b
+  pub tells_once : (words : List (List ℕ)) (a b : Told) → Tells words content codes input a → Tells words content codes input b → a ≡ b
   tells_once words = call_once (call_of words)
 
-module _ (texts : TextsAreAnswered) (ends : ProgramsEnd) (content : List ℕ → Option (List ℕ)) (input : List ℕ) where
-  named_some : (command : Command) (name : List ℕ) → (told : Told) × TellsNamed command name content input told
-  named_some c.Eval name = file_some texts ends (content name)
-  named_some c.Check name = check_some texts content name
-  named_some c.Run name = run_some ends texts content name input
+module _ (texts : TextsAreAnswered) (ends : ProgramsEnd) (counted : ListedCodesCount) (content : List ℕ → Option (List ℕ)) (codes : ScriptCodes) (input : List ℕ) where
+  named_some : (command : Command) (name : List ℕ) → AreCodesNamed command name content codes → (told : Told) × TellsNamed command name content codes input told
+  named_some c.Eval name are = file_some texts ends counted codes (content name) are
+  named_some c.Check name are = check_some texts content name
+  named_some c.List name are = list_some texts content codes name
+  named_some c.Run name are = run_some ends counted codes texts content name input are
 
-  call_some : (call : Option Call) → (told : Told) × TellsCall call content input told
-  call_some None = (silent s.Usage, refl)
-  call_some (Some call) = named_some call.command call.name
+  call_some : (call : Option Call) → AreCodesCall call content codes → (told : Told) × TellsCall call content codes input told
+  call_some None are = (silent s.Usage, refl)
+  call_some (Some call) are = named_some call.command call.name are
 
-  pub tells_some : (words : List (List ℕ)) → (told : Told) × Tells words content input told
+  pub tells_some : (words : List (List ℕ)) → AreCodes words content codes → (told : Told) × Tells words content codes input told
   tells_some words = call_some (call_of words)

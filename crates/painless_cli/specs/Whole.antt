@@ -1,10 +1,15 @@
--- What the program is to write, and how it is to end: from the words, from what the files hold, and from the input.
+-- What the program is to write, and how it is to end: from the words, from what the files hold, from the input, and from the codes of the
+-- script that it runs, which decide the listings and the numbers of instructions and nothing else.
 use Rattle.std.specs.Prelude.{◌≡◌, ℕ, List, [], ◌∷◌, Option, Some, None, codes, if◌then◌else◌}
 use Rattle.std.specs.Str.{bytes_eq}
 use Rattle.command_parts.specs.declared.status.Status.TheVariants as s
 use Rattle.command_parts.specs.Told.{Told, silent}
 use Rattle.eval_command.specs.Evaluation.{TellsFile}
+use Rattle.script_engine.specs.Codes.{ScriptCodes}
+use Rattle.eval_command.specs.Codes as eval
+use Rattle.job_file.specs.declared.context.JobCommand.TheVariants as command
 use Rattle.job_commands.specs.Checking.{TellsCheck}
+use Rattle.job_commands.specs.Listing.{AreCodesIn, TellsList}
 use Rattle.job_commands.specs.Running.{TellsRun, TellsRunTaken, RunsPast}
 use Rattle.painless_cli.specs.declared.words.Command.{Command}
 use Rattle.painless_cli.specs.declared.words.Command.TheVariants as c
@@ -18,7 +23,9 @@ abbrev pub command_named : List ℕ → Option Command
 command_named word =
     if bytes_eq word (codes "eval")
     then Some c.Eval
-    else if bytes_eq word (codes "check") then Some c.Check else if bytes_eq word (codes "run") then Some c.Run else None
+    else if bytes_eq word (codes "check")
+    then Some c.Check
+    else if bytes_eq word (codes "list") then Some c.List else if bytes_eq word (codes "run") then Some c.Run else None
 
 abbrev pub called : Option Command → List ℕ → Option Call
 called (Some command) name = Some (record { command = command; name = name })
@@ -31,38 +38,59 @@ call_of (word ∷ []) = None
 call_of (word ∷ name ∷ []) = called (command_named word) name
 call_of (word ∷ name ∷ other ∷ words) = None
 
-abbrev pub TellsNamed : Command → List ℕ → (List ℕ → Option (List ℕ)) → List ℕ → Told → Type 0
-TellsNamed c.Eval name content input told = TellsFile (content name) told
-TellsNamed c.Check name content input told = TellsCheck content name told
-TellsNamed c.Run name content input told = TellsRun content name input told
+-- ---- the codes
 
-abbrev pub TellsCall : Option Call → (List ℕ → Option (List ℕ)) → List ℕ → Told → Type 0
-TellsCall (Some call) content input told = TellsNamed call.command call.name content input told
-TellsCall None content input told = told ≡ silent s.Usage
+-- codes of the one script that a command runs or lists
+abbrev pub AreCodesNamed : Command → List ℕ → (List ℕ → Option (List ℕ)) → ScriptCodes → Type 0
+AreCodesNamed c.Eval name content codes = eval.AreCodesIn (content name) codes
+AreCodesNamed c.Check name content codes = Unit {0}
+AreCodesNamed c.List name content codes = AreCodesIn command.List content name codes
+AreCodesNamed c.Run name content codes = AreCodesIn command.Run content name codes
 
--- what is told of the words, over files with this content and an input of these bytes
-abbrev pub Tells : List (List ℕ) → (List ℕ → Option (List ℕ)) → List ℕ → Told → Type 0
-Tells words content input told = TellsCall (call_of words) content input told
+abbrev pub AreCodesCall : Option Call → (List ℕ → Option (List ℕ)) → ScriptCodes → Type 0
+AreCodesCall (Some call) content codes = AreCodesNamed call.command call.name content codes
+AreCodesCall None content codes = Unit {0}
+
+abbrev pub AreCodes : List (List ℕ) → (List ℕ → Option (List ℕ)) → ScriptCodes → Type 0
+AreCodes words content codes = AreCodesCall (call_of words) content codes
+
+-- ---- what is told
+
+abbrev pub TellsNamed : Command → List ℕ → (List ℕ → Option (List ℕ)) → ScriptCodes → List ℕ → Told → Type 0
+TellsNamed c.Eval name content codes input told = TellsFile codes (content name) told
+TellsNamed c.Check name content codes input told = TellsCheck content name told
+TellsNamed c.List name content codes input told = TellsList content codes name told
+TellsNamed c.Run name content codes input told = TellsRun content codes name input told
+
+abbrev pub TellsCall : Option Call → (List ℕ → Option (List ℕ)) → ScriptCodes → List ℕ → Told → Type 0
+TellsCall (Some call) content codes input told = TellsNamed call.command call.name content codes input told
+TellsCall None content codes input told = told ≡ silent s.Usage
+
+-- what is told of the words, over files with this content, codes and an input of these bytes
+abbrev pub Tells : List (List ℕ) → (List ℕ → Option (List ℕ)) → ScriptCodes → List ℕ → Told → Type 0
+Tells words content codes input told = TellsCall (call_of words) content codes input told
 
 -- ---- what is told of bytes that were taken of the input before it failed
 
-abbrev pub TellsTakenNamed : Command → List ℕ → (List ℕ → Option (List ℕ)) → List ℕ → Told → Type 0
-TellsTakenNamed c.Eval name content front told = ⊥
-TellsTakenNamed c.Check name content front told = ⊥
-TellsTakenNamed c.Run name content front told = TellsRunTaken content name front told
+abbrev pub TellsTakenNamed : Command → List ℕ → (List ℕ → Option (List ℕ)) → ScriptCodes → List ℕ → Told → Type 0
+TellsTakenNamed c.Eval name content codes front told = ⊥
+TellsTakenNamed c.Check name content codes front told = ⊥
+TellsTakenNamed c.List name content codes front told = ⊥
+TellsTakenNamed c.Run name content codes front told = TellsRunTaken content codes name front told
 
-abbrev pub TellsTakenCall : Option Call → (List ℕ → Option (List ℕ)) → List ℕ → Told → Type 0
-TellsTakenCall (Some call) content front told = TellsTakenNamed call.command call.name content front told
-TellsTakenCall None content front told = ⊥
+abbrev pub TellsTakenCall : Option Call → (List ℕ → Option (List ℕ)) → ScriptCodes → List ℕ → Told → Type 0
+TellsTakenCall (Some call) content codes front told = TellsTakenNamed call.command call.name content codes front told
+TellsTakenCall None content codes front told = ⊥
 
-abbrev pub TellsTaken : List (List ℕ) → (List ℕ → Option (List ℕ)) → List ℕ → Told → Type 0
-TellsTaken words content front told = TellsTakenCall (call_of words) content front told
+abbrev pub TellsTaken : List (List ℕ) → (List ℕ → Option (List ℕ)) → ScriptCodes → List ℕ → Told → Type 0
+TellsTaken words content codes front told = TellsTakenCall (call_of words) content codes front told
 
 -- ---- how many bytes are taken of the input where it has more of them than are allowed
 
 abbrev pub PastNamed : Command → List ℕ → (List ℕ → Option (List ℕ)) → List ℕ → Type 0
 PastNamed c.Eval name content front = ⊥
 PastNamed c.Check name content front = ⊥
+PastNamed c.List name content front = ⊥
 PastNamed c.Run name content front = RunsPast content name front
 
 abbrev pub PastCall : Option Call → (List ℕ → Option (List ℕ)) → List ℕ → Type 0

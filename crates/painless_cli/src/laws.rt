@@ -2,22 +2,23 @@
 
 ghost use Rattle.std.specs.Prelude.{◌≡◌, ◌≢◌, ℕ, List, Option};
 ghost use Rattle.command_parts.specs.Told.{Told};
-ghost use Rattle.painless_cli.specs.Whole.{Tells};
+ghost use Rattle.script_engine.specs.Codes.{ScriptCodes};
+ghost use Rattle.painless_cli.specs.Whole.{AreCodes, Tells};
 
-use crate::report::Report;
 use crate::top::painless;
-use command_parts::Status;
+use command_parts::{Report, Status};
 use outer_io::{SureFiles, SureSink, SureSource};
-use script_engine::script_laws;
+use script_engine::{code_laws, script_laws};
 use std::alloc::Global;
 
-/// A law of the definition of the whole, which runs nothing: the words, over files of one content and one input, are told exactly
-/// one thing.
+/// A law of the definition of the whole, which runs nothing: the words, over files of one content, codes and one input, are told at most
+/// one thing, and where these are codes of the script that the words name, they are told one.
 pub fn one_thing_is_told()
-    ensures some { (words : List (List ℕ)) (content : List ℕ → Option (List ℕ)) (input : List ℕ) → (told : Told) × Tells words content input told }
-    ensures once { (words : List (List ℕ)) (content : List ℕ → Option (List ℕ)) (input : List ℕ) (a b : Told) → Tells words content input a → Tells words content input b → a ≡ b }
+    ensures some { (words : List (List ℕ)) (content : List ℕ → Option (List ℕ)) (codes : ScriptCodes) (input : List ℕ) → AreCodes words content codes → (told : Told) × Tells words content codes input told }
+    ensures once { (words : List (List ℕ)) (content : List ℕ → Option (List ℕ)) (codes : ScriptCodes) (input : List ℕ) (a b : Told) → Tells words content codes input a → Tells words content codes input b → a ≡ b }
 {
     script_laws();
+    code_laws();
 }
 
 /// `painless` over files, an input and a sink that never fail: none is ever said to have failed.

@@ -2,14 +2,13 @@
 #![tactic(auto)]
 
 mod laws;
-mod report;
 mod top;
 mod words;
 
+pub use command_parts::Report;
 use command_parts::Status;
 pub use laws::{one_thing_is_told, painless_surely};
 use outer_io::{StdFiles, StdSink, StdSource};
-pub use report::Report;
 use std::alloc::AllocError;
 use std::process::ExitCode;
 use std::rt::Env;

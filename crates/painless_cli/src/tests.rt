@@ -7,31 +7,63 @@ use outer_io::{MemFiles, MemSink, MemSource, SureFiles, SureSink, SureSource};
 use std::alloc::{AllocError, Global};
 use std::test::Fail;
 
-/// Words, the file that the words name, and what is written.
-const ROWS: [(&str, &str, &str, &str); 3] = [
-    ("eval", "6*7", "", "{\"result\":42}\n"),
+/// The listing of the prelude's code.
+const PRELUDE: &str = "painless 1\nfun 0 free V - -\nret\nend\n";
+
+/// A command, the file that its word names, the input, what is written, the listing of the script in the report, and how many
+/// instructions it has.
+const ROWS: [(&str, &str, &str, &str, &str, u64); 5] = [
+    (
+        "eval",
+        "6*7",
+        "",
+        "{\"result\":42}\n",
+        "painless 1\nfun 0 loop R - -\ni 6\ni 7\nmul.i\nbox int\nret\nend\n",
+        5,
+    ),
     (
         "check",
         "{\"context\":\"field\",\"script\":\"1\"}",
         "",
         "{\"ok\":true}\n",
+        "",
+        0,
+    ),
+    (
+        "list",
+        "{\"context\":\"field\",\"script\":\"1\"}",
+        "",
+        "painless 1\nfun 0 loop R RR -\ni 1\nbox int\nret\nend\n",
+        "",
+        0,
     ),
     (
         "run",
         "{\"context\":\"field\",\"script\":\"1\"}",
         "{}\n\n{}",
         "{\"result\":1}\n{\"result\":1}\n",
+        "painless 1\nfun 0 loop R RR -\ni 1\nbox int\nret\nend\n",
+        6,
+    ),
+    (
+        "run",
+        "{\"context\":\"field\",\"script\":\"1\",\"steps\":true}",
+        "{}",
+        "{\"listing\":\"painless 1\\nfun 0 loop R RR -\\ni 1\\nbox int\\nret\\nend\\n\"}\n{\"listing\":\"painless 1\\nfun 0 free V - -\\nret\\nend\\n\",\"script\":\"prelude\"}\n{\"result\":1,\"steps\":3}\n",
+        "painless 1\nfun 0 loop R RR -\ni 1\nbox int\nret\nend\n",
+        3,
     ),
 ];
 
 /// Words that are no command with its one word.
-const NO_COMMANDS: [&[&str]; 8] = [
+const NO_COMMANDS: [&[&str]; 9] = [
     &[],
     &["run"],
     &["run", "a", "b"],
     &["fly", "a"],
     &["eval"],
     &["check"],
+    &["list"],
     &["Eval", "f"],
     &["eval", "f", "f"],
 ];
@@ -71,7 +103,7 @@ fn words(rt: HostRuntime) -> Result<(), Fail> {
 #[test]
 fn commands(rt: HostRuntime) -> Result<(), Fail> {
     let alloc = rt.alloc();
-    for (command, file, text, written) in ROWS {
+    for (command, file, text, written, listing, steps) in ROWS {
         let words = words_of(alloc, &[command, "f"])?;
         let mut files = SureFiles::new(files_of(alloc, file)?);
         let mut input = SureSource::new(Vec::from_slice(alloc, text.as_bytes())?, 1);
@@ -79,8 +111,17 @@ fn commands(rt: HostRuntime) -> Result<(), Fail> {
         let report = painless_surely(alloc, words.as_slice(), &mut files, &mut input, &mut out);
         assert_eq!(rt; report.status, Status::Done);
         assert_eq!(rt; out.bytes(), written.as_bytes());
-        assert_eq!(rt; report.listings.len(), 0);
-        assert_eq!(rt; report.steps, 0);
+        assert_eq!(rt; report.steps, steps);
+        let texts = if listing == "" { 0 } else { 2 };
+        assert_eq!(rt; report.listings.len(), texts);
+        for (at, shown) in report.listings.iter().enumerate() {
+            let same = if at == 0 {
+                shown.as_str() == listing
+            } else {
+                shown.as_str() == PRELUDE
+            };
+            assert!(rt; same, "{command}");
+        }
     }
     Ok(())
 }

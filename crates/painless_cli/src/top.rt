@@ -1,28 +1,32 @@
 //! The top call: from the words to the report.
 
-ghost use Rattle.std.specs.Prelude.{◌≡◌, ◌≢◌, ◌↔◌, ◌⊎◌, ℕ, List, [], Option, None, IfSome, map, string_bytes};
+ghost use Rattle.std.specs.Prelude.{◌≡◌, ◌≢◌, ◌↔◌, ◌⊎◌, ℕ, List, Option, None, IfSome, map, string_bytes};
 ghost use Rattle.std.specs.Io.KnownBytes.{IsAtEnd};
 ghost use Rattle.outer_io.specs.Faults.{next_count};
+ghost use Rattle.script_engine.specs.Codes.{ScriptCodes};
+ghost use Rattle.command_parts.specs.Before.{EndsBefore};
 ghost use Rattle.command_parts.specs.DeliversOver.{DeliversOver};
+ghost use Rattle.command_parts.specs.Reports.{IsQuiet, Reports};
 ghost use Rattle.job_commands.specs.Documents.{LeavesInput};
-ghost use Rattle.painless_cli.specs.Whole.{IsCallOf, PastNamed, TakesPast, Tells, TellsNamed, TellsTaken, TellsTakenNamed, call_of};
+ghost use Rattle.painless_cli.specs.Whole.{AreCodes, AreCodesNamed, IsCallOf, PastNamed, TakesPast, Tells, TellsNamed, TellsTaken, TellsTakenNamed, call_of};
 ghost use Rattle.painless_cli.specs.declared.words.Command.TheVariants as c;
 
-use crate::report::Report;
 use crate::words::{Command, call_of};
-use command_parts::Status;
+use command_parts::{Report, Status};
 use eval_command::eval;
-use job_commands::{check, run};
+use job_commands::{check, list, run};
 use outer_io::{Files, Sink, Source};
 use std::alloc::Global;
 
 /// Runs the command that the words say, over these files, this input and this sink.
 ///
 /// `words` are those after the program's name. `eval FILE` runs the script that stands in the file and writes one line, its reply or
-/// its refusal. `check FILE` compiles the script of the job in the file, and writes that it is accepted or why it is refused.
+/// its refusal. `check FILE` compiles the script of the job in the file, and writes that it is accepted or why it is refused. `list FILE`
+/// compiles it and writes the listing of its code, or that of the prelude's where the job asks for it.
 /// `run FILE` runs the script of the job in the file over each line of the input, and writes the replies. The report's status says how
 /// the run ended; with `ReadFault`, `WriteFault`, `NoMemory` and `InputLong` some of what is told may be missing, with `Usage` and
-/// the statuses of files nothing is written.
+/// the statuses of files nothing is written. With status 0 or 1 of `eval` and `run` the report has the listing of the script's code and
+/// that of the prelude's, and how many instructions were run.
 pub fn painless<F: Files, S: Source, K: Sink>(
     alloc: Global,
     words: &[String],
@@ -30,9 +34,12 @@ pub fn painless<F: Files, S: Source, K: Sink>(
     input: &mut S,
     out: &mut K,
 ) -> Report
-    // The sink holds what is told of the words over the files' content and the input, and the report has the told status.
+    // There are codes of the script that the words name such that the sink holds what is told of the words over the files' content, these
+    // codes and the input, and the report has the told status, listings and number of instructions. Where the run ended before there was a
+    // code, by want of memory or a fault of the files, nothing was written.
     ensures told { (content : List ℕ → Option (List ℕ)) × IfSome (F.content files.old) (λ known. known ≡ content)
-        × DeliversOver (Tells (map string_bytes words.now) content) (TellsTaken (map string_bytes words.now) content) (TakesPast (map string_bytes words.now) content) result.status (S.left input.old) (S.left input.new) (K.held out.old) (K.held out.new) }
+        × (codes : ScriptCodes) × (AreCodes (map string_bytes words.now) content codes ⊎ EndsBefore result.status (K.held out.old) (K.held out.new))
+        × DeliversOver (λ bytes told. Tells (map string_bytes words.now) content codes bytes told × Reports told result) (TellsTaken (map string_bytes words.now) content codes) (TakesPast (map string_bytes words.now) content) result.status (S.left input.old) (S.left input.new) (K.held out.old) (K.held out.new) }
 
     // The words are not a command and its one word.
     ensures usage { (result.status ≡ Status.Usage) ↔ (call_of (map string_bytes words.now) ≡ None) }
@@ -50,13 +57,12 @@ pub fn painless<F: Files, S: Source, K: Sink>(
     ensures untouched { (IsCallOf c.Run (call_of (map string_bytes words.now)) → LeavesInput result.status) → input.new ≡ input.old }
     // No command changes a file.
     ensures contents { F.content files.new ≡ F.content files.old }
-
-    ensures listings { result.listings.items ≡ [] }
-    ensures steps { result.steps ≡ 0 }
+    // With every status but 0 and 1 there is no listing, and nothing is counted.
+    ensures quiet { result.status ≢ Status.Done → result.status ≢ Status.SomeErrors → IsQuiet result }
 {
     match call_of(words) {
-        Some((command, name)) => report(alloc, called(alloc, command, name, files, input, out)),
-        None => report(alloc, Status::Usage),
+        Some((command, name)) => called(alloc, command, name, files, input, out),
+        None => Report::quiet(alloc, Status::Usage),
     }
 }
 
@@ -68,36 +74,26 @@ fn called<F: Files, S: Source, K: Sink>(
     files: &mut F,
     input: &mut S,
     out: &mut K,
-) -> Status
+) -> Report
     ensures told { (content : List ℕ → Option (List ℕ)) × IfSome (F.content files.old) (λ known. known ≡ content)
-        × DeliversOver (TellsNamed command name.now content) (TellsTakenNamed command name.now content) (PastNamed command name.now content) result (S.left input.old) (S.left input.new) (K.held out.old) (K.held out.new) }
-    ensures command { result ≢ Status.Usage }
-    ensures read { result ≡ Status.ReadFault → S.faults input.new ≡ next_count (S.faults input.old) }
-    ensures write { result ≡ Status.WriteFault → K.faults out.new ≡ next_count (K.faults out.old) }
-    ensures file { result ≡ Status.FileFault → F.faults files.new ≡ next_count (F.faults files.old) }
-    ensures well_read { result ≢ Status.ReadFault → S.faults input.new ≡ S.faults input.old }
-    ensures written { result ≢ Status.WriteFault → K.faults out.new ≡ K.faults out.old }
-    ensures filed { result ≢ Status.FileFault → F.faults files.new ≡ F.faults files.old }
-    ensures ended { command ≡ c.Run → (result ≡ Status.Done) ⊎ (result ≡ Status.SomeErrors) → IsAtEnd (S.left input.new) }
-    ensures untouched { (command ≡ c.Run → LeavesInput result) → input.new ≡ input.old }
+        × (codes : ScriptCodes) × (AreCodesNamed command name.now content codes ⊎ EndsBefore result.status (K.held out.old) (K.held out.new))
+        × DeliversOver (λ bytes told. TellsNamed command name.now content codes bytes told × Reports told result) (TellsTakenNamed command name.now content codes) (PastNamed command name.now content) result.status (S.left input.old) (S.left input.new) (K.held out.old) (K.held out.new) }
+    ensures quiet { result.status ≢ Status.Done → result.status ≢ Status.SomeErrors → IsQuiet result }
+    ensures command { result.status ≢ Status.Usage }
+    ensures read { result.status ≡ Status.ReadFault → S.faults input.new ≡ next_count (S.faults input.old) }
+    ensures write { result.status ≡ Status.WriteFault → K.faults out.new ≡ next_count (K.faults out.old) }
+    ensures file { result.status ≡ Status.FileFault → F.faults files.new ≡ next_count (F.faults files.old) }
+    ensures well_read { result.status ≢ Status.ReadFault → S.faults input.new ≡ S.faults input.old }
+    ensures written { result.status ≢ Status.WriteFault → K.faults out.new ≡ K.faults out.old }
+    ensures filed { result.status ≢ Status.FileFault → F.faults files.new ≡ F.faults files.old }
+    ensures ended { command ≡ c.Run → (result.status ≡ Status.Done) ⊎ (result.status ≡ Status.SomeErrors) → IsAtEnd (S.left input.new) }
+    ensures untouched { (command ≡ c.Run → LeavesInput result.status) → input.new ≡ input.old }
     ensures contents { F.content files.new ≡ F.content files.old }
 {
     match command {
         Command::Eval => eval(alloc, name, files, out),
         Command::Check => check(alloc, name, files, out),
+        Command::List => list(alloc, name, files, out),
         Command::Run => run(alloc, name, files, input, out),
-    }
-}
-
-/// The report of a run that ended so.
-fn report(alloc: Global, status: Status) -> Report
-    ensures status { result.status ≡ status }
-    ensures listings { result.listings.items ≡ [] }
-    ensures steps { result.steps ≡ 0 }
-{
-    Report {
-        status,
-        listings: Vec::new(alloc),
-        steps: 0,
     }
 }

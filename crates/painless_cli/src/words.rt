@@ -10,6 +10,8 @@ pub enum Command {
     Eval,
     /// Compiles the script of a job.
     Check,
+    /// Compiles the script of a job, and writes the listing of its code.
+    List,
     /// Runs the script of a job over the input.
     Run,
 }
@@ -31,6 +33,7 @@ fn command_named(word: &str) -> Option<Command>
     match word {
         "eval" => Some(Command::Eval),
         "check" => Some(Command::Check),
+        "list" => Some(Command::List),
         "run" => Some(Command::Run),
         _ => None,
     }

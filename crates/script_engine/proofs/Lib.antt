@@ -7,5 +7,7 @@ pub mod Fitting
 pub mod Typed
 pub mod Left
 pub mod Runs
+pub mod Counted
+pub mod Listed
 pub mod Words
 pub mod Texts

@@ -16,7 +16,7 @@ use Rattle.object_heap.specs.declared.outcome.Outcome.{Outcome}
 use Rattle.run_state.specs.World as run
 use Rattle.run_state.specs.World.{World, Limit, End, Result, Uncaught, Limited}
 use Rattle.typed_tree.specs.declared.program.Program.{Program}
-use Rattle.source_meaning.specs.Programs.{fun_of, program_of}
+use Rattle.source_meaning.specs.Programs.{fun_of, program_of, variable_of}
 use Rattle.source_meaning.specs.Tree.{Variable, Fun}
 use Rattle.container_ops.specs.Types.{default_of, default_of_layer, default_of_primitive}
 use Rattle.source_meaning.specs.Meaning.{Env, Out, Done, Thrown, Over, More, Flow, Normal, Broke, Continued, Returned, entry, returned, meaning}
@@ -143,7 +143,7 @@ with_value of (Some value) has s w word is =
     let back : value_of of (low (representation_of of) value) ≡ given of value = read_back (out-Ty of) value (has value refl) in
     result_at (given of value) (value_of of word) s w (sym back ∙ ap (value_of of) words) worlds
 
-value_end : (of : Ty) (o : Out Flow) → IsEnough of o → (word : Option Word) (w : World) → code.end_of of o ≡ Some (Result word w)
+pub value_end : (of : Ty) (o : Out Flow) → IsEnough of o → (word : Option Word) (w : World) → code.end_of of o ≡ Some (Result word w)
     → end_of of o ≡ Some (Result (value_of of word) w)
 value_end of (Done flow s e) enough word w is = with_value of (returned of flow) (given_has of flow enough) s.world w word is
 value_end of (Thrown id s e) enough word w is = cc
@@ -160,7 +160,7 @@ uncaught id w = Some (Uncaught id w)
 thrown_at : (id other : ℕ) (s w : World) → id ≡ other → s ≡ w → uncaught id s ≡ uncaught other w
 thrown_at id other s w i e = ap (λ x. uncaught x s) i ∙ ap (uncaught other) e
 
-thrown_end : (of : Ty) (o : Out Flow) (id : ℕ) (w : World) → code.end_of of o ≡ Some (Uncaught id w) → end_of of o ≡ Some (Uncaught id w)
+pub thrown_end : (of : Ty) (o : Out Flow) (id : ℕ) (w : World) → code.end_of of o ≡ Some (Uncaught id w) → end_of of o ≡ Some (Uncaught id w)
 thrown_end of (Done flow s e) id w is = absurd (not_thrown of (returned of flow) s.world w id is)
 thrown_end of (Thrown i s e) id w is = let ids : i ≡ id = cc in let worlds : s.world ≡ w = cc in thrown_at i id s.world w ids worlds
 thrown_end of (Over limit s) id w is = cc
@@ -176,7 +176,7 @@ limited limit w = Some (Limited limit w)
 limited_at : (limit other : Limit) (s w : World) → limit ≡ other → s ≡ w → limited limit s ≡ limited other w
 limited_at limit other s w l e = ap (λ x. limited x s) l ∙ ap (limited other) e
 
-limited_end : (of : Ty) (o : Out Flow) (limit : Limit) (w : World) → code.end_of of o ≡ Some (Limited limit w) → end_of of o ≡ Some (Limited limit w)
+pub limited_end : (of : Ty) (o : Out Flow) (limit : Limit) (w : World) → code.end_of of o ≡ Some (Limited limit w) → end_of of o ≡ Some (Limited limit w)
 limited_end of (Done flow s e) limit w is = absurd (not_limited of (returned of flow) s.world w limit is)
 limited_end of (Thrown id s e) limit w is = cc
 limited_end of (Over l s) limit w is = let ls : l ≡ limit = cc in let worlds : s ≡ w = cc in limited_at l limit s w ls worlds
@@ -184,7 +184,7 @@ limited_end of More limit w is = cc
 
 -- the same of the whole run, which began in an environment
 
-abbrev main_out : Program → run.Limits → ℕ → Fun → World → Env → Out Flow
+abbrev pub main_out : Program → run.Limits → ℕ → Fun → World → Env → Out Flow
 main_out p limits bound main begun e =
     (meaning (alone p) limits bound).stmts (record { text = script_text; depth = 0 }) (record { world = begun; turns = 0 }) e main.body
 
@@ -244,38 +244,55 @@ words_match (x ∷ params) (value ∷ args) (word ∷ words) are =
 same_env : (o : Option Env) (e e' : Env) → o ≡ Some e → o ≡ Some e' → e ≡ e'
 same_env o e e' is is' = cc
 
+-- How the code of a script of a program ends on arguments, and how the program does at a bound that is enough.
+pub record BothEnd (p : Program) (functions : List FunCode) (limits : run.Limits) (args : List Value) (w : World) : Type 0 where
+  pub end : End (Option Word)
+  pub code_ends : EndsAs (codes_alone functions) limits (start (codes_alone functions) (words_in (params_of (slice_get functions 0)) args) w) end
+  pub bound : ℕ
+  pub comes : (e : Env) → entry (fun_of p.main).params args [] ≡ Some e → IsEnough (fun_of p.main).result (main_out p limits bound (fun_of p.main) w e)
+  pub is : code.source_in (alone p) limits bound (fun_of p.main) (entry (fun_of p.main).params args []) w ≡ Some end
+
+pub both_end : CodeEndsAsPrograms → (allow : AllowList) (context : ContextTypes) (p : Program) (script : Script) → IsScriptOf allow context p script → (limits : run.Limits) → limits.allowed ≡ allow
+    → (args : List Value) → HaveAll (types_in (map variable_of context.variables)) args → (w : World) → BothEnd p script.executable.code.functions limits args w
+both_end outcomes allow context p script is limits allowed args have w =
+    let main = fun_of p.main in
+    let functions = script.executable.code.functions in
+    let have' : HaveAll (types_in main.params) args = subst (λ ps. HaveAll (types_in ps) args) (sym is.variables) have in
+    let formed = with_no_prelude p limits (subst (λ list. WellFormed (known list (program_of p))) (sym allowed) is.formed) in
+    let out = outcomes p [] (codes_alone functions) limits formed is.code no_prelude_code args have' w in
+    let first = is.code.each 0 main refl in
+    let kinds : params_of (slice_get functions 0) ≡ kinds_of main.params = ap params_of first.is ∙ first.params in
+    let words : out.words ≡ words_in (params_of (slice_get functions 0)) args = words_match main.params args out.words out.are.are ∙ ap (λ ks. words_in ks args) (sym kinds) in
+    let bound = enough (alone p) w in
+    let ran = comes_to_an_end (alone p) limits formed main refl args have' w bound (omega arith) in
+    record {
+      end = out.end;
+      code_ends = subst (λ ws. EndsAs (codes_alone functions) limits (start (codes_alone functions) ws w) out.end) words out.code_ends;
+      bound = bound;
+      comes = λ e h. subst (λ x. IsEnough main.result (main_out p limits bound main w x)) (same_env (entry main.params args []) ran.0 e ran.1 h) ran.2;
+      is = out.ends.always bound (omega arith);
+    }
+
 runs_as_its_program : CodeEndsAsPrograms → (script : Script) (store : Store) (args : List Value) (limits : Limits) (a : Activation) (q : ℕ) (o : Outcome)
     → a ≡ record { code = script.executable.code.functions; limits = limits; allow = script.executable.allow; frame = script.executable.frame; now = Some (start (codes_alone script.executable.code.functions) (words_in (params_of (slice_get script.executable.code.functions 0)) args) (world_at store limits)); steps = 0 }
     → IsTrue (is_over (later q a).now) → LeftBy script.result (later q a) o → RunsAsItsProgram script store args limits o
 runs_as_its_program outcomes script store args limits a q o begun over by allow context p is have =
-    let funs = alone p in
     let main = fun_of p.main in
     let functions = script.executable.code.functions in
     let gives : script.result ≡ main.result = is.kept ∙ sym is.result in
-    let have' : HaveAll (types_in main.params) args = subst (λ ps. HaveAll (types_in ps) args) (sym is.variables) have in
     let w = world_at store limits in
     let kept = limits_of limits script.executable.allow in
-    let formed = with_no_prelude p kept (subst (λ list. WellFormed (known list (program_of p))) (sym is.allowed) is.formed) in
-    let out = outcomes p [] (codes_alone functions) kept formed is.code no_prelude_code args have' w in
-    let first = is.code.each 0 main refl in
-    let kinds : params_of (slice_get functions 0) ≡ kinds_of main.params = ap params_of first.is ∙ first.params in
-    let words : out.words ≡ words_in (params_of (slice_get functions 0)) args = words_match main.params args out.words out.are.are ∙ ap (λ ks. words_in ks args) (sym kinds) in
-    let begin = words_in (params_of (slice_get functions 0)) args in
-    let b : Activation = record { code = functions; limits = limits; allow = script.executable.allow; frame = script.executable.frame; now = Some (start (codes_alone functions) begin w); steps = 0 } in
-    let stands : (later q b).now ≡ Some (Ends out.end) =
-    ends_there b (start (codes_alone functions) begin w) out.end refl (subst (λ ws. EndsAs (codes_alone functions) kept (start (codes_alone functions) ws w) out.end) words out.code_ends) q
-    (subst (λ x. IsTrue (is_over (later q x).now)) begun over) in
-    let there : Some (Ends out.end) ≡ Some (ended by.end (world_left o by.left)) = sym stands ∙ sym (ap (λ x. (later q x).now) begun) ∙ by.stands in
-    let same : Ends out.end ≡ ended by.end (world_left o by.left) = cc in
-    let bound = enough funs w in
-    let ran = comes_to_an_end funs kept formed main refl args have' w bound (omega arith) in
-    let enough' : (e : Env) → entry main.params args [] ≡ Some e → IsEnough main.result (main_out p kept bound main w e) =
-    λ e h. subst (λ x. IsEnough main.result (main_out p kept bound main w x)) (same_env (entry main.params args []) ran.0 e ran.1 h) ran.2 in
+    let both = both_end outcomes allow context p script is kept is.allowed args have w in
+    let from = start (codes_alone functions) (words_in (params_of (slice_get functions 0)) args) w in
+    let b : Activation = record { code = functions; limits = limits; allow = script.executable.allow; frame = script.executable.frame; now = Some from; steps = 0 } in
+    let stands : (later q b).now ≡ Some (Ends both.end) = ends_there b from both.end refl both.code_ends q (subst (λ x. IsTrue (is_over (later q x).now)) begun over) in
+    let there : Some (Ends both.end) ≡ Some (ended by.end (world_left o by.left)) = sym stands ∙ sym (ap (λ x. (later q x).now) begun) ∙ by.stands in
+    let same : Ends both.end ≡ ended by.end (world_left o by.left) = cc in
     subst (λ list. IsOutcome list p store args limits o) is.allowed (record {
       left = by.left;
       ends = record {
-        bound = bound;
-        is = end_read p kept bound main (entry main.params args []) w enough' by.end o.end (world_left o by.left) (subst (λ of. end_left of by.end ≡ Some o.end) gives by.read) out.end (out.ends.always bound (omega arith)) same;
+        bound = both.bound;
+        is = end_read p kept both.bound main (entry main.params args []) w both.comes by.end o.end (world_left o by.left) (subst (λ of. end_left of by.end ≡ Some o.end) gives by.read) both.end both.is same;
       };
       ticks = by.ticks ∙ ap (λ x. (later q x).limits.ticks - by.left) begun;
     })

@@ -1,5 +1,5 @@
 -- What holds of all texts and of their programs.
-use Rattle.std.specs.Prelude.{◌≡◌, ℕ, List, map, Result, Ok}
+use Rattle.std.specs.Prelude.{◌≡◌, ℕ, List, map, Result, Ok, None}
 use Rattle.pl_types.specs.declared.refusal.Refusal.{Refusal}
 use Rattle.object_values.specs.declared.value.Value.{Value}
 use Rattle.object_heap.specs.Fits.{Rules, Every, Fits, ValueFits, AllFit}
@@ -12,6 +12,15 @@ use Rattle.source_meaning.specs.Programs.{variable_of}
 use Rattle.program_typing.specs.Types.{HaveAll}
 use Rattle.program_typing.specs.Agreeing.{types_in}
 use Rattle.typing_soundness.specs.Laws.{IsContext}
+use Rattle.pl_code.specs.declared.code.Code.{Code}
+use Rattle.verifier.specs.Faults.{shape_fault}
+use Rattle.object_heap.specs.Store.{Store}
+use Rattle.machine.specs.declared.configuration.Limits as machine
+use Rattle.machine.specs.Seen.{limits_of}
+use Rattle.script_engine.specs.declared.compiling.Script.{Script}
+use Rattle.script_engine.specs.Compiling.{IsScriptOf}
+use Rattle.script_engine.specs.Running.{world_at}
+use Rattle.script_engine.specs.Codes.{Counts, IsListed, IsPreludeListed, prelude_code}
 use Rattle.script_engine.specs.Programs.{IsProgramOf}
 use Rattle.script_engine.specs.Ends.{RunsTo}
 use Rattle.script_engine.specs.Typed.{HasVariables, EndIsOf}
@@ -48,3 +57,26 @@ ProgramsAreTyped =
     (rules : Rules) (allow : AllowList) (context : ContextTypes) (text : List ℕ) (p : Program) → IsContext context → IsProgramOf allow context text (Ok p)
     → (limits : Limits) → limits.allowed ≡ allow → (args : List Value) (w : World) (end : End Value) → rules.typed ≡ Every → Fits rules w.store.objects → HasVariables w.store.objects context args
     → RunsTo p limits args w end → EndIsOf context.result end
+
+-- ---- what is listed and counted
+
+-- The code of a script of a program may be listed for it, where the verifier finds no fault in it,
+abbrev pub CodesAreListed : Type 0
+CodesAreListed =
+    (allow : AllowList) (context : ContextTypes) (p : Program) (script : Script) → IsScriptOf allow context p script → shape_fault allow script.executable.code ≡ None
+    → IsListed allow context p script.executable.code
+
+-- .. and the prelude's for the prelude.
+abbrev pub PreludeIsListed : Type 0
+PreludeIsListed = IsPreludeListed prelude_code
+
+-- From one start instructions are counted in one way,
+abbrev pub CodesCountOnce : Type 0
+CodesCountOnce = (code : Code) (limits : Limits) (args : List Value) (w : World) (a b : ℕ) → Counts code limits args w a → Counts code limits args w b → a ≡ b
+
+-- .. and those of a code that may be listed are counted, on all arguments of the types of the context's variables.
+abbrev pub ListedCodesCount : Type 0
+ListedCodesCount =
+    (allow : AllowList) (context : ContextTypes) (p : Program) (code : Code) → IsListed allow context p code
+    → (limits : machine.Limits) (store : Store) (args : List Value) → HaveAll (types_in (map variable_of context.variables)) args
+    → (count : ℕ) × Counts code (limits_of limits allow) args (world_at store limits) count

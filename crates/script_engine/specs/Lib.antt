@@ -5,4 +5,5 @@ pub mod Ends
 pub mod Fitting
 pub mod Running
 pub mod Typed
+pub mod Codes
 pub mod Laws

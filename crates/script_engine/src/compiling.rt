@@ -13,9 +13,11 @@ ghost use Rattle.pl_grammar.specs.Lexeme.{AllLieIn};
 ghost use Rattle.typed_tree.specs.declared.program.Program as typed;
 ghost use Rattle.typing_soundness.specs.Laws.{IsContext};
 ghost use Rattle.script_engine.specs.Programs.{TypesTree, TypesTokens, IsProgramOf};
+ghost use Rattle.script_engine.specs.Codes.{prelude_code};
 ghost use Rattle.script_engine.specs.Compiling.{Compiles};
 ghost use Rattle.script_engine.specs.Running.{TakesTyped};
 
+use crate::prelude::prelude_code;
 use allowlist::Allow;
 use codegen::{CodeError, generate};
 use compiled_runs::programs_run;
@@ -53,6 +55,21 @@ impl Script {
         ensures { IfOk result (λ text. string_bytes text ≡ written self.now.executable.code) }
     {
         listing(alloc, self.executable.code())
+    }
+
+    /// The listing of the code of the prelude, with which the script runs.
+    pub fn prelude_listing(&self, alloc: Global) -> Result<String, AllocError>
+        ensures { IfOk result (λ text. string_bytes text ≡ written prelude_code) }
+    {
+        let code = prelude_code(alloc)?;
+        listing(alloc, &code)
+    }
+
+    /// The list by whose classes and members it was compiled.
+    pub fn allow(&self) -> &Allow
+        ensures { result.now ≡ self.now.executable.allow }
+    {
+        self.executable.allow()
     }
 }
 

@@ -1,6 +1,7 @@
 //! What holds of all texts and of their programs.
-ghost use Rattle.script_engine.specs.Laws.{TextsAreAnswered, TextsAreAnsweredOnce, ProgramsAreTyped, ProgramsEnd, ProgramsEndOnce, ProgramsFit};
+ghost use Rattle.script_engine.specs.Laws.{CodesAreListed, CodesCountOnce, ListedCodesCount, PreludeIsListed, TextsAreAnswered, TextsAreAnsweredOnce, ProgramsAreTyped, ProgramsEnd, ProgramsEndOnce, ProgramsFit};
 
+use compiled_outcome::programs_end;
 use pl_grammar_plain::plain_laws;
 use pl_lexer::each_text_has_one_reading;
 
@@ -16,4 +17,15 @@ pub fn script_laws()
 {
     each_text_has_one_reading();
     plain_laws();
+}
+
+/// The code of a script may be listed for its program: no fault is in it, and it ends as the program does. The prelude's may be listed for
+/// the prelude. From one start instructions are counted in one way.
+pub fn code_laws()
+    ensures listed { CodesAreListed }
+    ensures prelude { PreludeIsListed }
+    ensures once { CodesCountOnce }
+    ensures counted { ListedCodesCount }
+{
+    programs_end();
 }

@@ -3,8 +3,9 @@
 
 mod compiling;
 mod laws;
+mod prelude;
 mod running;
 
 pub use compiling::{Script, compile};
-pub use laws::script_laws;
+pub use laws::{code_laws, script_laws};
 pub use running::ScriptRun;

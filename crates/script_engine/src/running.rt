@@ -1,14 +1,18 @@
 //! Runs of scripts.
 
-ghost use Rattle.std.specs.Prelude.{◌≡◌, IfOk, IsOk, List, Some, length, slice_get};
+ghost use Rattle.std.specs.List.{list_all};
+ghost use Rattle.std.specs.Prelude.{◌≡◌, IfOk, IsOk, List, Some, length, slice_get, true};
+ghost use Rattle.allowlist.specs.Allow.{flag};
 ghost use Rattle.object_heap.specs.Fits.{AllFit, Every, Fits, Rules};
 ghost use Rattle.object_values.specs.declared.object.Object.{Object};
 ghost use Rattle.machine.specs.Fitting.{NowFits};
+ghost use Rattle.machine.specs.Seen.{limits_of};
+ghost use Rattle.script_engine.specs.Codes.{Counts};
 ghost use Rattle.script_engine.specs.Fitting.{LeavesFit};
 ghost use Rattle.script_engine.specs.Typed.{GivesTyped};
 ghost use Rattle.verifier_soundness.specs.Rows.{HaveRows};
 ghost use Rattle.verified_machine.specs.Tasks.{ending, SparesMemory};
-ghost use Rattle.script_engine.specs.Running.{RunsAsItsProgram, LeftOf, Comes, IsEnd, TakesArguments, begun, value_of, word_in, words_in, end_left, params_of};
+ghost use Rattle.script_engine.specs.Running.{RunsAsItsProgram, LeftOf, Comes, IsEnd, TakesArguments, begun, value_of, word_in, words_in, world_at, end_left, params_of};
 
 use crate::compiling::Script;
 use code_meaning::Word;
@@ -130,7 +134,8 @@ impl Script {
     ) -> Result<VerifiedActivation<'_>, AllocError>
         requires rows { HaveRows self.now.executable.allow self.now.executable.code.functions }
         requires args { TakesArguments self.now args.items }
-        ensures { IfOk result (λ a. a.run ≡ begun self.now heap args.items limits) }
+        ensures begins { IfOk result (λ a. a.run ≡ begun self.now heap args.items limits) }
+        ensures allow { IfOk result (λ a. a.allow ≡ self.now.executable.allow) }
     {
         let memory = RunMemory::new(heap.alloc());
         self.start_in(memory, heap, args, limits)
@@ -150,7 +155,8 @@ impl Script {
     ) -> Result<VerifiedActivation<'_>, AllocError>
         requires rows { HaveRows self.now.executable.allow self.now.executable.code.functions }
         requires args { TakesArguments self.now args.items }
-        ensures { IfOk result (λ a. a.run ≡ begun self.now heap args.items limits) }
+        ensures begins { IfOk result (λ a. a.run ≡ begun self.now heap args.items limits) }
+        ensures allow { IfOk result (λ a. a.allow ≡ self.now.executable.allow) }
     {
         let words = words_in(heap.alloc(), params_of(self.executable.code()), args)?;
         VerifiedActivation::start_in(&self.executable, memory, heap, words, limits)
@@ -165,6 +171,8 @@ impl Script {
         ensures comes { IfOk result (Comes self.now.result (ending activation.entry.run)) }
         // Where the start fits, so does what is left.
         ensures heap { (rules : Rules) (before : List Object) → NowFits rules before activation.entry.run.now → IfOk result (LeavesFit rules before) }
+        // Members of the list alone were reached.
+        ensures reaches { IfOk result (λ o. list_all (flag activation.entry.allow.members) o.reached ≡ true) }
         ensures memory { SparesMemory activation.entry.run → IsOk result }
     {
         let ScriptRun {
@@ -186,6 +194,7 @@ impl Script {
     ) -> Result<ScriptRun, AllocError>
         ensures comes { IfOk result (λ ran. Comes self.now.result (ending activation.entry.run) ran.outcome) }
         ensures heap { (rules : Rules) (before : List Object) → NowFits rules before activation.entry.run.now → IfOk result (λ ran. LeavesFit rules before ran.outcome) }
+        ensures reaches { IfOk result (λ ran. list_all (flag activation.entry.allow.members) ran.outcome.reached ≡ true) }
         ensures memory { SparesMemory activation.entry.run → IsOk result }
     {
         let finished = activation.finish_with_memory()?;
@@ -214,6 +223,10 @@ impl Script {
         // Where the heap fits by the rules of a program and each argument is of its variable's type in it, the value that is given is of the result's type in what is
         // left.
         ensures typed { (rules : Rules) → rules.typed ≡ Every → Fits rules heap.objects → IfOk result (GivesTyped self.now heap args.items) }
+        // The instructions of the script's code are counted up to its end, as far as 64 bits count them.
+        ensures counts { IfOk result (λ o. Counts self.now.executable.code (limits_of limits self.now.executable.allow) args.items (world_at heap limits) o.steps) }
+        // Members of the list alone were reached.
+        ensures reaches { IfOk result (λ o. list_all (flag self.now.executable.allow.members) o.reached ≡ true) }
     {
         let memory = RunMemory::new(heap.alloc());
         let ScriptRun {
@@ -242,6 +255,8 @@ impl Script {
         // As of [`Script::run`].
         ensures heap { (rules : Rules) → Fits rules heap.objects → AllFit (length heap.objects) args.items → IfOk result (λ ran. LeavesFit rules heap.objects ran.outcome) }
         ensures typed { (rules : Rules) → rules.typed ≡ Every → Fits rules heap.objects → IfOk result (λ ran. GivesTyped self.now heap args.items ran.outcome) }
+        ensures counts { IfOk result (λ ran. Counts self.now.executable.code (limits_of limits self.now.executable.allow) args.items (world_at heap limits) ran.outcome.steps) }
+        ensures reaches { IfOk result (λ ran. list_all (flag self.now.executable.allow.members) ran.outcome.reached ≡ true) }
     {
         programs_end();
         let activation = self.start_in(memory, heap, args, limits)?;

@@ -5,6 +5,7 @@ mod arrays;
 mod boxes;
 mod catches;
 mod containers;
+mod counts;
 mod dynamic;
 mod elements;
 mod instances;
@@ -19,7 +20,7 @@ mod rows;
 mod running;
 
 use pairs::{all_casts_end, all_pairs_end};
-use running::{Compiler, USUAL, all_cells_end, all_end};
+use running::{Compiler, USUAL, all_cells_end, all_counted, all_end, prelude_is_listed};
 use std::test::Fail;
 
 #[test]
@@ -234,5 +235,14 @@ fn what_is_left_out_is_not_found(rt: HostRuntime) -> Result<(), Fail> {
         let compiler = Compiler::reading(rt.alloc(), file)?;
         all_end(&rt, &compiler, USUAL, table)?;
     }
+    Ok(())
+}
+
+#[test]
+fn instructions_are_counted(rt: HostRuntime) -> Result<(), Fail> {
+    let compiler = Compiler::new(rt.alloc())?;
+    all_counted(&rt, &compiler, counts::FEW, &counts::COUNTED)?;
+    let good = prelude_is_listed(&compiler, "1", counts::PRELUDE)?;
+    assert!(rt; good);
     Ok(())
 }

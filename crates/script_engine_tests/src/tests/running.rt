@@ -252,3 +252,51 @@ pub fn all_cells_end(rt: &impl Abort, compiler: &Compiler, table: &str) -> Resul
     }
     Ok(())
 }
+
+/// Whether a script has a listing, and a run of it within bounds ends as a row says, after so many instructions.
+fn listed_and_counted(
+    compiler: &Compiler,
+    bounds: Bounds,
+    row: (&str, &str, &str, u64),
+) -> Result<bool, AllocError> {
+    let (script, listing, wanted, steps) = row;
+    match compiler.compiled(script) {
+        Ok(compiled) => {
+            let text = compiled.listing(compiler.alloc)?;
+            let outcome = run(compiler.alloc, &compiled, bounds)?;
+            let good = ended(&outcome, wanted)?;
+            Ok(good && outcome.steps == steps && text.as_str() == listing)
+        }
+        Err(_) => Ok(false),
+    }
+}
+
+/// Each script of a table has its listing and ends within bounds as its row says: a script, its listing, its end, and how many instructions are run.
+pub fn all_counted(
+    rt: &impl Abort,
+    compiler: &Compiler,
+    bounds: Bounds,
+    table: &[(&str, &str, &str, u64)],
+) -> Result<(), AllocError> {
+    for row in table {
+        let good = listed_and_counted(compiler, bounds, *row)?;
+        let script = row.0;
+        assert!(rt; good, "{script}");
+    }
+    Ok(())
+}
+
+/// Whether the prelude of a script has a listing.
+pub fn prelude_is_listed(
+    compiler: &Compiler,
+    script: &str,
+    listing: &str,
+) -> Result<bool, AllocError> {
+    match compiler.compiled(script) {
+        Ok(compiled) => {
+            let text = compiled.prelude_listing(compiler.alloc)?;
+            Ok(text.as_str() == listing)
+        }
+        Err(_) => Ok(false),
+    }
+}

@@ -1,4 +1,4 @@
-use Rattle.std.proofs.Common.{None, Some}
+use Rattle.std.proofs.Common.{Some}
 use Rattle.command_parts.proofs.Found.{short_told, under_name, long_found}
 use Rattle.command_parts.proofs.reading.read_file.Goals as goal
 

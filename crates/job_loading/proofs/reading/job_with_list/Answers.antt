@@ -12,5 +12,5 @@ returns-in_err-job-clause-told g c =
       found.0,
       found.1,
       found.2,
-      rw (exit.1, exit.2) (job_missing found.0 (job_told c.args.command (job_in_bytes c.args.command c.args.bytes.now)) c.in_err-job.field-0.0 c.in_err-job.ensures.told),
+      rw (exit.1, exit.2) (job_missing found.0 (job_told (job_in_bytes c.args.command c.args.bytes.now)) c.in_err-job.field-0.0 c.in_err-job.ensures.told),
     )

@@ -1,6 +1,5 @@
-use Rattle.std.proofs.Common.{◌≡◌, inl, inr, sym, subst}
+use Rattle.std.proofs.Common.{inl, inr, sym, subst}
 use Rattle.command_parts.specs.declared.status.Status.{Status}
-use Rattle.command_parts.specs.declared.status.Status.TheVariants as s
 use Rattle.outer_io.specs.Runs.{line_shown}
 use Rattle.line_run.specs.Steps.{AnswersNot}
 use Rattle.line_run.proofs.passing.answer.Goals as goal

@@ -1,4 +1,3 @@
-use Rattle.std.proofs.Common.{subst}
 use Rattle.line_run.proofs.Lists.{gives_whole}
 use Rattle.line_run.proofs.Unbroken.{unbroken_front}
 use Rattle.line_run.proofs.passing.next_line.Goals as goal

@@ -1,9 +1,12 @@
 -- What the run comes to is the outcome of the program, and it fits where the start does.
-use Rattle.std.proofs.Common.{subst}
+use Rattle.std.specs.List.{list_all}
+use Rattle.std.proofs.Common.{◌≡◌, true, subst}
 use Rattle.std.proofs.lemmas.Result.{IfOk-weaker}
+use Rattle.allowlist.specs.Allow.{AllowList, flag}
 use Rattle.machine.specs.Activations.{Activation}
 use Rattle.verified_machine.specs.Tasks.{ending}
 use Rattle.script_engine.specs.Running.{Comes}
+use Rattle.script_engine.proofs.Counted.{ending_counts}
 use Rattle.script_engine.proofs.Fitting.{began_fits}
 use Rattle.script_engine.proofs.Runs.{ending_runs}
 use Rattle.script_engine.proofs.Typed.{scripts_give}
@@ -12,14 +15,24 @@ use Rattle.script_engine.proofs.compiling.Script.run_in.Goals as goal
 pub returns-clause-program : goal.returns-clause-program
 returns-clause-program c =
     IfOk-weaker c.finish_with_memory.result _ _ (λ ran comes. ending_runs c.programs_end.ensures.ends c.args.self.now c.args.heap c.args.args.items c.args.limits ran.outcome
-    (subst (λ (a : Activation). Comes c.args.self.now.result (ending a) ran.outcome) c.in_ok-activation.ensures comes)) c.finish_with_memory.ensures.comes
+    (subst (λ (a : Activation). Comes c.args.self.now.result (ending a) ran.outcome) c.in_ok-activation.ensures.begins comes)) c.finish_with_memory.ensures.comes
 
 pub returns-clause-heap : goal.returns-clause-heap
 returns-clause-heap c = λ rules f g.
-    c.finish_with_memory.ensures.heap rules c.args.heap.objects (began_fits c.args.self.now c.args.heap c.args.args.items c.args.limits _ c.in_ok-activation.ensures rules f g)
+    c.finish_with_memory.ensures.heap rules c.args.heap.objects (began_fits c.args.self.now c.args.heap c.args.args.items c.args.limits _ c.in_ok-activation.ensures.begins rules f g)
 
 pub returns-clause-typed : goal.returns-clause-typed
 returns-clause-typed c = λ rules every f.
     IfOk-weaker c.finish_with_memory.result _ _ (λ ran comes. scripts_give rules c.args.self.now c.args.heap c.args.args.items c.args.limits ran.outcome every f
     (ending_runs c.programs_end.ensures.ends c.args.self.now c.args.heap c.args.args.items c.args.limits ran.outcome
-    (subst (λ (a : Activation). Comes c.args.self.now.result (ending a) ran.outcome) c.in_ok-activation.ensures comes))) c.finish_with_memory.ensures.comes
+    (subst (λ (a : Activation). Comes c.args.self.now.result (ending a) ran.outcome) c.in_ok-activation.ensures.begins comes))) c.finish_with_memory.ensures.comes
+
+pub returns-clause-counts : goal.returns-clause-counts
+returns-clause-counts c =
+    IfOk-weaker c.finish_with_memory.result _ _ (λ ran comes. ending_counts c.args.self.now c.args.heap c.args.args.items c.args.limits ran.outcome
+    (subst (λ (a : Activation). Comes c.args.self.now.result (ending a) ran.outcome) c.in_ok-activation.ensures.begins comes)) c.finish_with_memory.ensures.comes
+
+pub returns-clause-reaches : goal.returns-clause-reaches
+returns-clause-reaches c =
+    IfOk-weaker c.finish_with_memory.result _ _ (λ ran reaches. subst (λ (allow : AllowList). list_all (flag allow.members) ran.outcome.reached ≡ true) c.in_ok-activation.ensures.allow reaches)
+    c.finish_with_memory.ensures.reaches

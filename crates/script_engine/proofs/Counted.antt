@@ -1,0 +1,82 @@
+-- Which instructions of a run are counted, and that they are counted in one way.
+use Rattle.std.proofs.Common.{◌≡◌, ℕ, zero, suc, ◌+◌, List, Option, Some, refl, sym, ap, ◌∙◌, arith}
+use Rattle.pl_types.specs.declared.ty.Ty.{Ty}
+use Rattle.object_values.specs.declared.value.Value.{Value}
+use Rattle.object_heap.specs.Store.{Store}
+use Rattle.object_heap.specs.declared.outcome.Outcome.{Outcome}
+use Rattle.run_state.specs.World as run
+use Rattle.run_state.specs.World.{End, Result, Uncaught, Limited}
+use Rattle.code_meaning.specs.declared.word.Word.{Word}
+use Rattle.code_meaning.specs.Machine.{Codes, Next, Goes, Ends, Stuck, step, after}
+use Rattle.machine.specs.declared.configuration.Limits.{Limits}
+use Rattle.machine.specs.Seen.{limits_of, codes_alone}
+use Rattle.machine.specs.Runs.{steps_taken}
+use Rattle.machine.specs.Activations.{counted}
+use Rattle.verified_machine.specs.Tasks.{ending, most_left, outcome_of, outcome_in, rest_from}
+use Rattle.script_engine.specs.declared.compiling.Script.{Script}
+use Rattle.script_engine.specs.Codes.{Counts, begins}
+use Rattle.script_engine.specs.Laws.{CodesCountOnce, ListedCodesCount}
+use Rattle.script_engine.specs.Running.{LeftOf, Comes, begun, world_at}
+
+-- ---- once
+
+module _ (codes : Codes) (limits : run.Limits) where
+  -- behind the end no step is taken
+  same_taken : (m n : ℕ) (from : Next) (e f : End (Option Word)) → after codes limits m from ≡ Ends e → after codes limits n from ≡ Ends f
+      → steps_taken codes limits m from ≡ steps_taken codes limits n from
+  same_taken zero zero from e f a b = refl
+  same_taken zero (suc n) (Goes c) e f a b = cc
+  same_taken zero (suc n) (Ends r) e f a b = refl
+  same_taken zero (suc n) Stuck e f a b = refl
+  same_taken (suc m) zero (Goes c) e f a b = cc
+  same_taken (suc m) zero (Ends r) e f a b = refl
+  same_taken (suc m) zero Stuck e f a b = refl
+  same_taken (suc m) (suc n) (Goes c) e f a b = ap suc (same_taken m n (step codes limits c) e f a b)
+  same_taken (suc m) (suc n) (Ends r) e f a b = refl
+  same_taken (suc m) (suc n) Stuck e f a b = refl
+
+pub codes_count_once : CodesCountOnce
+codes_count_once code limits args w a b x y =
+    let same : x.steps ≡ y.steps =
+    x.ends.taken ∙ same_taken (codes_alone code.functions) limits x.ends.bound y.ends.bound (begins code args w) x.last y.last x.ends.ends y.ends.ends ∙ sym y.ends.taken in
+    x.is ∙ ap counted same ∙ sym y.is
+
+-- a code that may be listed ends, and so it is counted
+pub listed_codes_count : ListedCodesCount
+listed_codes_count allow context p code listed limits store args have =
+    let ran = listed.runs limits store args have in
+    (counted ran.steps, record { last = ran.last; steps = ran.steps; ends = ran.code_ends; is = refl })
+
+-- ---- what a run leaves
+
+-- a run stands at an end, after so many steps of its outcome
+record StopsAfter (steps : ℕ) (next : Next) (o : Outcome) : Type 0 where
+  last : End (Option Word)
+  ends : next ≡ Ends last
+  after : o.steps ≡ steps
+
+module _ (of : Ty) (ticks steps : ℕ) (o : Outcome) where
+  steps_left : (e : End (Option Word)) → LeftOf of (outcome_of ticks steps e) o → o.steps ≡ steps
+  steps_left (Result word w) is = is.steps
+  steps_left (Uncaught id w) is = is.steps
+  steps_left (Limited limit w) is = is.steps
+
+  stops_after : (next : Next) → Comes of (outcome_in ticks steps next) o → StopsAfter steps next o
+  stops_after (Goes c) is = absurd is
+  stops_after (Ends e) is = record { last = e; ends = refl; after = steps_left e is }
+  stops_after Stuck is = absurd is
+
+zero_add : (n : ℕ) → 0 + n ≡ n
+zero_add n = omega arith
+
+-- the steps of an outcome are those of its script's code
+pub ending_counts : (script : Script) (store : Store) (args : List Value) (limits : Limits) (o : Outcome) → Comes script.result (ending (begun script store args limits)) o
+    → Counts script.executable.code (limits_of limits script.executable.allow) args (world_at store limits) o.steps
+ending_counts script store args limits o comes =
+    let functions = script.executable.code.functions in
+    let kept = limits_of limits script.executable.allow in
+    let from = begins script.executable.code args (world_at store limits) in
+    let bound = most_left functions kept from in
+    let taken = steps_taken (codes_alone functions) kept bound from in
+    let stops = stops_after script.result limits.ticks (counted (0 + rest_from functions kept (Some from))) o (after (codes_alone functions) kept bound from) comes in
+    record { last = stops.last; steps = taken; ends = record { bound = bound; ends = stops.ends; taken = refl }; is = stops.after ∙ ap counted (zero_add taken) }
