@@ -5,7 +5,7 @@ ghost use Rattle.serde_json.specs.View.{view};
 ghost use Rattle.json_replies.specs.Replies.{line_of};
 ghost use Rattle.job_replies.specs.Listings.{listing_of, prelude_listing_of};
 
-use crate::refusals::line_of;
+use json_replies::line_of;
 use serde_json::{Value as Json, json};
 use std::alloc::{AllocError, Global};
 

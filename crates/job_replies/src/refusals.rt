@@ -1,8 +1,7 @@
 //! Refusals of jobs and of allowlists.
 
-ghost use Rattle.std.specs.Prelude.{◌≡◌, false, string_bytes, IfOk};
+ghost use Rattle.std.specs.Prelude.{◌≡◌, string_bytes, IfOk};
 ghost use Rattle.serde_json.specs.View.{view};
-ghost use Rattle.serde_json.specs.Written.{has_float};
 ghost use Rattle.job_file.specs.Jobs as job;
 ghost use Rattle.json_replies.specs.Replies.{line_of};
 ghost use Rattle.job_replies.specs.Errors.{IsJobLine, IsListLine};
@@ -10,17 +9,9 @@ ghost use Rattle.job_replies.specs.Refusals.{accepted, job_refusal, named, refus
 
 use allowlist::AllowErr;
 use job_file::JobErr;
+use json_replies::line_of;
 use serde_json::{Value as Json, json};
 use std::alloc::{AllocError, Global};
-
-/// The line of some JSON without floats.
-pub(crate) fn line_of(alloc: Global, json: &Json) -> Result<String, AllocError>
-    ensures { has_float (view json.now) ≡ false → IfOk result (λ line. string_bytes line ≡ line_of (view json.now)) }
-{
-    let mut line = json.to_string(alloc)?;
-    line.push_str("\n")?;
-    Ok(line)
-}
 
 /// A refusal that has a name and a number alone.
 fn refused(alloc: Global, name: &str, number: u32) -> Result<Json, AllocError>

@@ -10,6 +10,6 @@ mod results;
 mod searching;
 mod showing;
 
-pub use line::{Line, refusal_line, reply_line};
+pub use line::{Line, line_of, refusal_line, reply_line};
 pub use searching::search_reply_line;
 pub use showing::{ShownKeys, shown_reply_line};

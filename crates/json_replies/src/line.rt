@@ -22,8 +22,8 @@ pub struct Line {
     pub is_error: bool,
 }
 
-/// The line of some JSON without floats.
-fn line_of(alloc: Global, json: &Json) -> Result<String, AllocError>
+/// The line of some JSON without floats: its compact text with a newline behind it.
+pub fn line_of(alloc: Global, json: &Json) -> Result<String, AllocError>
     ensures { has_float (view json.now) ≡ false → IfOk result (λ line. string_bytes line ≡ line_of (view json.now)) }
 {
     let mut line = json.to_string(alloc)?;

@@ -1,5 +1,5 @@
 -- What a run of a script leaves fits, where its start does.
-use Rattle.std.proofs.Common.{◌≡◌, ℕ, List, [], ◌∷◌, Option, Some, None, sym, subst, ap}
+use Rattle.std.proofs.Common.{◌≡◌, ℕ, List, [], ◌∷◌, Option, Some, None, sym, subst}
 use Rattle.std.specs.Prelude.{slice_get, length, unwrap_or}
 use Rattle.pl_types.specs.declared.ty.Ty.{Ty, out-Ty}
 use Rattle.pl_types.specs.declared.ty.Ty.TheOpen.{Ty-F}
@@ -27,7 +27,7 @@ use Rattle.code_fit.proofs.Words.{unboxed_fits, boxed_fits, plain_fits}
 use Rattle.code_fit.proofs.Steps.{starts_fit_all}
 use Rattle.source_meaning.specs.Programs.{fun_of}
 use Rattle.source_meaning.specs.Tree.{Fun}
-use Rattle.source_meaning.specs.Meaning.{Env, Out, Done, Thrown, Over, More, Flow, entry, returned, meaning}
+use Rattle.source_meaning.specs.Meaning.{Env, Out, Done, Thrown, Over, More, Flow, entry, returned}
 use Rattle.source_meaning.specs.Operating.{in_box}
 use Rattle.source_fit.specs.Outs.{OutFits, FlowFits}
 use Rattle.source_fit.proofs.Values as source
@@ -41,7 +41,7 @@ use Rattle.machine.specs.Activations.{Activation}
 use Rattle.machine.specs.Fitting as machine
 use Rattle.machine.specs.Seen.{codes_alone}
 use Rattle.script_engine.specs.declared.compiling.Script.{Script}
-use Rattle.script_engine.specs.Ends.{alone, given, given_layer, end_of, end_with, end_in}
+use Rattle.script_engine.specs.Ends.{alone, given_layer, end_of, end_with, end_in}
 use Rattle.script_engine.specs.Fitting.{EndFits as LeftEndFits, LeavesFit}
 use Rattle.script_engine.specs.Laws.{ProgramsFit}
 use Rattle.script_engine.specs.Running.{word_in, words_in, params_of, value_by, value_of, end_left, LeftOf, world_at, begun}

@@ -28,7 +28,7 @@ use Rattle.machine.specs.declared.configuration.Limits.{Limits}
 use Rattle.machine.specs.Seen.{limits_of, codes_alone}
 use Rattle.machine.specs.Runs.{steps_taken}
 use Rattle.script_engine.specs.declared.compiling.Script.{Script}
-use Rattle.script_engine.specs.Codes.{IsPreludeListed, RunsAlike, begins, empty_program, end_read, prelude_code, prelude_main}
+use Rattle.script_engine.specs.Codes.{RunsAlike, begins, empty_program, end_read, prelude_code, prelude_main}
 use Rattle.script_engine.specs.Compiling.{IsScriptOf}
 use Rattle.script_engine.specs.Ends.{RunsTo, alone, end_in}
 use Rattle.script_engine.specs.Laws.{CodesAreListed, PreludeIsListed}

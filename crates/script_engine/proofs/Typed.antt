@@ -1,12 +1,11 @@
 -- What a run of a text's program gives is of the result's type, and so is what a run of its script gives.
 use Rattle.std.proofs.Common.{◌≡◌, ℕ, true, List, [], map, Option, Some, None, refl, sym, subst}
-use Rattle.std.specs.Prelude.{unwrap_or, Ok}
+use Rattle.std.specs.Prelude.{unwrap_or}
 use Rattle.pl_types.specs.declared.primitive.Primitive.{Primitive}
 use Rattle.pl_types.specs.declared.ty.Ty.{Ty, out-Ty}
 use Rattle.pl_types.specs.declared.ty.Ty.TheOpen.{Ty-F}
 use Rattle.allowlist.specs.Allow.{AllowList}
 use Rattle.object_values.specs.declared.object.Object.{Object}
-use Rattle.object_values.specs.declared.object.Owner.TheVariants.{Script as script_text}
 use Rattle.object_values.specs.declared.value.Value.{Value}
 use Rattle.object_heap.specs.Fits.{kinds, is_primitive, Rules, Every, Fits}
 use Rattle.object_heap.specs.Objects.{Kind}
@@ -18,26 +17,20 @@ use Rattle.run_state.specs.World.{World, Limits, End}
 use Rattle.machine.specs.Seen.{limits_of}
 use Rattle.machine.specs.declared.configuration.Limits.{Limits as run_limits}
 use Rattle.typed_tree.specs.declared.program.Program.{Program}
-use Rattle.typing_rules.specs.declared.header.ContextTypes.{ContextTypes}
 use Rattle.source_meaning.specs.Operating.{in_box}
 use Rattle.source_meaning.specs.Programs.{fun_of, program_of, variable_of}
-use Rattle.source_meaning.specs.Tree.{Fun}
-use Rattle.source_meaning.specs.Meaning.{Env, Out, Done, Thrown, Over, More, Flow, entry, returned, meaning}
-use Rattle.program_typing.specs.Types.{HaveAll}
+use Rattle.source_meaning.specs.Meaning.{Env, Out, Done, Thrown, Over, More, Flow, entry, returned}
 use Rattle.program_typing.specs.Agreeing.{Scope, known, types_in, scope_of, WellFormed, AreWellFormed}
-use Rattle.typing_soundness.specs.Laws.{IsContext}
-use Rattle.value_typing.specs.Typing.{is_typed_layer, is_typed}
+use Rattle.value_typing.specs.Typing.{is_typed_layer}
 use Rattle.source_typing.specs.Outs.{AreTyped, FlowTyped, OutTyped}
 use Rattle.source_typing.proofs.Values.{MadeTyped, returned_typed, all_are}
 use Rattle.source_typing.proofs.Operations.{MadeOf, box_made, all_have}
 use Rattle.source_typing.proofs.Meanings.{results_are_typed}
 use Rattle.script_engine.specs.declared.compiling.Script.{Script}
-use Rattle.script_engine.specs.Compiling.{IsScriptOf}
-use Rattle.script_engine.specs.Ends.{alone, given_layer, given, end_with, end_of, end_in, RunsTo}
+use Rattle.script_engine.specs.Ends.{alone, given_layer, end_with, end_of, end_in, RunsTo}
 use Rattle.script_engine.specs.Laws.{ProgramsAreTyped}
-use Rattle.script_engine.specs.Programs.{IsProgramOf}
 use Rattle.script_engine.specs.Running.{RunsAsItsProgram, world_at, world_left, end_seen}
-use Rattle.script_engine.specs.Typed.{HasVariables, EndIsOf, ValueIsOf, GivesTyped}
+use Rattle.script_engine.specs.Typed.{EndIsOf, ValueIsOf, GivesTyped}
 use Rattle.script_engine.proofs.Alone.{with_no_prelude}
 use Rattle.script_engine.proofs.Compiled.{formed_from, variables_from, result_from}
 

@@ -17,7 +17,7 @@ pub use fields::Fields;
 pub use laws::{
     fields_stay, job_fields_are_distinct, lines_fit, placing_keeps_fit, read_fields_are_distinct,
 };
-pub use line::{Bound, SearchKind, bind_line};
+pub use line::{Bound, SearchKind, bind_document, bind_line};
 pub use placing::place_doc;
 pub use values::FieldValues;
 pub use words::Words;

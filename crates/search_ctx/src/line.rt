@@ -170,8 +170,8 @@ fn scored_search(alloc: Global, fields: &Fields, line: &Json) -> Result<Search, 
     })
 }
 
-/// The start for a document.
-fn bind_document(
+/// Binds a document that was read, as `bind_line` does what it reads of a line; so `Syntax` is never answered.
+pub fn bind_document(
     alloc: Global,
     kind: SearchKind,
     fields: &Fields,
