@@ -1,5 +1,5 @@
 -- What the code prepares is what is told.
-use Rattle.std.proofs.Common.{◌≡◌, ℕ, List, Option, Some, None, IfSome, Result, Ok, Err, refl, sym, ap, subst}
+use Rattle.std.proofs.Common.{◌≡◌, ℕ, List, Option, Some, None, IfOk, IfSome, Result, Ok, Err, refl, sym, ap, subst}
 use Rattle.object_values.specs.declared.value.Value.{Value}
 use Rattle.object_heap.specs.Store.{Store}
 use Rattle.object_heap.specs.declared.outcome.Outcome.{Outcome}
@@ -13,7 +13,9 @@ use Rattle.script_engine.specs.Compiling.{Compiles, IsScriptOf}
 use Rattle.script_engine.specs.Programs.{IsProgramOf}
 use Rattle.script_engine.specs.Running.{RunsAsItsProgram, world_at, world_left}
 use Rattle.document_replies.specs.Jobs.{ended_of}
+use Rattle.job_file.specs.Answers.{fields_view}
 use Rattle.job_file.specs.declared.context.JobCommand.{JobCommand}
+use Rattle.search_ctx.specs.Fields.{HasDistinctNames}
 use Rattle.command_parts.specs.declared.stop.Stop.{Stop}
 use Rattle.command_parts.specs.Stops.{stop_told, ComesSo}
 use Rattle.command_parts.specs.Told.{Told}
@@ -21,9 +23,10 @@ use Rattle.job_loading.specs.declared.reading.ReadJob.{ReadJob}
 use Rattle.json_replies.specs.Replies.{refusal_of}
 use Rattle.job_loading.specs.Loading.{JobUnder, refusal, job_under}
 use Rattle.job_loading.specs.Seen.{read_view}
-use Rattle.job_commands.specs.Preparing.{CompilesJob, PreparesSo, EndsAsItsProgram, with_program}
+use Rattle.job_commands.specs.Preparing.{CompilesJob, PreparesSo, EndsAsItsProgram}
 use Rattle.job_commands.specs.Contexts.{types_of}
 use Rattle.job_commands.specs.Scripts.{Prepares, PreparesRead, PreparesJob, script_of}
+use Rattle.job_commands.specs.declared.preparing.PreparedJob.{PreparedJob}
 use Rattle.job_commands.specs.declared.script.LimitedScript.{LimitedScript}
 
 pub if_some : (found : Option Told) (P Q : Told → Type 0) → ((told : Told) → P told → Q told) → IfSome found P → IfSome found Q
@@ -55,21 +58,16 @@ job_stops with content name stop h =
     if_some (stop_told stop) (λ told. job_under with content name ≡ Err told) (λ told. PreparesJob with content name (Err told))
     (λ told is. subst (λ (r : Result JobUnder Told). PreparesRead r (Err told)) (sym is) refl) h
 
--- the job is read, and its script is refused
-pub script_stops : (with : JobCommand) (content : List ℕ → Option (List ℕ)) (name : List ℕ) (found : ReadJob) (stop : Stop) → job_under with content name ≡ Ok (read_view found)
-    → CompilesJob (read_view found) (Err stop) → IfSome (stop_told stop) (λ told. PreparesJob with content name (Err told))
-script_stops with content name found stop is h =
-    if_some (stop_told stop) (λ told. Prepares (read_view found) (Err told)) (λ told. PreparesJob with content name (Err told))
-    (λ told k. subst (λ (r : Result JobUnder Told). PreparesRead r (Err told)) (sym is) k) h
+-- the job is read, and has a script or is told why not
+pub found_prepares : (with : JobCommand) (content : List ℕ → Option (List ℕ)) (name : List ℕ) (found : ReadJob) (result : Result PreparedJob Stop) → job_under with content name ≡ Ok (read_view found)
+    → PreparesSo (Prepares (read_view found)) result → PreparesSo (PreparesJob with content name) result
+found_prepares with content name found result is h = subst (λ (r : Result JobUnder Told). PreparesSo (PreparesRead r) result) (sym is) h
 
--- the job has a script
-pub prepares_script : (with : JobCommand) (content : List ℕ → Option (List ℕ)) (name : List ℕ) (found : ReadJob) (script : Script) → job_under with content name ≡ Ok (read_view found)
-    → CompilesJob (read_view found) (Ok script) → PreparesSo (PreparesJob with content name) (Ok (record { found = found; script = script }))
-prepares_script with content name found script is (p, program, of) = (
-  p,
-  subst (λ (r : Result JobUnder Told). PreparesRead r (Ok (with_program (record { found = found; script = script }) p))) (sym is) (Ok p, program, refl),
-  of,
-)
+-- .. and no field stands twice in its mapping
+pub distinct_so : (found : ReadJob) (result : Result PreparedJob Stop) → IfOk result (λ job. job.found ≡ found) → HasDistinctNames (fields_view found.job.mapping.fields.items)
+    → IfOk result (λ job. HasDistinctNames (fields_view job.found.job.mapping.fields.items))
+distinct_so found (Ok job) same distinct = subst (λ (f : ReadJob). HasDistinctNames (fields_view f.job.mapping.fields.items)) (sym same) distinct
+distinct_so found (Err stop) same distinct = tt
 
 -- a run of the code is that of each program of which the script is
 pub ran_so : (s : LimitedScript) (store : Store) (args : List Value) (o : Outcome) → RunsAsItsProgram s.script store args s.limits o

@@ -4,3 +4,7 @@ pub mod Telling
 pub mod Compiled
 pub mod Statuses
 pub mod Lines
+pub mod Tallying
+pub mod Answering
+pub mod FixedJobs
+pub mod GeneratedTelling

@@ -100,7 +100,7 @@ reached_back (o.Thrown id) w = refl
 reached_back (o.Limit limit) w = refl
 
 -- a run of the code leaves what the program's leaves
-ends_over : (job : PreparedJob) (p : Program) (kind : SearchKind) → IsScriptOf (read_view job.found).allow (types_of job.found.job.context) p job.script → kind_of job.found.job.context ≡ Some kind
+pub ends_over : (job : PreparedJob) (p : Program) (kind : SearchKind) → IsScriptOf (read_view job.found).allow (types_of job.found.job.context) p job.script → kind_of job.found.job.context ≡ Some kind
     → (start : Start) (ran : Ended) → HasArguments kind start.args → by_start (EndsAsItsProgram (limited job)) start ran → EndsOver (with_program job p) job.script.executable.code start ran
 ends_over job p kind is of start ran has ends =
     let out = ends.leaves (read_view job.found).allow (types_of job.found.job.context) p is (has_all job.found.job.context kind start.args of has) in
@@ -145,7 +145,7 @@ same_ended a b end objects reached steps =
     ∙ ap (λ (n : ℕ). record { end = b.end; objects = b.objects; reached = b.reached; steps = n }) steps
 
 module _ (ends : ProgramsEndOnce) (counts : CodesCountOnce) (p : Prepared) (code : Code) where
-  over_once : (start : Start) (a b : Ended) → EndsOver p code start a → EndsOver p code start b → a ≡ b
+  pub over_once : (start : Start) (a b : Ended) → EndsOver p code start a → EndsOver p code start b → a ≡ b
   over_once start a b h k =
       let same : h.ended ≡ k.ended = ends p.program (limits_in p) start.args (world_in p start.store) h.ended k.ended h.runs k.runs in
       same_ended a b (h.end ∙ ap end_of same ∙ sym k.end) (h.objects ∙ ap objects_of same ∙ sym k.objects) (h.reached ∙ ap reached_of same ∙ sym k.reached)
@@ -173,7 +173,7 @@ machine_limits p = record { loops = p.under.job.limits.loops; depth = p.under.jo
 
 module _ (ends : ProgramsEnd) (counted : ListedCodesCount) (kind : SearchKind) (p : Prepared) (code : Code) (of : kind_of p.under.job.context ≡ Some kind)
     (is : IsProgramOf p.under.allow (types_of p.under.job.context) (script_of p.under) (Ok p.program)) (listed : IsListed p.under.allow (types_of p.under.job.context) p.program code) where
-  over_some : (start : Start) → HasArguments kind start.args → (ran : Ended) × EndsOver p code start ran
+  pub over_some : (start : Start) → HasArguments kind start.args → (ran : Ended) × EndsOver p code start ran
   over_some start has =
       let all = has_all p.under.job.context kind start.args of has in
       let end =

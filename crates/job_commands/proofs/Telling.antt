@@ -44,7 +44,7 @@ use Rattle.job_commands.proofs.Replies.{are_map, are_some, are_front, are_once, 
 -- ---- the job
 
 module _ (texts : TextsAreAnsweredOnce) where
-  prepares_once : (under : JobUnder) (a b : Result Prepared Told) → Prepares under a → Prepares under b → a ≡ b
+  pub prepares_once : (under : JobUnder) (a b : Result Prepared Told) → Prepares under a → Prepares under b → a ≡ b
   prepares_once under a b (r, is, at) (q, goes, to) =
       at ∙ ap (prepared under) (texts under.allow (types_of under.job.context) (script_of under) r q is goes) ∙ sym to
 
@@ -77,7 +77,7 @@ module _ (texts : TextsAreAnswered) where
   list_some content codes name = let p = job_some command.List content name in (told_of_list p.0 codes, (p.0, p.1, refl))
 
 -- the program of a job that is prepared is that of its text
-program_by : (under : JobUnder) (p : Prepared) (reading : Result Program Refusal) → IsProgramOf under.allow (types_of under.job.context) (script_of under) reading → Ok p ≡ prepared under reading
+pub program_by : (under : JobUnder) (p : Prepared) (reading : Result Program Refusal) → IsProgramOf under.allow (types_of under.job.context) (script_of under) reading → Ok p ≡ prepared under reading
     → IsProgramOf p.under.allow (types_of p.under.job.context) (script_of p.under) (Ok p.program)
 program_by under p (Ok q) is at =
     let same : p ≡ record { under = under; program = q } = cc in
@@ -334,7 +334,7 @@ module _ (tells : Told → Type 0) (once : (a b : Told) → tells a → tells b 
       (delivers_same (λ other. other ≡ told) Reported
       (λ other same. (subst tells (sym same) is, subst (λ (t : Told). Reports t r) (sym same) (uncounted_reports told r quiet listings steps))) (λ other k. once other told k.0 is) status old new h)
 
-  stopped_delivers : (end : Stop) → IfSome (stop_told end) tells → EndsSo end status old new → Delivers Reported r.status old new
+  pub stopped_delivers : (end : Stop) → IfSome (stop_told end) tells → EndsSo end status old new → Delivers Reported r.status old new
   stopped_delivers end is ends =
       subst (λ (t : Status). Delivers Reported t old new) (sym at)
       (stop_delivers Reported end status old new (λ a b h k. once a b h.0 k.0) (if_both (stop_told end) tells (λ told. Reports told r) is (stop_reports end r quiet)) ends)

@@ -5,3 +5,9 @@ pub mod Listing
 pub mod Running
 pub mod Preparing
 pub mod Documents
+pub mod Generator
+pub mod FixedJob
+pub mod Answers
+pub mod Summaries
+pub mod Generated
+pub mod GeneratedEnds

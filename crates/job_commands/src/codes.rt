@@ -1,6 +1,6 @@
 //! What a job tells of its codes.
 
-ghost use Rattle.std.specs.Prelude.{◌≡◌, [], IfOk, if◌then◌else◌, map, string_bytes};
+ghost use Rattle.std.specs.Prelude.{◌≡◌, [], ◌∷◌, IfOk, if◌then◌else◌, map, string_bytes};
 ghost use Rattle.json_replies.specs.Replies.{line_of};
 ghost use Rattle.job_replies.specs.Listings.{listing_of, prelude_listing_of};
 ghost use Rattle.job_commands.specs.Documents.{front_for};
@@ -10,6 +10,7 @@ ghost use Rattle.job_commands.specs.Running.{front_with};
 
 use crate::preparing::PreparedJob;
 use job_replies::{listing_line, prelude_listing_line};
+use script_engine::Script;
 use std::alloc::{AllocError, Global};
 
 /// What a job tells of its codes.
@@ -61,6 +62,27 @@ fn front_of(
     Ok(front)
 }
 
+/// A listing of a script's code, and one of the prelude's.
+fn both(alloc: Global, script: String, prelude: String) -> Result<Vec<String>, AllocError>
+    ensures { IfOk result (λ both. map string_bytes both.items ≡ string_bytes script ∷ string_bytes prelude ∷ []) }
+{
+    let mut both = Vec::new(alloc);
+    both.push(script)?;
+    both.push(prelude)?;
+    Ok(both)
+}
+
+/// The listing of a script's code, and that of the prelude's.
+pub(crate) fn listings_of(alloc: Global, script: &Script) -> Result<Vec<String>, AllocError>
+    ensures { IfOk result (λ listings. map string_bytes listings.items ≡ listings_of (codes_of script.now)) }
+{
+    both(
+        alloc,
+        script.listing(alloc)?,
+        script.prelude_listing(alloc)?,
+    )
+}
+
 /// What a job tells of the codes of its script.
 pub(crate) fn told_codes(alloc: Global, job: &PreparedJob) -> Result<ToldCodes, AllocError>
     ensures front { IfOk result (λ told. told.front.items ≡ (front_for job.now).bytes) }
@@ -75,8 +97,8 @@ pub(crate) fn told_codes(alloc: Global, job: &PreparedJob) -> Result<ToldCodes, 
         script.as_str(),
         prelude.as_str(),
     )?;
-    let mut listings = Vec::new(alloc);
-    listings.push(script)?;
-    listings.push(prelude)?;
-    Ok(ToldCodes { front, listings })
+    Ok(ToldCodes {
+        front,
+        listings: both(alloc, script, prelude)?,
+    })
 }

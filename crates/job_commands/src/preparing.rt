@@ -13,7 +13,7 @@ ghost use Rattle.job_loading.specs.Loading.{refusal};
 ghost use Rattle.job_loading.specs.Seen.{read_view};
 ghost use Rattle.job_commands.specs.Contexts.{types_of};
 ghost use Rattle.job_commands.specs.Preparing.{CompilesJob, PreparesSo};
-ghost use Rattle.job_commands.specs.Scripts.{PreparesJob, text_in};
+ghost use Rattle.job_commands.specs.Scripts.{Prepares, PreparesJob, text_in};
 
 use crate::contexts::{context_types, kind_of};
 use command_parts::Stop;
@@ -88,6 +88,19 @@ fn script_of(alloc: Global, found: &ReadJob) -> Result<Script, Stop>
     }
 }
 
+/// A job that was read, with its script, or why the command ends: the script is refused, or memory ran out.
+pub(crate) fn prepare_found(alloc: Global, found: ReadJob) -> Result<PreparedJob, Stop>
+    ensures told { PreparesSo (Prepares (read_view found)) result }
+    ensures found { IfOk result (λ job. job.found ≡ found) }
+    ensures sound { IfOk result (λ job. shape_fault job.found.allow job.script.executable.code ≡ None) }
+    ensures rows { IfOk result (λ job. HaveRows job.script.executable.allow job.script.executable.code.functions) }
+    ensures takes { IfOk result (λ job. TakesTyped (types_of job.found.job.context) job.script) }
+    ensures quiet { IfErr result (λ stop. stop ≢ Stop.FileFault) }
+{
+    let script = script_of(alloc, &found)?;
+    Ok(PreparedJob { found, script })
+}
+
 /// The job in the file of a name, for a command, with its script, or why the command ends.
 pub(crate) fn prepare<F: Files>(
     alloc: Global,
@@ -105,6 +118,5 @@ pub(crate) fn prepare<F: Files>(
     ensures cause { HasCause Stop.FileFault (F.faults files.old) (F.faults files.new) result }
 {
     let found = read_job(alloc, command, name, files)?;
-    let script = script_of(alloc, &found)?;
-    Ok(PreparedJob { found, script })
+    prepare_found(alloc, found)
 }

@@ -14,61 +14,23 @@ ghost use Rattle.command_parts.specs.DeliversOver.{DeliversOver};
 ghost use Rattle.command_parts.specs.Reports.{IsQuiet, Reports};
 ghost use Rattle.line_run.specs.Passing.{Passes};
 ghost use Rattle.job_commands.specs.Contexts.{kind_of, types_of};
-ghost use Rattle.job_commands.specs.Documents.{EndsPrepared, GivesReplies, IsDocumentJob, LeavesInput, Lists, front_for, ran_by};
+ghost use Rattle.job_commands.specs.Documents.{EndsPrepared, GivesReplies, LeavesInput, Lists, front_for, ran_by};
 ghost use Rattle.job_commands.specs.Listing.{AreCodesIn, listings_of};
 ghost use Rattle.job_commands.specs.Preparing.{codes_of};
 ghost use Rattle.job_commands.specs.Running.{RunsPast, TellsRun, TellsRunTaken};
 
 use crate::codes::{ToldCodes, told_codes};
 use crate::contexts::kind_of;
+use crate::documents::document_job;
 use crate::preparing::{PreparedJob, prepare};
-use crate::script::LimitedScript;
 use command_parts::{Report, Status, end_with};
-use document_replies::{DocumentJob, Settings};
 use job_file::JobCommand;
 use job_loading::key_refused;
-use json_replies::ShownKeys;
 use line_run::{Ran, run_lines};
-use machine::Limits;
 use outer_io::{Files, Sink, Source};
 use script_engine::{code_laws, script_laws};
-use search_ctx::{Fields, SearchKind, fields_stay};
-use std::alloc::{AllocError, Global};
-
-/// What replies to the lines of a job.
-fn document_job(
-    alloc: Global,
-    kind: SearchKind,
-    job: PreparedJob,
-) -> Result<DocumentJob<LimitedScript>, AllocError>
-    requires distinct { HasDistinctNames (fields_view job.found.job.mapping.fields.items) }
-    ensures { IfOk result (IsDocumentJob kind job) }
-{
-    fields_stay();
-    let (found, script) = job.into_parts();
-    let limits = found.job.limits;
-    Ok(DocumentJob {
-        settings: Settings {
-            alloc,
-            kind,
-            fields: Fields::new(alloc, &found.job.mapping)?,
-            params: found.job.params.clone()?,
-            room: limits.room,
-            keys: ShownKeys {
-                members: found.job.members,
-                steps: found.job.steps,
-            },
-        },
-        script: LimitedScript {
-            script,
-            limits: Limits {
-                loops: limits.loops,
-                depth: limits.depth,
-                ticks: limits.ticks,
-            },
-        },
-    })
-}
+use search_ctx::SearchKind;
+use std::alloc::Global;
 
 /// The report of a run over lines, which has listings where it came to the end of its input.
 fn report_of(alloc: Global, ran: Ran, listings: Vec<String>) -> Report

@@ -1,5 +1,5 @@
 -- What is delivered of the words.
-use Rattle.std.proofs.Common.{◌≡◌, ◌⊎◌, inl, ℕ, List, Option, None, refl, sym, subst}
+use Rattle.std.proofs.Common.{◌≡◌, ◌⊎◌, inl, ℕ, List, Option, Some, None, refl, sym, subst}
 use Rattle.command_parts.specs.declared.report.Report.{Report}
 use Rattle.command_parts.specs.declared.status.Status.{Status}
 use Rattle.command_parts.specs.declared.status.Status.TheVariants as s
@@ -18,7 +18,8 @@ use Rattle.job_commands.specs.Listing.{AreCodesIn, TellsList}
 use Rattle.job_commands.specs.Running.{TellsRun, TellsRunTaken, RunsPast}
 use Rattle.painless_cli.specs.declared.words.Command.{Command}
 use Rattle.painless_cli.specs.declared.words.Command.TheVariants as c
-use Rattle.painless_cli.specs.Whole.{Call, call_of, AreCodesNamed, AreCodesCall, AreCodes, TellsNamed, TellsTakenNamed, TellsCall, TellsTakenCall, Tells, TellsTaken, PastNamed, PastCall, TakesPast}
+use Rattle.job_commands.specs.Generated.{AreFixedCodes, TellsGen}
+use Rattle.painless_cli.specs.Whole.{Call, over_documents, call_of, AreCodesNamed, AreCodesCall, AreCodes, TellsNamed, TellsTakenNamed, TellsCall, TellsTakenCall, Tells, TellsTaken, PastNamed, PastCall, TakesPast}
 
 -- codes where there is no script
 some_codes : ScriptCodes
@@ -51,6 +52,18 @@ usage_delivers words content r left old ends quiet is =
       inl tt,
       subst (λ (t : Status). DeliversOver (λ input told. TellsCall None content some_codes input told × Reports told r) (TellsTakenCall None content some_codes) (PastCall None content) t left left old old)
           (sym ends) (i.0, i.1, silent s.Usage, (refl, subst (λ (t : Status). ReportsBy t (silent s.Usage) r) (sym ends) quiet), refl, nothing old),
+    )
+
+-- what is delivered of documents
+pub gen_delivers : (words : List (List ℕ)) (content : List ℕ → Option (List ℕ)) (count : ℕ) (r : Report) (left old new : Option (List ℕ)) → call_of words ≡ Some (over_documents count)
+    → (codes : ScriptCodes) × (AreFixedCodes codes ⊎ EndsBefore r.status old new) × Delivers (λ told. TellsGen codes count told × Reports told r) r.status old new
+    → WordsDeliver words content r left left old new
+gen_delivers words content count r left old new is (codes, are, h) =
+    words_deliver words content (Some (over_documents count)) r left left old new is (
+      codes,
+      are,
+      delivers_over (λ told. TellsGen codes count told × Reports told r) (λ input told. TellsCall (Some (over_documents count)) content codes input told × Reports told r)
+          (TellsTakenCall (Some (over_documents count)) content codes) (PastCall (Some (over_documents count)) content) (λ input told k. k) (λ input told k. k) r.status left left old new h,
     )
 
 -- ---- each command

@@ -9,7 +9,8 @@ use Rattle.eval_command.proofs.Some.{file_some}
 use Rattle.job_commands.proofs.Telling.{check_once, check_some, list_once, list_some, run_once, run_some}
 use Rattle.painless_cli.specs.declared.words.Command.{Command}
 use Rattle.painless_cli.specs.declared.words.Command.TheVariants as c
-use Rattle.painless_cli.specs.Whole.{Call, call_of, AreCodesNamed, AreCodesCall, AreCodes, TellsNamed, TellsCall, Tells}
+use Rattle.job_commands.proofs.GeneratedTelling.{gen_once, gen_some}
+use Rattle.painless_cli.specs.Whole.{Call, over_file, over_documents, call_of, AreCodesNamed, AreCodesCall, AreCodes, TellsNamed, TellsCall, Tells}
 
 module _ (texts : TextsAreAnsweredOnce) (ends : ProgramsEndOnce) (counts : CodesCountOnce) (content : List ℕ → Option (List ℕ)) (codes : ScriptCodes) (input : List ℕ) where
   named_once : (command : Command) (name : List ℕ) (a b : Told) → TellsNamed command name content codes input a → TellsNamed command name content codes input b → a ≡ b
@@ -20,7 +21,8 @@ module _ (texts : TextsAreAnsweredOnce) (ends : ProgramsEndOnce) (counts : Codes
 
   call_once : (call : Option Call) (a b : Told) → TellsCall call content codes input a → TellsCall call content codes input b → a ≡ b
   call_once None a b h k = h ∙ sym k
-  call_once (Some call) a b h k = named_once call.command call.name a b h k
+  call_once (Some (over_file command name)) a b h k = named_once command name a b h k
+  call_once (Some (over_documents count)) a b h k = gen_once texts ends counts codes count a b h k
 
   pub tells_once : (words : List (List ℕ)) (a b : Told) → Tells words content codes input a → Tells words content codes input b → a ≡ b
   tells_once words = call_once (call_of words)
@@ -34,7 +36,8 @@ module _ (texts : TextsAreAnswered) (ends : ProgramsEnd) (counted : ListedCodesC
 
   call_some : (call : Option Call) → AreCodesCall call content codes → (told : Told) × TellsCall call content codes input told
   call_some None are = (silent s.Usage, refl)
-  call_some (Some call) are = named_some call.command call.name are
+  call_some (Some (over_file command name)) are = named_some command name are
+  call_some (Some (over_documents count)) are = gen_some texts ends counted codes count are
 
   pub tells_some : (words : List (List ℕ)) → AreCodes words content codes → (told : Told) × Tells words content codes input told
   tells_some words = call_some (call_of words)

@@ -56,7 +56,7 @@ const ROWS: [(&str, &str, &str, &str, &str, u64); 5] = [
 ];
 
 /// Words that are no command with its one word.
-const NO_COMMANDS: [&[&str]; 9] = [
+const NO_COMMANDS: [&[&str]; 17] = [
     &[],
     &["run"],
     &["run", "a", "b"],
@@ -66,6 +66,14 @@ const NO_COMMANDS: [&[&str]; 9] = [
     &["list"],
     &["Eval", "f"],
     &["eval", "f", "f"],
+    &["gen"],
+    &["gen", "f"],
+    &["gen", ""],
+    &["gen", "0"],
+    &["gen", "01"],
+    &["gen", "+1"],
+    &["gen", "1000001"],
+    &["gen", "4294967297"],
 ];
 
 fn words_of(alloc: Global, words: &[&str]) -> Result<Vec<String>, AllocError> {
@@ -122,6 +130,31 @@ fn commands(rt: HostRuntime) -> Result<(), Fail> {
             };
             assert!(rt; same, "{command}");
         }
+    }
+    Ok(())
+}
+
+/// How many documents are made, and what is written. The numbers behind 0 are 12345, 1406932606, 654583775, 1449466924, 229283573,
+/// 1109335178, 1051550459, 1293799192, 794471793 and 551188310: in ten documents two have no `n`, and the tags have two units each.
+const GENERATED: [(&str, &str); 4] = [
+    ("1", "{\"docs\":1,\"errors\":1,\"ok\":0,\"sum\":0}\n"),
+    ("2", "{\"docs\":2,\"errors\":1,\"ok\":1,\"sum\":1214}\n"),
+    ("3", "{\"docs\":3,\"errors\":2,\"ok\":1,\"sum\":1214}\n"),
+    ("10", "{\"docs\":10,\"errors\":2,\"ok\":8,\"sum\":8086}\n"),
+];
+
+#[test]
+fn documents(rt: HostRuntime) -> Result<(), Fail> {
+    let alloc = rt.alloc();
+    for (count, written) in GENERATED {
+        let words = words_of(alloc, &["gen", count])?;
+        let mut files = SureFiles::new(Vec::new(alloc));
+        let mut input = SureSource::new(Vec::new(alloc), 1);
+        let mut out = SureSink::new(alloc, 7);
+        let report = painless_surely(alloc, words.as_slice(), &mut files, &mut input, &mut out);
+        assert_eq!(rt; report.status, Status::Done);
+        assert_eq!(rt; out.bytes(), written.as_bytes());
+        assert_eq!(rt; report.listings.len(), 2);
     }
     Ok(())
 }

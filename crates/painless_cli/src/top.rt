@@ -11,10 +11,10 @@ ghost use Rattle.job_commands.specs.Documents.{LeavesInput};
 ghost use Rattle.painless_cli.specs.Whole.{AreCodes, AreCodesNamed, IsCallOf, PastNamed, TakesPast, Tells, TellsNamed, TellsTaken, TellsTakenNamed, call_of};
 ghost use Rattle.painless_cli.specs.declared.words.Command.TheVariants as c;
 
-use crate::words::{Command, call_of};
+use crate::words::{Called, Command, call_of};
 use command_parts::{Report, Status};
 use eval_command::eval;
-use job_commands::{check, list, run};
+use job_commands::{check, gen_, list, run};
 use outer_io::{Files, Sink, Source};
 use std::alloc::Global;
 
@@ -23,10 +23,11 @@ use std::alloc::Global;
 /// `words` are those after the program's name. `eval FILE` runs the script that stands in the file and writes one line, its reply or
 /// its refusal. `check FILE` compiles the script of the job in the file, and writes that it is accepted or why it is refused. `list FILE`
 /// compiles it and writes the listing of its code, or that of the prelude's where the job asks for it.
-/// `run FILE` runs the script of the job in the file over each line of the input, and writes the replies. The report's status says how
+/// `run FILE` runs the script of the job in the file over each line of the input, and writes the replies. `gen N` makes so many documents,
+/// from 1 to 1,000,000, runs a fixed job over them, and writes a summary. The report's status says how
 /// the run ended; with `ReadFault`, `WriteFault`, `NoMemory` and `InputLong` some of what is told may be missing, with `Usage` and
-/// the statuses of files nothing is written. With status 0 or 1 of `eval` and `run` the report has the listing of the script's code and
-/// that of the prelude's, and how many instructions were run.
+/// the statuses of files nothing is written. With status 0 or 1 of `eval`, `run` and `gen` the report has the listing of the script's code
+/// and that of the prelude's, and how many instructions were run.
 pub fn painless<F: Files, S: Source, K: Sink>(
     alloc: Global,
     words: &[String],
@@ -61,7 +62,8 @@ pub fn painless<F: Files, S: Source, K: Sink>(
     ensures quiet { result.status ≢ Status.Done → result.status ≢ Status.SomeErrors → IsQuiet result }
 {
     match call_of(words) {
-        Some((command, name)) => called(alloc, command, name, files, input, out),
+        Some(Called::File(command, name)) => called(alloc, command, name, files, input, out),
+        Some(Called::Documents(count)) => gen_(alloc, count, out),
         None => Report::quiet(alloc, Status::Usage),
     }
 }
