@@ -6,6 +6,7 @@ pub mod Fitted
 pub mod Turning
 pub mod Rows
 pub mod Quick
+pub mod Boxing
 pub mod Returning
 pub mod Moving
 pub mod Reaching

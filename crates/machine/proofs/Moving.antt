@@ -1,11 +1,11 @@
 -- Calls and returns on the fast path.
-use Rattle.std.proofs.Common.{◌≡◌, ℕ, ◌-◌, ◌<◌, Bool, true, false, List, [], ◌∷◌, length, Option, Some, None, refl, ap, sym, subst, ◌∙◌}
-use Rattle.std.specs.Prelude.{nat_lt, slice_get, if◌then◌else◌}
+use Rattle.std.proofs.Common.{◌≡◌, ℕ, ◌-◌, ◌<◌, Bool, true, false, List, [], ◌∷◌, length, Option, Some, refl, ap, sym, subst, ◌∙◌}
+use Rattle.std.specs.Prelude.{slice_get, if◌then◌else◌}
 use Rattle.std.proofs.lemmas.Bool.{lt-ltb}
 use Rattle.object_heap.specs.Store.{Store}
 use Rattle.pl_code.specs.declared.code.FunCode.{FunCode}
 use Rattle.pl_code.specs.declared.code.Instruction.{Instruction}
-use Rattle.run_state.specs.World.{World, Limits, Counted, Counts, Passes, Ticks, Depth, enter, goes_deeper, pay_tick}
+use Rattle.run_state.specs.World.{World, Limits, Counts, Passes, Ticks, Depth, enter, goes_deeper, pay_tick}
 use Rattle.code_meaning.specs.declared.word.Word.{Word}
 use Rattle.code_meaning.specs.Machine.{Codes, Config, Frame, Goes, Next, act, acts, depth_of, function_of, gives_back, lines_of, on_call, on_enter, on_top, on_words, step, take_words}
 use Rattle.machine.specs.Fast.{Does, KeepsRoom, StaysIn, Takes, in_world, moves, placed, stays}

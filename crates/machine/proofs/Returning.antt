@@ -1,9 +1,8 @@
 -- The frame below the newest one, which gets what that one gives.
-use Rattle.std.proofs.Common.{◌≡◌, ℕ, suc, ◌+◌, ◌-◌, ◌≤◌, List, [], ◌∷◌, ◌++◌, length, true, arith, refl, ap, sym, subst, ◌∙◌}
+use Rattle.std.proofs.Common.{◌≡◌, ℕ, suc, ◌+◌, ◌≤◌, List, [], ◌∷◌, ◌++◌, length, true, arith, ap, sym, subst, ◌∙◌}
 use Rattle.std.specs.Prelude.{take, drop, reverse}
-use Rattle.std.proofs.lemmas.List.{drop-append-le, length-drop, length-take, reverse-append, take-append-le}
+use Rattle.std.proofs.lemmas.List.{drop-append-le, length-drop, reverse-append, take-append-le}
 use Rattle.code_meaning.specs.declared.word.Word.{Word}
-use Rattle.code_meaning.specs.Machine.{Frame}
 use Rattle.machine.specs.declared.frames.Held.{Held}
 use Rattle.machine.specs.Frames.{GivesBack, Within, at_line, own, lie, with_stack}
 

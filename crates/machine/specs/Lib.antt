@@ -10,6 +10,7 @@ pub mod Indexes
 pub mod Sparing
 pub mod Runs
 pub mod Fast
+pub mod Boxed
 pub mod Activations
 pub mod Fitting
 pub mod Laws

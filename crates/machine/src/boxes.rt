@@ -42,6 +42,7 @@ pub fn box_number(run: &mut Configuration, primitive: Primitive) -> Step
 }
 
 /// The value of a number in the box of a primitive.
+#[inline(always)]
 pub fn boxed(primitive: Primitive, word: &Word) -> Option<Value>
     ensures { result ≡ words.boxed primitive word.now }
 {
@@ -52,6 +53,7 @@ pub fn boxed(primitive: Primitive, word: &Word) -> Option<Value>
     }
 }
 
+#[inline(always)]
 fn boxed_int(primitive: Primitive, a: i32) -> Option<Value>
     ensures { result ≡ words.boxed_int primitive a }
 {
@@ -65,6 +67,7 @@ fn boxed_int(primitive: Primitive, a: i32) -> Option<Value>
     }
 }
 
+#[inline(always)]
 fn boxed_long(primitive: Primitive, a: i64) -> Option<Value>
     ensures { result ≡ words.boxed_long primitive a }
 {

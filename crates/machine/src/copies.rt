@@ -20,6 +20,7 @@ pub fn copy_of(word: &Word) -> Result<Word, AllocError>
     }
 }
 
+#[inline(never)]
 fn copy_of_value(value: &Value) -> Result<Word, AllocError>
     ensures copy { IfOk result (λ copy. copy ≡ R value.now) }
     ensures memory { is_text (R value.now) ≡ false → IsOk result }
@@ -34,5 +35,20 @@ fn copy_of_value(value: &Value) -> Result<Word, AllocError>
         Value::Long(number) => Ok(Word::R(Value::Long(*number))),
         Value::Str(_) => Ok(Word::R(value.share()?)),
         Value::Ref(id) => Ok(Word::R(Value::Ref(*id))),
+    }
+}
+
+/// The same, with the numbers in boxes and the references that are frequent chosen at once.
+#[inline(always)]
+pub fn quick_copy_of(word: &Word) -> Result<Word, AllocError>
+    ensures { IfOk result (λ copy. copy ≡ word.now) }
+{
+    match word {
+        Word::I(number) => Ok(Word::I(*number)),
+        Word::J(number) => Ok(Word::J(*number)),
+        Word::R(Value::Int(number)) => Ok(Word::R(Value::Int(*number))),
+        Word::R(Value::Long(number)) => Ok(Word::R(Value::Long(*number))),
+        Word::R(Value::Ref(id)) => Ok(Word::R(Value::Ref(*id))),
+        Word::R(value) => copy_of_value(value),
     }
 }

@@ -198,6 +198,7 @@ impl Executable {
     }
 
     /// What the instruction at which the newest frame stands names. A member is one of the list.
+    #[inline(always)]
     pub(crate) fn link(&self, frames: &Frames) -> Option<&Link>
         ensures link { option_copied result ≡ link_at self.now frames.now.top }
         ensures within { IfSome (member_in (option_copied result)) (λ number. number < length self.now.allow.members) }
@@ -215,6 +216,7 @@ impl Executable {
         }
     }
 
+    #[inline(always)]
     fn named_at(&self, frames: &Frames) -> Option<&Link>
         ensures { option_copied result ≡ link_at self.now frames.now.top }
     {

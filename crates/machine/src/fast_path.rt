@@ -64,8 +64,9 @@ fn is_number(word: Option<&Word>) -> bool {
     matches!(word, Some(Word::I(_)) | Some(Word::J(_)))
 }
 
-/// Takes so many instructions, or fewer: those of the fast path, up to the first that is none of it.
-#[inline(always)]
+/// Takes so many instructions, or fewer: those of the fast path, up to the first that is none of it. It is not inlined, so that what is
+/// around it takes no register from it.
+#[inline(never)]
 pub fn run_fast(
     frames: Frames,
     code: &LinkedCode,
@@ -303,7 +304,7 @@ fn store(frames: &mut Frames, number: u32, next: usize) -> bool
 
 // To the one line where the int on the stack is 0, and else to the other.
 #[inline(always)]
-fn jump(frames: &mut Frames, zero: usize, other: usize) -> bool
+pub fn jump(frames: &mut Frames, zero: usize, other: usize) -> bool
     ensures exact { (w : World) → Does (on_top frames.old.top.stack (λ word stack. on_int word (λ a. unless_zero a (to_line frames.old.top frames.old.below w other stack) (to_line frames.old.top frames.old.below w zero stack)))) (in_world frames.old w) (in_world frames.new w) result }
     ensures keeps { KeepsTurns frames.old frames.new }
 {
@@ -323,7 +324,7 @@ fn jump(frames: &mut Frames, zero: usize, other: usize) -> bool
 // A turn of a loop where the int on the stack is not 0, if no limit bars it.
 #[inline(always)]
 #[tactic(auto, using(crate::proofs::Quick::of_upper), unfolding(run_state::specs::World::take_turn, run_state::specs::World::pay_tick))]
-fn repeat(
+pub fn repeat(
     frames: &mut Frames,
     ticks: &mut u64,
     line: u32,
@@ -372,7 +373,7 @@ fn fast_arithmetic(frames: &mut Frames, op: ArithmeticOp, width: Width, next: us
 }
 
 #[inline(always)]
-fn ints(frames: &mut Frames, op: ArithmeticOp, next: usize) -> bool
+pub fn ints(frames: &mut Frames, op: ArithmeticOp, next: usize) -> bool
     requires { next ≡ suc frames.old.top.line }
     ensures exact { (codes : Codes) (limits : Limits) (w : World) → Does (on_calculation codes limits (words.ints_of op frames.old.top.stack) frames.old.top frames.old.below w) (in_world frames.old w) (in_world frames.new w) result }
     ensures keeps { KeepsTurns frames.old frames.new }
@@ -454,7 +455,7 @@ fn ints_on(frames: &Frames) -> Option<(i32, i32)>
 
 #[inline(always)]
 #[tactic(auto, using(crate::proofs::Quick::upper_two))]
-fn longs_on(frames: &Frames) -> Option<(i64, i64)>
+pub fn longs_on(frames: &Frames) -> Option<(i64, i64)>
     ensures { MatchOption result (Unit {0}) (λ p. frames.now.top.stack ≡ J p.1 ∷ J p.0 ∷ drop 2 frames.now.top.stack) }
 {
     match frames.upper() {
@@ -469,7 +470,7 @@ fn longs_on(frames: &Frames) -> Option<(i64, i64)>
 // Puts a number in the place of two.
 #[inline(always)]
 #[tactic(auto, using(crate::proofs::Quick::one_is_left, crate::proofs::Quick::both_left))]
-fn put_for_two(frames: &mut Frames, number: Num, next: usize)
+pub fn put_for_two(frames: &mut Frames, number: Num, next: usize)
     requires { 2 ≤ length frames.old.top.stack }
     ensures top { frames.new.top ≡ at_line (with_stack frames.old.top (words.word_of number ∷ drop 2 frames.old.top.stack)) next }
     ensures below { frames.new.below ≡ frames.old.below }

@@ -15,7 +15,7 @@ use crate::calls::start_of;
 use crate::handlers::Handlers;
 use crate::linked_code::LinkedCode;
 use code_meaning::Word;
-use object_values::{Elements, Owner};
+use object_values::{Elements, Owner, Value};
 use pl_code::{FunCode, Slot};
 use std::alloc::{AllocError, Global};
 use std::marker::Model;
@@ -220,8 +220,8 @@ impl Frames {
         self.words.get(count - 1)
     }
 
-    /// Writes a local of the newest frame. Where there is none of this number nothing changes. What a number is written over is a
-    /// number mostly, which owns nothing, and is not read.
+    /// Writes a local of the newest frame. Where there is none of this number nothing changes. What is written over owns nothing, unless
+    /// it is a text, and is not read.
     #[inline(always)]
     #[tactic(auto, using(crate::proofs::Places::written, crate::proofs::Places::stack_stays, crate::proofs::Places::rest_stays))]
     pub fn store(&mut self, number: usize, word: Word)
@@ -237,7 +237,7 @@ impl Frames {
         }
         let place = self.top.base + number;
         match &self.words[place] {
-            Word::R(_) => self.words[place] = word,
+            Word::R(Value::Str(_)) => self.words[place] = word,
             _ => forget(replace(&mut self.words[place], word)),
         }
     }

@@ -36,6 +36,8 @@ mod step;
 mod suiting;
 mod throwing;
 mod typed;
+mod value_path;
+mod value_rows;
 mod values;
 mod words;
 

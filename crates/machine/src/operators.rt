@@ -288,3 +288,11 @@ pub fn on_longs(op: ArithmeticOp, a: i64, b: i64) -> Option<Num>
         ArithmeticOp::Ne => truth_of(a != b),
     }
 }
+
+/// The same as a call, for where it is not inlined.
+#[inline(never)]
+pub fn call_on_longs(op: ArithmeticOp, a: i64, b: i64) -> Option<Num>
+    ensures { result ≡ of_type n.Long w64 (words.op_of op) a b }
+{
+    on_longs(op, a, b)
+}

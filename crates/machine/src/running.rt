@@ -11,7 +11,11 @@ use crate::fast_path::{FastRun, begins_fast, run_fast};
 use crate::frames::Frames;
 use crate::rules::Rules;
 use crate::step::step;
+use crate::value_path::{begins_values, run_values};
 use std::mem::{forget, replace};
+
+// After so many instructions of the path of values that of numbers is tried.
+const LONG_WAY: u64 = 4096;
 
 /// How far a run has come.
 #[derive(Drop)]
@@ -39,7 +43,7 @@ pub fn run_on(
 {
     let mut taken = 0;
     'instructions: while taken < count {
-        taken += run_numbers(run, executable, limits, count - taken);
+        taken += run_paths(run, executable, limits, count - taken);
         if taken >= count {
             return Ran {
                 last: Step::Goes,
@@ -57,6 +61,29 @@ pub fn run_on(
         last: Step::Goes,
         steps: count,
     }
+}
+
+// Takes instructions of the path of values, so many at most. Where it goes on for long, that of numbers is tried behind it, which is faster
+// for them: so a loop that calls members enters one path a turn, and one on numbers alone comes to its own.
+#[inline(always)]
+#[tactic(auto, using(crate::proofs::Counting::counts_led))]
+fn run_paths(
+    run: &mut Configuration,
+    executable: &Executable,
+    limits: &Rules<'_>,
+    count: u64,
+) -> u64
+    requires counts { CountsFit (configuration_of run.old) }
+    ensures exact { Leads (codes_alone executable.now.code.functions) (limits_in limits.now) result (configuration_of run.old) (configuration_of run.new) }
+    ensures steps { result ≤ count }
+    ensures room { room_of run.new ≡ room_of run.old }
+{
+    let most = if count < LONG_WAY { count } else { LONG_WAY };
+    let values = run_others(run, executable, limits, most);
+    if values < LONG_WAY {
+        return values;
+    }
+    values + run_numbers(run, executable, limits, count - values)
 }
 
 // Takes instructions of the fast path, so many at most. Its frames are held by value, and others stand here meanwhile.
@@ -86,6 +113,50 @@ fn run_numbers(
             } = run_fast(
                 frames,
                 code,
+                function,
+                limits.loops(),
+                limits.depth(),
+                run.world.ticks,
+                count,
+            );
+            forget(replace(&mut run.frames, frames));
+            run.world.ticks = ticks;
+            steps
+        }
+        None => 0,
+    }
+}
+
+// Takes instructions of the path of values, so many at most, in frames that are held by value too.
+#[inline(always)]
+fn run_others(
+    run: &mut Configuration,
+    executable: &Executable,
+    limits: &Rules<'_>,
+    count: u64,
+) -> u64
+    requires counts { CountsFit (configuration_of run.old) }
+    ensures exact { Leads (codes_alone executable.now.code.functions) (limits_in limits.now) result (configuration_of run.old) (configuration_of run.new) }
+    ensures steps { result ≤ count }
+    ensures room { room_of run.new ≡ room_of run.old }
+{
+    match run
+        .frames
+        .function_at(executable.linked(), run.frames.fun())
+    {
+        Some(function) => {
+            if !begins_values(&run.frames, function) {
+                return 0;
+            }
+            let none = Frames::none(run.world.heap.alloc());
+            let frames = replace(&mut run.frames, none);
+            let FastRun {
+                frames,
+                ticks,
+                steps,
+            } = run_values(
+                frames,
+                executable,
                 function,
                 limits.loops(),
                 limits.depth(),

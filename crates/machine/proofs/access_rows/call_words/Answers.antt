@@ -1,4 +1,4 @@
-use Rattle.std.proofs.Common.{List, Some, sym, ap, ◌∙◌}
+use Rattle.std.proofs.Common.{List, sym, ap, ◌∙◌}
 use Rattle.object_values.specs.declared.value.Value.{Value}
 use Rattle.def_access.specs.Access.{method_called}
 use Rattle.code_meaning.specs.Machine.{Next, on_access, on_first, on_values}

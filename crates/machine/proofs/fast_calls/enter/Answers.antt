@@ -1,4 +1,4 @@
-use Rattle.std.proofs.Common.{◌≡◌, ◌<◌, ℕ, List, [], sym, subst, rules}
+use Rattle.std.proofs.Common.{◌<◌, ℕ, List, [], sym, subst, rules}
 use Rattle.pl_code.specs.declared.kinds.Slot.{Slot}
 use Rattle.code_meaning.specs.Machine.{depth_of, take_words}
 use Rattle.machine.specs.Frames.{Enters}

@@ -1,4 +1,4 @@
-use Rattle.std.proofs.Common.{◌≡◌, ◌∷◌, ℕ, suc, Bool, Option, ap, sym, ◌∙◌}
+use Rattle.std.proofs.Common.{◌∷◌, ℕ, suc, Bool, Option, ap, sym, ◌∙◌}
 use Rattle.std.specs.Prelude.{slice_get, slice_set}
 use Rattle.pl_code.specs.declared.code.FunCode.{FunCode}
 use Rattle.run_state.specs.World.{World, take_turn}

@@ -1,4 +1,4 @@
-use Rattle.std.proofs.Common.{◌≡◌, ap, sym, subst, ◌∙◌, slice_get}
+use Rattle.std.proofs.Common.{ap, sym, subst, ◌∙◌, slice_get}
 use Rattle.run_state.specs.World.{World}
 use Rattle.pl_code.specs.declared.kinds.Plain.TheVariants as plain
 use Rattle.code_meaning.specs.Machine.{act, code_in, numbered_act, on_call, plain_act}

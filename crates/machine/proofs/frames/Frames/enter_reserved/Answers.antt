@@ -1,4 +1,4 @@
-use Rattle.std.proofs.Common.{◌≡◌, ◌+◌, ◌-◌, ◌≤◌, [], ◌∷◌, ◌++◌, length, map, sym, subst, rules}
+use Rattle.std.proofs.Common.{◌≡◌, ◌+◌, ◌-◌, ◌≤◌, [], ◌∷◌, ◌++◌, length, map, subst, rules}
 use Rattle.std.specs.Prelude.{reverse, take}
 use Rattle.code_meaning.specs.Machine.{take_words}
 use Rattle.code_meaning.specs.Words.{start_of}
