@@ -1,14 +1,11 @@
 -- Calls.
-use Rattle.std.proofs.Common.{◌≡◌, ℕ, zero, suc, ◌≤◌, List, [], ◌∷◌, ◌++◌, map, length, Option, Some, None, refl, sym, ap, ◌∙◌, subst, arith}
-use Rattle.pl_code.specs.declared.kinds.Slot.{Slot}
+use Rattle.std.proofs.Common.{◌≡◌, ℕ, zero, suc, ◌≤◌, List, [], ◌∷◌, length, Some, refl, sym, ap, ◌∙◌, subst, arith}
 use Rattle.pl_code.specs.declared.code.FunCode.{FunCode}
 use Rattle.run_state.specs.World.{World, Limit, Limits, Limited, Counted, Passes}
 use Rattle.code_meaning.specs.declared.word.Word.{Word}
-use Rattle.code_meaning.specs.Words.{start_of}
-use Rattle.code_meaning.specs.Machine.{Frame, Next, Goes, Ends, take_words, on_words, on_enter, Codes}
+use Rattle.code_meaning.specs.Machine.{Frame, Next, Ends, take_words, on_words, on_enter, Codes}
 use Rattle.machine.specs.declared.configuration.Configuration.{Configuration}
 use Rattle.machine.specs.declared.configuration.Step.{Step}
-use Rattle.machine.specs.Frames.{Enters, with_stack}
 use Rattle.machine.specs.Seen.{Comes}
 
 -- what comes of what is the same
@@ -20,17 +17,6 @@ there : (n : ℕ) (stack taken : List Word) → n ≤ length stack → (p : List
 there zero stack taken h = ((taken, stack), refl)
 there (suc n) [] taken h = absurd (omega arith)
 there (suc n) (word ∷ stack) taken h = there n stack (word ∷ taken) (omega arith)
-
--- a frame that is entered
-abbrev pub entering : ℕ → List Slot → Frame → List Frame → World → List Word → List Word → Next
-entering fun slots old below w args stack =
-    Goes (record { top = record { text = old.text; fun = fun; line = 0; locals = args ++ map start_of slots; stack = []; turns = 0; due = [] }; below = with_stack old stack ∷ below; world = w })
-
-pub entered : (o : Option (List Word × List Word)) (fun : ℕ) (slots : List Slot) (old : Frame) (below : List Frame) (new : Frame) (left : List Frame) (w : World) → Enters o fun slots old below new left
-    → on_words o (entering fun slots old below w) ≡ Goes (record { top = new; below = left; world = w })
-entered None fun slots old below new left w h = absurd h
-entered (Some p) fun slots old below new left w h =
-    ap (λ (f : Frame). Goes (record { top = f; below = with_stack old p.1 ∷ below; world = w })) (sym h.0) ∙ ap (λ (fs : List Frame). Goes (record { top = new; below = fs; world = w })) (sym h.1)
 
 -- a call that passes a limit
 pub limited : (codes : Codes) (limits : Limits) (n k : ℕ) (g : FunCode) (f : Frame) (below : List Frame) (w new : World) (counted : Counted) (limit : Limit) → n ≤ length f.stack → counted ≡ Passes limit new

@@ -9,7 +9,7 @@ use Rattle.machine.specs.declared.configuration.Step.{Step}
 use Rattle.machine.specs.declared.configuration.Step.TheVariants as said
 use Rattle.machine.specs.Activations.{Activation, now_of, turn_of, HasTurned, SparesFor}
 use Rattle.machine.specs.Memory.{HasMemory, RunSpares}
-use Rattle.machine.specs.Rooms.{FitsAtStart, IsEnough}
+use Rattle.machine_parts.specs.Rooms.{FitsAtStart, IsEnough}
 use Rattle.machine.specs.Seen.{configuration_of, limits_of, room_of, goes, codes_alone}
 
 pub has_turned : (last : Step) → HasMemory last → HasTurned (turn_of last)

@@ -5,8 +5,8 @@ use Rattle.pl_code.specs.declared.code.Trap.{Trap}
 use Rattle.pl_code.specs.declared.code.FunCode.{FunCode}
 use Rattle.run_state.specs.World.{World}
 use Rattle.code_meaning.specs.Machine.{Frame, Next, Handlers, traps_at, traps_of, is_instance, lands, unwind, Codes, function_of}
-use Rattle.machine.specs.declared.handlers.LinkedTrap.{LinkedTrap}
-use Rattle.machine.specs.Handlers.{catches, line_of, linked}
+use Rattle.machine_parts.specs.declared.handlers.LinkedTrap.{LinkedTrap}
+use Rattle.machine_parts.specs.Handlers.{catches, line_of, linked}
 use Rattle.machine.specs.Rows.{landing, landed}
 
 abbrev lands_in : Handlers → Frame → List Frame → ℕ → World → Next → Next

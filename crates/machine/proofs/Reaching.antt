@@ -1,8 +1,9 @@
 -- Instructions one after the other.
 use Rattle.std.proofs.Common.{◌≡◌, ℕ, zero, suc, true, false, ◌+◌, ◌-◌, ◌<◌, refl, sym, ap, ◌∙◌, arith}
 use Rattle.run_state.specs.World.{World, Limits}
-use Rattle.code_meaning.specs.Machine.{Config, Next, Goes, step, after, Codes}
-use Rattle.machine.specs.Fast.{Leads}
+use Rattle.code_meaning.specs.Machine.{Next, Goes, step, after, Codes}
+use Rattle.machine_paths.specs.Fast.{Leads}
+use Rattle.machine_paths.proofs.Leading.{starts, steps_on}
 use Rattle.machine.specs.declared.configuration.Configuration.{Configuration}
 use Rattle.machine.specs.declared.configuration.RunEnd.{RunEnd}
 use Rattle.machine.specs.declared.configuration.RunEnd.TheVariants as end
@@ -11,14 +12,8 @@ use Rattle.machine.specs.declared.configuration.Step.TheVariants as said
 use Rattle.machine.specs.Seen.{configuration_of, world_of, ended, goes, Comes}
 use Rattle.machine.specs.Runs.{steps_taken, RanTo}
 
-zero_add : (n : ℕ) → 0 + n ≡ n
-zero_add n = omega arith
-
 add_zero : (n : ℕ) → n + 0 ≡ n
 add_zero n = omega arith
-
-one_more : (k m : ℕ) → (k + 1) + m ≡ k + suc m
-one_more k m = omega arith
 
 the_rest : (k count : ℕ) → k < count → k + suc (count - k - 1) ≡ count
 the_rest k count h = omega arith
@@ -27,30 +22,15 @@ together : (k j m : ℕ) → (k + j) + m ≡ k + (j + m)
 together k j m = omega arith
 
 module _ (codes : Codes) (limits : Limits) where
-  pub starts : (c : Config) → Leads codes limits 0 c c
-  starts c = record {
-    leads = λ m. ap (λ n. after codes limits n (Goes c)) (zero_add m);
-    taken = λ m. ap (λ n. steps_taken codes limits n (Goes c)) (zero_add m) ∙ sym (zero_add (steps_taken codes limits m (Goes c)));
-  }
-
-  pub steps_on : (k : ℕ) (from c d : Config) → Leads codes limits k from c → step codes limits c ≡ Goes d → Leads codes limits (k + 1) from d
-  steps_on k from c d r e = record {
-    leads = λ m. ap (λ n. after codes limits n (Goes from)) (one_more k m) ∙ r.leads (suc m) ∙ ap (after codes limits m) e;
-    taken = λ m.
-        ap (λ n. steps_taken codes limits n (Goes from)) (one_more k m) ∙ r.taken (suc m)
-        ∙ ap (λ n. k + suc (steps_taken codes limits m n)) e
-        ∙ sym (one_more k (steps_taken codes limits m (Goes d)));
-  }
-
   -- From the one configuration so many steps lead to the other.
   abbrev pub Reached : ℕ → Configuration → Configuration → Type 0
   Reached k from c = Leads codes limits k (configuration_of from) (configuration_of c)
 
   pub begins : (c : Configuration) → Reached 0 c c
-  begins c = starts (configuration_of c)
+  begins c = starts codes limits (configuration_of c)
 
   pub goes_on : (k : ℕ) (from c d : Configuration) → Reached k from c → step codes limits (configuration_of c) ≡ Goes (configuration_of d) → Reached (k + 1) from d
-  goes_on k from c d r e = steps_on k (configuration_of from) (configuration_of c) (configuration_of d) r e
+  goes_on k from c d r e = steps_on codes limits k (configuration_of from) (configuration_of c) (configuration_of d) r e
 
   pub joined : (k j : ℕ) (from c d : Configuration) → Reached k from c → Reached j c d → Reached (k + j) from d
   joined k j from c d r l = record {

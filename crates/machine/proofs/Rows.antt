@@ -1,16 +1,14 @@
 -- Rows that do not fit what lies on the stack.
 use Rattle.std.proofs.Common.{◌≡◌, ℤ, List, [], ◌∷◌, Some, None, refl, ap, sym, ◌∙◌}
-use Rattle.std.specs.Prelude.{slice_get}
 use Rattle.object_values.specs.declared.value.Value.{Value}
-use Rattle.pl_code.specs.declared.kinds.Plain.TheVariants as plain
 use Rattle.arithmetic.specs.declared.operator.Op.{Op}
 use Rattle.code_meaning.specs.declared.word.Word.{Word}
 use Rattle.code_meaning.specs.declared.word.Word.TheVariants.{I, J, R}
 use Rattle.code_meaning.specs.Words.{NoRow, one_int, two_ints, one_long, two_longs, long_and_int}
-use Rattle.code_meaning.specs.Machine.{Frame, Next, Stuck, copied, on_stack, on_top, on_int, on_long, on_reference}
+use Rattle.code_meaning.specs.Machine.{Frame, Next, Stuck, on_top, on_int, on_long, on_reference}
 use Rattle.machine.specs.declared.configuration.Configuration.{Configuration}
 use Rattle.machine.specs.declared.configuration.Step.{Step}
-use Rattle.machine.specs.Frames.{Laid, with_stack}
+use Rattle.machine_parts.specs.Frames.{Laid, with_stack}
 use Rattle.machine.specs.Seen.{int_of, long_of, Comes}
 use Rattle.machine.proofs.Calling.{as_well}
 use Rattle.code_meaning.specs.Members.{reference_in}
@@ -77,14 +75,6 @@ half_shift o b (J a ∷ stack) e = cc
 half_shift o b (R a ∷ stack) e = refl
 
 -- ---- what lies on the top
-
--- it is put there once more
-pub upper_twice : (stack : List Word) (word : Word) (row : List Word → Next) → Some word ≡ slice_get stack 0 → on_stack (copied plain.Dup stack) row ≡ row (word ∷ stack)
-upper_twice [] word row e = absurd (cc)
-upper_twice (z ∷ stack) word row e = ap (λ w. row (w ∷ z ∷ stack)) (cc)
-
-pub of_top : (stack rest : List Word) (word : Word) → stack ≡ word ∷ rest → (next : Word → List Word → Next) → on_top stack next ≡ next word rest
-of_top stack rest word e next = ap (λ s. on_top s next) e
 
 pub of_reference : (word : Word) (value : Value) → word ≡ R value → (next : Value → Next) → on_reference word next ≡ next value
 of_reference word value e next = ap (λ w. on_reference w next) e

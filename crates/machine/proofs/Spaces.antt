@@ -10,7 +10,7 @@ use Rattle.code_meaning.specs.Machine.{Frame, Goes, depth_of, after, Codes, code
 use Rattle.code_meaning.specs.Sizes.{words_in, AreWithin, IsWithin}
 use Rattle.machine.specs.declared.configuration.Configuration.{Configuration}
 use Rattle.machine.specs.Memory.{CallFinds, HasSpace, RunSpares}
-use Rattle.machine.specs.Rooms.{FitsAtStart, IsEnough, Room, most_at_start}
+use Rattle.machine_parts.specs.Rooms.{FitsAtStart, IsEnough, Room, most_at_start}
 use Rattle.machine.specs.Seen.{configuration_of, room_of}
 use Rattle.machine.specs.Sparing.{Spares}
 use Rattle.machine.proofs.Reaching.{Reached}

@@ -4,7 +4,7 @@ use Rattle.code_meaning.specs.declared.word.Word.{Word}
 use Rattle.code_meaning.specs.Machine.{Frame, Next, Stuck, take_words, on_words}
 use Rattle.machine.specs.declared.configuration.Configuration.{Configuration}
 use Rattle.machine.specs.declared.configuration.Step.{Step}
-use Rattle.machine.specs.Frames.{Laid, with_stack}
+use Rattle.machine_parts.specs.Frames.{Laid, with_stack}
 use Rattle.machine.specs.Rows.{beside}
 use Rattle.machine.specs.Seen.{Comes}
 use Rattle.machine.proofs.Calling.{as_well}

@@ -4,7 +4,7 @@ use Rattle.allowlist.specs.Allow.{AllowList}
 use Rattle.pl_code.specs.declared.code.FunCode.{FunCode}
 use Rattle.code_meaning.specs.Machine.{Config, Next, Goes, Ends, Stuck, after}
 use Rattle.code_meaning.specs.Sizes.{IsWithin}
-use Rattle.machine.specs.Rooms.{FitsAtStart}
+use Rattle.machine_parts.specs.Rooms.{FitsAtStart}
 use Rattle.machine.specs.Sparing.{Spares}
 use Rattle.task_core.specs.declared.task.Turn.{Turn}
 use Rattle.task_core.specs.declared.task.Turn.TheVariants as turn

@@ -1,16 +1,9 @@
-pub mod Frames
-pub mod Rooms
 pub mod Seen
-pub mod Handlers
 pub mod Rows
 pub mod Memory
 pub mod Members
-pub mod Links
-pub mod Indexes
 pub mod Sparing
 pub mod Runs
-pub mod Fast
-pub mod Boxed
 pub mod Activations
 pub mod Fitting
 pub mod Laws

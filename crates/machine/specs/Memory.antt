@@ -12,8 +12,8 @@ use Rattle.code_meaning.specs.Machine.{Config, Goes, depth_of, after, Codes, cod
 use Rattle.code_meaning.specs.Members.{count_of}
 use Rattle.code_meaning.specs.Sizes.{IsWithin}
 use Rattle.machine.specs.Sparing.{EqualSpares, Spares}
-use Rattle.machine.specs.Frames.{Laid}
-use Rattle.machine.specs.Rooms.{IsEnough}
+use Rattle.machine_parts.specs.Frames.{Laid}
+use Rattle.machine_parts.specs.Rooms.{IsEnough}
 use Rattle.machine.specs.Seen.{configuration_of, room_of}
 use Rattle.machine.specs.declared.configuration.Configuration.{Configuration}
 use Rattle.machine.specs.declared.configuration.Step.{Step}

@@ -29,8 +29,8 @@ use Rattle.machine.specs.declared.operators.Operated.{Operated}
 use Rattle.machine.specs.declared.operators.Operated.TheVariants as c
 use Rattle.machine.specs.declared.operands.Copying.{Copying}
 use Rattle.machine.specs.declared.operands.Copying.TheVariants as copying
-use Rattle.machine.specs.Handlers.{catches, line_of, linked_traps}
-use Rattle.machine.specs.declared.handlers.LinkedTrap.{LinkedTrap}
+use Rattle.machine_parts.specs.Handlers.{catches, line_of, linked_traps}
+use Rattle.machine_parts.specs.declared.handlers.LinkedTrap.{LinkedTrap}
 use Rattle.machine.specs.Seen.{limit_of}
 
 -- a copy leaves this stack, unless there was no memory

@@ -1,26 +1,22 @@
 -- The machine's parts as the configurations of which the meaning of code speaks.
-use Rattle.std.specs.Prelude.{◌≡◌, ℕ, ℤ, Bool, true, false, List, [], ◌∷◌, Option, Some, None}
-use Rattle.pl_types.specs.Host.{no_host}
+use Rattle.std.specs.Prelude.{◌≡◌, ℤ, Bool, true, false, List, ◌∷◌, Option, Some, None}
 use Rattle.allowlist.specs.Allow.{AllowList}
 use Rattle.object_heap.specs.declared.outcome.Which.{Which}
 use Rattle.object_heap.specs.declared.outcome.Which.TheVariants as which
-use Rattle.pl_code.specs.declared.code.FunCode.{FunCode}
 use Rattle.run_state.specs.World.{World, Limit, Loop, Depth, Ticks, Room, Limits, Result, Uncaught, Limited}
 use Rattle.code_meaning.specs.declared.word.Word.{Word}
 use Rattle.code_meaning.specs.declared.word.Word.TheVariants.{I, J}
-use Rattle.code_meaning.specs.Machine.{Config, Next, Goes, Ends, Stuck, Codes, codes_of}
-pub use Rattle.machine.specs.Frames.{with_stack}
-use Rattle.machine.specs.Rooms as rooms
-use Rattle.machine.specs.declared.configuration.World as held_world
+use Rattle.code_meaning.specs.Machine.{Config, Next, Goes, Ends, Stuck}
+pub use Rattle.machine_parts.specs.Code.{Rules, codes_alone, limits_in}
+pub use Rattle.machine_parts.specs.Frames.{with_stack}
+pub use Rattle.machine_parts.specs.Worlds.{world_of}
+use Rattle.machine_parts.specs.Rooms as rooms
 use Rattle.machine.specs.declared.configuration.Limits as held_limits
 use Rattle.machine.specs.declared.configuration.Configuration.{Configuration}
 use Rattle.machine.specs.declared.configuration.RunEnd as held_end
 use Rattle.machine.specs.declared.configuration.RunEnd.TheVariants as end
 use Rattle.machine.specs.declared.configuration.Step.{Step}
 use Rattle.machine.specs.declared.configuration.Step.TheVariants as step
-
-abbrev pub world_of : held_world.World → World
-world_of w = record { store = w.heap; ticks = w.ticks; reached = w.reached.numbers }
 
 abbrev pub configuration_of : Configuration → Config
 configuration_of c = record { top = c.frames.top; below = c.frames.below; world = world_of c.world }
@@ -29,22 +25,8 @@ configuration_of c = record { top = c.frames.top; below = c.frames.below; world 
 abbrev pub room_of : Configuration → rooms.Room
 room_of c = record { words = c.frames.words; frames = c.frames.depth; taken = c.words.room; values = c.values.room; reached = c.world.reached.room }
 
--- the code of a run: the prelude has none yet, so that all frames stand in the script's text
-abbrev pub codes_alone : List FunCode → Codes
-codes_alone functions = codes_of functions []
-
--- what a run may take, and the members that it may call
-pub record Rules : Type 0 where
-  pub loop : ℕ
-  pub depth : ℕ
-  pub allowed : AllowList
-
 abbrev pub rules_of : held_limits.Limits → AllowList → Rules
 rules_of l allow = record { loop = l.loops; depth = l.depth; allowed = allow }
-
--- the prelude may call nothing, and the host gives nothing
-abbrev pub limits_in : Rules → Limits
-limits_in r = record { loop = r.loop; depth = r.depth; allowed = r.allowed; prelude_allowed = record { classes = []; members = [] }; host = no_host }
 
 abbrev pub limits_of : held_limits.Limits → AllowList → Limits
 limits_of l allow = limits_in (rules_of l allow)

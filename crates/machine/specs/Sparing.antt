@@ -7,7 +7,6 @@ use Rattle.allowlist.specs.Allow.{AllowList}
 use Rattle.allowlist.specs.Index.{member_at}
 use Rattle.allowlist.specs.declared.member.MemberType.{MemberType}
 use Rattle.object_values.specs.declared.value.Value.{Value}
-use Rattle.object_values.specs.declared.value.Value.TheVariants as v
 use Rattle.object_values.specs.declared.object.Object.{Object}
 use Rattle.object_heap.specs.Store.{Store}
 use Rattle.arithmetic.specs.declared.operator.Op.{Op}
@@ -37,12 +36,9 @@ use Rattle.code_meaning.specs.declared.word.Word.TheVariants.{I, R}
 use Rattle.code_meaning.specs.Words.{Calculation, NoRow, Calculates, calculation, op_of_dynamic}
 use Rattle.code_meaning.specs.Members.{Receiving, Unfit, OnNull, Receives, Reads, count_of, received}
 use Rattle.code_meaning.specs.Machine.{Frame, Config, is_written, take_words, Codes, function_of}
+pub use Rattle.machine_parts.specs.Copies.{is_text}
 
 -- ---- texts, which are copied
-
-abbrev pub is_text : Word → Bool
-is_text (R (v.Str text)) = true
-is_text word = false
 
 -- the words that are copied are no texts
 abbrev pub OneBare : List Word → Type 0

@@ -13,14 +13,11 @@ ghost use Rattle.code_meaning.specs.declared.word.Word.{Word};
 ghost use Rattle.code_meaning.specs.Machine as spec;
 ghost use Rattle.code_meaning.specs.Machine.{on_access, on_first, on_reference, on_top, on_values, on_words, on_write, take_words};
 ghost use Rattle.code_meaning.specs.Members.{references_in};
-ghost use Rattle.machine.specs.Links.{link_at, methods_in, methods_of};
+ghost use Rattle.machine_parts.specs.Links.{link_at, methods_in, methods_of};
 ghost use Rattle.machine.specs.Rows.{CallsWithin, on_pair, on_references, on_triple, on_three};
 ghost use Rattle.machine.specs.Seen.{Comes, room_of, with_stack, world_of, codes_alone, limits_in};
 
 use crate::configuration::{Configuration, RunEnd, Step};
-use crate::executable::Executable;
-use crate::linked_code::LinkedCode;
-use crate::method_table::{MethodTable, method_by_class};
 use crate::name_keys::{name_found, name_put_found};
 use crate::parts::{parts_off, references_of};
 use crate::paying::pay_member;
@@ -30,6 +27,7 @@ use crate::throwing::{answered_done, answered_whole};
 use code_meaning::Word;
 use def_access::{Accessed, index_found, index_put_found};
 use def_resolve::Purpose;
+use machine_parts::{Executable, LinkedCode, MethodTable, method_by_class};
 use object_values::Value;
 use pl_units::UText;
 

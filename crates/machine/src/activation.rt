@@ -3,24 +3,21 @@ ghost use Rattle.std.specs.Prelude.{◌≡◌, ◌≤◌, ◌++◌, [], List, ma
 ghost use Rattle.object_heap.specs.Fits.{Rules as HeapRules};
 ghost use Rattle.object_values.specs.declared.object.Object.{Object as HeapObject};
 ghost use Rattle.machine.specs.Fitting.{LeavesFit, NowFits};
-ghost use Rattle.machine.specs.Rooms.{most_at_start};
+ghost use Rattle.machine_parts.specs.Rooms.{most_at_start};
 ghost use Rattle.object_values.specs.declared.object.Owner.TheVariants.{Script};
 ghost use Rattle.code_meaning.specs.Machine.{start};
 ghost use Rattle.code_meaning.specs.Words.{start_of};
 ghost use Rattle.machine.specs.Activations.{HasTurned, Leaves, SparesFor, Turned, turn_of};
 ghost use Rattle.machine.specs.Seen.{codes_alone, configuration_of};
 
-use crate::configuration::{Configuration, Limits, RunEnd, Step, World};
-use crate::executable::Executable;
-use crate::frames::Frames;
+use crate::configuration::{Configuration, Limits, RunEnd, Step};
 use crate::memory::RunMemory;
-use crate::reached::Reached;
-use crate::reserve::{frames_at_start, words_at_start};
 use crate::rules::Rules;
 use crate::running::{Ran, run_on};
-use crate::values::Values;
-use crate::words::Words;
 use code_meaning::Word;
+use machine_parts::{
+    Executable, Frames, Reached, Values, Words, World, frames_at_start, words_at_start,
+};
 use object_heap::Heap;
 use object_values::Elements;
 use pl_code::Slot;
@@ -60,7 +57,7 @@ pub struct Finished {
 
 impl<'c> Model for Activation<'c> {
     ghost use Rattle.machine.specs.Activations.{Activation, now_of};
-    ghost use Rattle.machine.specs.Rooms.{FitsAtStart, IsEnough};
+    ghost use Rattle.machine_parts.specs.Rooms.{FitsAtStart, IsEnough};
     ghost use Rattle.machine.specs.Runs.{CountsFit};
     ghost use Rattle.machine.specs.Seen.{configuration_of, goes, room_of};
     ghost use Rattle.pl_types.specs.contracts.ty.Ty as ty;

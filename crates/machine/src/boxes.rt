@@ -15,11 +15,11 @@ ghost use Rattle.machine.specs.Sparing.{CastSpares, OnReference, OnValue};
 ghost use Rattle.machine.specs.Memory.{HasMemory};
 
 use crate::configuration::{Configuration, Step};
-use crate::linked_code::LinkedCode;
 use crate::rules::Rules;
 use crate::throwing::answered;
-use arithmetic::casts::{low_byte, low_char, low_short};
 use code_meaning::Word;
+use machine_parts::LinkedCode;
+use machine_paths::boxed;
 use number_ops::to_type;
 use object_heap::{Answer, Heap};
 use object_values::Value;
@@ -38,42 +38,6 @@ pub fn box_number(run: &mut Configuration, primitive: Primitive) -> Step
             None => Step::Stuck,
         },
         None => Step::Stuck,
-    }
-}
-
-/// The value of a number in the box of a primitive.
-#[inline(always)]
-pub fn boxed(primitive: Primitive, word: &Word) -> Option<Value>
-    ensures { result ≡ words.boxed primitive word.now }
-{
-    match word {
-        Word::I(a) => boxed_int(primitive, *a),
-        Word::J(a) => boxed_long(primitive, *a),
-        Word::R(_) => None,
-    }
-}
-
-#[inline(always)]
-fn boxed_int(primitive: Primitive, a: i32) -> Option<Value>
-    ensures { result ≡ words.boxed_int primitive a }
-{
-    match primitive {
-        Primitive::Boolean => Some(Value::Bool(a != 0)),
-        Primitive::Byte => Some(Value::Byte(low_byte(a))),
-        Primitive::Short => Some(Value::Short(low_short(a))),
-        Primitive::Char => Some(Value::Char(low_char(a))),
-        Primitive::Int => Some(Value::Int(a)),
-        Primitive::Long => None,
-    }
-}
-
-#[inline(always)]
-fn boxed_long(primitive: Primitive, a: i64) -> Option<Value>
-    ensures { result ≡ words.boxed_long primitive a }
-{
-    match primitive {
-        Primitive::Long => Some(Value::Long(a)),
-        _ => None,
     }
 }
 

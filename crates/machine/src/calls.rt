@@ -10,13 +10,12 @@ ghost use Rattle.machine.specs.Seen.{Comes, room_of, with_stack, world_of, codes
 ghost use Rattle.machine.specs.Rows.{CountsTo};
 ghost use Rattle.machine.specs.Memory.{CallFinds, HasMemory, RoomFor};
 
-use crate::configuration::{Configuration, RunEnd, Step, World};
-use crate::linked_code::LinkedCode;
+use crate::configuration::{Configuration, RunEnd, Step};
 use crate::rules::Rules;
 use code_meaning::Word;
+use machine_parts::{LinkedCode, World};
 use object_heap::Which;
-use object_values::Value;
-use pl_code::{FunCode, Slot};
+use pl_code::FunCode;
 
 /// Calls the function of this number.
 pub fn call(run: &mut Configuration, code: &LinkedCode, limits: &Rules<'_>, number: u32) -> Step
@@ -30,7 +29,7 @@ pub fn call(run: &mut Configuration, code: &LinkedCode, limits: &Rules<'_>, numb
     }
 }
 
-#[tactic(auto, using(crate::proofs::Entering::too_few))]
+#[tactic(auto, using(machine_parts::proofs::Entering::too_few))]
 fn call_function(
     run: &mut Configuration,
     code: &LinkedCode,
@@ -51,18 +50,6 @@ fn call_function(
             Step::Ends
         }
         None => push_frame(run, number, function),
-    }
-}
-
-/// What a local of a kind begins with.
-#[inline(always)]
-pub fn start_of(slot: Slot) -> Word
-    ensures { result ≡ words.start_of slot }
-{
-    match slot {
-        Slot::I => Word::I(0),
-        Slot::J => Word::J(0),
-        Slot::R => Word::R(Value::Null),
     }
 }
 

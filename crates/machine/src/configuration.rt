@@ -4,12 +4,9 @@ ghost use Rattle.code_meaning.specs.Machine.{to_line};
 ghost use Rattle.machine.specs.Seen.{Comes, end_in, given_word, goes, room_of, world_of};
 ghost use Rattle.machine.specs.Memory.{HasMemory};
 
-use crate::frames::Frames;
-use crate::reached::Reached;
-use crate::values::Values;
-use crate::words::Words;
 use code_meaning::Word;
-use object_heap::{Heap, Which};
+use machine_parts::{Frames, Values, Words, World};
+use object_heap::Which;
 
 /// What a run may take.
 #[derive(Clone, Copy, Debug, PartialEq, Eq)]
@@ -20,16 +17,6 @@ pub struct Limits {
     pub depth: u32,
     /// Calls and turns that are paid.
     pub ticks: u64,
-}
-
-/// What a run changes.
-#[derive(Drop)]
-pub struct World {
-    pub heap: Heap,
-    /// Calls and turns that may still be paid.
-    pub ticks: u64,
-    /// The members that were called.
-    pub reached: Reached,
 }
 
 /// A run between two instructions.

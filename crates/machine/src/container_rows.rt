@@ -15,7 +15,6 @@ ghost use Rattle.machine.specs.Seen.{Comes, room_of, with_stack, world_of, codes
 ghost use Rattle.machine.specs.Sparing.{AskSpares, ElementSpares, OnPlace, OnReference, OnValue};
 
 use crate::configuration::{Configuration, Step};
-use crate::linked_code::LinkedCode;
 use crate::operands::pop_int;
 use crate::parts::{alike_of, ints_of, parts_off, references_of};
 use crate::receiving::taken;
@@ -26,6 +25,7 @@ use container_ops::{
     array_filled, array_made, element_read, element_written, has_more, iterated, length_of,
     list_made, map_made, next_element,
 };
+use machine_parts::LinkedCode;
 use object_values::{Elements, Value};
 use pl_code::Sized;
 use pl_types::Ty;

@@ -9,10 +9,10 @@ ghost use Rattle.machine.specs.Seen.{Comes, room_of, with_stack, world_of, codes
 ghost use Rattle.machine.specs.Sparing.{OnReference, OnValue, OperatorSpares, OperationSpares, Whichever};
 
 use crate::configuration::{Configuration, Step};
-use crate::linked_code::LinkedCode;
 use crate::rules::Rules;
 use crate::throwing::{answered, answered_whole};
 use code_meaning::Word;
+use machine_parts::LinkedCode;
 use number_ops::{Op, def_op};
 use object_values::Value;
 use pl_code::DynamicOp;

@@ -3,7 +3,7 @@ ghost use Rattle.std.specs.Prelude.{◌≡◌, ◌≤◌, ◌<◌, ◌+◌, ◌^
 ghost use Rattle.member_calls.specs.Members.{does};
 ghost use Rattle.member_calls.specs.Answers.{NeedsMemory};
 ghost use Rattle.machine.specs.Sparing.{CallSpares, MemberSpares, ReceivingSpares};
-ghost use Rattle.machine.specs.Links.{link_at, member_in};
+ghost use Rattle.machine_parts.specs.Links.{link_at, member_in};
 ghost use Rattle.code_meaning.specs.declared.word.Word.{Word};
 ghost use Rattle.number_ops.specs.Outcomes.{effect, null_error};
 ghost use Rattle.run_state.specs.Calls.{suits_member, wrong_class};
@@ -18,17 +18,14 @@ ghost use Rattle.machine.specs.Members.{filled, receiving_of};
 ghost use Rattle.pl_types.specs.Host.{no_host};
 
 use crate::configuration::{Configuration, RunEnd, Step};
-use crate::executable::{Executable, Link};
-use crate::frames::Frames;
-use crate::linked_code::LinkedCode;
 use crate::paying::pay_member;
 use crate::receiving::{Receiving, received};
 use crate::rules::Rules;
 use crate::suiting::suits_member;
 use crate::throwing::answered_as;
-use crate::words::Words;
-use allowlist::{MemberKind, MemberType};
+use allowlist::MemberType;
 use code_meaning::Word;
+use machine_parts::{Executable, Frames, Link, LinkedCode, Words, count_of};
 use object_heap::throw;
 use pl_types::classes::{CLASS_CAST_EXCEPTION, NULL_POINTER_EXCEPTION};
 use std::alloc::AllocError;
@@ -115,19 +112,6 @@ pub(crate) fn take_words(
         }
     }
     Ok(true)
-}
-
-/// How many words a call takes.
-pub fn count_of(called: &MemberType) -> usize
-    ensures { result ≡ count_of called.now }
-{
-    let params = called.params.as_slice().len();
-    match called.kind {
-        MemberKind::Instance => params + 1,
-        MemberKind::Static => params,
-        MemberKind::Constructor => params,
-        MemberKind::Field => 0,
-    }
 }
 
 // A call with words that were taken off the stack.

@@ -1,7 +1,7 @@
 //! Memory that a run leaves for the next one.
 
-use crate::frames::FrameMemory;
 use code_meaning::Word;
+use machine_parts::FrameMemory;
 use object_values::Value;
 use std::alloc::Global;
 

@@ -5,7 +5,7 @@ ghost use Rattle.pl_code.specs.declared.kinds.Plain.TheVariants as plains;
 ghost use Rattle.code_meaning.specs.declared.word.Word.TheVariants.{I, J};
 ghost use Rattle.code_meaning.specs.Machine as spec;
 ghost use Rattle.code_meaning.specs.Machine.{plain_act, on_stack, to_line};
-ghost use Rattle.machine.specs.Frames.{OnlyStack};
+ghost use Rattle.machine_parts.specs.Frames.{OnlyStack};
 ghost use Rattle.machine.specs.Seen.{Comes, int_of, long_of, room_of, world_of, codes_alone, limits_in};
 ghost use Rattle.machine.specs.Rows.{Copies};
 ghost use Rattle.machine.specs.Sparing.{CopySpares, OneBare, PlainSpares, TwoBare, is_text};
@@ -15,14 +15,12 @@ use crate::access_rows::{get_index, put_index};
 use crate::calls::ret;
 use crate::configuration::{Configuration, Step};
 use crate::container_rows::{Asked, ask};
-use crate::copies::copy_of;
-use crate::frames::Frames;
-use crate::linked_code::LinkedCode;
 use crate::references::{Pairing, pair};
 use crate::rules::Rules;
 use crate::throwing::throw_top;
 use arithmetic::casts::{low_byte, low_char, low_int, low_short};
 use code_meaning::Word;
+use machine_parts::{Frames, LinkedCode, copy_of};
 use object_values::Value;
 use pl_code::Plain;
 use std::mem::forget;
@@ -112,7 +110,7 @@ pub fn pop_long(frames: &mut Frames) -> Option<i64>
 
 // Puts the upper operand on the stack once more. A number is read alone.
 #[inline(always)]
-#[tactic(auto, using(crate::proofs::Rows::upper_twice))]
+#[tactic(auto, using(machine_paths::proofs::Quick::upper_twice))]
 fn dup_top(run: &mut Configuration) -> Step
     ensures exact { Comes (on_stack (spec.copied plains.Dup run.old.frames.top.stack) (λ stack. to_line run.old.frames.top run.old.frames.below (world_of run.old.world) (suc run.old.frames.top.line) stack)) result run.new }
     ensures memory { CopySpares plains.Dup run.old.frames.top.stack → run.old.frames.count + 2 ≤ run.old.frames.words → suc run.old.frames.top.line < 2 ^ 64 → HasMemory result }

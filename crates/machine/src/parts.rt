@@ -1,16 +1,15 @@
 //! The parts of lists, maps and arrays, and what a method is called with: words off the stack, as the values that they stand for.
-ghost use Rattle.std.specs.Prelude.{◌≡◌, ◌≤◌, true, [], Some, IfOk};
+ghost use Rattle.std.specs.Prelude.{◌≡◌, ◌≤◌, [], Some, IfOk};
 ghost use Rattle.code_meaning.specs.Machine as spec;
 ghost use Rattle.code_meaning.specs.Members.{ints_in, references_in, taken_alike};
 ghost use Rattle.machine.specs.Members.{filled};
 ghost use Rattle.machine.specs.Rows.{beside};
 ghost use Rattle.machine.specs.Seen.{with_stack};
 
-use crate::frames::Frames;
 use crate::members::take_words;
 use crate::receiving::{reference_in, taken};
-use crate::words::Words;
 use code_meaning::Word;
+use machine_parts::{Frames, Words};
 use object_values::{Elements, Value};
 use pl_types::Ty;
 use std::alloc::{AllocError, Global};

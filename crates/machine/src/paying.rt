@@ -4,7 +4,7 @@ ghost use Rattle.run_state.specs.World.{pay_member, pay_tick, reaches};
 ghost use Rattle.machine.specs.Seen.{world_of};
 ghost use Rattle.machine.specs.Rows.{CountsTo};
 
-use crate::configuration::World;
+use machine_parts::World;
 use object_heap::Which;
 use object_values::Owner;
 use std::alloc::AllocError;

@@ -5,11 +5,10 @@ ghost use Rattle.object_values.specs.declared.value.Value.{Value};
 ghost use Rattle.code_meaning.specs.Members as members;
 ghost use Rattle.machine.specs.Members.{behind, filled, is_null, received_with, receiving_of};
 
-use crate::boxes::boxed;
-use crate::values::Values;
-use crate::words::Words;
 use allowlist::{MemberKind, MemberType};
 use code_meaning::Word;
+use machine_parts::{Values, Words};
+use machine_paths::boxed;
 use object_values::Value;
 use pl_types::Ty;
 use std::alloc::AllocError;

@@ -2,13 +2,13 @@
 ghost use Rattle.std.specs.Prelude.{◌≡◌};
 ghost use Rattle.def_access.specs.Coming.{NameListed};
 ghost use Rattle.def_resolve.specs.Accesses as access;
-ghost use Rattle.machine.specs.Indexes.{index_rows};
+ghost use Rattle.machine_parts.specs.Indexes.{index_rows};
 ghost use Rattle.machine.specs.Seen.{rules_of};
 
 use crate::configuration::Limits;
-use crate::index_table::IndexTable;
 use allowlist::Allow;
 use def_resolve::{IndexAccess, NameAccess, Purpose};
+use machine_parts::IndexTable;
 use object_heap::Heap;
 use object_values::Value;
 use pl_types::classes::CLASS_COUNT;
@@ -25,7 +25,7 @@ pub struct Rules<'a> {
 impl<'a> Model for Rules<'a> {
     ghost use Rattle.std.specs.Prelude.{◌≡◌};
     ghost use Rattle.pl_types.specs.declared.classes.TheConstants.{CLASS_COUNT};
-    ghost use Rattle.machine.specs.Indexes.{index_rows};
+    ghost use Rattle.machine_parts.specs.Indexes.{index_rows};
     ghost use Rattle.machine.specs.Seen as seen;
     ghost use Rattle.machine.specs.Seen.{rules_of};
 

@@ -1,17 +1,15 @@
 //! Instructions one after the other.
 ghost use Rattle.std.specs.Prelude.{◌≡◌, ◌≤◌, length, true};
-ghost use Rattle.machine.specs.Fast.{Leads};
+ghost use Rattle.machine_paths.specs.Fast.{Leads};
 ghost use Rattle.machine.specs.Memory.{HasMemory, RunSpares};
 ghost use Rattle.machine.specs.Runs.{RanOn, CountsFit};
 ghost use Rattle.machine.specs.Seen.{configuration_of, room_of, codes_alone, goes, limits_in};
 
 use crate::configuration::{Configuration, Step};
-use crate::executable::Executable;
-use crate::fast_path::{FastRun, begins_fast, run_fast};
-use crate::frames::Frames;
 use crate::rules::Rules;
 use crate::step::step;
-use crate::value_path::{begins_values, run_values};
+use machine_parts::{Executable, Frames};
+use machine_paths::{FastRun, begins_fast, begins_values, run_fast, run_values};
 use std::mem::{forget, replace};
 
 // After so many instructions of the path of values that of numbers is tried.
@@ -66,7 +64,7 @@ pub fn run_on(
 // Takes instructions of the path of values, so many at most. Where it goes on for long, that of numbers is tried behind it, which is faster
 // for them: so a loop that calls members enters one path a turn, and one on numbers alone comes to its own.
 #[inline(always)]
-#[tactic(auto, using(crate::proofs::Counting::counts_led))]
+#[tactic(auto, using(machine_paths::proofs::Counting::counts_led))]
 fn run_paths(
     run: &mut Configuration,
     executable: &Executable,

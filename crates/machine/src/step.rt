@@ -1,7 +1,7 @@
 //! One instruction.
 ghost use Rattle.code_meaning.specs.Machine.{act, step};
 ghost use Rattle.std.specs.Prelude.{◌≡◌, ◌≤◌, ◌<◌, ◌+◌, ◌^◌, suc, length, Some};
-ghost use Rattle.machine.specs.Links.{instruction_at};
+ghost use Rattle.machine_parts.specs.Links.{instruction_at};
 ghost use Rattle.machine.specs.Memory.{HasMemory, HasSpace};
 ghost use Rattle.machine.specs.Seen.{Comes, configuration_of, room_of, world_of, codes_alone, limits_in};
 ghost use Rattle.machine.specs.Sparing.{InstructionSpares, Spares};
@@ -11,7 +11,6 @@ use crate::access_rows::call_method;
 use crate::boxes::{box_number, unbox};
 use crate::configuration::{Configuration, Step};
 use crate::dynamic_rows::dynamic;
-use crate::executable::Executable;
 use crate::jumps::numbered;
 use crate::members::named;
 use crate::operands::plain;
@@ -20,6 +19,7 @@ use crate::references::quoted;
 use crate::rules::Rules;
 use crate::typed::{cast, sized_by_name, typed};
 use code_meaning::Word;
+use machine_parts::Executable;
 use pl_code::Instruction;
 
 /// Does the instruction at the line of the newest frame.
@@ -39,7 +39,7 @@ pub fn step(run: &mut Configuration, executable: &Executable, limits: &Rules<'_>
 }
 
 #[inline(always)]
-#[tactic(auto, using(crate::proofs::Linked::in_script))]
+#[tactic(auto, using(machine_parts::proofs::Linked::in_script))]
 fn execute(
     run: &mut Configuration,
     executable: &Executable,

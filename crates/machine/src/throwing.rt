@@ -17,11 +17,10 @@ ghost use Rattle.machine.specs.Sparing.{OnReference, OnValue};
 ghost use Rattle.machine.specs.Memory.{HasMemory, IsAnswered, OnlyToMake};
 ghost use Rattle.machine.specs.Rows.{bare, landing, landed};
 
-use crate::configuration::{Configuration, RunEnd, Step, World};
-use crate::frames::Frames;
-use crate::linked_code::LinkedCode;
+use crate::configuration::{Configuration, RunEnd, Step};
 use crate::rules::Rules;
 use code_meaning::Word;
+use machine_parts::{Frames, LinkedCode, World};
 use number_ops::throw_value;
 use object_heap::{Answer, Which, throw};
 use object_values::Value;

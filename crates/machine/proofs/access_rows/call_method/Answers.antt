@@ -1,5 +1,5 @@
 use Rattle.std.proofs.Common.{◌≡◌, ◌∙◌, Some, None}
-use Rattle.machine.specs.Links.{methods_of}
+use Rattle.machine_parts.specs.Links.{methods_of}
 use Rattle.machine.proofs.access_rows.call_method.Goals as goal
 
 pub call_linked-requires-clause-methods : goal.call_linked-requires-clause-methods

@@ -1,7 +1,7 @@
 use Rattle.std.proofs.Common.{[]}
 use Rattle.code_meaning.specs.Machine.{take_words}
 use Rattle.machine.specs.Seen.{world_of}
-use Rattle.machine.proofs.Calling.{entered}
+use Rattle.machine_paths.proofs.Entered.{entered}
 use Rattle.machine.proofs.calls.push_frame.Goals as goal
 
 pub returns-in-Ok-clause-exact : goal.returns-in-Ok-clause-exact

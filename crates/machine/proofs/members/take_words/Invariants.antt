@@ -1,6 +1,6 @@
 use Rattle.std.proofs.Common.{◌≡◌, ◌-◌, ◌+◌, ◌≤◌, length}
 use Rattle.code_meaning.specs.Machine.{take_words}
-use Rattle.machine.specs.Frames.{with_stack}
+use Rattle.machine_parts.specs.Frames.{with_stack}
 use Rattle.machine.proofs.members.take_words.Given as goal
 
 -- the words that are still to be taken come on top of those that were, and nothing else changes

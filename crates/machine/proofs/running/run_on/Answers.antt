@@ -3,7 +3,7 @@ use Rattle.machine.proofs.Reaching.{Reached, begins, goes_on, finishes, all_take
 use Rattle.machine.proofs.Spaces.{spares_there, space_there}
 use Rattle.machine.proofs.running.run_on.Goals as goal
 use Rattle.machine.specs.Seen.{codes_alone, configuration_of, limits_in}
-use Rattle.machine.proofs.Counting.{counts_led, counts_on}
+use Rattle.machine_paths.proofs.Counting.{counts_led, counts_on}
 
 pub instructions-init : goal.instructions-init
 instructions-init c = record { leads = begins (codes_alone c.args.executable.now.code.functions) (limits_in c.args.limits.now) c.args.run.now; counts = c.requires.counts; room = refl; within = omega arith }

@@ -1,8 +1,9 @@
 use Rattle.std.proofs.Common.{◌≡◌, ℕ, List, Some, sym, subst, arith}
-use Rattle.machine.specs.Links.{link_at, methods_in, methods_of}
+use Rattle.machine_parts.specs.Links.{link_at, methods_in, methods_of}
 use Rattle.machine.specs.Seen.{Comes, codes_alone, world_of, limits_in}
 use Rattle.machine.proofs.Calling.{as_well}
-use Rattle.machine.proofs.Linked.{typed_acts, typed_spares, sized_acts, called_acts, called_by_list, cast_acts, cast_spares, method_acts, method_spares, constructor_acts, constructor_spares, field_acts, field_spares, methods_names, text_names}
+use Rattle.machine.proofs.Linked.{typed_acts, typed_spares, sized_acts, called_acts, called_by_list, cast_acts, cast_spares, method_acts, method_spares, constructor_acts, constructor_spares, field_acts, field_spares}
+use Rattle.machine_parts.proofs.Linked.{methods_names, text_names}
 use Rattle.machine.proofs.step.execute.Goals as goal
 
 pub quoted-requires-clause-linked : goal.quoted-requires-clause-linked

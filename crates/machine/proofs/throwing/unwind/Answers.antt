@@ -1,6 +1,6 @@
 use Rattle.std.proofs.Common.{ap, subst, ◌∙◌, rules}
 use Rattle.code_meaning.specs.Machine.{unwind}
-use Rattle.machine.specs.Frames.{Leaves}
+use Rattle.machine_parts.specs.Frames.{Leaves}
 use Rattle.machine.specs.Seen.{codes_alone, world_of}
 use Rattle.machine.proofs.Calling.{as_well}
 use Rattle.machine.proofs.Landing.{goes_on_here, goes_on_below}

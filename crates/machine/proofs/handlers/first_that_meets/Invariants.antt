@@ -1,6 +1,0 @@
-use Rattle.machine.specs.Handlers.{NoneMeets}
-use Rattle.machine.proofs.handlers.first_that_meets.Given as goal
-
--- none so far has one of the lines
-abbrev pub invariant-traps : goal.invariant-traps
-invariant-traps l = NoneMeets l.fn.traps l.fn.start l.place l.fn.from l.fn.to

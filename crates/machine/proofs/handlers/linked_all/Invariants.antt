@@ -1,7 +1,0 @@
-use Rattle.std.proofs.Common.{◌≡◌, map, take}
-use Rattle.machine.specs.Handlers.{linked}
-use Rattle.machine.proofs.handlers.linked_all.Given as goal
-
--- the traps so far are linked
-abbrev pub invariant-loop-trap : goal.invariant-loop-trap
-invariant-loop-trap l = l.all.items ≡ map linked (take l.trap-index l.traps)

@@ -1,7 +1,0 @@
-use Rattle.std.proofs.Common.{◌≡◌, length}
-use Rattle.machine.specs.Handlers.{AreNext}
-use Rattle.machine.proofs.handlers.nexts_of.Given as goal
-
--- there is one for each trap so far
-abbrev pub invariant-loop-place : goal.invariant-loop-place
-invariant-loop-place l = AreNext l.fn.traps l.nexts × (l.place ≡ length l.nexts)

@@ -1,0 +1,10 @@
+pub mod Places
+pub mod Entering
+pub mod Returning
+pub mod Handling
+pub mod Linked
+pub mod Methods
+pub mod Listed
+pub mod Most
+pub mod Distinct
+pub mod Indexed

@@ -1,0 +1,6 @@
+pub mod Counting
+pub mod Leading
+pub mod Entered
+pub mod Quick
+pub mod Boxing
+pub mod Moving
