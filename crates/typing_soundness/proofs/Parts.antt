@@ -39,7 +39,7 @@ use Rattle.typing_rules.specs.Rules.Nodes.{boolean, typed, applied, type_in, typ
 use Rattle.typing_rules.specs.Rules.Literals.{int_literal, long_literal, integer, negated_integer, constant, unescaped, unquoted, text}
 use Rattle.typing_rules.specs.Rules.Digits.{is_long, magnitude, unmarked}
 use Rattle.typing_rules.specs.Rules.Casts.{within, unit_of, standing_layer, standing, cast_by, cast_at, literal_or, cast_to, asked}
-use Rattle.typing_rules.specs.Rules.Operators.{primitive_layer, primitive_of, unboxed_of, on_numbers, operand, Side, side_layer, side_of, joins, compares, identifies, only_if, is_dynamic, dynamic_if, dynamic_of, relation_of, relation_between, type_given, reference, related, strict, side, logical, binary_of, promoted_if, promoted, is_def_side, on_def, alone, signed, plus_as, not_of, unary_of, common_if, common_layer, common, choice_as, choice_of, is_literal, is_primitive, needs_no_other, elvis_by, common_of, elvis_of, may_be_instance, has_instances_layer, instance_of}
+use Rattle.typing_rules.specs.Rules.Operators.{primitive_layer, primitive_of, unboxed_of, on_numbers, operand, Side, side_layer, side_of, joins, compares, identifies, only_if, is_dynamic, dynamic_if, dynamic_of, relation_of, relation_between, type_given, reference, related, strict, side, both_sides, logical, binary_of, promoted_if, promoted, is_def_side, on_def, alone, signed, plus_as, not_of, unary_of, common_if, common_layer, common, choice_as, choice_of, is_literal, is_primitive, needs_no_other, elvis_by, common_of, elvis_of, may_be_instance, has_instances_layer, instance_of}
 use Rattle.typing_rules.specs.Rules.Types.{is_built_class}
 use Rattle.source_meaning.specs.Tree.{Expr, Literal, type_of}
 use Rattle.source_meaning.specs.Programs.{expr_of}
@@ -398,14 +398,21 @@ module _ (funs : Script) (g : Scope) where
   side_is : (at : ℕ) (x : Part) (y : Typed) → side at x ≡ Ok y → PartIs x → TypedIs y boolean
   side_is at x y e h = side_if (is_void (type_of_part x)) _ at x y e h
 
-  logical_is : (operator : Logical) (at : ℕ) (x y z : Part) → logical operator at x y ≡ Ok z → PartIs x → PartIs y → PartIs z
-  logical_is operator at x y z e hx hy =
+  both_sides_is : (operator : Logical) (at : ℕ) (x y z : Part) → both_sides operator at x y ≡ Ok z → PartIs x → PartIs y → PartIs z
+  both_sides_is operator at x y z e hx hy =
       let a = passed (side at x) _ z e in
       let b = passed (side at y) _ z a.then' in
       let left = side_is at x a.given a.first hx in
       let right = side_is at y b.given b.first hy in
       settled PartIs _ z b.then' (part_of at f.Other _ boolean (prim_part prim.Boolean)
       (node_is at boolean _ _ (logic_is at boolean operator a.given b.given) refl (left.agrees, right.agrees, left.is, right.is, refl)))
+
+  logical_if : (c : Bool) (number : ℕ) (operator : Logical) (at : ℕ) (x y z : Part) → (if c then refuse number at else both_sides operator at x y) ≡ Ok z → PartIs x → PartIs y → PartIs z
+  logical_if true number operator at x y z e hx hy = cc
+  logical_if false number operator at x y z e hx hy = both_sides_is operator at x y z e hx hy
+
+  logical_is : (operator : Logical) (at : ℕ) (x y z : Part) → logical operator at x y ≡ Ok z → PartIs x → PartIs y → PartIs z
+  logical_is operator at x y z e hx hy = logical_if (is_void (type_of_part y)) _ operator at x y z e hx hy
 
   pub binary_is : (operator : BinaryOperator) (at : ℕ) (x y z : Part) → binary_of operator at x y ≡ Ok z → PartIs x → PartIs y → PartIs z
   binary_is b.Multiply at x y z e hx hy = strict_is _ b.Multiply at x y z e (plans_fit b.Multiply (type_of_part x) (type_of_part y)) hx hy

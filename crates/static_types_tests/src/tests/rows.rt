@@ -145,7 +145,7 @@ pub const CASTS: [(&str, u8, u32); 73] = [
 ];
 
 /// Operands that an operator does not take.
-pub const OPERANDS: [(&str, u8, u32); 66] = [
+pub const OPERANDS: [(&str, u8, u32); 69] = [
     ("1 + true", 10, 2),
     ("true + 1", 10, 5),
     ("true + true", 10, 5),
@@ -183,6 +183,9 @@ pub const OPERANDS: [(&str, u8, u32); 66] = [
     ("void f() { } !f()", 10, 13),
     ("void f() { } f() && true", 10, 17),
     ("void f() { } true && f()", 10, 18),
+    ("void f() { } 1 && f()", 10, 15),
+    ("void f() { } null || f()", 10, 18),
+    ("void f() { } f() && 1", 10, 17),
     ("void f() { } true || f()", 10, 18),
     ("boolean b = true; b++; 1", 10, 18),
     ("boolean b = true; --b; 1", 10, 18),

@@ -271,8 +271,12 @@ strict (Some plan) operator at x y = bind (operand x.at plan.left x) (λ x. bind
 abbrev pub side : ℕ → Part → Out Typed
 side at x = if is_void (type_of_part x) then refuse BAD_OPERAND at else cast_to boolean x
 
+abbrev pub both_sides : Logical → ℕ → Part → Part → Out Part
+both_sides operator at x y = bind (side at x) (λ x. bind (side at y) (λ y. Ok (plain at (typed at boolean (n.Logical operator x y)))))
+
+-- a void side is refused before either side is cast, on the right too
 abbrev pub logical : Logical → ℕ → Part → Part → Out Part
-logical operator at x y = bind (side at x) (λ x. bind (side at y) (λ y. Ok (plain at (typed at boolean (n.Logical operator x y)))))
+logical operator at x y = if is_void (type_of_part y) then refuse BAD_OPERAND at else both_sides operator at x y
 
 abbrev pub binary_of : BinaryOperator → ℕ → Part → Part → Out Part
 binary_of b.AndAnd at x y = logical l.And at x y

@@ -68,8 +68,8 @@ fn side(alloc: Global, at: u32, x: Part) -> Result<Subtree<Typed>, Fail>
     cast_to_boolean(alloc, x)
 }
 
-fn logical(alloc: Global, operator: Logical, at: u32, x: Part, y: Part) -> Result<Part, Fail>
-    ensures { Keeps (spec.logical operator at x y) result }
+fn both_sides(alloc: Global, operator: Logical, at: u32, x: Part, y: Part) -> Result<Part, Fail>
+    ensures { Keeps (spec.both_sides operator at x y) result }
 {
     let left = side(alloc, at, x)?;
     let right = side(alloc, at, y)?;
@@ -79,6 +79,16 @@ fn logical(alloc: Global, operator: Logical, at: u32, x: Part, y: Part) -> Resul
         right,
     };
     part(alloc, at, Form::Other, boolean(), node)
+}
+
+/// `&&` or `||`. A void side is refused before either side is cast, on the right too.
+fn logical(alloc: Global, operator: Logical, at: u32, x: Part, y: Part) -> Result<Part, Fail>
+    ensures { Keeps (spec.logical operator at x y) result }
+{
+    if is_void(y.of()) {
+        return Err(refuse(rules::BAD_OPERAND, at));
+    }
+    both_sides(alloc, operator, at, x, y)
 }
 
 /// An operator between two operands, at the operator.
