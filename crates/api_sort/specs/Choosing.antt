@@ -35,7 +35,7 @@ entry_given map None = no_element
 entry_given map (Some key) = New (o.Entry map key)
 
 abbrev pub entries_unordered : Outcome
-entries_unordered = says raised.ClassCast (codes "Cannot compare [Map.Entry] and [Map.Entry]")
+entries_unordered = says raised.ClassCast (codes "Cannot compare [Map$Entry] and [Map$Entry]")
 
 abbrev pub extreme_of : Extreme → List Object → Container → Outcome
 extreme_of which objects container =

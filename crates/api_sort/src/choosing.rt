@@ -100,7 +100,7 @@ fn entries_unordered(heap: &Heap) -> Outcome
     says(
         heap,
         Raised::ClassCast,
-        "Cannot compare [Map.Entry] and [Map.Entry]",
+        "Cannot compare [Map$Entry] and [Map$Entry]",
     )
 }
 
