@@ -1,6 +1,6 @@
 -- Fields in a hash table: what an insertion gives, and where a name is found.
-use Rattle.std.proofs.Common.{◌≡◌, ℕ, ◌+◌, Bool, true, false, cond, not, List, [], ◌∷◌, map, length, refl, ap, ◌∙◌, string_bytes, String, Global, nat_lt, Some, None, suc, ◌++◌, append_assoc, append-nil, sym}
-use Rattle.std.specs.List.{position, prefix_len, AllByRecursion}
+use Rattle.std.proofs.Common.{◌≡◌, ℕ, ◌+◌, ◌<◌, ◌≤◌, ◌&&◌, arith, nat_eq, Bool, true, false, cond, not, List, [], ◌∷◌, map, length, refl, ap, ◌∙◌, string_bytes, String, Global, nat_lt, Some, None, suc, ◌++◌, append_assoc, append-nil, sym}
+use Rattle.std.specs.List.{position, prefix_len, starts_with, AllByRecursion}
 use Rattle.std.specs.Map.{keys_of}
 use Rattle.std.specs.Prelude.{if◌then◌else◌}
 use Rattle.std.specs.Str.{bytes_eq}
@@ -8,7 +8,7 @@ use Rattle.std.specs.String.{string_eq}
 use Rattle.indexmap.specs.IndexMap.{insert_entry}
 use Rattle.job_file.specs.declared.mapping.FieldKind.{FieldKind}
 use Rattle.job_file.specs.Answers.{fields_view}
-use Rattle.search_ctx.specs.Fields.{with_field, with_fields, place_of, IsNewName, HasDistinctNames}
+use Rattle.search_ctx.specs.Fields.{NoneLonger, begins_some, with_field, with_fields, place_of, IsNewName, HasDistinctNames}
 use Rattle.search_ctx.specs.Laws.{FieldsStay}
 
 pub field_inserted : (es : List (String Global × FieldKind)) (name : String Global) (kind : FieldKind)
@@ -77,3 +77,19 @@ none_there (field ∷ fields) = (tt, none_there fields)
 
 pub fields_same : FieldsStay
 fields_same fields d = all_last [] fields (none_there fields) d
+
+-- ---- names that are shorter
+
+begins_none : (name front : List ℕ) → length name < length front → starts_with nat_eq name front ≡ false
+begins_none name [] h = absurd (omega arith)
+begins_none [] (f ∷ front) h = refl
+begins_none (x ∷ name) (f ∷ front) h = by_case (nat_eq f x) (begins_none name front (omega arith)) where
+  by_case : (b : Bool) → starts_with nat_eq name front ≡ false → (b && starts_with nat_eq name front) ≡ false
+  by_case true e = e
+  by_case false e = refl
+
+-- no name begins with a text that is longer than the longest
+pub none_begins : (most : ℕ) (front : List ℕ) (fields : List (List ℕ × FieldKind)) → NoneLonger most fields → most < length front → begins_some front fields ≡ false
+none_begins most front [] h less = refl
+none_begins most front (field ∷ fields) h less =
+    let here : length field.0 ≤ most = h.0 in rw (begins_none field.0 front (omega (arith, here, less)), none_begins most front fields h.1 less) refl

@@ -1,5 +1,5 @@
 -- The fields that a script sees of a document: their names and kinds, and at which place a name stands among them.
-use Rattle.std.specs.Prelude.{◌≡◌, ℕ, ◌||◌, Bool, false, List, [], ◌∷◌, Option, map, nat_eq, if◌then◌else◌}
+use Rattle.std.specs.Prelude.{◌≡◌, ◌≤◌, ℕ, length, ◌||◌, Bool, false, List, [], ◌∷◌, Option, map, nat_eq, if◌then◌else◌}
 use Rattle.std.specs.List.{position, starts_with, AllByRecursion}
 use Rattle.std.specs.Str.{bytes_eq}
 use Rattle.pl_units.specs.Utf16.{units}
@@ -27,6 +27,10 @@ texts_of fields = map (λ (field : List ℕ × FieldKind). units field.0) fields
 abbrev pub begins_some : List ℕ → List (List ℕ × FieldKind) → Bool
 begins_some front [] = false
 begins_some front (field ∷ fields) = starts_with nat_eq field.0 front || begins_some front fields
+
+-- no name has more bytes than so many
+abbrev pub NoneLonger : ℕ → List (List ℕ × FieldKind) → Type 0
+NoneLonger most fields = AllByRecursion (λ (field : List ℕ × FieldKind). length field.0 ≤ most) fields
 
 -- no field has this name
 abbrev pub IsNewName : List ℕ → List (List ℕ × FieldKind) → Type 0

@@ -4,7 +4,7 @@ ghost use Rattle.std.specs.Prelude.{◌≡◌, [], false, IfOk, OnOk, length, st
 ghost use Rattle.job_file.specs.Answers.{fields_view};
 ghost use Rattle.search_ctx.specs.DocValues.{empty_doc};
 ghost use Rattle.search_ctx.specs.Placing.{lists_placed};
-ghost use Rattle.search_ctx.specs.Fields.{begins_some, place_of, texts_of, with_field, with_fields};
+ghost use Rattle.search_ctx.specs.Fields.{NoneLonger, begins_some, place_of, texts_of, with_field, with_fields};
 
 use crate::placing::place_lists;
 use crate::values::FieldValues;
@@ -24,19 +24,21 @@ const FEW: usize = 32;
 pub struct Fields {
     kinds: IndexMap<String, FieldKind>,
     texts: Vec<UText>,
+    /// How many bytes the longest name has.
+    longest: usize,
 }
 
 impl Model for Fields {
     ghost use Rattle.std.specs.Prelude.{◌≡◌, ℕ, List};
     ghost use Rattle.job_file.specs.declared.mapping.FieldKind.{FieldKind as declared};
     ghost use Rattle.job_file.specs.Answers.{fields_view};
-    ghost use Rattle.search_ctx.specs.Fields.{texts_of};
+    ghost use Rattle.search_ctx.specs.Fields.{NoneLonger, texts_of};
 
     ghost Value = { List (List ℕ × declared) };
 
     ghost view = { λ fields. fields_view fields.kinds.entries };
 
-    ghost invariant = { λ fields. fields.texts.items ≡ texts_of (fields_view fields.kinds.entries) };
+    ghost invariant = { λ fields. (fields.texts.items ≡ texts_of (fields_view fields.kinds.entries)) × NoneLonger fields.longest (fields_view fields.kinds.entries) };
 }
 
 impl Drop for Fields {
@@ -44,6 +46,7 @@ impl Drop for Fields {
         let Fields {
             kinds: _kinds,
             texts: _texts,
+            longest: _longest,
         } = self;
     }
 }
@@ -86,6 +89,17 @@ fn texts_of(alloc: Global, kinds: &IndexMap<String, FieldKind>) -> Result<Vec<UT
     Ok(texts)
 }
 
+/// How many bytes the longest name has.
+fn longest_of(kinds: &IndexMap<String, FieldKind>) -> usize
+    ensures { NoneLonger result (fields_view kinds.now.entries) }
+{
+    let mut longest = 0;
+    for (name, _kind) in kinds.iter() {
+        longest = name.len().max(longest);
+    }
+    longest
+}
+
 impl Fields {
     /// The fields of a mapping, in its order. Of two of one name, which a mapping that is read does not have, the first
     /// keeps its place and the last its kind.
@@ -94,7 +108,12 @@ impl Fields {
     {
         let kinds = kinds_of(alloc, mapping)?;
         let texts = texts_of(alloc, &kinds)?;
-        Ok(Fields { kinds, texts })
+        let longest = longest_of(&kinds);
+        Ok(Fields {
+            kinds,
+            texts,
+            longest,
+        })
     }
 
     /// How many fields there are.
@@ -123,10 +142,15 @@ impl Fields {
         false
     }
 
-    /// Whether the name of some field may begin with a text: where it says no, none does.
+    /// Whether the name of some field may begin with a text: where it says no, none does. So an object is looked into only where its
+    /// path is no longer than the longest name.
+    #[tactic(auto, using(crate::proofs::FieldLemmas::none_begins))]
     pub(crate) fn may_begin(&self, front: &str) -> bool
         ensures { result ≡ false → begins_some front.now self.now ≡ false }
     {
+        if self.longest < front.len() {
+            return false;
+        }
         if FEW < self.len() {
             return true;
         }
