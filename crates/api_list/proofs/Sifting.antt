@@ -1,7 +1,7 @@
 -- Asking for all elements of a collection, and items that stay behind one another.
 use Rattle.std.proofs.Common.{◌≡◌, ℕ, ◌+◌, List, Some, [], ◌∷◌, ◌++◌, drop, slice_get, refl, ap, sym, ◌∙◌, append_assoc, append-nil, Err}
 use Rattle.object_values.specs.declared.value.Value.{Value}
-use Rattle.value_walks.proofs.Stepping.{got}
+use Rattle.container_outcomes.proofs.Stepping.{got}
 use Rattle.object_heap.specs.Fits.{AllFit, ValueFits}
 use Rattle.container_outcomes.specs.declared.comparing.Compared.{Compared}
 use Rattle.container_outcomes.specs.Outcomes.{NeedsMemory, says}

@@ -2,7 +2,7 @@
 use Rattle.std.proofs.Common.{◌≡◌, ℕ, suc, ◌+◌, ◌-◌, ◌<◌, List, Option, Some, drop, slice_get, refl, ap, ◌∙◌, arith}
 use Rattle.object_values.specs.declared.object.Object.{Object}
 use Rattle.object_values.specs.declared.value.Value.{Value}
-use Rattle.value_walks.proofs.Stepping.{got}
+use Rattle.container_outcomes.proofs.Stepping.{got}
 use Rattle.container_outcomes.specs.declared.comparing.Compared.{Compared}
 use Rattle.container_outcomes.specs.declared.comparing.Compared.TheVariants.{Other}
 use Rattle.container_outcomes.specs.declared.comparing.Found.{Found}

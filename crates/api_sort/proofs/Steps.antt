@@ -3,7 +3,7 @@ use Rattle.std.proofs.Common.{◌≡◌, ℕ, ◌+◌, Bool, true, Some, List, d
 use Rattle.object_values.specs.declared.value.Value.{Value}
 use Rattle.number_ops.specs.Operators.{is_null}
 use Rattle.number_ops.specs.Order.{natural}
-use Rattle.value_walks.proofs.Stepping.{got}
+use Rattle.container_outcomes.proofs.Stepping.{got}
 use Rattle.api_sort.specs.declared.choosing.Extreme.{Extreme}
 use Rattle.api_sort.specs.Choosing.{beats, best_of}
 use Rattle.api_sort.specs.Ordering.{first_other, has_null}

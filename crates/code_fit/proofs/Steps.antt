@@ -13,12 +13,12 @@ use Rattle.object_heap.specs.Store.{Store}
 use Rattle.allowlist.specs.declared.member.MemberType.{MemberType}
 use Rattle.allowlist.specs.Index.{member_at}
 use Rattle.instruction_types.specs.Members.{method_of, constructor_of, field_of}
-use Rattle.container_calls.specs.Laws.{StillThere}
-use Rattle.member_calls.specs.Members.{does}
-use Rattle.container_ops.specs.Elements.{element_read, element_written, length_of}
-use Rattle.container_ops.specs.Loops.{iterated, has_more, next_element}
-use Rattle.container_ops.specs.Making.{list_made, map_made, array_filled, array_made}
-use Rattle.def_access.specs.Access.{Access, Calls, Acts, index_read, index_written, name_read, name_written, method_called}
+use Rattle.run_fit.specs.ContainerCallsLaws.{StillThere}
+use Rattle.run_fit.specs.Members.{does}
+use Rattle.run_fit.specs.Elements.{element_read, element_written, length_of}
+use Rattle.run_fit.specs.Loops.{iterated, has_more, next_element}
+use Rattle.run_fit.specs.Making.{list_made, map_made, array_filled, array_made}
+use Rattle.run_fit.specs.Access.{Access, Calls, Acts, index_read, index_written, name_read, name_written, method_called}
 use Rattle.number_ops.specs.Outcomes.{effect, zero_divisor, null_error, says}
 use Rattle.number_ops.specs.Casts.{cast_at_run_time}
 use Rattle.number_ops.specs.Operators.{concatenated, compares, is_unary, operate}

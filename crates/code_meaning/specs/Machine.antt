@@ -14,21 +14,21 @@ use Rattle.object_values.specs.declared.object.Object.TheVariants as o
 use Rattle.object_values.specs.declared.object.Owner.{Owner}
 use Rattle.object_values.specs.declared.object.Owner.TheVariants.{Script, Prelude}
 use Rattle.arithmetic.specs.Arithmetic.{wrapped, low_bits}
-use Rattle.number_ops.specs.Outcomes.{effect, zero_divisor, null_error}
-use Rattle.object_heap.specs.Effects.{Effect}
+use Rattle.run_state.specs.Outcomes.{effect, zero_divisor, null_error}
+use Rattle.def_access.specs.Effects.{Effect}
 use Rattle.allowlist.specs.declared.member.MemberType.{MemberType}
 use Rattle.allowlist.specs.Index.{member_at}
 use Rattle.instruction_types.specs.Members.{method_of, constructor_of, field_of}
-use Rattle.member_calls.specs.Members.{does}
-use Rattle.container_ops.specs.Making.{list_made, map_made, array_filled, array_made}
-use Rattle.container_ops.specs.Elements.{element_read, element_written, length_of}
-use Rattle.container_ops.specs.Loops.{iterated, has_more, next_element}
+use Rattle.def_access.specs.Members.{does}
+use Rattle.def_access.specs.Making.{list_made, map_made, array_filled, array_made}
+use Rattle.def_access.specs.Elements.{element_read, element_written, length_of}
+use Rattle.def_access.specs.Loops.{iterated, has_more, next_element}
 use Rattle.def_access.specs.Access.{Access, Calls, Acts, index_read, index_written, name_read, name_written, method_called}
 use Rattle.arithmetic.specs.declared.operator.Op.{Op}
-use Rattle.number_ops.specs.Casts.{cast_at_run_time}
-use Rattle.number_ops.specs.Operators.{concatenated, compares, is_unary, operate}
-use Rattle.number_ops.specs.Relations.{equal, is_same, thrown}
-use Rattle.number_ops.specs.Relations as relations
+use Rattle.run_state.specs.Casts.{cast_at_run_time}
+use Rattle.run_state.specs.Operators.{concatenated, compares, is_unary, operate}
+use Rattle.run_state.specs.Relations.{equal, is_same, thrown}
+use Rattle.run_state.specs.Relations as relations
 use Rattle.pl_code.specs.declared.kinds.Quoting.{Quoting}
 use Rattle.pl_code.specs.declared.kinds.Quoting.TheVariants as quoting
 use Rattle.pl_code.specs.declared.kinds.Typed.{Typed}

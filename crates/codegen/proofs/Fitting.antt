@@ -12,8 +12,8 @@ use Rattle.pl_types.specs.declared.conversion.Cast.{Cast}
 use Rattle.pl_types.specs.declared.conversion.Cast.TheVariants as cast
 use Rattle.arithmetic.specs.declared.operator.Op.{Op}
 use Rattle.arithmetic.specs.declared.operator.Op.TheVariants as op
-use Rattle.number_ops.specs.Operators.{is_unary}
-use Rattle.container_ops.specs.Types.{dimensions_layer, dimensions_of, element_layer, element_of}
+use Rattle.source_meaning.specs.Operators.{is_unary}
+use Rattle.source_meaning.specs.Types.{dimensions_layer, dimensions_of, element_layer, element_of}
 use Rattle.typed_tree.specs.declared.operation.Constant.{Constant}
 use Rattle.typed_tree.specs.declared.operation.Constant.TheVariants as constant
 use Rattle.typed_tree.specs.declared.operation.Operator.{Operator}

@@ -7,7 +7,7 @@ use Rattle.allowlist.specs.declared.member.MemberKind.{MemberKind}
 use Rattle.allowlist.specs.declared.member.MemberKind.TheVariants as kinds
 use Rattle.allowlist.specs.declared.member.MemberType.{MemberType}
 use Rattle.member_names.specs.Names.{TextsHaveForms}
-use Rattle.container_ops.specs.Types.{element_of}
+use Rattle.source_meaning.specs.Types.{element_of}
 use Rattle.typed_tree.specs.declared.operation.Member.{Member}
 use Rattle.typed_tree.specs.declared.operation.Operator.{Operator}
 use Rattle.typed_tree.specs.declared.operation.Operator.TheVariants as operator

@@ -12,7 +12,7 @@ use Rattle.source_meaning.specs.Programs.{variable_of, fun_of, program_of}
 use Rattle.typed_tree.specs.declared.program.Program as typed
 use Rattle.typed_tree.specs.declared.program.TypedFunction.{TypedFunction}
 use Rattle.compiler_relation.specs.Representation.{Absent, representation_of, kind_of}
-use Rattle.object_values.specs.declared.object.Owner.TheVariants.{Script}
+use Rattle.source_meaning.specs.object_values_declared.object.Owner.TheVariants.{Script}
 use Rattle.compiler_relation.specs.Correct.{IsCodeOf}
 use Rattle.compiler_relation.specs.Placed.{untrapped, CatchesCover, StmtsIn}
 use Rattle.compiler_relation.specs.Stands.{EndAt, traps_stmts, ArePresent, Compiled, representations_of, scope_of, no_jumps, all_fall, end_stmts, end_end, kinds_of}

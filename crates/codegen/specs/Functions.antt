@@ -11,12 +11,12 @@ use Rattle.pl_types.specs.declared.ty.Ty.{Ty}
 use Rattle.pl_code.specs.declared.kinds.Slot.{Slot}
 use Rattle.typed_tree.specs.declared.program.Named.{Named}
 use Rattle.source_meaning.specs.Programs.{variable_of, fun_of}
-use Rattle.object_values.specs.declared.object.Owner.TheVariants.{Prelude}
-use Rattle.object_values.specs.declared.value.Value.{Value}
-use Rattle.run_state.specs.World.{World, Limits, End}
-use Rattle.code_meaning.specs.declared.word.Word.{Word}
+use Rattle.source_meaning.specs.object_values_declared.object.Owner.TheVariants.{Prelude}
+use Rattle.source_meaning.specs.object_values_declared.value.Value.{Value}
+use Rattle.source_meaning.specs.World.{World, Limits, End}
+use Rattle.compiler_relation.specs.code_meaning_declared.word.Word.{Word}
 use Rattle.compiler_relation.specs.Correct.{Words, EndsAs, program_ends}
-use Rattle.code_meaning.specs.Machine.{start, codes_of}
+use Rattle.compiler_relation.specs.Machine.{start, codes_of}
 use Rattle.codegen.specs.Labels.{settled_line}
 use Rattle.codegen.specs.declared.symbols.Entry as d
 use Rattle.codegen.specs.Worklist.{scope_in, entry}

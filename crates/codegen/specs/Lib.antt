@@ -10,3 +10,13 @@ pub mod Sound
 pub mod Operands
 pub mod Functions
 pub mod Weights
+
+-- Definitions of the libraries below that clauses here speak of, passed on.
+pub use Rattle.member_names.specs.Effects
+pub use Rattle.member_names.specs.Faults
+pub use Rattle.source_meaning.specs.Laws
+pub use Rattle.source_meaning.specs.Meaning
+pub use Rattle.source_meaning.specs.Operating
+pub use Rattle.source_meaning.specs.Programs
+pub use Rattle.source_meaning.specs.Tree
+pub use Rattle.source_meaning.specs.Types

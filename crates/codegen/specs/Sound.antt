@@ -11,7 +11,7 @@ use Rattle.allowlist.specs.Allow.{AllowList}
 use Rattle.allowlist.specs.declared.member.MemberKind.TheVariants as kind
 use Rattle.member_names.specs.Names.{has_form}
 use Rattle.listing_parts.specs.Names.{is_word}
-use Rattle.container_ops.specs.Types.{element_of}
+use Rattle.source_meaning.specs.Types.{element_of}
 use Rattle.typed_tree.specs.declared.operation.Operator.{Operator}
 use Rattle.typed_tree.specs.declared.operation.Operator.TheVariants as operator
 use Rattle.typed_tree.specs.declared.operation.Operation.{Operation}

@@ -4,7 +4,7 @@ ghost use Rattle.std.specs.Prelude.{◌≡◌, ◌≢◌, ◌*◌, ◌/◌, Bool
 ghost use Rattle.codegen.specs.Checks.{denoted};
 ghost use Rattle.pl_types.specs.Texts.{is_known};
 ghost use Rattle.compiler_relation.specs.Stands.{AsksKnown, CastFits, ChangeFits, IsDynamic, HasCode, Asks};
-ghost use Rattle.container_ops.specs.Types.{element_of};
+ghost use Rattle.source_meaning.specs.Types.{element_of};
 
 use crate::error::CodeError;
 use crate::representation::{

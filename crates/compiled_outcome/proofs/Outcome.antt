@@ -5,12 +5,12 @@ use Rattle.pl_types.specs.declared.ty.Ty.TheOpen.{Ty-F}
 use Rattle.object_values.specs.declared.value.Value.{Value}
 use Rattle.object_values.specs.declared.object.Owner.TheVariants.{Script}
 use Rattle.run_state.specs.World.{End, Result, Uncaught, Limited}
-use Rattle.source_meaning.specs.Tree.{Variable}
-use Rattle.source_meaning.specs.Programs.{fun_of}
-use Rattle.source_meaning.specs.Meaning.{Out, Done, Thrown, Over, More, Flow, Normal, Broke, Continued, Returned, default_of, meaning}
-use Rattle.source_meaning.specs.Laws.{Stays}
-use Rattle.source_meaning.proofs.Greater.{stays_above}
-use Rattle.code_meaning.specs.declared.word.Word.{Word}
+use Rattle.program_typing.specs.Tree.{Variable}
+use Rattle.program_typing.specs.Programs.{fun_of}
+use Rattle.program_typing.specs.Meaning.{Out, Done, Thrown, Over, More, Flow, Normal, Broke, Continued, Returned, default_of, meaning}
+use Rattle.program_typing.specs.Laws.{Stays}
+use Rattle.program_typing.proofs.Greater.{stays_above}
+use Rattle.compiler_relation.specs.code_meaning_declared.word.Word.{Word}
 use Rattle.compiler_relation.specs.Representation.{representation_of, representation_of_layer, low}
 use Rattle.compiler_relation.specs.Correct.{EndsAlike, end_of, source_in, words_of, programs_of, program_ends}
 use Rattle.program_typing.specs.Types.{has_values_layer, HaveAll}

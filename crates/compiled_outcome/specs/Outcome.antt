@@ -4,12 +4,12 @@ use Rattle.object_values.specs.declared.object.Owner.TheVariants.{Prelude}
 use Rattle.object_values.specs.declared.value.Value.{Value}
 use Rattle.run_state.specs.World.{World, Limits, End}
 use Rattle.typed_tree.specs.declared.program.Program.{Program}
-use Rattle.source_meaning.specs.Programs.{fun_of}
-use Rattle.source_meaning.specs.Tree as tree
-use Rattle.code_meaning.specs.declared.word.Word.{Word}
+use Rattle.program_typing.specs.Programs.{fun_of}
+use Rattle.program_typing.specs.Tree as tree
+use Rattle.compiler_relation.specs.code_meaning_declared.word.Word.{Word}
 use Rattle.compiler_relation.specs.Correct.{Words, EndsAs, IsCodeOf, programs_of, program_ends}
 use Rattle.compiler_relation.specs.Stands.{Compiled}
-use Rattle.code_meaning.specs.Machine.{Codes, start}
+use Rattle.compiler_relation.specs.Machine.{Codes, start}
 use Rattle.program_typing.specs.Types.{HaveAll}
 use Rattle.program_typing.specs.Agreeing.{types_in, AreWellFormed}
 use Rattle.program_typing.specs.Enough.{enough}

@@ -10,19 +10,19 @@ use Rattle.pl_code.specs.declared.kinds.Numbered.TheVariants as numbered
 use Rattle.pl_code.specs.declared.code.FunCode.{FunCode}
 use Rattle.pl_code.specs.declared.code.Instruction.{Instruction}
 use Rattle.pl_code.specs.declared.code.Instruction.TheVariants as i
-use Rattle.code_meaning.specs.Machine.{Handlers}
+use Rattle.verifier_soundness.specs.Machine.{Handlers}
 use Rattle.typed_tree.specs.declared.operation.Logical.{Logical}
 use Rattle.typed_tree.specs.declared.operation.Logical.TheVariants.{And, Or}
 use Rattle.typed_tree.specs.declared.operation.Target.TheVariants as target
 use Rattle.allowlist.specs.Allow.{AllowList}
 use Rattle.member_names.specs.Names.{TextsName}
-use Rattle.source_meaning.specs.Tree.{Expr, Literal, Quoted, Local, Apply, Guarded, Logic, Conditional, Elvis, Assign, Modify, Lambda, Reference, NewReference, Exprs, None', One, Maybe, Missing, Given, Stmt, Do, If, While, DoWhile, Try, Block, Break, Continue, Return, Throw, Stmts, Finish, Then, Declare, Catches, NoCatch, Catch, Program, type_of}
-use Rattle.source_meaning.specs.Falls.{all_fall}
-use Rattle.compiler_relation.specs.Representation.{Representation, representation_of}
-use Rattle.compiler_relation.specs.Parts.{constant_code, text_code, default_code, operator_code, operation_code, cast_code, member_code, without_null, read_code, write_code, kept_under, copies, kept_before, kept_behind, pops}
-use Rattle.compiler_relation.specs.Stands.{Scope, At, AllAt, end_all, end_expr, end_exprs, representations, count, change_first, change_last, end_read, elvis_right, settled, settles, ExprAt, ExprsAt, goes_on, end_skip, end_dropped, end_update, end_test, end_last, end_value, end_returned, end_stmt, end_stmts, end_catches, end_tried, end_caught, jumps_over, handlers_of, next_stmt, next_stmts, Jumps, SkipAt, DroppedAt, UpdateAt, TestAt, LastAt, ValueAt, ReturnedAt, StmtAt, StmtsAt, CatchesAt}
-use Rattle.program_typing.specs.Agreeing as agreeing
-use Rattle.program_typing.specs.Agreeing.{known, types_of, ExprAgrees, ExprsAgree, TestAgrees, UpdateAgrees, BeginAgrees, ReturnAgrees, StmtAgrees, StmtsAgree, CatchesAgree}
+use Rattle.compiled_shapes.specs.Tree.{Expr, Literal, Quoted, Local, Apply, Guarded, Logic, Conditional, Elvis, Assign, Modify, Lambda, Reference, NewReference, Exprs, None', One, Maybe, Missing, Given, Stmt, Do, If, While, DoWhile, Try, Block, Break, Continue, Return, Throw, Stmts, Finish, Then, Declare, Catches, NoCatch, Catch, Program, type_of}
+use Rattle.compiled_shapes.specs.Falls.{all_fall}
+use Rattle.compiled_shapes.specs.Representation.{Representation, representation_of}
+use Rattle.compiled_shapes.specs.Parts.{constant_code, text_code, default_code, operator_code, operation_code, cast_code, member_code, without_null, read_code, write_code, kept_under, copies, kept_before, kept_behind, pops}
+use Rattle.compiled_shapes.specs.Stands.{Scope, At, AllAt, end_all, end_expr, end_exprs, representations, count, change_first, change_last, end_read, elvis_right, settled, settles, ExprAt, ExprsAt, goes_on, end_skip, end_dropped, end_update, end_test, end_last, end_value, end_returned, end_stmt, end_stmts, end_catches, end_tried, end_caught, jumps_over, handlers_of, next_stmt, next_stmts, Jumps, SkipAt, DroppedAt, UpdateAt, TestAt, LastAt, ValueAt, ReturnedAt, StmtAt, StmtsAt, CatchesAt}
+use Rattle.compiled_shapes.specs.Agreeing as agreeing
+use Rattle.compiled_shapes.specs.Agreeing.{known, types_of, ExprAgrees, ExprsAgree, TestAgrees, UpdateAgrees, BeginAgrees, ReturnAgrees, StmtAgrees, StmtsAgree, CatchesAgree}
 use Rattle.verifier_soundness.specs.Rows.{has_row}
 use Rattle.compiled_runs.proofs.Parts.{AllRows, constant_row, operator_rows, operation_rows, guard_rows, null_rows, cast_rows, default_rows, pops_rows, under_rows, copies_rows, before_rows, behind_rows, read_rows, write_rows}
 

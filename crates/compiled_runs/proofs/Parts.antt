@@ -16,7 +16,7 @@ use Rattle.pl_types.specs.declared.conversion.Cast.{Cast}
 use Rattle.pl_types.specs.declared.conversion.Cast.TheVariants as cast
 use Rattle.arithmetic.specs.declared.operator.Op.{Op}
 use Rattle.arithmetic.specs.declared.operator.Op.TheVariants as op
-use Rattle.container_ops.specs.Types.{element_of}
+use Rattle.verifier_soundness.specs.Types.{element_of}
 use Rattle.pl_code.specs.declared.kinds.Plain.TheVariants as plain
 use Rattle.pl_code.specs.declared.kinds.Sized.TheVariants as sized
 use Rattle.pl_code.specs.declared.kinds.Typed.TheVariants as typed
@@ -39,11 +39,11 @@ use Rattle.allowlist.specs.declared.member.MemberKind.TheVariants as kind
 use Rattle.allowlist.specs.Allow.{AllowList}
 use Rattle.member_names.specs.Names.{TextsName, named_by}
 use Rattle.typed_tree.specs.declared.operation.Member.{Member}
-use Rattle.source_meaning.specs.Tree.{Exprs, None', One, Program}
-use Rattle.program_typing.specs.Agreeing.{known, Applies, MemberAgrees, Guards, Reads, Writes, types_of}
-use Rattle.compiler_relation.specs.Representation.{Representation, Unboxed, Boxed, Absent, representation_of}
-use Rattle.compiler_relation.specs.Parts.{constant_code, default_code_layer, default_code, arithmetic_code, boolean_code, dynamic_code, operator_code, typed_code, from_int_code, from_long_code, from_byte_code, from_short_code, from_char_code, number_code, run_time_code_layer, run_time_code, cast_code, operation_code, member_code, without_null, pops, read_code, write_code, kept_under, copies, kept_before, kept_behind}
-use Rattle.compiler_relation.specs.Stands.{AsksKnown, OperatorFits, Fitting, ReadFits, WriteFits, representations, count}
+use Rattle.compiled_shapes.specs.Tree.{Exprs, None', One, Program}
+use Rattle.compiled_shapes.specs.Agreeing.{known, Applies, MemberAgrees, Guards, Reads, Writes, types_of}
+use Rattle.compiled_shapes.specs.Representation.{Representation, Unboxed, Boxed, Absent, representation_of}
+use Rattle.compiled_shapes.specs.Parts.{constant_code, default_code_layer, default_code, arithmetic_code, boolean_code, dynamic_code, operator_code, typed_code, from_int_code, from_long_code, from_byte_code, from_short_code, from_char_code, number_code, run_time_code_layer, run_time_code, cast_code, operation_code, member_code, without_null, pops, read_code, write_code, kept_under, copies, kept_before, kept_behind}
+use Rattle.compiled_shapes.specs.Stands.{AsksKnown, OperatorFits, Fitting, ReadFits, WriteFits, representations, count}
 use Rattle.verifier_soundness.specs.Rows.{member_has_row, has_row}
 
 module _ (allow : AllowList) where

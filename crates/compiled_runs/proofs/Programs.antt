@@ -11,14 +11,14 @@ use Rattle.pl_code.specs.declared.code.Instruction.{Instruction}
 use Rattle.pl_code.specs.declared.code.Instruction.TheVariants as i
 use Rattle.allowlist.specs.Allow.{AllowList}
 use Rattle.member_names.specs.Names.{TextsName}
-use Rattle.source_meaning.specs.Tree.{Fun, Program}
-use Rattle.source_meaning.specs.Programs.{program_of}
-use Rattle.source_meaning.specs.Falls.{all_fall}
-use Rattle.compiler_relation.specs.Representation.{representation_of}
-use Rattle.compiler_relation.specs.Parts.{default_code}
-use Rattle.compiler_relation.specs.Stands.{scope_of, no_jumps, end_all, end_stmts, EndAt, end_end, FunAt, Compiled}
-use Rattle.program_typing.specs.Agreeing as agreeing
-use Rattle.program_typing.specs.Agreeing.{Known, known, FunAgrees, WellFormed}
+use Rattle.compiled_shapes.specs.Tree.{Fun, Program}
+use Rattle.compiled_shapes.specs.Programs.{program_of}
+use Rattle.compiled_shapes.specs.Falls.{all_fall}
+use Rattle.compiled_shapes.specs.Representation.{representation_of}
+use Rattle.compiled_shapes.specs.Parts.{default_code}
+use Rattle.compiled_shapes.specs.Stands.{scope_of, no_jumps, end_all, end_stmts, EndAt, end_end, FunAt, Compiled}
+use Rattle.compiled_shapes.specs.Agreeing as agreeing
+use Rattle.compiled_shapes.specs.Agreeing.{Known, known, FunAgrees, WellFormed}
 use Rattle.compiled_shapes.specs.Laws.{CodeIsWellShaped}
 use Rattle.verifier_soundness.specs.Rows.{has_row}
 use Rattle.verifier_soundness.specs.Fits.{main_params}

@@ -4,14 +4,14 @@ use Rattle.object_values.specs.declared.object.Owner.{Owner}
 use Rattle.pl_code.specs.declared.code.FunCode.{FunCode}
 use Rattle.allowlist.specs.Allow.{AllowList}
 use Rattle.typed_tree.specs.declared.program.Program as typed
-use Rattle.source_meaning.specs.Programs.{program_of}
-use Rattle.program_typing.specs.Agreeing.{Known, known, WellFormed}
-use Rattle.program_typing.specs.Reached.{Reached}
-use Rattle.compiler_relation.specs.Correct.{IsCodeOf}
-use Rattle.compiler_relation.specs.Stands.{Compiled}
+use Rattle.compiled_shapes.specs.Programs.{program_of}
+use Rattle.compiled_shapes.specs.Agreeing.{Known, known, WellFormed}
+use Rattle.compiled_shapes.specs.Reached.{Reached}
+use Rattle.compiled_shapes.specs.Correct.{IsCodeOf}
+use Rattle.compiled_shapes.specs.Stands.{Compiled}
 use Rattle.run_state.specs.World.{World, Limits}
-use Rattle.code_meaning.specs.declared.word.Word.{Word}
-use Rattle.code_meaning.specs.Machine.{start, codes_of}
+use Rattle.verifier_soundness.specs.code_meaning_declared.word.Word.{Word}
+use Rattle.verifier_soundness.specs.Machine.{start, codes_of}
 use Rattle.verifier_soundness.specs.Rows.{HaveRows}
 use Rattle.verifier_soundness.specs.Fits.{kinds_of, main_params, ReachesAllowed}
 use Rattle.verifier_soundness.specs.Bounds.{most_steps, EndsWithin}

@@ -3,4 +3,5 @@
 
 mod laws;
 
+pub use compiled_shapes::code_is_well_shaped;
 pub use laws::programs_run;

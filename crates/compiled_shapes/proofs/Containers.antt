@@ -10,7 +10,7 @@ use Rattle.pl_types.specs.declared.ty.Ty.TheFolds.{fold-roll-Ty, map-Ty}
 use Rattle.pl_types.specs.declared.ty.Ty.TheViews.{roll-Ty, roll-out-Ty, outs-Array}
 use Rattle.pl_types.specs.declared.classes.TheConstants.{ARRAY_LIST, HASH_MAP, ITERATOR}
 use Rattle.pl_types.specs.Texts.{full_text}
-use Rattle.container_ops.specs.Types.{dimensions_layer, dimensions_of, element_layer, element_of}
+use Rattle.compiler_relation.specs.Types.{dimensions_layer, dimensions_of, element_layer, element_of}
 use Rattle.pl_code.specs.declared.kinds.Plain.TheVariants as plain
 use Rattle.pl_code.specs.declared.kinds.Numbered.TheVariants as numbered
 use Rattle.pl_code.specs.declared.kinds.Sized.TheVariants as sized

@@ -11,7 +11,7 @@ use Rattle.pl_code.specs.declared.code.FunCode.{FunCode}
 use Rattle.pl_code.specs.declared.code.Instruction.TheVariants as i
 use Rattle.allowlist.specs.Allow.{AllowList}
 use Rattle.verifier.specs.Shaped.{Leads}
-use Rattle.code_meaning.specs.Machine.{Handlers}
+use Rattle.compiler_relation.specs.Machine.{Handlers}
 use Rattle.typed_tree.specs.declared.operation.Constant.{Constant}
 use Rattle.typed_tree.specs.declared.operation.Operation.{Operation}
 use Rattle.typed_tree.specs.declared.operation.Operation.TheVariants as operation
@@ -21,7 +21,7 @@ use Rattle.typed_tree.specs.declared.operation.Target.TheVariants as target
 use Rattle.typed_tree.specs.declared.operation.Change.{Change}
 use Rattle.typed_tree.specs.declared.operation.Gives.{Gives}
 use Rattle.object_values.specs.declared.object.Owner.{Owner}
-use Rattle.source_meaning.specs.Tree.{Name, Expr, Literal, Quoted, Local, Apply, Guarded, Logic, Conditional, Elvis, Assign, Modify, Lambda, Reference, NewReference, Exprs, None', One, Program, type_of}
+use Rattle.program_typing.specs.Tree.{Name, Expr, Literal, Quoted, Local, Apply, Guarded, Logic, Conditional, Elvis, Assign, Modify, Lambda, Reference, NewReference, Exprs, None', One, Program, type_of}
 use Rattle.compiler_relation.specs.Representation.{representation_of}
 use Rattle.compiler_relation.specs.Parts.{operator_code, operation_code, member_code, without_null, cast_code, read_code, write_code, kept_under, copies, kept_before, kept_behind}
 use Rattle.compiler_relation.specs.Stands.{Scope, AllAt, count, end_all, end_expr, end_exprs, end_read, change_first, elvis_right, settled, settles, ExprAt, ExprsAt, Compiled}

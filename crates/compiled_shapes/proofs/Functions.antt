@@ -19,8 +19,8 @@ use Rattle.verifier.specs.Meets.{goes_to, turns_to, left_in}
 use Rattle.verifier.specs.Faults.{falls, has_shape, fault_of, trap_fault}
 use Rattle.verifier.specs.Shaped.{Leads, begins, catches, turns, passes, LineStands, IsWellShaped}
 use Rattle.object_values.specs.declared.object.Owner.{Owner}
-use Rattle.source_meaning.specs.Falls.{all_fall}
-use Rattle.source_meaning.specs.Tree.{Variable, Fun, Program}
+use Rattle.program_typing.specs.Falls.{all_fall}
+use Rattle.program_typing.specs.Tree.{Variable, Fun, Program}
 use Rattle.compiler_relation.specs.Representation.{representation_of, kind_of, result_of}
 use Rattle.compiler_relation.specs.Parts.{default_code}
 use Rattle.compiler_relation.specs.Stands.{Scope, end_stmts, traps_stmts, scope_of, no_jumps, kinds_of, EndAt, end_end, FunAt, Compiled}

@@ -27,7 +27,7 @@ use Rattle.member_names.specs.Names.{text_of, named_by, TextsName}
 use Rattle.typed_tree.specs.declared.operation.Member.{Member}
 use Rattle.typed_tree.specs.declared.operation.Operation.{Operation}
 use Rattle.typed_tree.specs.declared.operation.Operation.TheVariants as operation
-use Rattle.source_meaning.specs.Tree.{Program}
+use Rattle.program_typing.specs.Tree.{Program}
 use Rattle.compiler_relation.specs.Representation.{representation_of_layer, representation_of, kind_of_layer, kind_of}
 use Rattle.compiler_relation.specs.Parts.{operation_code, member_code, without_null}
 use Rattle.program_typing.specs.Types.{IsReference, has_values_layer}

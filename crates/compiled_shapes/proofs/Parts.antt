@@ -10,8 +10,8 @@ use Rattle.typed_tree.specs.declared.operation.Change.{Change}
 use Rattle.typed_tree.specs.declared.operation.Gives.{Gives}
 use Rattle.typed_tree.specs.declared.operation.Gives.TheVariants as gives
 use Rattle.typed_tree.specs.declared.operation.Target.TheVariants as target
-use Rattle.source_meaning.specs.Falls.{all_fall}
-use Rattle.source_meaning.specs.Tree.{Expr, Literal, Quoted, Local, Apply, Guarded, Logic, Conditional, Elvis, Assign, Modify, Lambda, Reference, NewReference, Exprs, None', One, Maybe, Missing, Given, Stmt, Do, If, While, DoWhile, Try, Block, Break, Continue, Return, Throw, Stmts, Finish, Then, Declare, Catches, NoCatch, Catch, type_of}
+use Rattle.program_typing.specs.Falls.{all_fall}
+use Rattle.program_typing.specs.Tree.{Expr, Literal, Quoted, Local, Apply, Guarded, Logic, Conditional, Elvis, Assign, Modify, Lambda, Reference, NewReference, Exprs, None', One, Maybe, Missing, Given, Stmt, Do, If, While, DoWhile, Try, Block, Break, Continue, Return, Throw, Stmts, Finish, Then, Declare, Catches, NoCatch, Catch, type_of}
 use Rattle.compiler_relation.specs.Representation.{representation_of, result_of}
 use Rattle.compiler_relation.specs.Parts.{default_code, operator_code, cast_code, operation_code, member_code, without_null, pops, read_code, write_code, kept_under, copies, kept_before, kept_behind}
 use Rattle.compiler_relation.specs.Stands.{count, change_first, end_read, end_expr, end_exprs, goes_on, end_skip, end_dropped, end_update, end_test, end_last, end_value, end_returned, jumps_over, end_stmt, end_stmts, end_catches}

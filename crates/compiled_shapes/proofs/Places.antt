@@ -19,7 +19,7 @@ use Rattle.typed_tree.specs.declared.operation.Operation.TheVariants as operatio
 use Rattle.typed_tree.specs.declared.operation.Operator.TheVariants as operator
 use Rattle.typed_tree.specs.declared.operation.Gives.{Gives}
 use Rattle.typed_tree.specs.declared.operation.Gives.TheVariants as gives
-use Rattle.source_meaning.specs.Tree.{Program}
+use Rattle.program_typing.specs.Tree.{Program}
 use Rattle.compiler_relation.specs.Representation.{kind_of}
 use Rattle.compiler_relation.specs.Parts.{write_code, kept_under, copies, kept_before, kept_behind}
 use Rattle.program_typing.specs.Types.{is_reference_layer, has_values_layer, HasValues, TakesElement, TakesReference, TakesReferences}

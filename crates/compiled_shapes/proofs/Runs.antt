@@ -17,7 +17,7 @@ use Rattle.instruction_types.specs.Effects.{Exchanges, left_by, result_kinds, ef
 use Rattle.instruction_types.specs.Faults.{is_bad_target, is_bad_member, goes_wrong, is_bad_jump}
 use Rattle.verifier.specs.Meets.{goes_to, turns_to, left_in}
 use Rattle.verifier.specs.Shaped.{Leads, turns, passes}
-use Rattle.code_meaning.specs.Machine.{Handlers}
+use Rattle.compiler_relation.specs.Machine.{Handlers}
 use Rattle.compiler_relation.specs.Stands.{At, AllAt, end_all}
 use Rattle.compiled_shapes.proofs.Lines.{Ends, ended, behind, Has, Have, first, rest}
 

@@ -3,7 +3,7 @@ use Rattle.std.proofs.Common.{◌≡◌, ℕ, Bool, true, false, [], ◌∷◌, 
 use Rattle.std.specs.Str.{bytes_eq}
 use Rattle.pl_types.specs.declared.ty.Ty.{Ty}
 use Rattle.pl_code.specs.declared.code.FunCode.{FunCode}
-use Rattle.source_meaning.specs.Tree.{Name, Variable}
+use Rattle.program_typing.specs.Tree.{Name, Variable}
 use Rattle.compiler_relation.specs.Stands.{Entry, Scope, entry_of, IsEntry, HasLocal}
 use Rattle.program_typing.specs.Types.{HasValues}
 use Rattle.program_typing.specs.Agreeing.{variable_of, IsVariable}

@@ -45,7 +45,7 @@ use Rattle.typed_tree.specs.declared.operation.Operator.TheVariants as operator
 use Rattle.typed_tree.specs.declared.operation.Gives.{Gives}
 use Rattle.typed_tree.specs.declared.operation.Gives.TheVariants as gives
 use Rattle.object_values.specs.declared.object.Owner.{Owner}
-use Rattle.source_meaning.specs.Tree.{Variable, Fun, Program}
+use Rattle.program_typing.specs.Tree.{Variable, Fun, Program}
 use Rattle.compiler_relation.specs.Representation.{representation_of_layer, representation_of, kind_of_primitive, kind_of_layer, kind_of, result_of_layer}
 use Rattle.compiler_relation.specs.Parts.{text_code, constant_code, default_code_layer, default_code, arithmetic_code, boolean_code, turned_round, dynamic_code, operator_code, from_int_code, number_code, run_time_code_layer, run_time_code, cast_code, pops, kept_before, kept_behind}
 use Rattle.compiler_relation.specs.Stands.{HasLocal, kinds_of, Compiled}

@@ -12,10 +12,10 @@ use Rattle.pl_code.specs.declared.code.FunCode.{FunCode}
 use Rattle.allowlist.specs.Allow.{AllowList}
 use Rattle.instruction_types.specs.Effects.{result_kinds}
 use Rattle.verifier.specs.Shaped.{Leads, catches}
-use Rattle.code_meaning.specs.Machine.{Handlers}
+use Rattle.compiler_relation.specs.Machine.{Handlers}
 use Rattle.object_values.specs.declared.object.Owner.{Owner}
-use Rattle.source_meaning.specs.Falls.{falls, all_fall, any_falls, continues, any_continues, catches_continue}
-use Rattle.source_meaning.specs.Tree.{Name, Expr, Maybe, Missing, Given, Stmt, Do, If, While, DoWhile, Try, Block, Break, Continue, Return, Throw, Stmts, Finish, Then, Declare, Catches, NoCatch, Catch, Program, type_of}
+use Rattle.program_typing.specs.Falls.{falls, all_fall, any_falls, continues, any_continues, catches_continue}
+use Rattle.program_typing.specs.Tree.{Name, Expr, Maybe, Missing, Given, Stmt, Do, If, While, DoWhile, Try, Block, Break, Continue, Return, Throw, Stmts, Finish, Then, Declare, Catches, NoCatch, Catch, Program, type_of}
 use Rattle.compiler_relation.specs.Representation.{Representation, representation_of, result_of}
 use Rattle.compiler_relation.specs.Parts.{default_code, pops}
 use Rattle.compiler_relation.specs.Stands.{Scope, end_expr, goes_on, end_skip, end_dropped, end_update, end_test, end_last, end_value, end_stmt, end_stmts, end_catches, next_stmt, next_stmts, handlers_of, trap_of, traps_stmt, traps_stmts, traps_catches, Jumps, At, HasLocal, SkipAt, DroppedAt, UpdateAt, TestAt, LastAt, ValueAt, StmtAt, StmtsAt, CatchesAt, Compiled}

@@ -15,8 +15,8 @@ use Rattle.pl_types.specs.Classes.{class_table, class_row, full_name}
 use Rattle.pl_types.specs.Texts.{primitive_word, primitive_of, text_layer, full_text}
 use Rattle.pl_code.specs.declared.kinds.Slot.TheVariants.{R}
 use Rattle.instruction_types.specs.Types.{is_opening, kind_of_word, kind_of_text, dimensions_of}
-use Rattle.container_ops.specs.Types as containers
-use Rattle.container_ops.specs.Types.{dimensions_layer}
+use Rattle.compiler_relation.specs.Types as containers
+use Rattle.compiler_relation.specs.Types.{dimensions_layer}
 use Rattle.compiler_relation.specs.Representation.{kind_of_layer, kind_of}
 use Rattle.program_typing.specs.Types.{listed_layer, is_listed, IsNamed}
 use Rattle.compiled_shapes.proofs.Named.{at_layer, listed_at}

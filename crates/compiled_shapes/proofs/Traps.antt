@@ -10,8 +10,8 @@ use Rattle.pl_code.specs.declared.code.FunCode.{FunCode}
 use Rattle.pl_code.specs.declared.code.Trap.{Trap}
 use Rattle.allowlist.specs.Allow.{AllowList}
 use Rattle.instruction_types.specs.Types.{catalogue_class}
-use Rattle.source_meaning.specs.Falls.{falls, all_fall}
-use Rattle.source_meaning.specs.Tree.{Maybe, Missing, Given, Stmt, Do, If, While, DoWhile, Try, Block, Break, Continue, Return, Throw, Stmts, Finish, Then, Declare, Catches, NoCatch, Catch}
+use Rattle.program_typing.specs.Falls.{falls, all_fall}
+use Rattle.program_typing.specs.Tree.{Maybe, Missing, Given, Stmt, Do, If, While, DoWhile, Try, Block, Break, Continue, Return, Throw, Stmts, Finish, Then, Declare, Catches, NoCatch, Catch}
 use Rattle.compiler_relation.specs.Stands.{end_expr, end_skip, end_value, end_returned, end_tried, end_caught, jumps_over, end_stmt, end_stmts, traps_stmt, traps_stmts, traps_catches}
 use Rattle.program_typing.specs.Agreeing.{Known, Scope, StmtAgrees, StmtsAgree, CatchesAgree}
 use Rattle.compiled_shapes.proofs.Lines.{grows, Has, Have, first, rest, cut}

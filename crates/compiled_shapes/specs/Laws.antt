@@ -5,7 +5,7 @@ use Rattle.pl_code.specs.declared.code.Code.{Code}
 use Rattle.pl_code.specs.declared.code.FunCode.{FunCode}
 use Rattle.allowlist.specs.Allow.{AllowList}
 use Rattle.typed_tree.specs.declared.program.Program as typed
-use Rattle.source_meaning.specs.Programs.{program_of}
+use Rattle.program_typing.specs.Programs.{program_of}
 use Rattle.program_typing.specs.Agreeing.{Known, known, WellFormed}
 use Rattle.program_typing.specs.Reached.{Reached}
 use Rattle.compiler_relation.specs.Correct.{IsCodeOf}

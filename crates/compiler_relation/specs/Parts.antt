@@ -25,7 +25,7 @@ use Rattle.typed_tree.specs.declared.operation.Operation.TheVariants as operatio
 use Rattle.typed_tree.specs.declared.operation.Gives.{Gives}
 use Rattle.typed_tree.specs.declared.operation.Gives.TheVariants as gives
 use Rattle.number_ops.specs.Operators.{compares}
-use Rattle.container_ops.specs.Types.{element_of}
+use Rattle.source_meaning.specs.Types.{element_of}
 use Rattle.code_meaning.specs.Words.{bit}
 use Rattle.pl_types.specs.declared.classes.TheConstants.{STRING}
 use Rattle.pl_types.specs.declared.ty.Ty.TheVariants as t

@@ -26,7 +26,7 @@ use Rattle.typed_tree.specs.declared.operation.Operator.{Operator}
 use Rattle.typed_tree.specs.declared.operation.Operator.TheVariants as operator
 use Rattle.arithmetic.specs.declared.operator.Op.{Op}
 use Rattle.arithmetic.specs.declared.operator.Op.TheVariants as op
-use Rattle.container_ops.specs.Types.{element_of}
+use Rattle.source_meaning.specs.Types.{element_of}
 use Rattle.typed_tree.specs.declared.operation.Logical.{Logical}
 use Rattle.typed_tree.specs.declared.operation.Logical.TheVariants.{And, Or}
 use Rattle.typed_tree.specs.declared.operation.Target.TheVariants as target

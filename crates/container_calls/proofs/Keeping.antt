@@ -3,7 +3,7 @@ use Rattle.std.proofs.Common.{ℕ, List, length}
 use Rattle.object_values.specs.declared.value.Value.{Value}
 use Rattle.object_heap.specs.Fits.{Rules, Fits, AllFit, EffectFits}
 use Rattle.object_heap.specs.Store.{Store}
-use Rattle.container_outcomes.proofs.Settling.{settled}
+use Rattle.api_map.proofs.Settling.{settled}
 use Rattle.api_iter.specs.Members as iterables
 use Rattle.api_iter.proofs.Keeping as iterable_keeping
 use Rattle.api_list.specs.Members as lists

@@ -16,19 +16,19 @@ use Rattle.object_heap.specs.Objects.{changed_by, AList, AMap, ASet, kind_of, re
 use Rattle.object_heap.specs.Parts.{items_of, size_of}
 use Rattle.object_heap.specs.Store.{Store, with_change}
 use Rattle.member_arguments.specs.Arguments.{object_at}
-use Rattle.value_walks.specs.Equality.{value_now}
-use Rattle.container_parts.specs.Containers.{changes_now, container_of, count_of, lets_cut}
-use Rattle.container_parts.specs.Iterators as iterators
-use Rattle.container_parts.specs.declared.containers.Container.{Container}
-use Rattle.container_parts.specs.declared.containers.Container.TheVariants as c
-use Rattle.container_parts.specs.declared.cursors.Cursor.{Cursor}
-use Rattle.container_parts.specs.declared.elements.Element.{Element}
-use Rattle.container_parts.specs.declared.elements.Element.TheVariants as element
-use Rattle.container_values.specs.Elements.{entries_of, entry_references}
-use Rattle.container_outcomes.specs.declared.outcome.Outcome.{Outcome}
-use Rattle.container_outcomes.specs.declared.outcome.Outcome.TheVariants as outcome
-use Rattle.container_outcomes.specs.Outcomes as outcomes
-use Rattle.api_text.specs.Members as texts
+use Rattle.api_map.specs.Equality.{value_now}
+use Rattle.api_iter.specs.Containers.{changes_now, container_of, count_of, lets_cut}
+use Rattle.api_iter.specs.Iterators as iterators
+use Rattle.api_iter.specs.container_parts_declared.containers.Container.{Container}
+use Rattle.api_iter.specs.container_parts_declared.containers.Container.TheVariants as c
+use Rattle.api_iter.specs.container_parts_declared.cursors.Cursor.{Cursor}
+use Rattle.api_iter.specs.container_parts_declared.elements.Element.{Element}
+use Rattle.api_iter.specs.container_parts_declared.elements.Element.TheVariants as element
+use Rattle.api_map.specs.Elements.{entries_of, entry_references}
+use Rattle.api_map.specs.container_outcomes_declared.outcome.Outcome.{Outcome}
+use Rattle.api_map.specs.container_outcomes_declared.outcome.Outcome.TheVariants as outcome
+use Rattle.api_map.specs.Outcomes as outcomes
+use Rattle.api_iter.specs.ApiTextMembers as texts
 use Rattle.api_iter.specs.declared.joining.TheConstants.{STRING_JOIN}
 use Rattle.api_iter.specs.declared.member.Member.{Member}
 use Rattle.api_iter.specs.declared.member.Member.TheVariants as m

@@ -9,9 +9,9 @@ use Rattle.object_values.specs.declared.value.Value.TheVariants as v
 use Rattle.object_heap.specs.Effects as e
 use Rattle.object_heap.specs.Objects.{kind_of, with_units, renewed_by}
 use Rattle.object_heap.specs.Store.{Store, with_change}
-use Rattle.api_text.specs.declared.outcome.Outcome.{Outcome as TextOutcome}
-use Rattle.api_text.specs.declared.outcome.Outcome.TheVariants as text
-use Rattle.api_text.specs.Outcomes as text_outcomes
+use Rattle.api_iter.specs.api_text_declared.outcome.Outcome.{Outcome as TextOutcome}
+use Rattle.api_iter.specs.api_text_declared.outcome.Outcome.TheVariants as text
+use Rattle.api_iter.specs.Outcomes as text_outcomes
 use Rattle.container_calls.specs.Laws.{EffectLeaves}
 use Rattle.container_calls.proofs.There.{paid_leaves, text_leaves, there_added, there_changed, there_refl, throw_leaves}
 

@@ -9,11 +9,11 @@ use Rattle.object_heap.specs.Effects.{Effect, throws}
 use Rattle.object_heap.specs.Parts.{items_of}
 use Rattle.object_heap.specs.Store.{Store}
 use Rattle.member_arguments.specs.Arguments.{object_at}
-use Rattle.container_parts.specs.Containers.{changes_now, container_of, count_of, lets_cut}
-use Rattle.container_parts.specs.Iterators as iterators
-use Rattle.container_parts.specs.declared.containers.Container.{Container}
-use Rattle.container_parts.specs.declared.cursors.Cursor.{Cursor}
-use Rattle.container_outcomes.specs.Outcomes as container_outcomes
+use Rattle.api_iter.specs.Containers.{changes_now, container_of, count_of, lets_cut}
+use Rattle.api_iter.specs.Iterators as iterators
+use Rattle.api_iter.specs.container_parts_declared.containers.Container.{Container}
+use Rattle.api_iter.specs.container_parts_declared.cursors.Cursor.{Cursor}
+use Rattle.api_map.specs.Outcomes as container_outcomes
 use Rattle.api_iter.specs.declared.member.Member.{Member}
 use Rattle.api_iter.specs.declared.member.Member.TheVariants as m
 use Rattle.api_iter.specs.Iterating as iterating

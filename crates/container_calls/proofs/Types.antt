@@ -22,22 +22,22 @@ use Rattle.object_heap.specs.Objects.{renewed_by, with_all_inserted, with_all_pu
 use Rattle.object_heap.specs.Parts.{guard_of, items_of, pairs_of, size_of}
 use Rattle.object_heap.specs.Store.{Store, with_change}
 use Rattle.member_arguments.specs.Arguments.{int_at, object_at}
-use Rattle.container_parts.specs.Iterators as iterators
-use Rattle.container_parts.specs.declared.containers.Container.{Container}
-use Rattle.container_parts.specs.declared.cursors.Cursor.{Cursor}
-use Rattle.container_values.specs.Elements.{collection_at, entries_of, entry_keys_of, entry_references, taken}
-use Rattle.container_outcomes.specs.declared.comparing.Compared.{Compared}
-use Rattle.container_outcomes.specs.declared.comparing.Compared.TheVariants as c
-use Rattle.container_outcomes.specs.declared.comparing.Found.{Found}
-use Rattle.container_outcomes.specs.declared.comparing.Found.TheVariants as f
-use Rattle.container_outcomes.specs.declared.outcome.Raised.{Raised}
-use Rattle.container_outcomes.specs.declared.outcome.Raised.TheVariants as raised
-use Rattle.container_outcomes.specs.declared.outcome.Outcome.{Outcome}
-use Rattle.container_outcomes.specs.declared.outcome.Outcome.TheVariants as outcome
-use Rattle.container_outcomes.specs.Choices.{with_one, with_two, with_three}
-use Rattle.container_outcomes.specs.Comparing.{where_equal, where_found}
-use Rattle.container_outcomes.specs.Guards.{is_open, where_open}
-use Rattle.container_outcomes.specs.Outcomes as outcomes
+use Rattle.api_iter.specs.Iterators as iterators
+use Rattle.api_iter.specs.container_parts_declared.containers.Container.{Container}
+use Rattle.api_iter.specs.container_parts_declared.cursors.Cursor.{Cursor}
+use Rattle.api_map.specs.Elements.{collection_at, entries_of, entry_keys_of, entry_references, taken}
+use Rattle.api_map.specs.container_outcomes_declared.comparing.Compared.{Compared}
+use Rattle.api_map.specs.container_outcomes_declared.comparing.Compared.TheVariants as c
+use Rattle.api_map.specs.container_outcomes_declared.comparing.Found.{Found}
+use Rattle.api_map.specs.container_outcomes_declared.comparing.Found.TheVariants as f
+use Rattle.api_map.specs.container_outcomes_declared.outcome.Raised.{Raised}
+use Rattle.api_map.specs.container_outcomes_declared.outcome.Raised.TheVariants as raised
+use Rattle.api_map.specs.container_outcomes_declared.outcome.Outcome.{Outcome}
+use Rattle.api_map.specs.container_outcomes_declared.outcome.Outcome.TheVariants as outcome
+use Rattle.api_map.specs.Choices.{with_one, with_two, with_three}
+use Rattle.api_map.specs.Comparing.{where_equal, where_found}
+use Rattle.api_list.specs.Guards.{is_open, where_open}
+use Rattle.api_map.specs.Outcomes as outcomes
 use Rattle.api_iter.specs.declared.member.Member.{Member as IterableMember}
 use Rattle.api_iter.specs.declared.member.Member.TheVariants as i
 use Rattle.api_iter.specs.Iterating as iterating

@@ -4,7 +4,7 @@ use Rattle.object_values.specs.declared.object.Object.{Object}
 use Rattle.object_values.specs.declared.value.Value.{Value}
 use Rattle.object_heap.specs.declared.answer.Answer.{Answer}
 use Rattle.object_heap.specs.declared.answer.Answer.TheVariants as a
-use Rattle.container_outcomes.specs.Outcomes as container_outcomes
+use Rattle.api_map.specs.Outcomes as container_outcomes
 use Rattle.api_iter.specs.Members as iterables
 use Rattle.api_list.specs.Members as lists
 use Rattle.api_list.specs.Taking.{ToldWants}

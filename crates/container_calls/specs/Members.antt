@@ -7,7 +7,7 @@ use Rattle.object_values.specs.declared.value.Value.{Value}
 use Rattle.object_heap.specs.Effects.{Effect}
 use Rattle.object_heap.specs.Store.{Store}
 use Rattle.member_arguments.specs.Arguments.{object_at}
-use Rattle.container_outcomes.specs.Outcomes.{effect}
+use Rattle.api_map.specs.Outcomes.{effect}
 use Rattle.api_iter.specs.Members as iterables
 use Rattle.api_list.specs.Members as lists
 use Rattle.api_list.specs.Taking.{told_effect}

@@ -27,7 +27,7 @@ use Rattle.container_values.specs.Elements.{references, values_of}
 use Rattle.container_values.proofs.Places.{key_there, value_there}
 use Rattle.container_outcomes.specs.declared.outcome.Outcome.{Outcome}
 use Rattle.container_outcomes.specs.Outcomes.{Tells, array_index_error, says}
-use Rattle.api_list.specs.Indexing as indexing
+use Rattle.container_calls.specs.Indexing as indexing
 use Rattle.container_ops.specs.Elements.{IsThrown}
 use Rattle.container_ops.specs.Loops.{CopiedAt, Copies}
 use Rattle.container_ops.specs.Making.{arrays_made, rows_of}

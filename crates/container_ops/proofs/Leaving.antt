@@ -16,7 +16,7 @@ use Rattle.object_heap.specs.Effects as e
 use Rattle.object_heap.specs.Fits.{has_type, is_primitive, is_type, kinds}
 use Rattle.object_heap.specs.Objects.{kind_of, renewed_by, with_item}
 use Rattle.object_heap.specs.Store.{Store, paid, with_change}
-use Rattle.value_walks.specs.Equality.{value_or}
+use Rattle.container_outcomes.specs.Equality.{value_or}
 use Rattle.container_parts.specs.Containers.{changes_now, container_of}
 use Rattle.container_parts.specs.Iterators as iterators
 use Rattle.container_parts.specs.declared.containers.Container.{Container}
@@ -26,8 +26,8 @@ use Rattle.container_parts.specs.declared.elements.Element.TheVariants as elemen
 use Rattle.container_outcomes.specs.declared.outcome.Outcome.{Outcome}
 use Rattle.container_outcomes.specs.declared.outcome.Outcome.TheVariants as outcome
 use Rattle.container_outcomes.specs.Outcomes.{array_index_error, effect, not_simple, number_of, says}
-use Rattle.api_list.specs.Indexing as indexing
-use Rattle.api_list.specs.Lists.{place_of}
+use Rattle.container_calls.specs.Indexing as indexing
+use Rattle.container_calls.specs.Lists.{place_of}
 use Rattle.container_calls.specs.Laws.{EffectLeaves}
 use Rattle.container_calls.specs.Types.{EffectGives}
 use Rattle.container_calls.proofs.There.{paid_leaves, there_added, there_changed, there_refl, there_then, throw_leaves, kinds-changed}

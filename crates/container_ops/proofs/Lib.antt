@@ -5,3 +5,7 @@ pub mod Keeping
 pub mod Leaving
 pub mod Sparing
 pub mod Landing
+
+-- Lemmas of the libraries below, passed on.
+pub use Rattle.container_calls.proofs.There
+pub use Rattle.container_outcomes.proofs.Fitting

@@ -9,12 +9,12 @@ use Rattle.object_heap.specs.declared.answer.Answer.{Answer}
 use Rattle.object_heap.specs.declared.answer.Answer.TheVariants as a
 use Rattle.object_heap.specs.Effects as e
 use Rattle.object_heap.specs.Store.{Store, paid}
-use Rattle.value_walks.specs.Equality.{value_or}
+use Rattle.container_outcomes.specs.Equality.{value_or}
 use Rattle.container_outcomes.specs.declared.outcome.Outcome.{Outcome}
 use Rattle.container_outcomes.specs.declared.outcome.Outcome.TheVariants as outcome
 use Rattle.container_outcomes.specs.Outcomes.{WantsMemory, array_index_error, effect, is_text, number_of, says}
-use Rattle.api_list.specs.Indexing as indexing
-use Rattle.api_list.specs.Lists.{place_of}
+use Rattle.container_calls.specs.Indexing as indexing
+use Rattle.container_calls.specs.Lists.{place_of}
 use Rattle.container_ops.specs.Elements as elements
 use Rattle.container_ops.specs.Types.{MakesNothing, Spares, goes_with, is_read_as, other_kind}
 

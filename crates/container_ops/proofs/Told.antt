@@ -16,7 +16,7 @@ use Rattle.object_heap.specs.Fits.{Rules, Fits, Typed, ValueFits, AllFit, AreEle
 use Rattle.object_heap.specs.Objects.{Kind}
 use Rattle.object_heap.proofs.Fitting.{length-kinds}
 use Rattle.object_heap.proofs.PairLemmas.{distinct_with_all, pairs_with_all}
-use Rattle.value_walks.specs.Equality.{value_or}
+use Rattle.container_outcomes.specs.Equality.{value_or}
 use Rattle.container_outcomes.specs.declared.outcome.Outcome.{Outcome}
 use Rattle.container_outcomes.specs.declared.outcome.Outcome.TheVariants as outcome
 use Rattle.container_outcomes.specs.declared.outcome.Raised.TheVariants as raised
@@ -24,8 +24,8 @@ use Rattle.container_outcomes.specs.Laws.{OutcomeFits}
 use Rattle.container_outcomes.specs.Outcomes.{array_index_error, not_simple}
 use Rattle.container_outcomes.proofs.Fitting.{all_counted, if_fits, object_there, says_fits}
 use Rattle.container_outcomes.proofs.Settling.{place_fits}
-use Rattle.api_list.specs.Indexing as indexing
-use Rattle.api_list.specs.Lists.{place_of}
+use Rattle.container_calls.specs.Indexing as indexing
+use Rattle.container_calls.specs.Lists.{place_of}
 use Rattle.container_ops.specs.Elements as elements
 use Rattle.container_ops.specs.Making as making
 use Rattle.container_ops.specs.Types.{are_of_type, goes_with, is_read_as, other_kind}

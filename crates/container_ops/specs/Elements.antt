@@ -8,12 +8,12 @@ use Rattle.object_values.specs.declared.object.Object.TheVariants as o
 use Rattle.object_heap.specs.Fits.{has_type, kinds}
 use Rattle.object_heap.specs.Store.{Store}
 use Rattle.object_heap.specs.Effects.{Effect}
-use Rattle.value_walks.specs.Equality.{value_or}
+use Rattle.container_outcomes.specs.Equality.{value_or}
 use Rattle.container_outcomes.specs.declared.outcome.Outcome.{Outcome}
 use Rattle.container_outcomes.specs.declared.outcome.Outcome.TheVariants as outcome
 use Rattle.container_outcomes.specs.Outcomes.{Tells, effect, array_index_error, null_error}
-use Rattle.api_list.specs.Indexing.{at_index}
-use Rattle.api_list.specs.Lists.{count_as_int}
+use Rattle.container_calls.specs.Indexing.{at_index}
+use Rattle.container_calls.specs.Lists.{count_as_int}
 use Rattle.container_ops.specs.Types.{goes_with, is_read_as, other_kind}
 
 -- what is done at a place of an array, by an index

@@ -1,7 +1,7 @@
 //! Places of arrays.
 ghost use Rattle.std.specs.Prelude.{◌≡◌};
-ghost use Rattle.api_list.specs.Indexing as indexing;
-ghost use Rattle.api_list.specs.Lists as lists;
+ghost use Rattle.container_calls.specs.Indexing as indexing;
+ghost use Rattle.container_calls.specs.Lists as lists;
 
 /// The place of an index among so many items, a negative one being counted from the end; or the index that is out of range, as it was
 /// counted.

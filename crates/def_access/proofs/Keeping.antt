@@ -17,9 +17,9 @@ use Rattle.number_ops.specs.declared.outcome.Outcome.{Outcome}
 use Rattle.number_ops.specs.declared.outcome.Outcome.TheVariants as outcome
 use Rattle.number_ops.specs.Outcomes.{class_raised, effect}
 use Rattle.number_ops.proofs.Keeping.{OutcomeFits, cast_fits, settled}
-use Rattle.container_outcomes.proofs.Fitting.{value_there}
-use Rattle.container_calls.specs.Laws.{EffectLeaves}
-use Rattle.container_calls.proofs.There.{text_leaves, there_refl, throw_leaves}
+use Rattle.container_ops.proofs.Fitting.{value_there}
+use Rattle.container_ops.specs.ContainerCallsLaws.{EffectLeaves}
+use Rattle.container_ops.proofs.There.{text_leaves, there_refl, throw_leaves}
 use Rattle.container_ops.specs.Types.{on_other_kind}
 use Rattle.container_ops.proofs.Keeping.{element_given_fits, element_written_fits, length_of_fits, other_fits}
 use Rattle.container_ops.proofs.Leaving.{element_given_leaves, element_written_leaves, length_of_leaves, other_leaves}

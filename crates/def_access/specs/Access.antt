@@ -18,7 +18,7 @@ use Rattle.number_ops.specs.declared.outcome.Outcome.{Outcome}
 use Rattle.number_ops.specs.declared.outcome.Outcome.TheVariants as outcome
 use Rattle.number_ops.specs.Casts.{cast_at_run_time}
 use Rattle.number_ops.specs.Outcomes.{effect}
-use Rattle.api_list.specs.Lists.{count_as_int}
+use Rattle.container_ops.specs.Lists.{count_as_int}
 use Rattle.container_ops.specs.Types.{on_other_kind}
 use Rattle.container_ops.specs.Elements.{element_given, element_written, length_of}
 use Rattle.member_calls.specs.Members.{is_built}

@@ -4,7 +4,7 @@ use Rattle.allowlist.specs.Allow.{AllowList, flag}
 use Rattle.object_values.specs.declared.value.Value.{Value}
 use Rattle.object_heap.specs.Fits.{Rules, Fits, ValueFits, AllFit, EffectFits}
 use Rattle.object_heap.specs.Store.{Store}
-use Rattle.container_calls.specs.Laws.{EffectLeaves}
+use Rattle.container_ops.specs.ContainerCallsLaws.{EffectLeaves}
 use Rattle.member_calls.specs.Members.{is_built}
 use Rattle.def_access.specs.Access.{Access, Calls, Acts, index_read, index_written, name_read, name_written, method_called}
 

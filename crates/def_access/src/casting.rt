@@ -1,6 +1,6 @@
 //! Casts of indexes and of arguments.
 ghost use Rattle.std.specs.Prelude.{◌≡◌, slice_get, slice_set};
-ghost use Rattle.api_list.specs.Lists.{count_as_int};
+ghost use Rattle.container_ops.specs.Lists.{count_as_int};
 ghost use Rattle.def_access.specs.Access as spec;
 ghost use Rattle.def_access.specs.Coming as coming;
 

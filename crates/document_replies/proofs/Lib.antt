@@ -1,3 +1,5 @@
 pub mod Arguments
 pub mod Starts
 pub mod Replied
+-- Lemmas of the libraries below, passed on.
+pub use Rattle.line_run.proofs.Pass

@@ -14,9 +14,9 @@ use Rattle.object_heap.specs.declared.outcome.End.TheVariants as l
 use Rattle.object_heap.specs.declared.outcome.Outcome.{Outcome}
 use Rattle.run_state.specs.World.{World, End}
 use Rattle.typed_tree.specs.declared.program.Program.{Program}
-use Rattle.machine.specs.Seen.{limit_of, limits_of}
+use Rattle.script_engine.specs.Seen.{limit_of, limits_of}
 use Rattle.json_replies.specs.Replies.{line_of, refusal_of, reply_of}
-use Rattle.verifier.specs.Faults.{shape_fault}
+use Rattle.script_engine.specs.Faults.{shape_fault}
 use Rattle.script_engine.specs.declared.compiling.Script.{Script}
 use Rattle.script_engine.specs.Codes.{Counts, IsListed, ScriptCodes}
 use Rattle.script_engine.specs.Programs.{IsProgramOf}

@@ -9,8 +9,8 @@ use Rattle.pl_types.specs.declared.ty.Ty.{out-Ty}
 use Rattle.pl_types.specs.declared.ty.Ty.TheVariants as t
 use Rattle.allowlist.specs.Allow.{full_list}
 use Rattle.typed_tree.specs.declared.program.Program.{Program}
-use Rattle.typing_soundness.specs.Laws.{IsContext}
-use Rattle.typing_soundness.proofs.Types.{built_named, def_built}
+use Rattle.script_engine.specs.TypingSoundnessLaws.{IsContext}
+use Rattle.script_engine.proofs.Types.{built_named, def_built}
 use Rattle.json_replies.specs.Replies.{line_of, refusal_of}
 use Rattle.script_engine.specs.Codes.{ScriptCodes}
 use Rattle.script_engine.specs.Programs.{IsProgramOf}

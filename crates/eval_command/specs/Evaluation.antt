@@ -11,7 +11,7 @@ use Rattle.object_heap.specs.declared.outcome.Which.TheVariants as which
 use Rattle.object_heap.specs.declared.outcome.End.TheVariants as e
 use Rattle.run_state.specs.World.{Limit, Loop, Depth, Ticks, Room, End, Result as Gives, Uncaught, Limited}
 use Rattle.json_replies.specs.Replies.{is_error, line_of, refusal_of, reply_of}
-use Rattle.pl_code.specs.Listing.{written}
+use Rattle.script_engine.specs.Listing.{written}
 use Rattle.script_engine.specs.Codes.{Counts, ScriptCodes}
 use Rattle.eval_command.specs.Script.{Means, eval_limits, eval_world}
 

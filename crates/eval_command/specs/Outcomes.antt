@@ -12,8 +12,8 @@ use Rattle.script_engine.specs.declared.compiling.Script.{Script}
 use Rattle.script_engine.specs.Codes.{Counts, ScriptCodes, prelude_code}
 use Rattle.script_engine.specs.Compiling.{IsScriptOf}
 use Rattle.script_engine.specs.Running.{end_seen, world_left, IsOutcome}
-use Rattle.machine.specs.declared.configuration.Limits.{Limits}
-use Rattle.machine.specs.Seen.{limits_of}
+use Rattle.script_engine.specs.machine_declared.configuration.Limits.{Limits}
+use Rattle.script_engine.specs.Seen.{limits_of}
 use Rattle.eval_command.specs.declared.script.EvalRun.{EvalRun}
 use Rattle.eval_command.specs.Script.{eval_types, eval_limits, eval_world}
 use Rattle.eval_command.specs.Evaluation.{listings_of}

@@ -7,7 +7,7 @@ use Rattle.pl_types.specs.Host.{no_host}
 use Rattle.allowlist.specs.Allow.{full_list}
 use Rattle.object_values.specs.declared.value.Value.{Value}
 use Rattle.run_state.specs.World.{World, Limits, End}
-use Rattle.typing_rules.specs.declared.header.ContextTypes.{ContextTypes}
+use Rattle.static_types.specs.typing_rules_declared.header.ContextTypes.{ContextTypes}
 use Rattle.typed_tree.specs.declared.program.Program.{Program}
 use Rattle.script_engine.specs.Stages.{Then}
 use Rattle.script_engine.specs.Programs.{IsProgramOf}

@@ -1,11 +1,11 @@
 //! From a script's bytes to what they come to.
 
 ghost use Rattle.std.specs.Prelude.{◌≡◌, ◌≤◌, ℕ, IfOk, List, [], None, Result, length, map, string_bytes};
-ghost use Rattle.verifier_soundness.specs.Rows.{HaveRows};
+ghost use Rattle.script_engine.specs.Rows.{HaveRows};
 ghost use Rattle.pl_types.specs.Answers.{Answers};
 ghost use Rattle.pl_types.specs.declared.refusal.Refusal.{Refusal};
 ghost use Rattle.allowlist.specs.Allow.{full_list};
-ghost use Rattle.verifier.specs.Faults.{shape_fault};
+ghost use Rattle.script_engine.specs.Faults.{shape_fault};
 ghost use Rattle.script_engine.specs.Programs.{IsProgramOf};
 ghost use Rattle.script_engine.specs.Compiling.{Compiles};
 ghost use Rattle.script_engine.specs.Running.{TakesArguments};
@@ -16,11 +16,10 @@ ghost use Rattle.eval_command.specs.Outcomes.{Comes, CountsAsEval, RunsAsEval, R
 ghost use Rattle.command_parts.specs.Told.{file_limit};
 
 use allowlist::{Allow, Catalogue};
-use machine::Limits;
 use object_heap::{Heap, Outcome};
 use pl_types::{Fail, Refusal, Ty, rules};
 use plain_data::Items;
-use script_engine::{Script, code_laws, compile, script_laws};
+use script_engine::{Limits, Script, code_laws, compile, script_laws};
 use static_types::ContextTypes;
 use std::alloc::{AllocError, Global};
 

@@ -1,6 +1,6 @@
 -- The answers of the code are those of the definition, and each document has one.
 use Rattle.std.proofs.Common.{◌≡◌, ℕ, List, [], ◌∷◌, Some, Result, Ok, Err, refl, sym, ap, ◌∙◌, subst}
-use Rattle.pl_code.specs.declared.code.Code.{Code}
+use Rattle.script_engine.specs.pl_code_declared.code.Code.{Code}
 use Rattle.typed_tree.specs.declared.program.Program.{Program}
 use Rattle.script_engine.specs.Codes.{IsListed}
 use Rattle.script_engine.specs.Compiling.{IsScriptOf}

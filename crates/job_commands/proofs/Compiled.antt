@@ -5,9 +5,9 @@ use Rattle.object_heap.specs.Store.{Store}
 use Rattle.object_heap.specs.declared.outcome.Outcome.{Outcome}
 use Rattle.pl_types.specs.declared.refusal.Refusal.{Refusal}
 use Rattle.typed_tree.specs.declared.program.Program.{Program}
-use Rattle.typing_rules.specs.declared.header.ContextTypes.{ContextTypes}
+use Rattle.script_engine.specs.typing_rules_declared.header.ContextTypes.{ContextTypes}
 use Rattle.script_engine.specs.declared.compiling.Script.{Script}
-use Rattle.machine.specs.Seen.{limits_of}
+use Rattle.script_engine.specs.Seen.{limits_of}
 use Rattle.script_engine.specs.Codes.{Counts}
 use Rattle.script_engine.specs.Compiling.{Compiles, IsScriptOf}
 use Rattle.script_engine.specs.Programs.{IsProgramOf}
@@ -20,7 +20,7 @@ use Rattle.command_parts.specs.declared.stop.Stop.{Stop}
 use Rattle.command_parts.specs.Stops.{stop_told, ComesSo}
 use Rattle.command_parts.specs.Told.{Told}
 use Rattle.job_loading.specs.declared.reading.ReadJob.{ReadJob}
-use Rattle.json_replies.specs.Replies.{refusal_of}
+use Rattle.job_loading.specs.Replies.{refusal_of}
 use Rattle.job_loading.specs.Loading.{JobUnder, refusal, job_under}
 use Rattle.job_loading.specs.Seen.{read_view}
 use Rattle.job_commands.specs.Preparing.{CompilesJob, PreparesSo, EndsAsItsProgram}

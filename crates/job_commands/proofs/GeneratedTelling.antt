@@ -4,7 +4,7 @@ use Rattle.std.specs.Io.KnownBytes.{Appends}
 use Rattle.pl_types.specs.declared.refusal.Refusal.{Refusal}
 use Rattle.typed_tree.specs.declared.program.Program.{Program}
 use Rattle.outer_io.specs.Front.{AppendsFront}
-use Rattle.verifier.specs.Faults.{shape_fault}
+use Rattle.script_engine.specs.Faults.{shape_fault}
 use Rattle.search_ctx.specs.declared.line.SearchKind.TheVariants as k
 use Rattle.script_engine.specs.Codes.{ScriptCodes}
 use Rattle.script_engine.specs.Compiling.{IsScriptOf}
@@ -22,7 +22,7 @@ use Rattle.command_parts.specs.Reports.{IsQuiet, Reports}
 use Rattle.command_parts.specs.Stops.{stop_told}
 use Rattle.command_parts.specs.Told.{Told, silent, uncounted}
 use Rattle.command_parts.proofs.Delivering.{nothing, no_front, delivers_same}
-use Rattle.json_replies.specs.Replies.{refusal_of}
+use Rattle.job_loading.specs.Replies.{refusal_of}
 use Rattle.job_loading.specs.Loading.{refusal}
 use Rattle.job_loading.specs.Seen.{read_view}
 use Rattle.job_commands.specs.Contexts.{kind_of, types_of}

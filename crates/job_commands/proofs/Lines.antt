@@ -1,7 +1,7 @@
 -- The documents of a job that is prepared.
 use Rattle.std.proofs.Common.{◌≡◌, ℕ, List, Option, Some, None, IfSome, sym, ap, ◌∙◌, subst}
 use Rattle.object_values.specs.declared.value.Value.{Value}
-use Rattle.verifier_soundness.specs.Rows.{HaveRows}
+use Rattle.script_engine.specs.Rows.{HaveRows}
 use Rattle.script_engine.specs.Running.{TakesTyped}
 use Rattle.outer_io.specs.Lines.{InputLine}
 use Rattle.search_ctx.specs.declared.line.SearchKind.{SearchKind}
@@ -14,10 +14,10 @@ use Rattle.command_parts.specs.Delivers.{Delivers}
 use Rattle.command_parts.specs.Ending.{EndsSo}
 use Rattle.command_parts.specs.Reports.{IsQuiet}
 use Rattle.command_parts.specs.Stops.{stop_told}
-use Rattle.line_run.specs.declared.ran.Ran.{Ran}
-use Rattle.line_run.specs.Passing.{Passes, PassesBy}
-use Rattle.line_run.specs.Replies.{Front, Reply}
-use Rattle.line_run.proofs.Pass.{pass_nothing}
+use Rattle.document_replies.specs.line_run_declared.ran.Ran.{Ran}
+use Rattle.document_replies.specs.Passing.{Passes, PassesBy}
+use Rattle.document_replies.specs.LineRunReplies.{Front, Reply}
+use Rattle.document_replies.proofs.Pass.{pass_nothing}
 use Rattle.document_replies.specs.declared.job.DocumentJob.{DocumentJob}
 use Rattle.document_replies.specs.Jobs.{HasArguments, by_start, documents_of}
 use Rattle.document_replies.specs.Replies.{Documents, IsReply}

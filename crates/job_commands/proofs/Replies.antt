@@ -5,11 +5,11 @@ use Rattle.object_heap.specs.declared.outcome.End.{End}
 use Rattle.object_heap.specs.declared.outcome.End.TheVariants as o
 use Rattle.object_heap.specs.declared.outcome.Which.{Which}
 use Rattle.object_heap.specs.declared.outcome.Which.TheVariants as which
-use Rattle.run_state.specs.World.{World}
-use Rattle.allowlist.specs.Allow.{AllowList}
-use Rattle.pl_code.specs.declared.code.Code.{Code}
-use Rattle.machine.specs.declared.configuration.Limits.{Limits}
-use Rattle.machine.specs.Seen.{limit_of, limits_of}
+use Rattle.script_engine.specs.World.{World}
+use Rattle.job_loading.specs.Allow.{AllowList}
+use Rattle.script_engine.specs.pl_code_declared.code.Code.{Code}
+use Rattle.script_engine.specs.machine_declared.configuration.Limits.{Limits}
+use Rattle.script_engine.specs.Seen.{limit_of, limits_of}
 use Rattle.outer_io.specs.Lines.{InputLine, Within, Beyond, Nothing}
 use Rattle.typed_tree.specs.declared.program.Program.{Program}
 use Rattle.script_engine.specs.Codes.{Counts, IsListed}
@@ -19,9 +19,9 @@ use Rattle.script_engine.specs.Programs.{IsProgramOf}
 use Rattle.script_engine.specs.Running.{end_seen}
 use Rattle.search_ctx.specs.declared.line.SearchKind.{SearchKind}
 use Rattle.search_ctx.specs.Lines.{Start, Fault}
-use Rattle.line_run.specs.Replies.{Reply, AreReplies, bytes_of, no_reply}
-use Rattle.job_replies.specs.Refusals.{line_error}
-use Rattle.job_replies.specs.declared.line_fault.LineFault.TheVariants as fault
+use Rattle.document_replies.specs.LineRunReplies.{Reply, AreReplies, bytes_of, no_reply}
+use Rattle.job_loading.specs.Refusals.{line_error}
+use Rattle.job_loading.specs.job_replies_declared.line_fault.LineFault.TheVariants as fault
 use Rattle.document_replies.specs.Jobs.{HasArguments, by_start}
 use Rattle.document_replies.specs.Replies.{Documents, Ended, is_blank, start_of, as_line, reply_to_run, fault_of, IsReplyTo, IsReplyUnless}
 use Rattle.document_replies.proofs.Starts.{documents_take}

@@ -13,9 +13,9 @@ use Rattle.command_parts.specs.Ending.{EndsSo}
 use Rattle.command_parts.specs.Reports.{IsQuiet}
 use Rattle.command_parts.specs.Told.{Told}
 use Rattle.command_parts.specs.Writing.{IsWriteFault}
-use Rattle.line_run.specs.declared.ran.Ran.{Ran}
-use Rattle.line_run.specs.Passing.{Passes, PassesBy}
-use Rattle.line_run.specs.Replies.{Front, Reply}
+use Rattle.document_replies.specs.line_run_declared.ran.Ran.{Ran}
+use Rattle.document_replies.specs.Passing.{Passes, PassesBy}
+use Rattle.document_replies.specs.LineRunReplies.{Front, Reply}
 use Rattle.job_commands.specs.Documents.{EndsBy, EndsPrepared, GivesReplies, LeavesInput, Lists, ListsBy, front_for, ran_by}
 use Rattle.job_commands.specs.Contexts.{kind_of}
 use Rattle.job_commands.specs.Listing.{listings_of}

@@ -5,7 +5,7 @@ use Rattle.pl_types.specs.declared.refusal.Refusal.{Refusal}
 use Rattle.typed_tree.specs.declared.program.Program.{Program}
 use Rattle.outer_io.specs.Front.{AppendsFront}
 use Rattle.outer_io.specs.Lines.{InputLine, input_line, ended_of}
-use Rattle.verifier.specs.Faults.{shape_fault}
+use Rattle.script_engine.specs.Faults.{shape_fault}
 use Rattle.script_engine.specs.Codes.{ScriptCodes, prelude_code}
 use Rattle.script_engine.specs.Compiling.{IsScriptOf}
 use Rattle.script_engine.specs.Laws.{TextsAreAnswered, TextsAreAnsweredOnce, ProgramsEnd, ProgramsEndOnce, CodesAreListed, PreludeIsListed, CodesCountOnce, ListedCodesCount}
@@ -27,8 +27,8 @@ use Rattle.command_parts.specs.Stops.{stop_told}
 use Rattle.command_parts.specs.Told.{Told, silent, uncounted}
 use Rattle.command_parts.proofs.Delivering.{nothing, no_front, some_input, delivers_same, delivers_over, stop_delivers}
 use Rattle.command_parts.proofs.Reporting.{uncounted_reports}
-use Rattle.line_run.specs.Passing.{PassesAll, PassesFront, PassesBy, listings_by}
-use Rattle.line_run.specs.Replies.{Front, Reply, AreReplies, bytes_of, bytes_behind, lines_told, whole_told, input_told, TellsInput, TellsTaken}
+use Rattle.document_replies.specs.Passing.{PassesAll, PassesFront, PassesBy, listings_by}
+use Rattle.document_replies.specs.LineRunReplies.{Front, Reply, AreReplies, bytes_of, bytes_behind, lines_told, whole_told, input_told, TellsInput, TellsTaken}
 use Rattle.job_loading.specs.Loading.{JobUnder, job_under}
 use Rattle.job_loading.specs.Seen.{read_view}
 use Rattle.job_commands.specs.Checking.{accepts_told, told_of_check, TellsCheck}

@@ -4,12 +4,12 @@ use Rattle.pl_types.specs.declared.ty.Ty.{out-Ty}
 use Rattle.pl_types.specs.declared.ty.Ty.TheVariants as t
 use Rattle.pl_types.specs.declared.primitive.Primitive.TheVariants as prim
 use Rattle.object_values.specs.declared.value.Value.{Value}
-use Rattle.source_meaning.specs.Programs.{variable_of}
-use Rattle.program_typing.specs.Types.{HaveAll}
-use Rattle.program_typing.specs.Agreeing.{types_in}
-use Rattle.typing_rules.specs.declared.header.ContextTypes.{ContextTypes}
-use Rattle.typing_soundness.specs.Laws.{IsContext}
-use Rattle.typing_soundness.proofs.Types.{built_named, def_built, prim_built}
+use Rattle.script_engine.specs.SourceMeaningPrograms.{variable_of}
+use Rattle.script_engine.specs.Types.{HaveAll}
+use Rattle.script_engine.specs.Agreeing.{types_in}
+use Rattle.script_engine.specs.typing_rules_declared.header.ContextTypes.{ContextTypes}
+use Rattle.script_engine.specs.TypingSoundnessLaws.{IsContext}
+use Rattle.script_engine.proofs.Types.{built_named, def_built, prim_built}
 use Rattle.search_ctx.specs.declared.line.SearchKind.{SearchKind}
 use Rattle.search_ctx.specs.declared.line.SearchKind.TheVariants as k
 use Rattle.job_file.specs.declared.context.JobContext.{JobContext}

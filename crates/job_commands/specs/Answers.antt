@@ -1,6 +1,6 @@
 -- What a run over a document comes to: a whole number, or none, and how many instructions were run.
 use Rattle.std.specs.Prelude.{◌≡◌, ℕ, ℤ, List, [], ◌∷◌, Option, Some, None, Result, Ok, Err}
-use Rattle.pl_code.specs.declared.code.Code.{Code}
+use Rattle.script_engine.specs.pl_code_declared.code.Code.{Code}
 use Rattle.object_values.specs.declared.value.Value.{Value}
 use Rattle.object_values.specs.declared.value.Value.TheVariants as v
 use Rattle.object_heap.specs.declared.outcome.End.{End}

@@ -1,8 +1,8 @@
 -- What `check` is to write, and how it is to end.
 use Rattle.std.specs.Prelude.{◌≡◌, ℕ, List, Option, Result, Ok, Err}
 use Rattle.job_file.specs.declared.context.JobCommand.TheVariants as command
-use Rattle.json_replies.specs.Replies.{line_of}
-use Rattle.job_replies.specs.Refusals.{accepted}
+use Rattle.job_loading.specs.Replies.{line_of}
+use Rattle.job_loading.specs.Refusals.{accepted}
 use Rattle.command_parts.specs.declared.status.Status.TheVariants as s
 use Rattle.command_parts.specs.Told.{Told, uncounted}
 use Rattle.job_commands.specs.Scripts.{Prepared, PreparesJob}

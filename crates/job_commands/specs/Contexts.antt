@@ -5,7 +5,7 @@ use Rattle.pl_types.specs.declared.ty.Ty.TheVariants as t
 use Rattle.pl_types.specs.declared.primitive.Primitive.TheVariants as prim
 use Rattle.pl_types.specs.declared.classes.TheConstants.{MAP}
 use Rattle.typed_tree.specs.declared.program.Named.{Named}
-use Rattle.typing_rules.specs.declared.header.ContextTypes.{ContextTypes}
+use Rattle.script_engine.specs.typing_rules_declared.header.ContextTypes.{ContextTypes}
 use Rattle.job_file.specs.declared.context.JobContext.{JobContext}
 use Rattle.job_file.specs.declared.context.JobContext.TheVariants as c
 use Rattle.search_ctx.specs.declared.line.SearchKind.{SearchKind}

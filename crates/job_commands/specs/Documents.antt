@@ -9,9 +9,9 @@ use Rattle.command_parts.specs.declared.status.Status.{Status}
 use Rattle.command_parts.specs.declared.status.Status.TheVariants as s
 use Rattle.command_parts.specs.Delivers.{Delivers}
 use Rattle.command_parts.specs.Reports.{IsQuiet, texts_of}
-use Rattle.line_run.specs.declared.ran.Ran.{Ran}
-use Rattle.line_run.specs.Passing.{Passes}
-use Rattle.line_run.specs.Replies.{Front, Reply}
+use Rattle.document_replies.specs.line_run_declared.ran.Ran.{Ran}
+use Rattle.document_replies.specs.Passing.{Passes}
+use Rattle.document_replies.specs.LineRunReplies.{Front, Reply}
 use Rattle.document_replies.specs.declared.job.DocumentJob.{DocumentJob}
 use Rattle.document_replies.specs.Jobs.{by_start, documents_of}
 use Rattle.document_replies.specs.Replies.{Documents, IsReply}

@@ -1,7 +1,7 @@
 -- The job that runs over the documents of the generator.
 use Rattle.std.specs.Prelude.{[], ◌∷◌, false, None, codes}
 use Rattle.serde_json.specs.Data.{object, no_members}
-use Rattle.allowlist.specs.Allow.{full_list}
+use Rattle.job_loading.specs.Allow.{full_list}
 use Rattle.job_file.specs.declared.context.JobContext.TheVariants as c
 use Rattle.job_file.specs.declared.limits.Limit.TheVariants as l
 use Rattle.job_file.specs.declared.limits.JobLimits.{JobLimits}

@@ -1,7 +1,7 @@
 -- What `gen` is to write, and how it is to end.
 use Rattle.std.specs.Prelude.{◌≡◌, ℕ, List, Result, Ok, Err}
 use Rattle.script_engine.specs.Codes.{ScriptCodes}
-use Rattle.json_replies.specs.Replies.{line_of}
+use Rattle.job_loading.specs.Replies.{line_of}
 use Rattle.command_parts.specs.declared.status.Status.TheVariants as s
 use Rattle.command_parts.specs.Told.{Told}
 use Rattle.job_commands.specs.Listing.{AreCodesBy, listings_of}

@@ -1,6 +1,6 @@
 -- Which codes a job may have, and what `list` is to write.
 use Rattle.std.specs.Prelude.{◌≡◌, ℕ, List, [], ◌∷◌, Bool, Option, Result, Ok, Err, if◌then◌else◌}
-use Rattle.pl_code.specs.Listing.{written}
+use Rattle.script_engine.specs.Listing.{written}
 use Rattle.script_engine.specs.Codes.{IsListed, IsPreludeListed, ScriptCodes}
 use Rattle.job_file.specs.declared.context.JobCommand.{JobCommand}
 use Rattle.job_file.specs.declared.context.JobCommand.TheVariants as command

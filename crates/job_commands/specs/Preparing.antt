@@ -2,15 +2,15 @@
 use Rattle.std.specs.Prelude.{◌≡◌, List, map, Result, Ok, Err, IfSome}
 use Rattle.object_heap.specs.Store.{Store}
 use Rattle.object_values.specs.declared.value.Value.{Value}
-use Rattle.run_state.specs.World.{World}
-use Rattle.allowlist.specs.Allow.{AllowList}
+use Rattle.script_engine.specs.World.{World}
+use Rattle.job_loading.specs.Allow.{AllowList}
 use Rattle.typed_tree.specs.declared.program.Program.{Program}
-use Rattle.typing_rules.specs.declared.header.ContextTypes.{ContextTypes}
-use Rattle.source_meaning.specs.Programs.{variable_of}
-use Rattle.program_typing.specs.Types.{HaveAll}
-use Rattle.program_typing.specs.Agreeing.{types_in}
-use Rattle.machine.specs.Seen.{limits_of}
-use Rattle.verifier_soundness.specs.Rows.{HaveRows}
+use Rattle.script_engine.specs.typing_rules_declared.header.ContextTypes.{ContextTypes}
+use Rattle.script_engine.specs.SourceMeaningPrograms.{variable_of}
+use Rattle.script_engine.specs.Types.{HaveAll}
+use Rattle.script_engine.specs.Agreeing.{types_in}
+use Rattle.script_engine.specs.Seen.{limits_of}
+use Rattle.script_engine.specs.Rows.{HaveRows}
 use Rattle.script_engine.specs.declared.compiling.Script.{Script}
 use Rattle.script_engine.specs.Codes.{Counts, ScriptCodes, prelude_code}
 use Rattle.script_engine.specs.Compiling.{IsScriptOf}

@@ -9,21 +9,21 @@ use Rattle.object_heap.specs.declared.outcome.End.{End}
 use Rattle.object_heap.specs.declared.outcome.End.TheVariants as e
 use Rattle.object_heap.specs.declared.outcome.Which.{Which}
 use Rattle.object_heap.specs.declared.outcome.Which.TheVariants as which
-use Rattle.run_state.specs.World.{World, Limits, Limit, Loop, Depth, Ticks, Room, End as Ended, Result as Gives, Uncaught, Limited}
+use Rattle.script_engine.specs.World.{World, Limits, Limit, Loop, Depth, Ticks, Room, End as Ended, Result as Gives, Uncaught, Limited}
 use Rattle.outer_io.specs.Lines.{InputLine}
-use Rattle.pl_code.specs.Listing.{written}
-use Rattle.pl_code.specs.declared.code.Code.{Code}
+use Rattle.script_engine.specs.Listing.{written}
+use Rattle.script_engine.specs.pl_code_declared.code.Code.{Code}
 use Rattle.script_engine.specs.Codes.{Counts, ScriptCodes}
 use Rattle.script_engine.specs.Ends.{RunsTo}
 use Rattle.job_file.specs.declared.context.JobCommand.TheVariants as command
 use Rattle.job_file.specs.Jobs.{JobData, field}
 use Rattle.search_ctx.specs.declared.line.SearchKind.{SearchKind}
 use Rattle.search_ctx.specs.Lines.{Start}
-use Rattle.job_replies.specs.Listings.{listing_of, prelude_listing_of}
-use Rattle.job_replies.specs.Refusals.{job_refusal}
-use Rattle.json_replies.specs.Replies.{line_of}
+use Rattle.job_loading.specs.Listings.{listing_of, prelude_listing_of}
+use Rattle.job_loading.specs.Refusals.{job_refusal}
+use Rattle.job_loading.specs.Replies.{line_of}
 use Rattle.command_parts.specs.Told.{Told}
-use Rattle.line_run.specs.Replies.{Reply, Front, TellsInput, TellsTaken}
+use Rattle.document_replies.specs.LineRunReplies.{Reply, Front, TellsInput, TellsTaken}
 use Rattle.document_replies.specs.Replies.{Documents, Ended as Ran, IsReply}
 use Rattle.job_loading.specs.Loading.{refusal}
 use Rattle.job_commands.specs.Contexts.{kind_of}

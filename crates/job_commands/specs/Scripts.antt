@@ -4,7 +4,7 @@ use Rattle.pl_types.specs.declared.refusal.Refusal.{Refusal}
 use Rattle.typed_tree.specs.declared.program.Program.{Program}
 use Rattle.script_engine.specs.Programs.{IsProgramOf}
 use Rattle.job_file.specs.declared.context.JobCommand.{JobCommand}
-use Rattle.json_replies.specs.Replies.{refusal_of}
+use Rattle.job_loading.specs.Replies.{refusal_of}
 use Rattle.command_parts.specs.Told.{Told}
 use Rattle.job_loading.specs.Loading.{JobUnder, refusal, job_under}
 use Rattle.job_commands.specs.Contexts.{types_of}

@@ -10,9 +10,9 @@ ghost use Rattle.job_commands.specs.Answers.{IsAnswer, IsAnswerTo, answer_of, gi
 use crate::generator::document_of;
 use crate::script::LimitedScript;
 use document_replies::{DocumentJob, DocumentScript};
-use machine::RunMemory;
 use object_heap::{End, Outcome};
 use object_values::Value;
+use script_engine::RunMemory;
 use search_ctx::{BindErr, Bound, bind_document};
 use std::alloc::AllocError;
 

@@ -9,8 +9,8 @@ ghost use Rattle.job_commands.specs.Checking.{TellsCheck, accepts_told};
 
 use crate::preparing::prepare;
 use command_parts::{Report, Status, end_with, write_bytes};
+use document_replies::accepted_line;
 use job_file::JobCommand;
-use job_replies::accepted_line;
 use outer_io::{Files, Sink};
 use script_engine::script_laws;
 use std::alloc::Global;

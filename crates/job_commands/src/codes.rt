@@ -1,15 +1,15 @@
 //! What a job tells of its codes.
 
 ghost use Rattle.std.specs.Prelude.{◌≡◌, [], ◌∷◌, IfOk, if◌then◌else◌, map, string_bytes};
-ghost use Rattle.json_replies.specs.Replies.{line_of};
-ghost use Rattle.job_replies.specs.Listings.{listing_of, prelude_listing_of};
+ghost use Rattle.job_loading.specs.Replies.{line_of};
+ghost use Rattle.job_loading.specs.Listings.{listing_of, prelude_listing_of};
 ghost use Rattle.job_commands.specs.Documents.{front_for};
 ghost use Rattle.job_commands.specs.Listing.{listings_of};
 ghost use Rattle.job_commands.specs.Preparing.{codes_of};
 ghost use Rattle.job_commands.specs.Running.{front_with};
 
 use crate::preparing::PreparedJob;
-use job_replies::{listing_line, prelude_listing_line};
+use document_replies::{listing_line, prelude_listing_line};
 use script_engine::Script;
 use std::alloc::{AllocError, Global};
 

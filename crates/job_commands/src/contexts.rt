@@ -6,11 +6,10 @@ ghost use Rattle.job_commands.specs.Contexts.{kind_of, search_types, types_by, v
 use job_file::JobContext;
 use pl_types::classes::MAP;
 use pl_types::{Primitive, Ty};
-use plain_data::{Items, Text};
+use script_engine::ContextTypes;
 use search_ctx::SearchKind;
-use static_types::ContextTypes;
 use std::alloc::{AllocError, Global};
-use typed_tree::Named;
+use typed_tree::{Items, Named, Text};
 
 /// The kind of a context over documents.
 pub(crate) fn kind_of(context: JobContext) -> Option<SearchKind>

@@ -7,9 +7,8 @@ ghost use Rattle.job_commands.specs.Documents.{IsDocumentJob};
 
 use crate::preparing::PreparedJob;
 use crate::script::LimitedScript;
-use document_replies::{DocumentJob, Settings};
-use json_replies::ShownKeys;
-use machine::Limits;
+use document_replies::{DocumentJob, Settings, ShownKeys};
+use script_engine::Limits;
 use search_ctx::{Fields, SearchKind, fields_stay};
 use std::alloc::{AllocError, Global};
 

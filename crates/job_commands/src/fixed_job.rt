@@ -1,8 +1,8 @@
 //! The job that runs over the documents of the generator.
 
 ghost use Rattle.std.specs.Prelude.{◌≡◌, ◌≢◌, None, IfErr, IfOk};
-ghost use Rattle.verifier.specs.Faults.{shape_fault};
-ghost use Rattle.verifier_soundness.specs.Rows.{HaveRows};
+ghost use Rattle.script_engine.specs.Faults.{shape_fault};
+ghost use Rattle.script_engine.specs.Rows.{HaveRows};
 ghost use Rattle.script_engine.specs.Running.{TakesTyped};
 ghost use Rattle.job_file.specs.Answers.{fields_view, job_view};
 ghost use Rattle.search_ctx.specs.Fields.{HasDistinctNames};
@@ -14,10 +14,9 @@ ghost use Rattle.job_commands.specs.Scripts.{Prepares};
 ghost use Rattle.job_commands.specs.FixedJob.{fixed_job, fixed_under};
 
 use crate::preparing::{PreparedJob, prepare_found};
-use allowlist::Catalogue;
 use command_parts::Stop;
 use job_file::{FieldKind, Job, JobContext, JobLimits, Mapping};
-use job_loading::ReadJob;
+use job_loading::{Catalogue, ReadJob};
 use serde_json::{Map, Value as Json};
 use std::alloc::{AllocError, Global};
 

@@ -2,7 +2,7 @@
 
 ghost use Rattle.std.specs.Prelude.{◌≡◌, ◌≢◌, ◌⊎◌, ℕ, Some, map, string_bytes};
 ghost use Rattle.outer_io.specs.Faults.{next_count};
-ghost use Rattle.verifier_soundness.specs.Rows.{HaveRows};
+ghost use Rattle.script_engine.specs.Rows.{HaveRows};
 ghost use Rattle.script_engine.specs.Codes.{ScriptCodes};
 ghost use Rattle.script_engine.specs.Running.{TakesTyped};
 ghost use Rattle.job_file.specs.Answers.{fields_view};

@@ -2,7 +2,7 @@
 
 ghost use Rattle.std.specs.Prelude.{◌≡◌, ◌≢◌, ◌⊎◌, ℕ, List, Option, IfOk, IfSome, if◌then◌else◌, string_bytes};
 ghost use Rattle.outer_io.specs.Faults.{next_count};
-ghost use Rattle.pl_code.specs.Listing.{written};
+ghost use Rattle.script_engine.specs.Listing.{written};
 ghost use Rattle.script_engine.specs.Codes.{ScriptCodes};
 ghost use Rattle.job_file.specs.declared.context.JobCommand.TheVariants as command;
 ghost use Rattle.command_parts.specs.Before.{EndsBefore};

@@ -2,11 +2,11 @@
 
 ghost use Rattle.std.specs.Prelude.{◌≡◌, ◌≢◌, ℕ, List, None, Option, IfErr, IfOk, IfSome};
 ghost use Rattle.outer_io.specs.Faults.{HasCause};
-ghost use Rattle.verifier.specs.Faults.{shape_fault};
-ghost use Rattle.verifier_soundness.specs.Rows.{HaveRows};
+ghost use Rattle.script_engine.specs.Faults.{shape_fault};
+ghost use Rattle.script_engine.specs.Rows.{HaveRows};
 ghost use Rattle.script_engine.specs.Running.{TakesTyped};
 ghost use Rattle.job_file.specs.Answers.{fields_view, scripts_view};
-ghost use Rattle.json_replies.specs.Replies.{refusal_of};
+ghost use Rattle.job_loading.specs.Replies.{refusal_of};
 ghost use Rattle.search_ctx.specs.Fields.{HasDistinctNames};
 ghost use Rattle.command_parts.specs.Stops.{stop_told};
 ghost use Rattle.job_loading.specs.Loading.{refusal};
@@ -17,9 +17,9 @@ ghost use Rattle.job_commands.specs.Scripts.{Prepares, PreparesJob, text_in};
 
 use crate::contexts::{context_types, kind_of};
 use command_parts::Stop;
+use document_replies::refusal_line;
 use job_file::{Job, JobCommand};
 use job_loading::{ReadJob, read_job};
-use json_replies::refusal_line;
 use outer_io::Files;
 use pl_types::{Fail, Refusal};
 use script_engine::{Script, compile};

@@ -2,12 +2,11 @@
 
 ghost use Rattle.job_commands.specs.Preparing.{EndsAsItsProgram, TakesThem};
 
-use allowlist::Allow;
 use document_replies::DocumentScript;
-use machine::{Limits, RunMemory};
+use job_loading::Allow;
 use object_heap::{Heap, Outcome};
 use object_values::Value;
-use script_engine::{Script, ScriptRun};
+use script_engine::{Limits, RunMemory, Script, ScriptRun};
 use std::alloc::{AllocError, Global};
 use std::mem;
 

@@ -3,7 +3,7 @@
 ghost use Rattle.std.specs.Prelude.{◌≡◌, ◌+◌, ◌<◌, ◌^◌, List, IfOk, string_bytes};
 ghost use Rattle.serde_json.specs.View.{view};
 ghost use Rattle.object_values.specs.declared.value.Value.{Value as ScriptValue};
-ghost use Rattle.json_replies.specs.Replies.{line_of};
+ghost use Rattle.job_loading.specs.Replies.{line_of};
 ghost use Rattle.document_replies.specs.Jobs.{HasArguments, by_start, documents_of};
 ghost use Rattle.job_commands.specs.Preparing.{EndsAsItsProgram, TakesThem};
 ghost use Rattle.job_commands.specs.Answers.{IsAnswer};
@@ -14,8 +14,7 @@ use crate::answer::{Answer, answer_to};
 use crate::generator::following;
 use crate::script::LimitedScript;
 use arithmetic::long::sum;
-use document_replies::{DocumentJob, DocumentScript};
-use json_replies::line_of;
+use document_replies::{DocumentJob, DocumentScript, line_of};
 use serde_json::{Value as Json, json};
 use std::alloc::{AllocError, Global};
 

@@ -4,5 +4,6 @@
 mod reading;
 mod stops;
 
+pub use allowlist::{Allow, Catalogue};
 pub use reading::{ReadJob, read_job};
 pub use stops::key_refused;

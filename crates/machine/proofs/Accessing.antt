@@ -7,7 +7,7 @@ use Rattle.object_heap.specs.Effects.{Effect, Answers, Gives, NoRoom}
 use Rattle.object_heap.specs.Store.{Store}
 use Rattle.object_values.specs.declared.value.Value.{Value}
 use Rattle.object_values.specs.declared.value.Value.TheVariants as v
-use Rattle.member_calls.specs.Answers.{AnswersIfBuilt}
+use Rattle.def_access.specs.Answers.{AnswersIfBuilt}
 use Rattle.def_access.specs.Access.{Access, Calls, Acts, index_read, index_written, method_called, name_read, name_written}
 use Rattle.def_access.specs.Coming as coming
 use Rattle.def_access.specs.Laws.{IsConfined}

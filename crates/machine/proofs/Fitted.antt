@@ -5,8 +5,8 @@ use Rattle.object_values.specs.declared.object.Object.{Object}
 use Rattle.object_heap.specs.Fits.{Rules}
 use Rattle.object_heap.specs.Store.{Store}
 use Rattle.code_meaning.specs.Machine.{Next, after}
-use Rattle.code_fit.specs.Moments.{NextFits}
-use Rattle.code_fit.proofs.Steps.{runs_fit}
+use Rattle.machine_paths.specs.Moments.{NextFits}
+use Rattle.machine_paths.proofs.Steps.{runs_fit}
 use Rattle.machine.specs.Activations.{Activation, Leaves, later}
 use Rattle.machine.specs.Fitting.{NowFits, EndFits, LeavesFit}
 use Rattle.machine.specs.Seen.{ended, codes_alone, limits_of}

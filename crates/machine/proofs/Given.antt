@@ -1,7 +1,7 @@
 -- What members do.
 use Rattle.std.proofs.Common.{List, Option, Some, None}
 use Rattle.allowlist.specs.declared.member.MemberType.{MemberType}
-use Rattle.member_calls.specs.Answers.{AnswersIfBuilt}
+use Rattle.def_access.specs.Answers.{AnswersIfBuilt}
 use Rattle.object_heap.specs.declared.answer.Answer.{Answer}
 use Rattle.object_heap.specs.Effects.{Effect, Answers}
 use Rattle.object_heap.specs.Store.{Store}

@@ -3,7 +3,7 @@ use Rattle.std.proofs.Common.{◌≡◌, ℕ, suc, List, [], Some, sym, ap, subs
 use Rattle.object_values.specs.declared.object.Object.{Object}
 use Rattle.object_heap.specs.Store.{Store}
 use Rattle.def_access.specs.Access.{method_called}
-use Rattle.instruction_types.specs.Members.{method_of, constructor_of, field_of}
+use Rattle.machine_parts.specs.Members.{method_of, constructor_of, field_of}
 use Rattle.pl_code.specs.declared.code.Instruction.{Instruction}
 use Rattle.pl_code.specs.declared.code.Instruction.TheVariants as i
 use Rattle.pl_code.specs.declared.kinds.Sized.{Sized}

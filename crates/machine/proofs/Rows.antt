@@ -1,7 +1,7 @@
 -- Rows that do not fit what lies on the stack.
 use Rattle.std.proofs.Common.{◌≡◌, ℤ, List, [], ◌∷◌, Some, None, refl, ap, sym, ◌∙◌}
 use Rattle.object_values.specs.declared.value.Value.{Value}
-use Rattle.arithmetic.specs.declared.operator.Op.{Op}
+use Rattle.number_ops.specs.arithmetic_declared.operator.Op.{Op}
 use Rattle.code_meaning.specs.declared.word.Word.{Word}
 use Rattle.code_meaning.specs.declared.word.Word.TheVariants.{I, J, R}
 use Rattle.code_meaning.specs.Words.{NoRow, one_int, two_ints, one_long, two_longs, long_and_int}

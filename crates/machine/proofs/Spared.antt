@@ -1,7 +1,7 @@
 -- Operations on the heap that take no memory.
 use Rattle.object_heap.specs.declared.answer.Answer.{Answer}
 use Rattle.object_heap.specs.declared.answer.Answer.TheVariants as a
-use Rattle.container_ops.specs.Types.{MakesNothing, Spares}
+use Rattle.def_access.specs.Types.{MakesNothing, Spares}
 use Rattle.number_ops.specs.declared.outcome.Outcome.{Outcome}
 use Rattle.number_ops.specs.Outcomes.{NeedsMemory, WantsMemory}
 use Rattle.std.proofs.Common.{◌≡◌}

@@ -3,9 +3,9 @@ use Rattle.std.specs.Prelude.{List, Option, Some, None}
 use Rattle.object_values.specs.declared.object.Object.{Object}
 use Rattle.object_heap.specs.Fits.{Rules, ThrownFits}
 use Rattle.run_state.specs.World.{World}
-use Rattle.run_fit.specs.Worlds.{WorldFits, count_in}
+use Rattle.machine_paths.specs.Worlds.{WorldFits, count_in}
 use Rattle.code_meaning.specs.Machine.{Next}
-use Rattle.code_fit.specs.Moments.{ResultFits, NextFits}
+use Rattle.machine_paths.specs.Moments.{ResultFits, NextFits}
 use Rattle.machine.specs.declared.activation.RunOutcome.{RunOutcome}
 use Rattle.machine.specs.declared.configuration.RunEnd.{RunEnd}
 use Rattle.machine.specs.declared.configuration.RunEnd.TheVariants as end

@@ -1,6 +1,6 @@
 -- What parts of an instruction come to.
 use Rattle.std.specs.Prelude.{◌≡◌, ◌<◌, ℕ, ℤ, suc, Bool, true, false, List, [], ◌∷◌, ◌++◌, map, Option, Some, None, option_map, find, pos}
-use Rattle.arithmetic.specs.declared.operator.Num.{Num}
+use Rattle.number_ops.specs.arithmetic_declared.operator.Num.{Num}
 use Rattle.object_values.specs.declared.value.Value.{Value}
 use Rattle.object_values.specs.declared.value.Value.TheVariants as v
 use Rattle.object_heap.specs.declared.outcome.Which.{Which}
@@ -8,9 +8,9 @@ use Rattle.pl_code.specs.declared.kinds.Slot.{Slot}
 use Rattle.pl_code.specs.declared.code.FunCode.{FunCode}
 use Rattle.def_access.specs.declared.accessed.Accessed.{Accessed}
 use Rattle.def_access.specs.declared.accessed.Accessed.TheVariants as accessed
-use Rattle.container_ops.specs.Elements.{length_of}
-use Rattle.container_ops.specs.Loops.{has_more, iterated, next_element}
-use Rattle.container_ops.specs.Making.{list_made, map_made}
+use Rattle.def_access.specs.Elements.{length_of}
+use Rattle.def_access.specs.Loops.{has_more, iterated, next_element}
+use Rattle.def_access.specs.Making.{list_made, map_made}
 use Rattle.number_ops.specs.Operators.{concatenated}
 use Rattle.number_ops.specs.Outcomes.{effect}
 use Rattle.number_ops.specs.Relations.{equal, is_same}

@@ -9,16 +9,16 @@ use Rattle.allowlist.specs.declared.member.MemberType.{MemberType}
 use Rattle.object_values.specs.declared.value.Value.{Value}
 use Rattle.object_values.specs.declared.object.Object.{Object}
 use Rattle.object_heap.specs.Store.{Store}
-use Rattle.arithmetic.specs.declared.operator.Op.{Op}
-use Rattle.container_ops.specs.Elements.{element_read, length_of}
-use Rattle.container_ops.specs.Loops.{has_more, next_element}
-use Rattle.container_ops.specs.Types.{MakesNothing}
+use Rattle.number_ops.specs.arithmetic_declared.operator.Op.{Op}
+use Rattle.def_access.specs.Elements.{element_read, length_of}
+use Rattle.def_access.specs.Loops.{has_more, next_element}
+use Rattle.def_access.specs.Types.{MakesNothing}
 use Rattle.number_ops.specs.Operators.{is_unary, operate}
 use Rattle.number_ops.specs.Outcomes as outcomes
 use Rattle.number_ops.specs.Casts.{cast_at_run_time}
 use Rattle.number_ops.specs.Relations.{equal, is_exception}
-use Rattle.member_calls.specs.Answers as members
-use Rattle.instruction_types.specs.Members.{method_of, constructor_of, field_of}
+use Rattle.def_access.specs.Answers as members
+use Rattle.machine_parts.specs.Members.{method_of, constructor_of, field_of}
 use Rattle.pl_code.specs.declared.code.FunCode.{FunCode}
 use Rattle.pl_code.specs.declared.code.Instruction.{Instruction}
 use Rattle.pl_code.specs.declared.code.Instruction.TheVariants as i

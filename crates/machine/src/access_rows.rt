@@ -2,9 +2,9 @@
 //! once.
 ghost use Rattle.std.specs.Prelude.{◌≡◌, ◌≤◌, ◌<◌, List, [], ◌∷◌, Some, suc, length};
 ghost use Rattle.object_heap.specs.Store.{Store};
-ghost use Rattle.pl_units.specs.Utf16.{units};
+ghost use Rattle.object_values.specs.Utf16.{units};
 ghost use Rattle.pl_types.specs.Host.{no_host};
-ghost use Rattle.member_calls.specs.Members.{does};
+ghost use Rattle.def_access.specs.Members.{does};
 ghost use Rattle.def_access.specs.Access as access;
 ghost use Rattle.def_access.specs.Access.{Access};
 ghost use Rattle.def_access.specs.Coming as coming;
@@ -26,10 +26,8 @@ use crate::rules::Rules;
 use crate::throwing::{answered_done, answered_whole};
 use code_meaning::Word;
 use def_access::{Accessed, index_found, index_put_found};
-use def_resolve::Purpose;
-use machine_parts::{Executable, LinkedCode, MethodTable, method_by_class};
-use object_values::Value;
-use pl_units::UText;
+use machine_parts::{Executable, LinkedCode, MethodTable, Purpose, method_by_class};
+use object_values::{UText, Value};
 
 // ---- members that were found
 
@@ -65,7 +63,7 @@ fn act_found(
     ensures exact { (stack : List Word) → Comes (spec.on_found (codes_alone code.now.functions) (limits_in limits.now) (does no_host number values.now run.old.world.heap) (with_stack run.old.frames.top stack) run.old.frames.below (world_of run.old.world) run.old.frames.top.stack) result run.new }
     ensures room { room_of run.new ≡ room_of run.old }
 {
-    match member_calls::call(number, &mut run.world.heap, values) {
+    match def_access::call(number, &mut run.world.heap, values) {
         Some(answer) => answered_whole(run, code, limits, answer),
         None => Step::Stuck,
     }
@@ -103,7 +101,7 @@ fn act_put(
     ensures exact { (stack : List Word) → Comes (spec.on_put (codes_alone code.now.functions) (limits_in limits.now) (does no_host number values.now run.old.world.heap) (with_stack run.old.frames.top stack) run.old.frames.below (world_of run.old.world) run.old.frames.top.stack) result run.new }
     ensures room { room_of run.new ≡ room_of run.old }
 {
-    match member_calls::call(number, &mut run.world.heap, values) {
+    match def_access::call(number, &mut run.world.heap, values) {
         Some(answer) => answered_done(run, code, limits, answer),
         None => Step::Stuck,
     }

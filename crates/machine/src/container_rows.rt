@@ -1,7 +1,7 @@
 //! Lists, maps, arrays, and loops over elements.
 ghost use Rattle.std.specs.Prelude.{◌≡◌, ◌≤◌, ◌<◌, ◌^◌, List, [], suc};
-ghost use Rattle.container_ops.specs.Elements as elements;
-ghost use Rattle.container_ops.specs.Making as making;
+ghost use Rattle.def_access.specs.Elements as elements;
+ghost use Rattle.def_access.specs.Making as making;
 ghost use Rattle.run_state.specs.World.{acts_in};
 ghost use Rattle.code_meaning.specs.declared.word.Word.{Word};
 ghost use Rattle.code_meaning.specs.declared.word.Word.TheVariants.{R};
@@ -21,7 +21,7 @@ use crate::receiving::taken;
 use crate::rules::Rules;
 use crate::throwing::{answered, answered_as, answered_done, answered_whole};
 use code_meaning::Word;
-use container_ops::{
+use def_access::{
     array_filled, array_made, element_read, element_written, has_more, iterated, length_of,
     list_made, map_made, next_element,
 };

@@ -1,7 +1,7 @@
 //! Members: calls, what is made by constructors, and fields.
 ghost use Rattle.std.specs.Prelude.{◌≡◌, ◌≤◌, ◌<◌, ◌+◌, ◌^◌, suc, length, true, List, [], Some, IfOk, IsOk};
-ghost use Rattle.member_calls.specs.Members.{does};
-ghost use Rattle.member_calls.specs.Answers.{NeedsMemory};
+ghost use Rattle.def_access.specs.Members.{does};
+ghost use Rattle.def_access.specs.Answers.{NeedsMemory};
 ghost use Rattle.machine.specs.Sparing.{CallSpares, MemberSpares, ReceivingSpares};
 ghost use Rattle.machine_parts.specs.Links.{link_at, member_in};
 ghost use Rattle.code_meaning.specs.declared.word.Word.{Word};
@@ -245,7 +245,7 @@ fn act(
     ensures memory { (NeedsMemory run.old.world.heap.objects number run.old.values.items → ⊥) → run.old.frames.count < run.old.frames.words → suc run.old.frames.top.line < 2 ^ 64 → HasMemory result }
     ensures room { room_of run.new ≡ room_of run.old }
 {
-    match member_calls::call(number, &mut run.world.heap, run.values.as_slice()) {
+    match def_access::call(number, &mut run.world.heap, run.values.as_slice()) {
         Some(answer) => answered_as(run, code, limits, &called.result, answer),
         None => Step::Stuck,
     }

@@ -1,16 +1,14 @@
 //! A name behind the dot of a map, which is a key: its text is shared, and not made anew at each access.
 ghost use Rattle.std.specs.Prelude.{◌≡◌, [], ◌∷◌, Some};
-ghost use Rattle.pl_units.specs.Utf16.{units};
+ghost use Rattle.object_values.specs.Utf16.{units};
 ghost use Rattle.def_access.specs.Access.{name_read_by, name_written_by};
 ghost use Rattle.def_access.specs.Coming.{Comes, NameListed};
 
 use allowlist::Allow;
-use def_access::Accessed;
-use def_resolve::NameAccess;
-use member_calls::is_built;
+use def_access::{Accessed, is_built};
+use machine_parts::NameAccess;
 use object_heap::{Answer, Heap};
-use object_values::Value;
-use pl_units::UText;
+use object_values::{UText, Value};
 
 /// What a name that is read comes to, by what was found for it. The units of the name are shared where it is a key.
 pub fn name_found(

@@ -12,9 +12,9 @@ use crate::configuration::{Configuration, Step};
 use crate::operands::{pop_int, pop_long};
 use crate::rules::Rules;
 use crate::throwing::throw_zero_divisor;
-use arithmetic::Num;
 use machine_parts::{Frames, LinkedCode};
 use machine_paths::{is_shift, on_ints, on_longs, takes_one, word_of};
+use number_ops::Num;
 use pl_code::{ArithmeticOp, Width};
 
 /// What an operator comes to.

@@ -1,7 +1,7 @@
 //! Texts, and what is asked of references: whether two are equal or one, their texts joined, and whether one is null.
 ghost use Rattle.std.specs.Prelude.{◌≡◌, ◌≤◌, ◌<◌, ◌^◌, List, length, suc, Some};
 ghost use Rattle.std.specs.Option.{option_copied};
-ghost use Rattle.pl_units.specs.Utf16.{units};
+ghost use Rattle.object_values.specs.Utf16.{units};
 ghost use Rattle.object_values.specs.declared.object.Owner.TheVariants.{Script};
 ghost use Rattle.code_meaning.specs.declared.word.Word.{Word};
 ghost use Rattle.code_meaning.specs.Machine.{quoted_act, on_reference, on_top, if_null, to_line};
@@ -16,12 +16,10 @@ use crate::configuration::{Configuration, Step};
 use crate::rules::Rules;
 use crate::throwing::{answered, answered_whole};
 use code_meaning::Word;
-use machine_parts::{Executable, Frames, Link, LinkedCode};
+use machine_parts::{Executable, Frames, Link, LinkedCode, Text};
 use number_ops::{concatenate, equal, is_same};
-use object_values::Value;
+use object_values::{UText, Value};
 use pl_code::Quoting;
-use pl_units::UText;
-use plain_data::Text;
 
 /// An instruction with a text, which was linked: a constant is put on the stack and shared, and so is a name that is a key of a map.
 pub fn quoted(

@@ -1,14 +1,13 @@
 //! What a run may take, and which members it may call.
 ghost use Rattle.std.specs.Prelude.{◌≡◌};
 ghost use Rattle.def_access.specs.Coming.{NameListed};
-ghost use Rattle.def_resolve.specs.Accesses as access;
+ghost use Rattle.def_access.specs.Accesses as access;
 ghost use Rattle.machine_parts.specs.Indexes.{index_rows};
 ghost use Rattle.machine.specs.Seen.{rules_of};
 
 use crate::configuration::Limits;
 use allowlist::Allow;
-use def_resolve::{IndexAccess, NameAccess, Purpose};
-use machine_parts::IndexTable;
+use machine_parts::{IndexAccess, IndexTable, NameAccess, Purpose};
 use object_heap::Heap;
 use object_values::Value;
 use pl_types::classes::CLASS_COUNT;

@@ -23,10 +23,9 @@ use code_meaning::Word;
 use machine_parts::{Frames, LinkedCode, World};
 use number_ops::throw_value;
 use object_heap::{Answer, Which, throw};
-use object_values::Value;
+use object_values::{UText, Value};
 use pl_types::Ty;
 use pl_types::classes::ARITHMETIC_EXCEPTION;
-use pl_units::UText;
 
 /// What an operation on the heap gives goes on the stack. The operands have been taken off it.
 pub fn answered(

@@ -15,12 +15,14 @@ mod words;
 mod world;
 
 pub use copies::{copy_of, quick_copy_of};
+pub use def_resolve::{IndexAccess, NameAccess, Purpose};
 pub use executable::{Executable, Link, MemberNumber, count_of};
 pub use frames::{FrameMemory, Frames};
 pub use handlers::Handlers;
 pub use index_table::IndexTable;
 pub use linked_code::LinkedCode;
 pub use method_table::{MethodTable, method_by_class};
+pub use plain_data::Text;
 pub use reached::Reached;
 pub use reserve::{frames_at_start, words_at_start};
 pub use values::Values;

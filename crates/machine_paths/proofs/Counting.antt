@@ -12,12 +12,12 @@ use Rattle.object_values.specs.declared.value.Value.TheVariants as v
 use Rattle.object_heap.specs.Effects.{Effect, Gives, Throws, NoRoom}
 use Rattle.allowlist.specs.declared.member.MemberType.{MemberType}
 use Rattle.allowlist.specs.Index.{member_at}
-use Rattle.instruction_types.specs.Members.{method_of, constructor_of, field_of}
-use Rattle.member_calls.specs.Members.{does}
-use Rattle.container_ops.specs.Elements.{element_read, element_written, length_of}
-use Rattle.container_ops.specs.Loops.{has_more, iterated, next_element}
-use Rattle.container_ops.specs.Making.{array_filled, array_made, list_made, map_made}
-use Rattle.def_access.specs.Access.{Access, Calls, Acts, index_read, index_written, method_called, name_read, name_written}
+use Rattle.machine_parts.specs.Members.{method_of, constructor_of, field_of}
+use Rattle.code_meaning.specs.MemberCallsMembers.{does}
+use Rattle.code_meaning.specs.Elements.{element_read, element_written, length_of}
+use Rattle.code_meaning.specs.Loops.{has_more, iterated, next_element}
+use Rattle.code_meaning.specs.Making.{array_filled, array_made, list_made, map_made}
+use Rattle.code_meaning.specs.Access.{Access, Calls, Acts, index_read, index_written, method_called, name_read, name_written}
 use Rattle.arithmetic.specs.declared.operator.Op.{Op}
 use Rattle.number_ops.specs.Outcomes.{effect, zero_divisor, null_error}
 use Rattle.number_ops.specs.Casts.{cast_at_run_time}

@@ -7,11 +7,11 @@ use Rattle.pl_types.specs.declared.primitive.Primitive.TheVariants as prim
 use Rattle.object_values.specs.declared.object.Object.{Object}
 use Rattle.object_values.specs.declared.value.Value.{Value}
 use Rattle.object_values.specs.declared.value.Value.TheVariants as v
-use Rattle.value_walks.specs.declared.equality.Walked.{Walked}
-use Rattle.value_walks.specs.declared.equality.Walked.TheVariants.{On, Deep, Large}
-use Rattle.value_walks.specs.Equality.{equal_of}
-use Rattle.value_walks.specs.Texts.{Text, Wrote, TooDeep, TooLarge, text_of}
-use Rattle.value_walks.specs.declared.TheConstants.{VISITS}
+use Rattle.api_text.specs.value_walks_declared.equality.Walked.{Walked}
+use Rattle.api_text.specs.value_walks_declared.equality.Walked.TheVariants.{On, Deep, Large}
+use Rattle.api_text.specs.Equality.{equal_of}
+use Rattle.number_ops.specs.Texts.{Text, Wrote, TooDeep, TooLarge, text_of}
+use Rattle.api_text.specs.value_walks_declared.TheConstants.{VISITS}
 use Rattle.arithmetic.specs.declared.operator.Num.{Num}
 use Rattle.number_ops.specs.declared.numbers.Constant.{Constant}
 use Rattle.number_ops.specs.declared.numbers.Constant.TheVariants as constant
@@ -29,7 +29,7 @@ use Rattle.number_ops.specs.declared.outcome.Raised.{Raised}
 use Rattle.number_ops.specs.declared.outcome.Raised.TheVariants.{Arithmetic, ClassCast, IllegalState, NumberFormat}
 use Rattle.number_ops.specs.declared.outcome.Outcome.{Outcome as NumberOutcome}
 use Rattle.number_ops.specs.declared.outcome.Outcome.TheVariants as outcome
-use Rattle.member_arguments.specs.Arguments.{int_at, long_at, byte_at, char_at, flag_at}
+use Rattle.container_calls.specs.Arguments.{int_at, long_at, byte_at, char_at, flag_at}
 use Rattle.number_ops.specs.Arguments.{with_one, with_two}
 use Rattle.number_ops.specs.Casts.{number_as}
 use Rattle.number_ops.specs.Chars as chars

@@ -25,7 +25,7 @@ use Rattle.api_text.specs.declared.member.Member.{Member as TextMember}
 use Rattle.api_text.specs.declared.member.Member.TheVariants as m
 use Rattle.api_text.specs.declared.outcome.Outcome.{Outcome as TextOutcome}
 use Rattle.api_text.specs.declared.outcome.Outcome.TheVariants as text
-use Rattle.member_arguments.specs.Arguments.{int_at, text_at, sequence_at}
+use Rattle.container_calls.specs.Arguments.{int_at, text_at, sequence_at}
 use Rattle.api_text.specs.Arguments.{with_one, with_two, with_three}
 use Rattle.api_text.specs.Members as texts
 use Rattle.api_text.specs.Outcomes as text_outcomes

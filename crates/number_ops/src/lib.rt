@@ -14,6 +14,7 @@ mod outcome;
 mod relations;
 mod values;
 
+pub use arithmetic::casts::{low_byte, low_char, low_int, low_short};
 pub use arithmetic::{Num, Op, Zero, arith};
 pub use casts::to_type;
 pub use errors::compare_message;

@@ -10,4 +10,5 @@ mod value;
 pub use elements::Elements;
 pub use object::{Guard, Object, Owner, Part, Target};
 pub use pairs::Pairs;
+pub use pl_units::UText;
 pub use value::Value;

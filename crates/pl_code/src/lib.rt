@@ -18,5 +18,6 @@ pub use kinds::{
     ArithmeticOp, DynamicOp, Numbered, Plain, Quoting, Sized, Slot, Typed, Way, Width,
 };
 pub use laws::{code_is_formed, listing_laws, read_back, word_laws};
+pub use listing_parts::{TypeName, Word};
 pub use reading::read_listing;
 pub use writing::listing;

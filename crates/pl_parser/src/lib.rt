@@ -10,9 +10,9 @@ ghost use Rattle.pl_grammar_plain.specs.PlainParses.{PlainParses};
 
 use parse_actions::Builder;
 use parse_driver::parse_by;
-use pl_grammar_plain::plain_laws;
-use pl_lexer::Token;
-use pl_tree::Tree;
+pub use pl_grammar_plain::plain_laws;
+pub use pl_lexer::{Token, each_text_has_one_reading, lex};
+pub use pl_tree::Tree;
 use pl_types::Fail;
 use std::alloc::Global;
 

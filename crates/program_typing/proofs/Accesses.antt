@@ -9,7 +9,7 @@ use Rattle.object_values.specs.declared.value.Value.TheVariants as v
 use Rattle.object_heap.specs.Store.{Store}
 use Rattle.number_ops.specs.declared.outcome.Outcome.{Outcome}
 use Rattle.number_ops.specs.declared.outcome.Outcome.TheVariants as outcome
-use Rattle.member_calls.specs.Members.{is_built}
+use Rattle.source_meaning.specs.MemberCallsMembers.{is_built}
 use Rattle.def_resolve.specs.declared.access.Place.{Place}
 use Rattle.def_resolve.specs.declared.access.Place.TheVariants.{At, Beyond}
 use Rattle.def_resolve.specs.declared.access.NameAccess.{NameAccess}
@@ -19,7 +19,7 @@ use Rattle.def_resolve.specs.declared.access.IndexAccess.TheVariants as by_index
 use Rattle.def_resolve.specs.declared.callee.Callee.{Callee}
 use Rattle.def_resolve.specs.declared.callee.Callee.TheVariants.{Member, Iface}
 use Rattle.def_resolve.specs.Failures.{Failure, fails}
-use Rattle.def_access.specs.Access.{Access, Calls, Acts, if_built, Casts, All, Ended, calls_with, index_given, with_index, index_cast, item_read, item_written, own_element, index_read_by, index_read, element_put, element_put_as, own_type, index_written_by, index_written, item_beyond, item_read_at, name_read_by, name_read, item_written_at, property_put, property_written, name_written_by, name_written, called_by, method_called}
+use Rattle.source_meaning.specs.Access.{Access, Calls, Acts, if_built, Casts, All, Ended, calls_with, index_given, with_index, index_cast, item_read, item_written, own_element, index_read_by, index_read, element_put, element_put_as, own_type, index_written_by, index_written, item_beyond, item_read_at, name_read_by, name_read, item_written_at, property_put, property_written, name_written_by, name_written, called_by, method_called}
 
 abbrev pub IsOfBuilt : Access → Type 0
 IsOfBuilt (Calls number arguments) = is_built number ≡ true

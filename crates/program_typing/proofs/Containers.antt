@@ -19,14 +19,14 @@ use Rattle.container_outcomes.specs.declared.outcome.Outcome.TheVariants as outc
 use Rattle.container_outcomes.specs.declared.outcome.Raised.{Raised}
 use Rattle.container_outcomes.specs.declared.outcome.Raised.TheVariants as raised
 use Rattle.container_outcomes.specs.Outcomes.{effect, number_of, says, array_index_error, index_message}
-use Rattle.container_parts.specs.declared.cursors.Cursor.{Cursor}
-use Rattle.container_parts.specs.Iterators.{is_before_end, iterator_of}
-use Rattle.api_list.specs.Indexing.{counted, at_place}
-use Rattle.api_list.specs.Lists.{place_of}
-use Rattle.container_ops.specs.Types.{dimensions_layer, dimensions_of, element_layer, element_of, goes_with, read_as_layer, other_kind, on_null, on_other_kind}
-use Rattle.container_ops.specs.Making.{list_made, map_made, array_filled, array_made}
-use Rattle.container_ops.specs.Elements.{in_array, item_read, read_in, element_read, length_in, length_of}
-use Rattle.container_ops.specs.Loops.{iterated, has_more_if, has_more, next_element}
+use Rattle.source_meaning.specs.container_parts_declared.cursors.Cursor.{Cursor}
+use Rattle.source_meaning.specs.Iterators.{is_before_end, iterator_of}
+use Rattle.source_meaning.specs.Indexing.{counted, at_place}
+use Rattle.source_meaning.specs.Lists.{place_of}
+use Rattle.source_meaning.specs.Types.{dimensions_layer, dimensions_of, element_layer, element_of, goes_with, read_as_layer, other_kind, on_null, on_other_kind}
+use Rattle.source_meaning.specs.Making.{list_made, map_made, array_filled, array_made}
+use Rattle.source_meaning.specs.Elements.{in_array, item_read, read_in, element_read, length_in, length_of}
+use Rattle.source_meaning.specs.Loops.{iterated, has_more_if, has_more, next_element}
 use Rattle.typed_tree.specs.declared.operation.Operator.{Operator}
 use Rattle.typed_tree.specs.declared.operation.Operator.TheVariants as operator
 use Rattle.source_meaning.specs.Operating.{passed, passed_alike, ints_of, made_of, filled_of, read_at, written_if, written_at, of_one_value, operates_to}

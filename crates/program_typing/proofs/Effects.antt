@@ -9,7 +9,7 @@ use Rattle.pl_types.specs.declared.ty.Ty.{Ty, out-Ty}
 use Rattle.pl_types.specs.declared.ty.Ty.TheVariants as t
 use Rattle.pl_types.specs.declared.ty.Ty.TheOpen.{Ty-F}
 use Rattle.pl_types.specs.Casts.{reaches}
-use Rattle.pl_units.specs.Utf16.{units}
+use Rattle.object_values.specs.Utf16.{units}
 use Rattle.object_values.specs.declared.object.Object.{Object}
 use Rattle.object_values.specs.declared.object.Object.TheVariants as o
 use Rattle.object_values.specs.declared.value.Value.{Value}
@@ -32,7 +32,7 @@ use Rattle.number_ops.specs.Operators.{number_in, is_null}
 use Rattle.number_ops.specs.Order.{found_of}
 use Rattle.number_ops.specs.Outcomes.{effect, class_raised, says, null_error, zero_divisor}
 use Rattle.number_ops.specs.Relations.{equal, equal_if}
-use Rattle.run_state.specs.Calls.{wrong_class}
+use Rattle.source_meaning.specs.Calls.{wrong_class}
 use Rattle.source_meaning.specs.Operating.{Operated, Meaningless, Gives as Gives_it, Acts, negated}
 use Rattle.program_typing.specs.Types.{HasPrimitive, HasLayer, Has, string}
 use Rattle.program_typing.proofs.Values.{has_flag, text_has}

@@ -6,7 +6,7 @@ use Rattle.pl_types.specs.declared.ty.Ty.{Ty}
 use Rattle.object_values.specs.declared.value.Value.{Value}
 use Rattle.object_values.specs.declared.object.Owner.{Owner}
 use Rattle.object_values.specs.declared.object.Owner.TheVariants.{Script, Prelude}
-use Rattle.run_state.specs.World.{World, Limits}
+use Rattle.source_meaning.specs.World.{World, Limits}
 use Rattle.source_meaning.specs.Tree.{Fun, Program, Programs, functions_in}
 use Rattle.source_meaning.specs.Meaning.{Env, Out, Done, Thrown, Over, More, Flow, Normal, Broke, Continued, Returned, entry, meaning}
 use Rattle.program_typing.specs.Types.{HaveAll}

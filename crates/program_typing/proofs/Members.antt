@@ -18,11 +18,11 @@ use Rattle.object_heap.specs.Effects.{Effect, Gives as Gives_value, Throws, NoRo
 use Rattle.object_heap.specs.Fits.{is_primitive}
 use Rattle.object_heap.specs.Store.{Store}
 use Rattle.number_ops.specs.Operators.{is_null}
-use Rattle.member_calls.specs.Members.{is_built, does}
-use Rattle.container_calls.specs.Types.{primitive_in, primitive_of, EffectGives}
-use Rattle.member_calls.specs.Types.{ActGives}
-use Rattle.member_calls.proofs.Doing.{built_act}
-use Rattle.member_calls.proofs.Types.{act_gives}
+use Rattle.source_meaning.specs.MemberCallsMembers.{is_built, does}
+use Rattle.source_meaning.specs.ContainerCallsTypes.{primitive_in, primitive_of, EffectGives}
+use Rattle.source_meaning.specs.MemberCallsTypes.{ActGives}
+use Rattle.source_meaning.proofs.Doing.{built_act}
+use Rattle.source_meaning.proofs.Types.{act_gives}
 use Rattle.source_meaning.specs.Operating.{in_box}
 use Rattle.source_meaning.specs.Members.{passed_layer, passed, before, passed_all, Sending, Unsent, OnNull, Sends, sends, sends_to, sent_by, sent}
 use Rattle.program_typing.specs.Types.{HasPrimitive, HasLayer, HaveAll}

@@ -31,10 +31,10 @@ use Rattle.typed_tree.specs.declared.operation.Gives.{Gives}
 use Rattle.typed_tree.specs.declared.operation.Gives.TheVariants as gives
 use Rattle.number_ops.specs.Operators.{is_null}
 use Rattle.number_ops.specs.Relations.{thrown}
-use Rattle.run_state.specs.Calls.{suits_member}
-use Rattle.run_state.specs.World.{World, Limits, Loop, Depth, Ticks, acts_in, Counted, Counts, Passes, pay_tick, allowed_in, has_loop_limit, take_turn, goes_deeper, enter, reach, reaches, pay_member}
-use Rattle.member_calls.specs.Members.{is_built, does}
-use Rattle.def_access.specs.Access.{Access, Calls as Finds, Acts as Does, index_read, index_written, name_read, name_written, method_called}
+use Rattle.source_meaning.specs.Calls.{suits_member}
+use Rattle.source_meaning.specs.World.{World, Limits, Loop, Depth, Ticks, acts_in, Counted, Counts, Passes, pay_tick, allowed_in, has_loop_limit, take_turn, goes_deeper, enter, reach, reaches, pay_member}
+use Rattle.source_meaning.specs.MemberCallsMembers.{is_built, does}
+use Rattle.source_meaning.specs.Access.{Access, Calls as Finds, Acts as Does, index_read, index_written, name_read, name_written, method_called}
 use Rattle.source_meaning.specs.Tree.{Name, Expr, Literal, Quoted, Local, Apply, Guarded, Logic, Conditional, Elvis, Assign, Modify, Lambda, Reference, NewReference, Exprs, None', One, Maybe, Missing, Given as Present, Stmt, Do, If, While, DoWhile, Try, Block, Break, Continue, Return, Throw, Stmts, Finish, Then, Declare, Catches, NoCatch, Catch, Variable, Fun, Programs, functions_in, type_of}
 use Rattle.source_meaning.specs.Operating.{Operated, Meaningless, Gives as Gives_it, Acts}
 use Rattle.source_meaning.specs.Members.{Sending, Unsent, OnNull, Sends, Reads, sent}

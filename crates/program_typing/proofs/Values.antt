@@ -14,7 +14,7 @@ use Rattle.number_ops.specs.Operators.{truth_in}
 use Rattle.typed_tree.specs.declared.operation.Constant.{Constant}
 use Rattle.typed_tree.specs.declared.operation.Constant.TheVariants as constant
 use Rattle.source_meaning.specs.Operating.{value_of}
-use Rattle.container_ops.specs.Types.{default_of, default_of_layer}
+use Rattle.source_meaning.specs.Types.{default_of, default_of_layer}
 use Rattle.program_typing.specs.Types.{HasPrimitive, HasLayer, Has, is_reference_layer, IsOf, string}
 
 -- ---- values of primitive types

@@ -14,8 +14,8 @@ use Rattle.allowlist.specs.declared.member.MemberKind.TheVariants as kind
 use Rattle.allowlist.specs.declared.member.MemberType.{MemberType}
 use Rattle.allowlist.specs.Allow.{AllowList, flag}
 use Rattle.allowlist.specs.Catalogue.{catalogue}
-use Rattle.member_calls.specs.Members.{is_built}
-use Rattle.listing_parts.specs.Names.{is_word}
+use Rattle.source_meaning.specs.MemberCallsMembers.{is_built}
+use Rattle.member_names.specs.ListingPartsNames.{is_word}
 use Rattle.member_names.specs.Names.{text_of}
 use Rattle.typed_tree.specs.declared.operation.Member.{Member}
 use Rattle.typed_tree.specs.declared.operation.Operation.{Operation}
@@ -24,7 +24,7 @@ use Rattle.typed_tree.specs.declared.operation.Target.TheVariants as target
 use Rattle.typed_tree.specs.declared.operation.Change.{Change}
 use Rattle.object_values.specs.declared.object.Owner.{Owner}
 use Rattle.object_values.specs.declared.object.Owner.TheVariants.{Script, Prelude}
-use Rattle.run_state.specs.World.{Limits, allowed_in}
+use Rattle.source_meaning.specs.World.{Limits, allowed_in}
 use Rattle.source_meaning.specs.Tree.{Name, Expr, Literal, Quoted, Local, Apply, Guarded, Logic, Conditional, Elvis, Assign, Modify, Lambda, Reference, NewReference, Exprs, None', One, Maybe, Missing, Given, Stmt, Do, If, While, DoWhile, Try, Block, Break, Continue, Return, Throw, Stmts, Finish, Then, Declare, Catches, NoCatch, Catch, Variable, Fun, Program, Programs, functions_in, type_of}
 use Rattle.program_typing.specs.Types.{HasValues, IsReference, AreReferences, IsNamed, IsGiven, string, IsOf, Takes, TakesReference, TakesReferences, TakesTo, PutsElement, Casts}
 

@@ -2,7 +2,7 @@
 use Rattle.std.specs.Prelude.{◌≡◌, ℕ, suc, ◌+◌, ◌*◌, ◌≤◌, List, [], ◌∷◌, Some, slice_get}
 use Rattle.object_values.specs.declared.value.Value.{Value}
 use Rattle.object_values.specs.declared.object.Owner.TheVariants.{Script}
-use Rattle.run_state.specs.World.{World, Limits}
+use Rattle.source_meaning.specs.World.{World, Limits}
 use Rattle.source_meaning.specs.Tree.{Expr, Literal, Quoted, Local, Apply, Guarded, Logic, Conditional, Elvis, Assign, Modify, Lambda, Reference, NewReference, Exprs, None', One, Maybe, Missing, Given, Stmt, Do, If, While, DoWhile, Try, Block, Break, Continue, Return, Throw, Stmts, Finish, Then, Declare, Catches, NoCatch, Catch, Fun, Program, Programs}
 use Rattle.source_meaning.specs.Meaning.{Env, Flow, Out, Done, Thrown, Over, More, entry, Returned, Normal, Broke, Continued, meaning}
 use Rattle.pl_types.specs.declared.ty.Ty.{Ty}

@@ -16,7 +16,7 @@ use Rattle.object_values.specs.declared.value.Value.TheVariants as v
 use Rattle.arithmetic.specs.declared.operator.Op.{Op}
 use Rattle.arithmetic.specs.declared.operator.Op.TheVariants as op
 use Rattle.number_ops.specs.Operators.{is_unary}
-use Rattle.container_ops.specs.Types.{dimensions_of}
+use Rattle.source_meaning.specs.Types.{dimensions_of}
 use Rattle.typed_tree.specs.declared.operation.Constant.{Constant}
 use Rattle.typed_tree.specs.declared.operation.Constant.TheVariants as constant
 use Rattle.typed_tree.specs.declared.operation.Operator.{Operator}

@@ -7,15 +7,15 @@ use Rattle.arithmetic.specs.declared.operator.Op.{Op}
 use Rattle.object_values.specs.declared.object.Object.{Object}
 use Rattle.object_values.specs.declared.value.Value.{Value}
 use Rattle.object_heap.specs.Fits.{Rules, ValueFits, AllFit}
-use Rattle.container_ops.specs.Elements.{element_read, element_written, length_of}
-use Rattle.container_ops.specs.Loops.{has_more, iterated, next_element}
-use Rattle.container_ops.specs.Making.{array_filled, array_made, list_made, map_made}
-use Rattle.container_ops.proofs.Keeping as keeping
-use Rattle.container_ops.proofs.Leaving as leaving
+use Rattle.def_access.specs.Elements.{element_read, element_written, length_of}
+use Rattle.def_access.specs.Loops.{has_more, iterated, next_element}
+use Rattle.def_access.specs.Making.{array_filled, array_made, list_made, map_made}
+use Rattle.def_access.proofs.ContainerOpsKeeping as keeping
+use Rattle.def_access.proofs.Leaving as leaving
 use Rattle.number_ops.specs.Operators.{operate}
 use Rattle.number_ops.specs.Outcomes.{effect}
 use Rattle.number_ops.proofs.Keeping as numbers
-use Rattle.member_calls.proofs.Leaving.{number_leaves}
+use Rattle.def_access.proofs.MemberCallsLeaving.{number_leaves}
 use Rattle.def_access.specs.Access.{Access, Calls, Acts, index_read, index_written, method_called, name_read, name_written}
 use Rattle.def_access.specs.Laws as laws
 use Rattle.def_access.proofs.Keeping as access_keeping

@@ -21,12 +21,12 @@ use Rattle.number_ops.specs.Order.{found_of}
 use Rattle.number_ops.specs.Outcomes.{effect, says}
 use Rattle.number_ops.specs.Relations.{equal, equal_if, thrown, thrown_if}
 use Rattle.number_ops.proofs.Keeping as numbers
-use Rattle.container_calls.specs.Laws.{EffectLeaves}
-use Rattle.container_calls.proofs.There.{there_refl}
-use Rattle.member_calls.specs.Laws.{ActFits, ActLeaves}
-use Rattle.member_calls.specs.Members.{does}
-use Rattle.member_calls.proofs.Keeping as members
-use Rattle.member_calls.proofs.Leaving as leaving
+use Rattle.def_access.specs.ContainerCallsLaws.{EffectLeaves}
+use Rattle.def_access.proofs.There.{there_refl}
+use Rattle.def_access.specs.MemberCallsLaws.{ActFits, ActLeaves}
+use Rattle.def_access.specs.Members.{does}
+use Rattle.def_access.proofs.MemberCallsKeeping as members
+use Rattle.def_access.proofs.MemberCallsLeaving as leaving
 use Rattle.run_state.specs.World.{World, acts_in}
 use Rattle.run_fit.specs.Laws.{BeginningsFit, ToldFits, OutcomesFit, CastsFit, ConcatenationFits, EqualityFits, DoneFits, MembersFit, ThrowingFits}
 use Rattle.run_fit.specs.Worlds.{WorldFits, count_in, OutcomeFits}

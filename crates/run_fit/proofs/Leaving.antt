@@ -4,7 +4,7 @@ use Rattle.std.proofs.lemmas.List.{append_assoc}
 use Rattle.object_values.specs.declared.object.Object.{Object}
 use Rattle.object_heap.specs.Fits.{kinds}
 use Rattle.object_heap.proofs.Fitting.{length-kinds}
-use Rattle.container_calls.specs.Laws.{StillThere}
+use Rattle.def_access.specs.ContainerCallsLaws.{StillThere}
 
 pub there_trans : (a b c : List Object) → StillThere a b → StillThere b c → StillThere a c
 there_trans a b c p q = (p.0 ++ q.0, q.1 ∙ ap (λ ks. ks ++ q.0) p.1 ∙ append_assoc (kinds a) p.0 q.0)

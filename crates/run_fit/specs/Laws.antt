@@ -12,7 +12,7 @@ use Rattle.number_ops.specs.Casts.{cast_at_run_time}
 use Rattle.number_ops.specs.Operators.{concatenated}
 use Rattle.number_ops.specs.Outcomes.{effect}
 use Rattle.number_ops.specs.Relations.{equal, thrown}
-use Rattle.member_calls.specs.Members.{does}
+use Rattle.def_access.specs.Members.{does}
 use Rattle.run_state.specs.World.{World, acts_in}
 use Rattle.run_fit.specs.Worlds.{WorldFits, count_in, OutcomeFits}
 

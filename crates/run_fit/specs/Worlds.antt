@@ -3,7 +3,7 @@ use Rattle.std.specs.Prelude.{◌≤◌, ℕ, List, length}
 use Rattle.object_values.specs.declared.object.Object.{Object}
 use Rattle.object_values.specs.declared.value.Value.{Value}
 use Rattle.object_heap.specs.Fits.{Rules, Fits, ValueFits, ThrownFits}
-use Rattle.container_calls.specs.Laws.{StillThere}
+use Rattle.def_access.specs.ContainerCallsLaws.{StillThere}
 use Rattle.run_state.specs.World.{World, Outcome, Given, Raised, Full, End, Result, Uncaught, Limited}
 
 -- a world of the run: its objects fit, and those of the start are still there, each of its kind and of its class

@@ -7,8 +7,8 @@ use Rattle.allowlist.specs.Allow.{AllowList}
 use Rattle.object_values.specs.declared.object.Owner.{Owner}
 use Rattle.object_values.specs.declared.object.Owner.TheVariants.{Script, Prelude}
 use Rattle.object_values.specs.declared.value.Value.{Value}
-use Rattle.object_heap.specs.Store.{Store}
-use Rattle.object_heap.specs.Effects.{Effect, Gives, Throws, NoRoom}
+use Rattle.number_ops.specs.Store.{Store}
+use Rattle.number_ops.specs.Effects.{Effect, Gives, Throws, NoRoom}
 
 pub record World : Type 0 where
   pub store : Store

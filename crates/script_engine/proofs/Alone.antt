@@ -2,12 +2,12 @@
 use Rattle.std.specs.Prelude.{slice_get}
 use Rattle.std.proofs.Common.{◌≡◌, ℕ, [], Some, refl}
 use Rattle.object_values.specs.declared.object.Owner.TheVariants.{Prelude}
-use Rattle.run_state.specs.World.{Limits}
+use Rattle.compiled_outcome.specs.World.{Limits}
 use Rattle.typed_tree.specs.declared.program.Program.{Program}
-use Rattle.source_meaning.specs.Programs.{program_of}
-use Rattle.source_meaning.specs.Tree as tree
-use Rattle.program_typing.specs.Agreeing.{known, AreWellFormed, WellFormed}
-use Rattle.compiler_relation.specs.Stands.{Compiled}
+use Rattle.codegen.specs.Programs.{program_of}
+use Rattle.codegen.specs.Tree as tree
+use Rattle.compiled_outcome.specs.Agreeing.{known, AreWellFormed, WellFormed}
+use Rattle.compiled_outcome.specs.Stands.{Compiled}
 use Rattle.script_engine.specs.Ends.{alone}
 
 no_fun : (number : ℕ) (fun : tree.Fun) → slice_get [] number ≡ Some fun → ⊥

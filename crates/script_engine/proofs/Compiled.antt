@@ -4,21 +4,21 @@ use Rattle.pl_types.specs.Answers.{Answers}
 use Rattle.pl_types.specs.declared.refusal.Refusal.{Refusal}
 use Rattle.pl_types.specs.declared.refusal.Fail.{Fail}
 use Rattle.pl_types.specs.declared.refusal.Fail.TheVariants.{Refused, NoMemory}
-use Rattle.pl_lexer.specs.declared.token.Token.{Token}
-use Rattle.pl_tree.specs.declared.tree.Tree.{Tree}
-use Rattle.typing_rules.specs.Outcomes.{Out, bind, Keeps}
-use Rattle.typing_rules.specs.declared.header.ContextTypes.{ContextTypes}
-use Rattle.typing_rules.specs.Rules.Functions.{headers, main_start, main}
-use Rattle.typing_rules.specs.Typing.{doer, statements, ran, functions, main_of, program, typing_of}
+use Rattle.pl_parser.specs.pl_lexer_declared.token.Token.{Token}
+use Rattle.pl_parser.specs.pl_tree_declared.tree.Tree.{Tree}
+use Rattle.static_types.specs.Outcomes.{Out, bind, Keeps}
+use Rattle.static_types.specs.typing_rules_declared.header.ContextTypes.{ContextTypes}
+use Rattle.static_types.specs.Rules.Functions.{headers, main_start, main}
+use Rattle.static_types.specs.Typing.{doer, statements, ran, functions, main_of, program, typing_of}
 use Rattle.typed_tree.specs.declared.program.Program.{Program}
-use Rattle.source_meaning.specs.Programs.{fun_of, program_of, variable_of}
-use Rattle.program_typing.specs.Agreeing.{known, WellFormed}
-use Rattle.program_typing.specs.Reached.{Reached}
-use Rattle.compiler_relation.specs.Correct.{IsCodeOf}
+use Rattle.codegen.specs.Programs.{fun_of, program_of, variable_of}
+use Rattle.compiled_outcome.specs.Agreeing.{known, WellFormed}
+use Rattle.compiled_outcome.specs.Reached.{Reached}
+use Rattle.compiled_outcome.specs.Correct.{IsCodeOf}
 use Rattle.typing_soundness.specs.Laws.{IsContext}
 use Rattle.typing_soundness.proofs.Parts.{passed, accepted, settled}
 use Rattle.typing_soundness.proofs.Functions.{typing_is_sound, typing_reaches}
-use Rattle.allowlist.specs.Allow.{AllowList}
+use Rattle.static_types.specs.Allow.{AllowList}
 use Rattle.script_engine.specs.declared.compiling.Script.{Script}
 use Rattle.script_engine.specs.Programs.{TypesTokens, IsProgramOf}
 use Rattle.script_engine.specs.Compiling.{IsScriptOf, Compiles}

@@ -4,14 +4,14 @@ use Rattle.pl_types.specs.declared.ty.Ty.{Ty}
 use Rattle.object_values.specs.declared.value.Value.{Value}
 use Rattle.object_heap.specs.Store.{Store}
 use Rattle.object_heap.specs.declared.outcome.Outcome.{Outcome}
-use Rattle.run_state.specs.World as run
-use Rattle.run_state.specs.World.{End, Result, Uncaught, Limited}
-use Rattle.code_meaning.specs.declared.word.Word.{Word}
-use Rattle.code_meaning.specs.Machine.{Codes, Next, Goes, Ends, Stuck, step, after}
-use Rattle.machine.specs.declared.configuration.Limits.{Limits}
-use Rattle.machine.specs.Seen.{limits_of, codes_alone}
-use Rattle.machine.specs.Runs.{steps_taken}
-use Rattle.machine.specs.Activations.{counted}
+use Rattle.compiled_outcome.specs.World as run
+use Rattle.compiled_outcome.specs.World.{End, Result, Uncaught, Limited}
+use Rattle.verified_machine.specs.code_meaning_declared.word.Word.{Word}
+use Rattle.verified_machine.specs.Machine.{Codes, Next, Goes, Ends, Stuck, step, after}
+use Rattle.verified_machine.specs.machine_declared.configuration.Limits.{Limits}
+use Rattle.verified_machine.specs.Seen.{limits_of, codes_alone}
+use Rattle.verified_machine.specs.Runs.{steps_taken}
+use Rattle.verified_machine.specs.Activations.{counted}
 use Rattle.verified_machine.specs.Tasks.{ending, most_left, outcome_of, outcome_in, rest_from}
 use Rattle.script_engine.specs.declared.compiling.Script.{Script}
 use Rattle.script_engine.specs.Codes.{Counts, begins}

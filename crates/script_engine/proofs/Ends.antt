@@ -1,20 +1,20 @@
 -- A program's run ends in one way.
 use Rattle.std.proofs.Common.{◌≡◌, ℕ, ◌≤◌, ◌+◌, List, [], Option, Some, None, refl, sym, subst, ap, ◌∙◌, arith}
 use Rattle.pl_types.specs.declared.ty.Ty.{Ty}
-use Rattle.allowlist.specs.Allow.{AllowList}
+use Rattle.static_types.specs.Allow.{AllowList}
 use Rattle.object_values.specs.declared.value.Value.{Value}
 use Rattle.object_values.specs.declared.object.Owner.TheVariants.{Script}
-use Rattle.run_state.specs.World.{World, Limits, End, Result, Uncaught, Limited}
+use Rattle.compiled_outcome.specs.World.{World, Limits, End, Result, Uncaught, Limited}
 use Rattle.typed_tree.specs.declared.program.Program.{Program}
-use Rattle.source_meaning.specs.Programs.{fun_of, program_of}
-use Rattle.source_meaning.specs.Tree.{Fun}
-use Rattle.source_meaning.specs.Meaning.{Env, Out, Done, Thrown, Over, More, Flow, Normal, Broke, Continued, Returned, default_of, entry, meaning}
-use Rattle.source_meaning.specs.Laws.{Stays}
-use Rattle.source_meaning.proofs.Greater.{stays_above}
-use Rattle.program_typing.specs.Types.{HaveAll}
-use Rattle.program_typing.specs.Agreeing.{known, types_in, WellFormed}
-use Rattle.program_typing.specs.Enough.{enough, IsEnough}
-use Rattle.program_typing.proofs.Enough.{comes_to_an_end}
+use Rattle.codegen.specs.Programs.{fun_of, program_of}
+use Rattle.codegen.specs.Tree.{Fun}
+use Rattle.codegen.specs.Meaning.{Env, Out, Done, Thrown, Over, More, Flow, Normal, Broke, Continued, Returned, default_of, entry, meaning}
+use Rattle.codegen.specs.Laws.{Stays}
+use Rattle.codegen.proofs.Greater.{stays_above}
+use Rattle.compiled_outcome.specs.Types.{HaveAll}
+use Rattle.compiled_outcome.specs.Agreeing.{known, types_in, WellFormed}
+use Rattle.compiled_outcome.specs.Enough.{enough, IsEnough}
+use Rattle.compiled_outcome.proofs.Enough.{comes_to_an_end}
 use Rattle.script_engine.specs.Ends.{alone, given, end_of, end_in, end_at, RunsTo}
 use Rattle.script_engine.proofs.Alone.{with_no_prelude}
 

@@ -14,32 +14,32 @@ use Rattle.object_heap.specs.declared.outcome.End.TheVariants as l
 use Rattle.object_heap.specs.declared.outcome.Outcome.{Outcome}
 use Rattle.pl_code.specs.declared.kinds.Slot.{Slot}
 use Rattle.pl_code.specs.declared.kinds.Slot.TheVariants as slot
-use Rattle.container_calls.specs.Laws.{StillThere}
-use Rattle.run_state.specs.World.{World, Limits as run_limits, End, Result}
-use Rattle.run_fit.specs.Worlds.{EndFits, WorldFits, count_in}
-use Rattle.run_fit.proofs.Effects.{beginnings_fit}
-use Rattle.run_fit.proofs.Values.{MadeFits}
-use Rattle.code_meaning.specs.declared.word.Word.{Word}
-use Rattle.code_meaning.specs.declared.word.Word.TheVariants.{I, J, R}
-use Rattle.code_meaning.specs.Words.{boxed}
-use Rattle.code_fit.specs.Moments.{WordFits, WordsFit, ResultFits}
-use Rattle.code_fit.proofs.Words.{unboxed_fits, boxed_fits, plain_fits}
-use Rattle.code_fit.proofs.Steps.{starts_fit_all}
-use Rattle.source_meaning.specs.Programs.{fun_of}
-use Rattle.source_meaning.specs.Tree.{Fun}
-use Rattle.source_meaning.specs.Meaning.{Env, Out, Done, Thrown, Over, More, Flow, entry, returned}
-use Rattle.source_meaning.specs.Operating.{in_box}
-use Rattle.source_fit.specs.Outs.{OutFits, FlowFits}
-use Rattle.source_fit.proofs.Values as source
-use Rattle.source_fit.proofs.Meanings.{meanings_fit}
+use Rattle.verified_machine.specs.ContainerCallsLaws.{StillThere}
+use Rattle.compiled_outcome.specs.World.{World, Limits as run_limits, End, Result}
+use Rattle.typing_soundness.specs.Worlds.{EndFits, WorldFits, count_in}
+use Rattle.typing_soundness.proofs.Effects.{beginnings_fit}
+use Rattle.typing_soundness.proofs.RunFitValues.{MadeFits}
+use Rattle.verified_machine.specs.code_meaning_declared.word.Word.{Word}
+use Rattle.verified_machine.specs.code_meaning_declared.word.Word.TheVariants.{I, J, R}
+use Rattle.verified_machine.specs.Words.{boxed}
+use Rattle.verified_machine.specs.Moments.{WordFits, WordsFit, ResultFits}
+use Rattle.verified_machine.proofs.Words.{unboxed_fits, boxed_fits, plain_fits}
+use Rattle.verified_machine.proofs.Steps.{starts_fit_all}
+use Rattle.codegen.specs.Programs.{fun_of}
+use Rattle.codegen.specs.Tree.{Fun}
+use Rattle.codegen.specs.Meaning.{Env, Out, Done, Thrown, Over, More, Flow, entry, returned}
+use Rattle.codegen.specs.Operating.{in_box}
+use Rattle.typing_soundness.specs.SourceFitOuts.{OutFits, FlowFits}
+use Rattle.typing_soundness.proofs.SourceFitValues as source
+use Rattle.typing_soundness.proofs.SourceFitMeanings.{meanings_fit}
 use Rattle.typed_tree.specs.declared.program.Program.{Program}
-use Rattle.machine.specs.declared.configuration.Limits.{Limits}
-use Rattle.machine.specs.declared.configuration.RunEnd.{RunEnd}
-use Rattle.machine.specs.declared.configuration.RunEnd.TheVariants as r
-use Rattle.machine.specs.declared.activation.RunOutcome as run_outcome
-use Rattle.machine.specs.Activations.{Activation}
-use Rattle.machine.specs.Fitting as machine
-use Rattle.machine.specs.Seen.{codes_alone}
+use Rattle.verified_machine.specs.machine_declared.configuration.Limits.{Limits}
+use Rattle.verified_machine.specs.machine_declared.configuration.RunEnd.{RunEnd}
+use Rattle.verified_machine.specs.machine_declared.configuration.RunEnd.TheVariants as r
+use Rattle.verified_machine.specs.machine_declared.activation.RunOutcome as run_outcome
+use Rattle.verified_machine.specs.Activations.{Activation}
+use Rattle.verified_machine.specs.Fitting as machine
+use Rattle.verified_machine.specs.Seen.{codes_alone}
 use Rattle.script_engine.specs.declared.compiling.Script.{Script}
 use Rattle.script_engine.specs.Ends.{alone, given_layer, end_of, end_with, end_in}
 use Rattle.script_engine.specs.Fitting.{EndFits as LeftEndFits, LeavesFit}

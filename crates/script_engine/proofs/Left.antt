@@ -3,15 +3,15 @@ use Rattle.std.proofs.Common.{◌≡◌, ℕ, ◌-◌, List, Option, Some, IsTru
 use Rattle.pl_types.specs.declared.ty.Ty.{Ty}
 use Rattle.object_heap.specs.declared.outcome.Outcome.{Outcome}
 use Rattle.pl_code.specs.declared.code.FunCode.{FunCode}
-use Rattle.run_state.specs.World.{World, Limit, End, Result, Uncaught, Limited}
-use Rattle.run_state.specs.World.{Loop, Depth, Ticks, Room}
-use Rattle.code_meaning.specs.declared.word.Word.{Word}
-use Rattle.code_meaning.specs.Machine.{Next, Goes, Ends, Stuck}
-use Rattle.machine.specs.declared.activation.RunOutcome as run_outcome
-use Rattle.machine.specs.declared.configuration.RunEnd as run_end
-use Rattle.machine.specs.declared.configuration.RunEnd.TheVariants as r
-use Rattle.machine.specs.Seen.{limit_of, ended}
-use Rattle.machine.specs.Activations.{is_over}
+use Rattle.compiled_outcome.specs.World.{World, Limit, End, Result, Uncaught, Limited}
+use Rattle.compiled_outcome.specs.World.{Loop, Depth, Ticks, Room}
+use Rattle.verified_machine.specs.code_meaning_declared.word.Word.{Word}
+use Rattle.verified_machine.specs.Machine.{Next, Goes, Ends, Stuck}
+use Rattle.verified_machine.specs.machine_declared.activation.RunOutcome as run_outcome
+use Rattle.verified_machine.specs.machine_declared.configuration.RunEnd as run_end
+use Rattle.verified_machine.specs.machine_declared.configuration.RunEnd.TheVariants as r
+use Rattle.verified_machine.specs.Seen.{limit_of, ended}
+use Rattle.verified_machine.specs.Activations.{is_over}
 use Rattle.verified_machine.specs.Tasks.{EndFits, which_of, outcome_of, outcome_in, ending}
 use Rattle.script_engine.specs.Running.{end_left, world_left, IsEnd, LeftOf, Comes}
 

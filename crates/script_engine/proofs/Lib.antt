@@ -11,3 +11,5 @@ pub mod Counted
 pub mod Listed
 pub mod Words
 pub mod Texts
+-- Lemmas of the libraries below, passed on.
+pub use Rattle.typing_soundness.proofs.Types

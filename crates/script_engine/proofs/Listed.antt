@@ -5,28 +5,28 @@ use Rattle.pl_types.specs.declared.ty.Ty.{out-Ty}
 use Rattle.object_values.specs.declared.value.Value.{Value}
 use Rattle.object_values.specs.declared.object.Owner.TheVariants.{Prelude}
 use Rattle.object_heap.specs.Store.{Store}
-use Rattle.run_state.specs.World as run
-use Rattle.run_state.specs.World.{World, End, Result, Uncaught, Limited}
-use Rattle.allowlist.specs.Allow.{AllowList, full_list}
-use Rattle.typing_rules.specs.declared.header.ContextTypes.{ContextTypes}
+use Rattle.compiled_outcome.specs.World as run
+use Rattle.compiled_outcome.specs.World.{World, End, Result, Uncaught, Limited}
+use Rattle.static_types.specs.Allow.{AllowList, full_list}
+use Rattle.static_types.specs.typing_rules_declared.header.ContextTypes.{ContextTypes}
 use Rattle.typed_tree.specs.declared.program.Program.{Program}
-use Rattle.source_meaning.specs.Programs.{fun_of, program_of, variable_of}
-use Rattle.source_meaning.specs.Tree.{Fun}
-use Rattle.source_meaning.specs.Meaning.{Env, entry}
-use Rattle.program_typing.specs.Types.{HaveAll}
-use Rattle.program_typing.specs.Agreeing.{types_in}
-use Rattle.program_typing.specs.Enough.{IsEnough}
-use Rattle.instruction_types.specs.Effects.{effect_of, flow_of, left_by}
-use Rattle.instruction_types.specs.Faults.{is_bad_target, is_bad_member, is_bad_jump}
-use Rattle.verifier.specs.Faults.{shape_fault, function_fault, lines_fault, line_fault, instruction_fault}
-use Rattle.verifier.specs.Meets.{starts, left_at, met}
-use Rattle.compiler_relation.specs.Correct as correct
-use Rattle.compiler_relation.specs.Stands.{FunAt}
+use Rattle.codegen.specs.Programs.{fun_of, program_of, variable_of}
+use Rattle.codegen.specs.Tree.{Fun}
+use Rattle.codegen.specs.Meaning.{Env, entry}
+use Rattle.compiled_outcome.specs.Types.{HaveAll}
+use Rattle.compiled_outcome.specs.Agreeing.{types_in}
+use Rattle.compiled_outcome.specs.Enough.{IsEnough}
+use Rattle.codegen.specs.Effects.{effect_of, flow_of, left_by}
+use Rattle.codegen.specs.Faults.{is_bad_target, is_bad_member, is_bad_jump}
+use Rattle.verified_machine.specs.Faults.{shape_fault, function_fault, lines_fault, line_fault, instruction_fault}
+use Rattle.verified_machine.specs.Meets.{starts, left_at, met}
+use Rattle.compiled_outcome.specs.Correct as correct
+use Rattle.compiled_outcome.specs.Stands.{FunAt}
 use Rattle.compiled_outcome.specs.Outcome.{CodeEndsAsPrograms}
-use Rattle.code_meaning.specs.declared.word.Word.{Word}
-use Rattle.machine.specs.declared.configuration.Limits.{Limits}
-use Rattle.machine.specs.Seen.{limits_of, codes_alone}
-use Rattle.machine.specs.Runs.{steps_taken}
+use Rattle.verified_machine.specs.code_meaning_declared.word.Word.{Word}
+use Rattle.verified_machine.specs.machine_declared.configuration.Limits.{Limits}
+use Rattle.verified_machine.specs.Seen.{limits_of, codes_alone}
+use Rattle.verified_machine.specs.Runs.{steps_taken}
 use Rattle.script_engine.specs.declared.compiling.Script.{Script}
 use Rattle.script_engine.specs.Codes.{RunsAlike, begins, empty_program, end_read, prelude_code, prelude_main}
 use Rattle.script_engine.specs.Compiling.{IsScriptOf}

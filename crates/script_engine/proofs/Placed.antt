@@ -1,8 +1,8 @@
 -- Tokens that are spelled in a text lie in it.
 use Rattle.std.proofs.Common.{ℕ, List, [], ◌∷◌, arith}
-use Rattle.pl_lexer.specs.declared.token.Token.{Token}
-use Rattle.pl_lexer.specs.Spelled.{AreSpelled}
-use Rattle.pl_grammar.specs.Lexeme.{AllLieIn}
+use Rattle.pl_parser.specs.pl_lexer_declared.token.Token.{Token}
+use Rattle.pl_parser.specs.Spelled.{AreSpelled}
+use Rattle.pl_parser.specs.Lexeme.{AllLieIn}
 
 pub spelled_lie_in : (text : List ℕ) (from : ℕ) (tokens : List Token) → AreSpelled text from tokens → AllLieIn text tokens
 spelled_lie_in text from [] h = tt

@@ -13,33 +13,33 @@ use Rattle.object_heap.specs.Store.{Store}
 use Rattle.object_heap.specs.declared.outcome.End as left_end
 use Rattle.object_heap.specs.declared.outcome.End.TheVariants as l
 use Rattle.object_heap.specs.declared.outcome.Outcome.{Outcome}
-use Rattle.run_state.specs.World as run
-use Rattle.run_state.specs.World.{World, Limit, End, Result, Uncaught, Limited}
+use Rattle.compiled_outcome.specs.World as run
+use Rattle.compiled_outcome.specs.World.{World, Limit, End, Result, Uncaught, Limited}
 use Rattle.typed_tree.specs.declared.program.Program.{Program}
-use Rattle.source_meaning.specs.Programs.{fun_of, program_of, variable_of}
-use Rattle.source_meaning.specs.Tree.{Variable, Fun}
-use Rattle.container_ops.specs.Types.{default_of, default_of_layer, default_of_primitive}
-use Rattle.source_meaning.specs.Meaning.{Env, Out, Done, Thrown, Over, More, Flow, Normal, Broke, Continued, Returned, entry, returned, meaning}
+use Rattle.codegen.specs.Programs.{fun_of, program_of, variable_of}
+use Rattle.codegen.specs.Tree.{Variable, Fun}
+use Rattle.codegen.specs.Types.{default_of, default_of_layer, default_of_primitive}
+use Rattle.codegen.specs.Meaning.{Env, Out, Done, Thrown, Over, More, Flow, Normal, Broke, Continued, Returned, entry, returned, meaning}
 use Rattle.object_values.specs.declared.object.Owner.TheVariants.{Script as script_text}
-use Rattle.program_typing.specs.Types.{Has, HasLayer, HasPrimitive, HaveAll}
-use Rattle.program_typing.specs.Agreeing.{known, types_in, WellFormed}
-use Rattle.program_typing.specs.Enough.{enough, FlowOut, IsEnough}
-use Rattle.program_typing.proofs.Enough.{comes_to_an_end}
-use Rattle.compiler_relation.specs.Representation.{representation_of, representation_of_layer, low, kind_of, kind_of_layer, kind_of_primitive}
-use Rattle.compiler_relation.specs.Stands.{kinds_of}
-use Rattle.compiler_relation.specs.Correct as code
-use Rattle.compiler_relation.specs.Correct.{EndsAs}
+use Rattle.compiled_outcome.specs.Types.{Has, HasLayer, HasPrimitive, HaveAll}
+use Rattle.compiled_outcome.specs.Agreeing.{known, types_in, WellFormed}
+use Rattle.compiled_outcome.specs.Enough.{enough, FlowOut, IsEnough}
+use Rattle.compiled_outcome.proofs.Enough.{comes_to_an_end}
+use Rattle.compiled_outcome.specs.Representation.{representation_of, representation_of_layer, low, kind_of, kind_of_layer, kind_of_primitive}
+use Rattle.compiled_outcome.specs.Stands.{kinds_of}
+use Rattle.compiled_outcome.specs.Correct as code
+use Rattle.compiled_outcome.specs.Correct.{EndsAs}
 use Rattle.compiled_outcome.specs.Outcome.{CodeEndsAsPrograms}
-use Rattle.code_meaning.specs.declared.word.Word.{Word}
-use Rattle.code_meaning.specs.Words.{bit, unboxed}
-use Rattle.code_meaning.specs.Machine as code_config
-use Rattle.code_meaning.specs.Machine.{Next, Goes, Ends, start, after}
-use Rattle.machine.specs.declared.configuration.Limits.{Limits}
-use Rattle.machine.specs.declared.configuration.RunEnd as run_end
-use Rattle.machine.specs.declared.configuration.RunEnd.TheVariants as r
-use Rattle.machine.specs.Seen.{codes_alone, limits_of, limit_of, ended}
-use Rattle.machine.specs.Activations.{Activation, later, is_over, counted}
-use Rattle.machine.proofs.Turning.{comes_to_its_end}
+use Rattle.verified_machine.specs.code_meaning_declared.word.Word.{Word}
+use Rattle.verified_machine.specs.Words.{bit, unboxed}
+use Rattle.verified_machine.specs.Machine as code_config
+use Rattle.verified_machine.specs.Machine.{Next, Goes, Ends, start, after}
+use Rattle.verified_machine.specs.machine_declared.configuration.Limits.{Limits}
+use Rattle.verified_machine.specs.machine_declared.configuration.RunEnd as run_end
+use Rattle.verified_machine.specs.machine_declared.configuration.RunEnd.TheVariants as r
+use Rattle.verified_machine.specs.Seen.{codes_alone, limits_of, limit_of, ended}
+use Rattle.verified_machine.specs.Activations.{Activation, later, is_over, counted}
+use Rattle.verified_machine.proofs.Turning.{comes_to_its_end}
 use Rattle.script_engine.specs.declared.compiling.Script.{Script}
 use Rattle.script_engine.specs.Ends.{alone, end_of, end_in, end_with, given, given_layer}
 use Rattle.script_engine.proofs.Alone.{no_prelude_code, with_no_prelude}
@@ -47,11 +47,11 @@ use Rattle.script_engine.specs.Running.{value_by, value_of, word_in, words_in, p
 use Rattle.script_engine.specs.Compiling.{IsScriptOf}
 use Rattle.script_engine.proofs.Left.{comes_with}
 use Rattle.verified_machine.specs.Tasks.{ending, most_left, rest_from}
-use Rattle.verifier_soundness.specs.Fits.{main_params}
-use Rattle.verifier_soundness.specs.Fits.{kind_of as word_kind, kinds_of as word_kinds}
+use Rattle.verified_machine.specs.Fits.{main_params}
+use Rattle.verified_machine.specs.Fits.{kind_of as word_kind, kinds_of as word_kinds}
 use Rattle.pl_code.specs.declared.code.FunCode.{FunCode}
-use Rattle.typing_rules.specs.declared.header.ContextTypes.{ContextTypes}
-use Rattle.allowlist.specs.Allow.{AllowList}
+use Rattle.static_types.specs.typing_rules_declared.header.ContextTypes.{ContextTypes}
+use Rattle.static_types.specs.Allow.{AllowList}
 
 -- an activation of code that gives this type left this
 record LeftBy (of : Ty) (a : Activation) (o : Outcome) : Type 0 where

@@ -1,13 +1,13 @@
 -- Each stage has one answer, and so a text is one program or has one refusal.
 use Rattle.std.proofs.Common.{◌≡◌, ℕ, List, Option, Result, Ok, Err, refl, sym, subst, ◌∙◌}
 use Rattle.pl_types.specs.declared.refusal.Refusal.{Refusal}
-use Rattle.pl_lexer.specs.declared.token.Token.{Token}
-use Rattle.pl_lexer.specs.Tokens.{Lexes}
-use Rattle.pl_grammar_plain.specs.PlainParses.{PlainParses}
-use Rattle.pl_tree.specs.declared.tree.Tree.{Tree}
-use Rattle.allowlist.specs.Allow.{AllowList, class_named_of}
-use Rattle.typing_rules.specs.declared.header.ContextTypes.{ContextTypes}
-use Rattle.typing_rules.specs.Typing.{typing_of}
+use Rattle.pl_parser.specs.pl_lexer_declared.token.Token.{Token}
+use Rattle.pl_parser.specs.Tokens.{Lexes}
+use Rattle.pl_parser.specs.PlainParses.{PlainParses}
+use Rattle.pl_parser.specs.pl_tree_declared.tree.Tree.{Tree}
+use Rattle.static_types.specs.Allow.{AllowList, class_named_of}
+use Rattle.static_types.specs.typing_rules_declared.header.ContextTypes.{ContextTypes}
+use Rattle.static_types.specs.Typing.{typing_of}
 use Rattle.script_engine.specs.Stages.{GoesOn, Then}
 use Rattle.script_engine.specs.Programs.{TypesTree, TypesTokens, IsProgramOf}
 

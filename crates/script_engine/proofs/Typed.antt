@@ -4,7 +4,7 @@ use Rattle.std.specs.Prelude.{unwrap_or}
 use Rattle.pl_types.specs.declared.primitive.Primitive.{Primitive}
 use Rattle.pl_types.specs.declared.ty.Ty.{Ty, out-Ty}
 use Rattle.pl_types.specs.declared.ty.Ty.TheOpen.{Ty-F}
-use Rattle.allowlist.specs.Allow.{AllowList}
+use Rattle.static_types.specs.Allow.{AllowList}
 use Rattle.object_values.specs.declared.object.Object.{Object}
 use Rattle.object_values.specs.declared.value.Value.{Value}
 use Rattle.object_heap.specs.Fits.{kinds, is_primitive, Rules, Every, Fits}
@@ -13,19 +13,19 @@ use Rattle.object_heap.specs.Store.{Store}
 use Rattle.object_heap.specs.declared.outcome.End as left_end
 use Rattle.object_heap.specs.declared.outcome.End.TheVariants as l
 use Rattle.object_heap.specs.declared.outcome.Outcome.{Outcome}
-use Rattle.run_state.specs.World.{World, Limits, End}
-use Rattle.machine.specs.Seen.{limits_of}
-use Rattle.machine.specs.declared.configuration.Limits.{Limits as run_limits}
+use Rattle.compiled_outcome.specs.World.{World, Limits, End}
+use Rattle.verified_machine.specs.Seen.{limits_of}
+use Rattle.verified_machine.specs.machine_declared.configuration.Limits.{Limits as run_limits}
 use Rattle.typed_tree.specs.declared.program.Program.{Program}
-use Rattle.source_meaning.specs.Operating.{in_box}
-use Rattle.source_meaning.specs.Programs.{fun_of, program_of, variable_of}
-use Rattle.source_meaning.specs.Meaning.{Env, Out, Done, Thrown, Over, More, Flow, entry, returned}
-use Rattle.program_typing.specs.Agreeing.{Scope, known, types_in, scope_of, WellFormed, AreWellFormed}
-use Rattle.value_typing.specs.Typing.{is_typed_layer}
-use Rattle.source_typing.specs.Outs.{AreTyped, FlowTyped, OutTyped}
-use Rattle.source_typing.proofs.Values.{MadeTyped, returned_typed, all_are}
-use Rattle.source_typing.proofs.Operations.{MadeOf, box_made, all_have}
-use Rattle.source_typing.proofs.Meanings.{results_are_typed}
+use Rattle.codegen.specs.Operating.{in_box}
+use Rattle.codegen.specs.Programs.{fun_of, program_of, variable_of}
+use Rattle.codegen.specs.Meaning.{Env, Out, Done, Thrown, Over, More, Flow, entry, returned}
+use Rattle.compiled_outcome.specs.Agreeing.{Scope, known, types_in, scope_of, WellFormed, AreWellFormed}
+use Rattle.typing_soundness.specs.Typing.{is_typed_layer}
+use Rattle.typing_soundness.specs.Outs.{AreTyped, FlowTyped, OutTyped}
+use Rattle.typing_soundness.proofs.SourceTypingValues.{MadeTyped, returned_typed, all_are}
+use Rattle.typing_soundness.proofs.Operations.{MadeOf, box_made, all_have}
+use Rattle.typing_soundness.proofs.Meanings.{results_are_typed}
 use Rattle.script_engine.specs.declared.compiling.Script.{Script}
 use Rattle.script_engine.specs.Ends.{alone, given_layer, end_with, end_of, end_in, RunsTo}
 use Rattle.script_engine.specs.Laws.{ProgramsAreTyped}

@@ -4,7 +4,7 @@ use Rattle.std.proofs.Common.{refl, sym, ap, ◌∙◌, append-nil}
 use Rattle.std.proofs.Math.ListN.{drop_of_length-le}
 use Rattle.object_values.specs.declared.value.Value.{Value}
 use Rattle.pl_code.specs.declared.kinds.Slot.{Slot}
-use Rattle.code_meaning.specs.declared.word.Word.{Word}
+use Rattle.verified_machine.specs.code_meaning_declared.word.Word.{Word}
 use Rattle.script_engine.specs.Running.{words_in}
 
 none_in : (kinds : List Slot) → words_in kinds [] ≡ []

@@ -2,29 +2,29 @@
 use Rattle.std.specs.Prelude.{◌≡◌, ℕ, List, [], ◌∷◌, map, Option, None, slice_get, false}
 use Rattle.object_values.specs.declared.value.Value.{Value}
 use Rattle.object_heap.specs.Store.{Store}
-use Rattle.run_state.specs.World.{World, Limits, End, Result, Uncaught, Limited}
+use Rattle.compiled_outcome.specs.World.{World, Limits, End, Result, Uncaught, Limited}
 use Rattle.object_values.specs.declared.object.Owner.TheVariants.{Prelude}
 use Rattle.typed_tree.specs.declared.program.Program.{Program}
 use Rattle.typed_tree.specs.declared.program.FunctionKind.TheVariants as function
-use Rattle.allowlist.specs.Allow.{AllowList, full_list}
-use Rattle.typing_rules.specs.declared.header.ContextTypes.{ContextTypes}
+use Rattle.static_types.specs.Allow.{AllowList, full_list}
+use Rattle.static_types.specs.typing_rules_declared.header.ContextTypes.{ContextTypes}
 use Rattle.pl_types.specs.declared.ty.Ty.{Ty}
 use Rattle.pl_types.specs.declared.ty.Ty.TheVariants as ty
 use Rattle.pl_code.specs.declared.code.Code.{Code}
 use Rattle.pl_code.specs.declared.code.FunCode.{FunCode}
 use Rattle.pl_code.specs.declared.code.Instruction.TheVariants as instruction
 use Rattle.pl_code.specs.declared.kinds.Plain.TheVariants as plain
-use Rattle.source_meaning.specs.Programs.{program_of, variable_of}
-use Rattle.compiler_relation.specs.Stands.{Compiled}
-use Rattle.program_typing.specs.Types.{HaveAll}
-use Rattle.program_typing.specs.Agreeing.{types_in}
-use Rattle.verifier.specs.Faults.{shape_fault}
-use Rattle.code_meaning.specs.declared.word.Word.{Word}
-use Rattle.code_meaning.specs.Machine.{Next, Ends, start, after}
-use Rattle.machine.specs.declared.configuration.Limits as machine
-use Rattle.machine.specs.Seen.{limits_of, codes_alone}
-use Rattle.machine.specs.Runs.{steps_taken}
-use Rattle.machine.specs.Activations.{counted}
+use Rattle.codegen.specs.Programs.{program_of, variable_of}
+use Rattle.compiled_outcome.specs.Stands.{Compiled}
+use Rattle.compiled_outcome.specs.Types.{HaveAll}
+use Rattle.compiled_outcome.specs.Agreeing.{types_in}
+use Rattle.verified_machine.specs.Faults.{shape_fault}
+use Rattle.verified_machine.specs.code_meaning_declared.word.Word.{Word}
+use Rattle.verified_machine.specs.Machine.{Next, Ends, start, after}
+use Rattle.verified_machine.specs.machine_declared.configuration.Limits as machine
+use Rattle.verified_machine.specs.Seen.{limits_of, codes_alone}
+use Rattle.verified_machine.specs.Runs.{steps_taken}
+use Rattle.verified_machine.specs.Activations.{counted}
 use Rattle.script_engine.specs.Ends.{RunsTo}
 use Rattle.script_engine.specs.Running.{params_of, value_of, words_in, world_at}
 

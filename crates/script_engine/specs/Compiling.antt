@@ -3,12 +3,12 @@ use Rattle.std.specs.Prelude.{◌≡◌, map, Result, Ok, Err}
 use Rattle.pl_types.specs.declared.refusal.Refusal.{Refusal}
 use Rattle.pl_types.specs.declared.refusal.Fail.{Fail}
 use Rattle.pl_types.specs.declared.refusal.Fail.TheVariants.{Refused, NoMemory}
-use Rattle.allowlist.specs.Allow.{AllowList}
-use Rattle.typing_rules.specs.declared.header.ContextTypes.{ContextTypes}
+use Rattle.static_types.specs.Allow.{AllowList}
+use Rattle.static_types.specs.typing_rules_declared.header.ContextTypes.{ContextTypes}
 use Rattle.typed_tree.specs.declared.program.Program.{Program}
-use Rattle.source_meaning.specs.Programs.{fun_of, program_of, variable_of}
-use Rattle.program_typing.specs.Agreeing.{known, WellFormed}
-use Rattle.compiler_relation.specs.Correct.{IsCodeOf}
+use Rattle.codegen.specs.Programs.{fun_of, program_of, variable_of}
+use Rattle.compiled_outcome.specs.Agreeing.{known, WellFormed}
+use Rattle.compiled_outcome.specs.Correct.{IsCodeOf}
 use Rattle.script_engine.specs.declared.compiling.Script.{Script}
 
 -- A script is this program of a context under a list: it has the list, it has code that stands for the program, the program is well formed,

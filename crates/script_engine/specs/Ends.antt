@@ -5,12 +5,12 @@ use Rattle.object_values.specs.declared.object.Owner.TheVariants.{Script}
 use Rattle.object_values.specs.declared.value.Value.TheVariants as v
 use Rattle.pl_types.specs.declared.ty.Ty.{Ty, out-Ty}
 use Rattle.pl_types.specs.declared.ty.Ty.TheOpen.{Ty-F}
-use Rattle.run_state.specs.World.{World, Limits, End, Result, Uncaught, Limited}
+use Rattle.compiled_outcome.specs.World.{World, Limits, End, Result, Uncaught, Limited}
 use Rattle.typed_tree.specs.declared.program.Program.{Program}
-use Rattle.source_meaning.specs.Programs.{fun_of, program_of}
-use Rattle.source_meaning.specs.Tree.{Fun, Programs}
-use Rattle.source_meaning.specs.Operating.{in_box}
-use Rattle.source_meaning.specs.Meaning.{Env, Out, Done, Thrown, Over, More, Flow, entry, returned, meaning}
+use Rattle.codegen.specs.Programs.{fun_of, program_of}
+use Rattle.codegen.specs.Tree.{Fun, Programs}
+use Rattle.codegen.specs.Operating.{in_box}
+use Rattle.codegen.specs.Meaning.{Env, Out, Done, Thrown, Over, More, Flow, entry, returned, meaning}
 
 -- what a function of this result type gives: without a result null, and of a primitive type a value in its box
 abbrev pub given_layer : Ty-F Ty → Value → Value

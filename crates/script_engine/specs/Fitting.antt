@@ -6,7 +6,7 @@ use Rattle.object_heap.specs.Fits.{Rules, Fits, ValueFits, ThrownFits}
 use Rattle.object_heap.specs.declared.outcome.End as left_end
 use Rattle.object_heap.specs.declared.outcome.End.TheVariants as l
 use Rattle.object_heap.specs.declared.outcome.Outcome.{Outcome}
-use Rattle.container_calls.specs.Laws.{StillThere}
+use Rattle.verified_machine.specs.ContainerCallsLaws.{StillThere}
 
 -- a value that names what is there, or an exception that is there
 abbrev pub EndFits : List Object → left_end.End → Type 0

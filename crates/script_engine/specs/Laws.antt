@@ -3,20 +3,20 @@ use Rattle.std.specs.Prelude.{◌≡◌, ℕ, List, map, Result, Ok, None}
 use Rattle.pl_types.specs.declared.refusal.Refusal.{Refusal}
 use Rattle.object_values.specs.declared.value.Value.{Value}
 use Rattle.object_heap.specs.Fits.{Rules, Every, Fits, ValueFits, AllFit}
-use Rattle.run_fit.specs.Worlds.{EndFits, count_in}
-use Rattle.allowlist.specs.Allow.{AllowList}
-use Rattle.run_state.specs.World.{World, Limits, End}
-use Rattle.typing_rules.specs.declared.header.ContextTypes.{ContextTypes}
+use Rattle.typing_soundness.specs.Worlds.{EndFits, count_in}
+use Rattle.static_types.specs.Allow.{AllowList}
+use Rattle.compiled_outcome.specs.World.{World, Limits, End}
+use Rattle.static_types.specs.typing_rules_declared.header.ContextTypes.{ContextTypes}
 use Rattle.typed_tree.specs.declared.program.Program.{Program}
-use Rattle.source_meaning.specs.Programs.{variable_of}
-use Rattle.program_typing.specs.Types.{HaveAll}
-use Rattle.program_typing.specs.Agreeing.{types_in}
+use Rattle.codegen.specs.Programs.{variable_of}
+use Rattle.compiled_outcome.specs.Types.{HaveAll}
+use Rattle.compiled_outcome.specs.Agreeing.{types_in}
 use Rattle.typing_soundness.specs.Laws.{IsContext}
 use Rattle.pl_code.specs.declared.code.Code.{Code}
-use Rattle.verifier.specs.Faults.{shape_fault}
+use Rattle.verified_machine.specs.Faults.{shape_fault}
 use Rattle.object_heap.specs.Store.{Store}
-use Rattle.machine.specs.declared.configuration.Limits as machine
-use Rattle.machine.specs.Seen.{limits_of}
+use Rattle.verified_machine.specs.machine_declared.configuration.Limits as machine
+use Rattle.verified_machine.specs.Seen.{limits_of}
 use Rattle.script_engine.specs.declared.compiling.Script.{Script}
 use Rattle.script_engine.specs.Compiling.{IsScriptOf}
 use Rattle.script_engine.specs.Running.{world_at}

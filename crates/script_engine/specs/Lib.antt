@@ -7,3 +7,16 @@ pub mod Running
 pub mod Typed
 pub mod Codes
 pub mod Laws
+-- Definitions of the libraries below that clauses here speak of, passed on.
+pub use Rattle.codegen.specs.Programs as SourceMeaningPrograms
+pub use Rattle.compiled_outcome.specs.Agreeing
+pub use Rattle.compiled_outcome.specs.Types
+pub use Rattle.compiled_outcome.specs.World
+pub use Rattle.pl_code.specs.Listing
+pub use Rattle.pl_code.specs.declared as pl_code_declared
+pub use Rattle.static_types.specs.typing_rules_declared
+pub use Rattle.typing_soundness.specs.Laws as TypingSoundnessLaws
+pub use Rattle.verified_machine.specs.Faults
+pub use Rattle.verified_machine.specs.Rows
+pub use Rattle.verified_machine.specs.Seen
+pub use Rattle.verified_machine.specs.machine_declared

@@ -1,13 +1,13 @@
 -- Which program a text is, or the first rule that it breaks: its tokens come first, then its tree, then its types.
 use Rattle.std.specs.Prelude.{◌≡◌, ℕ, List, Result}
 use Rattle.pl_types.specs.declared.refusal.Refusal.{Refusal}
-use Rattle.pl_lexer.specs.declared.token.Token.{Token}
-use Rattle.pl_lexer.specs.Tokens.{Lexes}
-use Rattle.pl_grammar_plain.specs.PlainParses.{PlainParses}
-use Rattle.pl_tree.specs.declared.tree.Tree.{Tree}
-use Rattle.allowlist.specs.Allow.{AllowList, class_named_of}
-use Rattle.typing_rules.specs.declared.header.ContextTypes.{ContextTypes}
-use Rattle.typing_rules.specs.Typing.{typing_of}
+use Rattle.pl_parser.specs.pl_lexer_declared.token.Token.{Token}
+use Rattle.pl_parser.specs.Tokens.{Lexes}
+use Rattle.pl_parser.specs.PlainParses.{PlainParses}
+use Rattle.pl_parser.specs.pl_tree_declared.tree.Tree.{Tree}
+use Rattle.static_types.specs.Allow.{AllowList, class_named_of}
+use Rattle.static_types.specs.typing_rules_declared.header.ContextTypes.{ContextTypes}
+use Rattle.static_types.specs.Typing.{typing_of}
 use Rattle.typed_tree.specs.declared.program.Program.{Program}
 use Rattle.script_engine.specs.Stages.{Then}
 

@@ -6,29 +6,29 @@ use Rattle.object_heap.specs.Store.{Store}
 use Rattle.object_heap.specs.declared.outcome.End as left_end
 use Rattle.object_heap.specs.declared.outcome.End.TheVariants as l
 use Rattle.object_heap.specs.declared.outcome.Outcome.{Outcome}
-use Rattle.run_state.specs.World.{World, End, Result, Uncaught, Limited}
+use Rattle.compiled_outcome.specs.World.{World, End, Result, Uncaught, Limited}
 use Rattle.typed_tree.specs.declared.program.Program.{Program}
-use Rattle.allowlist.specs.Allow.{AllowList}
-use Rattle.typing_rules.specs.declared.header.ContextTypes.{ContextTypes}
+use Rattle.static_types.specs.Allow.{AllowList}
+use Rattle.static_types.specs.typing_rules_declared.header.ContextTypes.{ContextTypes}
 use Rattle.pl_types.specs.declared.ty.Ty.{Ty, out-Ty}
 use Rattle.pl_types.specs.declared.ty.Ty.TheOpen.{Ty-F}
 use Rattle.pl_code.specs.declared.kinds.Slot.{Slot}
 use Rattle.pl_code.specs.declared.kinds.Slot.TheVariants as slot
 use Rattle.pl_code.specs.declared.code.FunCode.{FunCode}
-use Rattle.source_meaning.specs.Programs.{variable_of}
-use Rattle.program_typing.specs.Types.{HaveAll}
-use Rattle.program_typing.specs.Agreeing.{types_in}
-use Rattle.code_meaning.specs.Words.{boxed, unboxed, plain_value}
-use Rattle.code_meaning.specs.declared.word.Word.{Word}
-use Rattle.code_meaning.specs.declared.word.Word.TheVariants.{R}
-use Rattle.machine.specs.declared.configuration.RunEnd as run_end
-use Rattle.machine.specs.declared.configuration.RunEnd.TheVariants as r
-use Rattle.machine.specs.declared.configuration.Limits.{Limits}
-use Rattle.machine.specs.declared.activation.RunOutcome as run_outcome
-use Rattle.machine.specs.Seen.{limits_of, limit_of, codes_alone}
-use Rattle.code_meaning.specs.Machine.{start}
-use Rattle.verifier_soundness.specs.Fits.{kinds_of, main_params}
-use Rattle.machine.specs.Activations.{Activation}
+use Rattle.codegen.specs.Programs.{variable_of}
+use Rattle.compiled_outcome.specs.Types.{HaveAll}
+use Rattle.compiled_outcome.specs.Agreeing.{types_in}
+use Rattle.verified_machine.specs.Words.{boxed, unboxed, plain_value}
+use Rattle.verified_machine.specs.code_meaning_declared.word.Word.{Word}
+use Rattle.verified_machine.specs.code_meaning_declared.word.Word.TheVariants.{R}
+use Rattle.verified_machine.specs.machine_declared.configuration.RunEnd as run_end
+use Rattle.verified_machine.specs.machine_declared.configuration.RunEnd.TheVariants as r
+use Rattle.verified_machine.specs.machine_declared.configuration.Limits.{Limits}
+use Rattle.verified_machine.specs.machine_declared.activation.RunOutcome as run_outcome
+use Rattle.verified_machine.specs.Seen.{limits_of, limit_of, codes_alone}
+use Rattle.verified_machine.specs.Machine.{start}
+use Rattle.verified_machine.specs.Fits.{kinds_of, main_params}
+use Rattle.verified_machine.specs.Activations.{Activation}
 use Rattle.script_engine.specs.declared.compiling.Script.{Script}
 use Rattle.script_engine.specs.Compiling.{IsScriptOf}
 use Rattle.script_engine.specs.Ends.{RunsTo}

@@ -1,20 +1,20 @@
 -- What a run of a script gives is of the result's type.
 use Rattle.std.specs.Prelude.{◌≡◌, true, List, map}
 use Rattle.pl_types.specs.declared.ty.Ty.{Ty}
-use Rattle.allowlist.specs.Allow.{AllowList}
+use Rattle.static_types.specs.Allow.{AllowList}
 use Rattle.object_values.specs.declared.object.Object.{Object}
 use Rattle.object_values.specs.declared.value.Value.{Value}
 use Rattle.object_heap.specs.Store.{Store}
 use Rattle.object_heap.specs.declared.outcome.End as left_end
 use Rattle.object_heap.specs.declared.outcome.End.TheVariants as l
 use Rattle.object_heap.specs.declared.outcome.Outcome.{Outcome}
-use Rattle.run_state.specs.World.{End, Result, Uncaught, Limited}
-use Rattle.typing_rules.specs.declared.header.ContextTypes.{ContextTypes}
+use Rattle.compiled_outcome.specs.World.{End, Result, Uncaught, Limited}
+use Rattle.static_types.specs.typing_rules_declared.header.ContextTypes.{ContextTypes}
 use Rattle.typed_tree.specs.declared.program.Program.{Program}
-use Rattle.source_meaning.specs.Programs.{variable_of}
-use Rattle.program_typing.specs.Agreeing.{types_in}
-use Rattle.value_typing.specs.Typing.{is_typed}
-use Rattle.source_typing.specs.Outs.{AreTyped}
+use Rattle.codegen.specs.Programs.{variable_of}
+use Rattle.compiled_outcome.specs.Agreeing.{types_in}
+use Rattle.typing_soundness.specs.Typing.{is_typed}
+use Rattle.typing_soundness.specs.Outs.{AreTyped}
 use Rattle.script_engine.specs.declared.compiling.Script.{Script}
 use Rattle.script_engine.specs.Compiling.{IsScriptOf}
 

@@ -2,14 +2,14 @@
 
 ghost use Rattle.std.specs.Prelude.{◌≡◌, ◌≤◌, IfOk, None, Result, length, string_bytes};
 ghost use Rattle.pl_code.specs.Listing.{written};
-ghost use Rattle.verifier.specs.Faults.{shape_fault};
-ghost use Rattle.verifier.specs.Verified.{FrameWords, Refuses};
-ghost use Rattle.verifier_soundness.specs.Rows.{HaveRows};
+ghost use Rattle.verified_machine.specs.Faults.{shape_fault};
+ghost use Rattle.verified_machine.specs.Verified.{FrameWords, Refuses};
+ghost use Rattle.verified_machine.specs.Rows.{HaveRows};
 ghost use Rattle.codegen.specs.declared.error.CodeError.TheVariants as code_errors;
 ghost use Rattle.pl_types.specs.declared.refusal.Fail.TheVariants as fails;
 ghost use Rattle.pl_types.specs.Answers.{Answers};
 ghost use Rattle.pl_types.specs.declared.refusal.Refusal.{Refusal};
-ghost use Rattle.pl_grammar.specs.Lexeme.{AllLieIn};
+ghost use Rattle.pl_parser.specs.Lexeme.{AllLieIn};
 ghost use Rattle.typed_tree.specs.declared.program.Program as typed;
 ghost use Rattle.typing_soundness.specs.Laws.{IsContext};
 ghost use Rattle.script_engine.specs.Programs.{TypesTree, TypesTokens, IsProgramOf};
@@ -18,20 +18,15 @@ ghost use Rattle.script_engine.specs.Compiling.{Compiles};
 ghost use Rattle.script_engine.specs.Running.{TakesTyped};
 
 use crate::prelude::prelude_code;
-use allowlist::Allow;
 use codegen::{CodeError, generate};
-use compiled_runs::programs_run;
-use compiled_shapes::code_is_well_shaped;
+use compiled_runs::{code_is_well_shaped, programs_run};
 use pl_code::{Code, listing};
-use pl_lexer::{Token, lex};
-use pl_parser::parse;
-use pl_tree::Tree;
+use pl_parser::{Token, Tree, lex, parse};
 use pl_types::{Fail, Ty};
-use static_types::{ContextTypes, elaborate};
+use static_types::{Allow, ContextTypes, elaborate};
 use std::alloc::{AllocError, Global};
 use typed_tree::Program;
-use verified_machine::VerifiedExecutable;
-use verifier::{VerifyErr, verify};
+use verified_machine::{VerifiedExecutable, VerifyErr, verify};
 
 /// A script that was compiled: verified code with the list of what it may use.
 pub struct Script {

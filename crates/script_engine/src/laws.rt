@@ -2,8 +2,7 @@
 ghost use Rattle.script_engine.specs.Laws.{CodesAreListed, CodesCountOnce, ListedCodesCount, PreludeIsListed, TextsAreAnswered, TextsAreAnsweredOnce, ProgramsAreTyped, ProgramsEnd, ProgramsEndOnce, ProgramsFit};
 
 use compiled_outcome::programs_end;
-use pl_grammar_plain::plain_laws;
-use pl_lexer::each_text_has_one_reading;
+use pl_parser::{each_text_has_one_reading, plain_laws};
 
 /// A text is a program or is refused by one rule, and the run of its program comes to one end, which fits where
 /// its start does. What is given is then of the result's type in the store that is left, on arguments of the types of the variables.

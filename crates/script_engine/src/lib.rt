@@ -9,3 +9,5 @@ mod running;
 pub use compiling::{Script, compile};
 pub use laws::{code_laws, script_laws};
 pub use running::ScriptRun;
+pub use static_types::ContextTypes;
+pub use verified_machine::{Limits, RunMemory};

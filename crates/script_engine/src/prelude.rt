@@ -4,8 +4,8 @@ ghost use Rattle.std.specs.Prelude.{◌≡◌, IfOk};
 ghost use Rattle.script_engine.specs.Codes.{prelude_code};
 
 use pl_code::{Code, FunCode, Instruction, Plain};
-use plain_data::Items;
 use std::alloc::{AllocError, Global};
+use typed_tree::Items;
 
 /// What a script runs beside.
 pub(crate) fn prelude_code(alloc: Global) -> Result<Code, AllocError>

@@ -2,28 +2,26 @@
 
 ghost use Rattle.std.specs.List.{list_all};
 ghost use Rattle.std.specs.Prelude.{◌≡◌, IfOk, IsOk, List, Some, length, slice_get, true};
-ghost use Rattle.allowlist.specs.Allow.{flag};
+ghost use Rattle.static_types.specs.Allow.{flag};
 ghost use Rattle.object_heap.specs.Fits.{AllFit, Every, Fits, Rules};
 ghost use Rattle.object_values.specs.declared.object.Object.{Object};
-ghost use Rattle.machine.specs.Fitting.{NowFits};
-ghost use Rattle.machine.specs.Seen.{limits_of};
+ghost use Rattle.verified_machine.specs.Fitting.{NowFits};
+ghost use Rattle.verified_machine.specs.Seen.{limits_of};
 ghost use Rattle.script_engine.specs.Codes.{Counts};
 ghost use Rattle.script_engine.specs.Fitting.{LeavesFit};
 ghost use Rattle.script_engine.specs.Typed.{GivesTyped};
-ghost use Rattle.verifier_soundness.specs.Rows.{HaveRows};
+ghost use Rattle.verified_machine.specs.Rows.{HaveRows};
 ghost use Rattle.verified_machine.specs.Tasks.{ending, SparesMemory};
 ghost use Rattle.script_engine.specs.Running.{RunsAsItsProgram, LeftOf, Comes, IsEnd, TakesArguments, begun, value_of, word_in, words_in, world_at, end_left, params_of};
 
 use crate::compiling::Script;
-use code_meaning::Word;
 use compiled_outcome::programs_end;
-use machine::{Limits, RunMemory, boxed, unboxed};
 use object_heap::{End, Heap, Outcome};
 use object_values::{Elements, Value};
 use pl_code::{Code, Slot};
 use pl_types::Ty;
 use std::alloc::{AllocError, Global};
-use verified_machine::{FinishedRun, VerifiedActivation};
+use verified_machine::{FinishedRun, Limits, RunMemory, VerifiedActivation, Word, boxed, unboxed};
 
 /// The word of an argument in a local of a kind.
 fn word_in(kind: Slot, value: Value) -> Word
@@ -77,24 +75,24 @@ fn value_of(of: &Ty, word: Option<Word>) -> Value
 }
 
 /// The end of a run that is not stuck, with its value.
-fn end_left(of: &Ty, end: machine::RunEnd) -> End
+fn end_left(of: &Ty, end: verified_machine::RunEnd) -> End
     requires { IsEnd end }
     ensures { end_left of.now end ≡ Some result }
 {
     match &end {
-        machine::RunEnd::Thrown(id) => End::Thrown(*id),
-        machine::RunEnd::Limit(which) => End::Limit(*which),
-        machine::RunEnd::Result(_) => End::Value(value_of(of, end.into_word())),
-        machine::RunEnd::Stuck => unreachable!(),
+        verified_machine::RunEnd::Thrown(id) => End::Thrown(*id),
+        verified_machine::RunEnd::Limit(which) => End::Limit(*which),
+        verified_machine::RunEnd::Result(_) => End::Value(value_of(of, end.into_word())),
+        verified_machine::RunEnd::Stuck => unreachable!(),
     }
 }
 
 /// What a run of code of this result type leaves.
-fn outcome_left(of: &Ty, ran: machine::RunOutcome) -> Outcome
+fn outcome_left(of: &Ty, ran: verified_machine::RunOutcome) -> Outcome
     requires { IsEnd ran.end }
     ensures { LeftOf of.now ran result }
 {
-    let machine::RunOutcome {
+    let verified_machine::RunOutcome {
         end,
         heap,
         ticks,

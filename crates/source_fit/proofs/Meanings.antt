@@ -23,8 +23,8 @@ use Rattle.typed_tree.specs.declared.operation.Gives.{Gives as Given_by}
 use Rattle.number_ops.specs.Operators.{is_null}
 use Rattle.number_ops.specs.Outcomes as outcomes
 use Rattle.number_ops.specs.Relations.{thrown}
-use Rattle.container_calls.specs.Laws.{StillThere}
-use Rattle.member_calls.specs.Members.{does}
+use Rattle.run_fit.specs.ContainerCallsLaws.{StillThere}
+use Rattle.run_fit.specs.Members.{does}
 use Rattle.run_state.specs.Calls.{suits_member, wrong_class}
 use Rattle.run_state.specs.World.{World, Limits, Outcome, Given, Raised, Full, acts_in, Counted, Counts, Passes, allowed_in, has_loop_limit, take_turn, enter, pay_member}
 use Rattle.run_fit.specs.Laws.{DoneFits}
@@ -33,7 +33,7 @@ use Rattle.run_fit.proofs.Containers.{AccessFits, index_read_fits, index_written
 use Rattle.run_fit.proofs.Counted.{SameStore, turn_keeps, call_keeps, member_keeps}
 use Rattle.run_fit.proofs.Effects.{outcomes_fit, members_fit, throwing_fits}
 use Rattle.run_fit.proofs.Values.{value_grows, values_grow}
-use Rattle.def_access.specs.Access.{Access, Calls, Acts as Does, index_read, index_written, name_read, name_written, method_called}
+use Rattle.run_fit.specs.Access.{Access, Calls, Acts as Does, index_read, index_written, name_read, name_written, method_called}
 use Rattle.source_meaning.specs.Tree.{Name, Expr, Literal, Quoted, Local, Apply, Guarded, Logic, Conditional, Elvis, Assign, Modify, Lambda, Reference, NewReference, Exprs, None', One, Maybe, Missing, Given as Present, Stmt, Do, If, While, DoWhile, Try, Block, Break, Continue, Return, Throw, Stmts, Finish, Then, Declare, Catches, NoCatch, Catch, Fun, Programs, functions_in}
 use Rattle.source_meaning.specs.Operating.{Operated, Meaningless, Gives, Acts, operates, operates_to, casts}
 use Rattle.source_meaning.specs.Members.{Sending, Unsent, OnNull, Sends, Reads, sent}

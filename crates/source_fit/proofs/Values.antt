@@ -34,9 +34,9 @@ use Rattle.number_ops.specs.Casts.{cast_at_run_time}
 use Rattle.number_ops.specs.Operators.{of_result, compares, truth_in, boxed, is_null, is_unary, operate}
 use Rattle.number_ops.specs.Outcomes.{effect, says, zero_divisor}
 use Rattle.number_ops.specs.Relations.{equal}
-use Rattle.container_ops.specs.Types.{default_of, default_of_layer, default_of_primitive}
-use Rattle.container_ops.specs.Elements.{length_of}
-use Rattle.container_ops.specs.Loops.{iterated, has_more, next_element}
+use Rattle.run_fit.specs.Types.{default_of, default_of_layer, default_of_primitive}
+use Rattle.run_fit.specs.Elements.{length_of}
+use Rattle.run_fit.specs.Loops.{iterated, has_more, next_element}
 use Rattle.run_state.specs.World.{World, acts_in}
 use Rattle.run_fit.specs.Laws.{ToldFits}
 use Rattle.run_fit.specs.Worlds.{WorldFits, count_in, OutcomeFits}

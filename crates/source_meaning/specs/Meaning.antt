@@ -30,9 +30,9 @@ use Rattle.allowlist.specs.Allow.{flag}
 use Rattle.allowlist.specs.declared.member.MemberType.{MemberType}
 use Rattle.allowlist.specs.Index.{member_at}
 use Rattle.object_heap.specs.Effects.{Effect}
-use Rattle.member_calls.specs.Members.{does}
+use Rattle.def_access.specs.Members.{does}
 use Rattle.def_access.specs.Access.{Access, Calls, Acts as Does, index_read, index_written, name_read, name_written, method_called}
-pub use Rattle.container_ops.specs.Types.{default_of}
+pub use Rattle.def_access.specs.Types.{default_of}
 use Rattle.source_meaning.specs.Members.{Sending, Unsent, OnNull, Sends, Reads, sent}
 use Rattle.source_meaning.specs.Operating.{Operated, Meaningless, Gives, Acts, value_of, operates, operates_to, casts}
 

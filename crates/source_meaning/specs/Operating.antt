@@ -27,10 +27,10 @@ use Rattle.number_ops.specs.Casts.{cast_at_run_time}
 use Rattle.number_ops.specs.Outcomes.{effect, zero_divisor}
 use Rattle.number_ops.specs.Relations.{equal, is_same}
 use Rattle.number_ops.specs.Operators.{operate, is_unary}
-use Rattle.container_ops.specs.Types.{element_of}
-use Rattle.container_ops.specs.Making.{list_made, map_made, array_filled, array_made}
-use Rattle.container_ops.specs.Elements.{element_read, element_written, length_of}
-use Rattle.container_ops.specs.Loops.{iterated, has_more, next_element}
+use Rattle.def_access.specs.Types.{element_of}
+use Rattle.def_access.specs.Making.{list_made, map_made, array_filled, array_made}
+use Rattle.def_access.specs.Elements.{element_read, element_written, length_of}
+use Rattle.def_access.specs.Loops.{iterated, has_more, next_element}
 use Rattle.typed_tree.specs.declared.operation.Constant.{Constant}
 use Rattle.typed_tree.specs.declared.operation.Constant.TheVariants as constant
 use Rattle.typed_tree.specs.declared.operation.Operator.{Operator}

@@ -16,13 +16,13 @@ use Rattle.object_values.specs.declared.value.Value.TheVariants as v
 use Rattle.object_heap.specs.Effects.{Effect, Gives, Throws, NoRoom}
 use Rattle.object_heap.specs.Fits.{kinds, Rules, Fits, ValueFits, AllFit, is_primitive}
 use Rattle.number_ops.specs.Operators.{is_null}
-use Rattle.member_calls.specs.Members.{is_built, does}
+use Rattle.value_typing.specs.Members.{is_built, does}
 use Rattle.run_state.specs.World.{World, acts_in}
-use Rattle.run_fit.specs.Laws.{DoneFits}
-use Rattle.run_fit.specs.Worlds.{count_in}
-use Rattle.run_fit.proofs.Effects.{beginnings_fit, members_fit}
-use Rattle.source_meaning.specs.Operating.{in_box}
-use Rattle.source_meaning.specs.Members.{Sending, Unsent, OnNull, Sends, Reads, passed_layer, passed, before as joined, passed_all, sends, sends_to, sent_by}
+use Rattle.value_typing.specs.RunFitLaws.{DoneFits}
+use Rattle.value_typing.specs.Worlds.{count_in}
+use Rattle.source_fit.proofs.Effects.{beginnings_fit, members_fit}
+use Rattle.source_fit.specs.Operating.{in_box}
+use Rattle.source_fit.specs.Members.{Sending, Unsent, OnNull, Sends, Reads, passed_layer, passed, before as joined, passed_all, sends, sends_to, sent_by}
 use Rattle.program_typing.specs.Agreeing.{TakesTypes, ReceiverIsOf}
 use Rattle.value_typing.specs.Typing.{is_typed_layer, is_typed, takes_typed_by, OutcomeTyped, EffectIsOf, ActIsOf}
 use Rattle.value_typing.proofs.Kept.{kept_is_typed}

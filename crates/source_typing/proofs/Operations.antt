@@ -17,10 +17,10 @@ use Rattle.object_heap.specs.Effects.{Effect, Gives as Gives_value, Throws, NoRo
 use Rattle.object_heap.specs.Fits.{kinds, Rules, Fits, ThrownFits, Typed, Every, layer_asked, is_primitive}
 use Rattle.object_heap.specs.Objects.{Kind}
 use Rattle.object_heap.specs.Store.{Store}
-use Rattle.container_ops.specs.Types.{element_of}
-use Rattle.container_ops.specs.Making.{list_made, map_made, array_filled}
-use Rattle.container_ops.specs.Elements.{length_of}
-use Rattle.container_ops.specs.Loops.{iterated, has_more, next_element}
+use Rattle.value_typing.specs.Types.{element_of}
+use Rattle.value_typing.specs.Making.{list_made, map_made, array_filled}
+use Rattle.value_typing.specs.Elements.{length_of}
+use Rattle.value_typing.specs.Loops.{iterated, has_more, next_element}
 use Rattle.typed_tree.specs.declared.operation.Operator.{Operator}
 use Rattle.typed_tree.specs.declared.operation.Operator.TheVariants as operator
 use Rattle.arithmetic.specs.declared.operator.Op.{Op}
@@ -31,10 +31,10 @@ use Rattle.number_ops.specs.Casts.{cast_at_run_time}
 use Rattle.number_ops.specs.Operators.{compares, is_unary, operate}
 use Rattle.number_ops.specs.Outcomes.{effect, null_error}
 use Rattle.run_state.specs.World.{World, Outcome, Given, Raised, Full, acts_in}
-use Rattle.run_fit.specs.Worlds.{WorldFits, count_in, OutcomeFits}
-use Rattle.run_fit.proofs.Effects.{beginnings_fit, outcomes_fit}
-use Rattle.run_fit.proofs.Values.{by_primitive}
-use Rattle.source_meaning.specs.Operating.{Operated, Meaningless, Gives, Acts, operates, operates_to, reference_operated, of_any, passed_alike, ints_of, made_of, filled_of, read_at, of_one_value, from_int_to, from_long_to, from_byte_to, from_short_to, from_char_to, from_flag_to, number_cast, in_box, box_if, gives_if, unwrapped, text_if, casts}
+use Rattle.value_typing.specs.Worlds.{WorldFits, count_in, OutcomeFits}
+use Rattle.source_fit.proofs.Effects.{beginnings_fit, outcomes_fit}
+use Rattle.value_typing.proofs.Values.{by_primitive}
+use Rattle.source_fit.specs.Operating.{Operated, Meaningless, Gives, Acts, operates, operates_to, reference_operated, of_any, passed_alike, ints_of, made_of, filled_of, read_at, of_one_value, from_int_to, from_long_to, from_byte_to, from_short_to, from_char_to, from_flag_to, number_cast, in_box, box_if, gives_if, unwrapped, text_if, casts}
 use Rattle.source_fit.proofs.Values.{OperatedFits, operates_fit, operates_to_fit, cast_fits}
 use Rattle.program_typing.specs.Types.{HasPrimitive, HasLayer, HaveAll, Gives as GivesType, of_one, of_two, of_one_flag, of_two_flags, TakesNumbers, TakesFlags, def_given, Takes, TakesElement, TakesTo, IsGiven, Keeps, Same, References, Casts, string}
 use Rattle.program_typing.specs.Agreeing.{IsKnownBefore}

@@ -16,13 +16,13 @@ use Rattle.typed_tree.specs.declared.operation.Constant.{Constant}
 use Rattle.typed_tree.specs.declared.operation.Constant.TheVariants as constant
 use Rattle.typed_tree.specs.declared.operation.Gives.{Gives as Given_by}
 use Rattle.typed_tree.specs.declared.operation.Gives.TheVariants as gives
-use Rattle.container_calls.specs.Laws.{StillThere}
-use Rattle.run_fit.proofs.Leaving.{there_count}
-use Rattle.run_fit.proofs.Values.{value_grows}
-use Rattle.source_meaning.specs.Tree.{Name, Variable}
-use Rattle.source_meaning.specs.Operating.{value_of}
-use Rattle.container_ops.specs.Types.{default_of, default_of_layer}
-use Rattle.source_meaning.specs.Meaning.{Env, Flow, Normal, Broke, Continued, Returned, lookup, assigned, older, entry, given_by, returned}
+use Rattle.value_typing.specs.ContainerCallsLaws.{StillThere}
+use Rattle.value_typing.proofs.Leaving.{there_count}
+use Rattle.value_typing.proofs.Values.{value_grows}
+use Rattle.source_fit.specs.Tree.{Name, Variable}
+use Rattle.source_fit.specs.Operating.{value_of}
+use Rattle.value_typing.specs.Types.{default_of, default_of_layer}
+use Rattle.source_fit.specs.Meaning.{Env, Flow, Normal, Broke, Continued, Returned, lookup, assigned, older, entry, given_by, returned}
 use Rattle.source_fit.proofs.Values.{constant_fits, default_fits}
 use Rattle.program_typing.specs.Types.{is_reference_layer, IsOf, string}
 use Rattle.program_typing.specs.Agreeing.{Scope, IsVariable, variable_of, types_in, scope_of, is_primitive_layer}

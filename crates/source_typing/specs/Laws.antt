@@ -8,9 +8,9 @@ use Rattle.object_values.specs.declared.object.Owner.TheVariants.{Script}
 use Rattle.object_values.specs.declared.value.Value.{Value}
 use Rattle.object_heap.specs.Fits.{Rules, Every, Fits}
 use Rattle.run_state.specs.World.{World, Limits}
-use Rattle.source_meaning.specs.Tree.{Expr, Exprs, Stmt, Stmts, Fun, Programs, type_of}
-use Rattle.source_meaning.specs.Operating.{operates, operates_to, casts}
-use Rattle.source_meaning.specs.Meaning.{State, Env, Place, Meaning, entry, meaning}
+use Rattle.source_fit.specs.Tree.{Expr, Exprs, Stmt, Stmts, Fun, Programs, type_of}
+use Rattle.source_fit.specs.Operating.{operates, operates_to, casts}
+use Rattle.source_fit.specs.Meaning.{State, Env, Place, Meaning, entry, meaning}
 use Rattle.program_typing.specs.Types.{Takes, TakesTo, Casts}
 use Rattle.value_typing.specs.Typing.{is_typed, are_typed}
 use Rattle.program_typing.specs.Agreeing.{Scope, types_of, types_in, scope_of, ExprAgrees, ExprsAgree, StmtAgrees, StmtsAgree, AreWellFormed, known_in}

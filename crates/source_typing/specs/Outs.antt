@@ -5,10 +5,10 @@ use Rattle.pl_types.specs.declared.ty.Ty.{Ty}
 use Rattle.object_values.specs.declared.object.Object.{Object}
 use Rattle.object_values.specs.declared.value.Value.{Value}
 use Rattle.object_heap.specs.Fits.{Rules, Fits, ValueFits, ThrownFits}
-use Rattle.run_fit.specs.Worlds.{WorldFits}
+use Rattle.value_typing.specs.Worlds.{WorldFits}
 use Rattle.run_state.specs.World.{World, acts_in}
-use Rattle.source_meaning.specs.Operating.{Operated, Meaningless, Gives, Acts}
-use Rattle.source_meaning.specs.Meaning.{State, Env, Out, Done, Thrown, Over, More, Flow, Returned}
+use Rattle.source_fit.specs.Operating.{Operated, Meaningless, Gives, Acts}
+use Rattle.source_fit.specs.Meaning.{State, Env, Out, Done, Thrown, Over, More, Flow, Returned}
 use Rattle.value_typing.specs.Typing.{is_typed, OutcomeTyped}
 use Rattle.program_typing.specs.Agreeing.{Scope}
 

@@ -4,5 +4,6 @@
 mod body;
 mod program;
 
+pub use allowlist::Allow;
 pub use program::elaborate;
 pub use typing_rules::ContextTypes;

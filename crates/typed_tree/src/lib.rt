@@ -12,6 +12,7 @@ mod statement;
 mod typed;
 
 pub use operation::{Change, Constant, Gives, Logical, Member, Operation, Operator, Target};
+pub use plain_data::{Items, Text};
 pub use program::{FunctionKind, Named, Program, TypedFunction};
 pub use statement::{StatementNode, TypedCatch, TypedStatement, TypedVariable};
 pub use typed::{Node, Typed};

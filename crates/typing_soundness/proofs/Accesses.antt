@@ -28,8 +28,8 @@ use Rattle.typing_rules.specs.Rules.Literals.{int_literal}
 use Rattle.typing_rules.specs.Rules.Members.{instance_call, plainly, guards, read_named}
 use Rattle.typing_rules.specs.Rules.Types.{is_built_class}
 use Rattle.typing_rules.specs.Rules.Accesses.{is_list, is_map, stands, position, boxed, boxed_position, key, get_of, got, element_node, element_of_array, element_of_list, element_of_def, indexed_layer, index_of, text_part, def_name, length_of, is_length, named_layer, read_of, number_at, numbered_layer, numbered_of}
-use Rattle.program_typing.specs.Types.{Casts, TakesTo}
-use Rattle.program_typing.specs.Agreeing.{Known as Script, Scope, Applies}
+use Rattle.source_typing.specs.Types.{Casts, TakesTo}
+use Rattle.source_typing.specs.Agreeing.{Known as Script, Scope, Applies}
 use Rattle.typing_soundness.proofs.Nodes.{applied_is, text_is}
 use Rattle.typing_soundness.proofs.Types.{array_by, built_listed, built_part, prim_part, prim_aim, def_aim, part_layer, IsOfPart, element_built, built_named, def_reference, class_reference, reference_by}
 use Rattle.typing_soundness.proofs.Parts.{passed, accepted, settled, string_part, def_part, TypedIs, PartIs, node_is, part_of, int_is, cast_at_is}

@@ -15,8 +15,8 @@ use Rattle.pl_types.specs.Types.{same_primitives, same_types}
 use Rattle.pl_types.specs.Casts.{box_of, unboxed, is_number, widens, keeps, narrows, Row, only_if, to_itself, null_to, widening, narrowing, wrapped_as, boxing, boxing_narrowed, is_plain, reaches, boxing_to_parent, boxing_to_def, unwrapped_as, unboxing, unboxing_narrowed, to_parent, to_child, to_def, from_def, array_to_object, object_to_primitive, char_to_text, text_to_char, cast_rows, holds, given_by, first_of_two, cast_from, cast_between, cast_of}
 use Rattle.pl_types.proofs.Shapes.{unboxing_box}
 use Rattle.typing_rules.specs.Rules.Operators.{unboxed_layer, unboxed_of}
-use Rattle.program_typing.specs.Types.{is_reference_layer, IsNamed, IsGiven, Converts, Keeps, Same as SameTypes, References as BothReferences, Casts}
-use Rattle.program_typing.specs.Agreeing.{IsKnownBefore}
+use Rattle.source_typing.specs.Types.{is_reference_layer, IsNamed, IsGiven, Converts, Keeps, Same as SameTypes, References as BothReferences, Casts}
+use Rattle.source_typing.specs.Agreeing.{IsKnownBefore}
 use Rattle.typing_soundness.proofs.Types.{prim_by, class_by, def_layer, aim_layer, IsAim}
 
 -- ---- numbers

@@ -23,12 +23,12 @@ use Rattle.typing_rules.specs.Rules.Types.{type_of as named_type, caught_class}
 use Rattle.typing_rules.specs.Rules.Casts.{cast_to}
 use Rattle.typing_rules.specs.Rules.Statements.{reached, deed, variable, variable_of, declaration_of, test, is_true, loop_test, escapes_if, last_escapes, statement_if, if_of, loop_of, do_of, block_of, statements_of, caught, caught_escapes, try_of}
 use Rattle.typing_rules.specs.Typing.{scoped, looping, perhaps, Doer, Reading, is_empty, statements, variables, initial, loop_condition, loop_update, handlers}
-use Rattle.source_meaning.specs.Tree.{If, While, DoWhile, Try, Block, Stmts, Finish, Then, Missing}
-use Rattle.source_meaning.specs.Falls.{any_falls}
-use Rattle.source_meaning.specs.Programs.{Before, expr_of, maybe_of, alone, alone_if, declared, before}
-use Rattle.program_typing.specs.Types.{IsNamed}
-use Rattle.program_typing.specs.Agreeing.{Known as Script, Scope, TestAgrees, UpdateAgrees, BeginAgrees, StmtsAgree, CatchesAgree}
-use Rattle.program_typing.specs.Reached.{CatchesReached}
+use Rattle.source_typing.specs.Tree.{If, While, DoWhile, Try, Block, Stmts, Finish, Then, Missing}
+use Rattle.source_typing.specs.Falls.{any_falls}
+use Rattle.source_typing.specs.Programs.{Before, expr_of, maybe_of, alone, alone_if, declared, before}
+use Rattle.source_typing.specs.Types.{IsNamed}
+use Rattle.source_typing.specs.Agreeing.{Known as Script, Scope, TestAgrees, UpdateAgrees, BeginAgrees, StmtsAgree, CatchesAgree}
+use Rattle.source_typing.specs.Reached.{CatchesReached}
 use Rattle.typing_soundness.proofs.Types.{IsBuilt, built_values, built_aim, prim_aim}
 use Rattle.typing_soundness.proofs.Parts.{passed, accepted, settled, cast_is}
 use Rattle.typing_soundness.proofs.Names.{in_sight, Known}

@@ -9,7 +9,7 @@ use Rattle.pl_types.specs.declared.ty.Ty.TheVariants as t
 use Rattle.pl_types.specs.declared.ty.Ty.TheFolds.{fold_out-Ty, map-Ty}
 use Rattle.pl_types.specs.declared.ty.Ty.TheOpen.{Ty-F}
 use Rattle.pl_types.specs.declared.ty.Ty.TheViews.{outs-Array}
-use Rattle.container_ops.specs.Types.{dimensions_layer, dimensions_of}
+use Rattle.source_typing.specs.ContainerOpsTypes.{dimensions_layer, dimensions_of}
 use Rattle.typed_tree.specs.declared.operation.Operation.TheVariants as o
 use Rattle.typed_tree.specs.declared.operation.Operator.{Operator}
 use Rattle.typed_tree.specs.declared.operation.Operator.TheVariants as operator
@@ -21,9 +21,9 @@ use Rattle.typing_rules.specs.Outcomes.{refuse}
 use Rattle.typing_rules.specs.Rules.Types.{arrays}
 use Rattle.typing_rules.specs.Rules.Casts.{cast_to, cast_each}
 use Rattle.typing_rules.specs.Rules.Containers.{made, list_of, map_of, array_of, array_with}
-use Rattle.source_meaning.specs.Programs.{exprs_of, expr_of}
-use Rattle.program_typing.specs.Types.{IsReference, ArePairs, AreAll, TakesTo}
-use Rattle.program_typing.specs.Agreeing.{Known as Script, Scope, types_of}
+use Rattle.source_typing.specs.Programs.{exprs_of, expr_of}
+use Rattle.source_typing.specs.Types.{IsReference, ArePairs, AreAll, TakesTo}
+use Rattle.source_typing.specs.Agreeing.{Known as Script, Scope, types_of}
 use Rattle.typing_soundness.proofs.Nodes.{applied_is}
 use Rattle.typing_soundness.proofs.Types.{IsBuilt, class_built, array_built, built_part, built_aim, built_named, IsOfPart, IsAim, prim_aim, def_aim, def_reference}
 use Rattle.typing_soundness.proofs.Parts.{passed, settled, PartIs, node_is, part_of}

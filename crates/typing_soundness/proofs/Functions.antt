@@ -27,12 +27,12 @@ use Rattle.typing_rules.specs.Rules.Calls.{function_of as found_function}
 use Rattle.typing_rules.specs.Rules.Statements.{last_escapes, statements_of}
 use Rattle.typing_rules.specs.Rules.Functions.{parameter_type, is_named, named, parameter, parameters, header, is_there, header_of, headers, entries, function_start, main_start, function, finished, main}
 use Rattle.typing_rules.specs.Typing.{doer, braces, statements, ran, function_of, functions, main_of, program, typing_of}
-use Rattle.source_meaning.specs.Tree.{Fun, Program, Stmts, Finish}
-use Rattle.source_meaning.specs.Programs.{before, stmts_of, variable_of, fun_of, program_of}
-use Rattle.program_typing.specs.Types.{HasValues}
+use Rattle.source_typing.specs.Tree.{Fun, Program, Stmts, Finish}
+use Rattle.source_typing.specs.Programs.{before, stmts_of, variable_of, fun_of, program_of}
+use Rattle.source_typing.specs.Types.{HasValues}
 use Rattle.allowlist.specs.Allow.{AllowList}
-use Rattle.program_typing.specs.Agreeing.{Known as Script, known, types_in, StmtsAgree, scope_of, HaveValues as VariablesHaveValues, FunAgrees, WellFormed}
-use Rattle.program_typing.specs.Reached.{StmtsReached, Reached}
+use Rattle.source_typing.specs.Agreeing.{Known as Script, known, types_in, StmtsAgree, scope_of, HaveValues as VariablesHaveValues, FunAgrees, WellFormed}
+use Rattle.source_typing.specs.Reached.{StmtsReached, Reached}
 use Rattle.typing_soundness.specs.Laws.{IsNew, AreDistinct, HaveValues, IsContext}
 use Rattle.typing_soundness.proofs.Types.{IsBuilt, built_values, built_part, IsOfPart, void_part, part_aim, result_aim}
 use Rattle.typing_soundness.proofs.Parts.{passed, accepted, settled}

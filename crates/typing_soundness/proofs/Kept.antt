@@ -1,7 +1,7 @@
 -- In a program that typing gives each value is of its type, since such a program is well formed.
 use Rattle.std.proofs.Common.{sym, subst}
-use Rattle.source_meaning.specs.Programs.{program_of}
-use Rattle.program_typing.specs.Agreeing.{known, WellFormed}
+use Rattle.source_typing.specs.Programs.{program_of}
+use Rattle.source_typing.specs.Agreeing.{known, WellFormed}
 use Rattle.source_typing.proofs.Meanings.{meanings_are_typed}
 use Rattle.typing_soundness.specs.Laws.{beside, TypingKeepsTypes}
 use Rattle.typing_soundness.proofs.Functions.{typing_is_sound}

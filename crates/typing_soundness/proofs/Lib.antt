@@ -19,3 +19,12 @@ pub mod Loops
 pub mod Tree
 pub mod Functions
 pub mod Kept
+
+-- Lemmas of the libraries below, passed on.
+pub use Rattle.source_typing.proofs.Effects
+pub use Rattle.source_typing.proofs.Meanings
+pub use Rattle.source_typing.proofs.Operations
+pub use Rattle.source_typing.proofs.RunFitValues
+pub use Rattle.source_typing.proofs.SourceFitMeanings
+pub use Rattle.source_typing.proofs.SourceFitValues
+pub use Rattle.source_typing.proofs.Values as SourceTypingValues

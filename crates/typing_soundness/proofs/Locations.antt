@@ -27,10 +27,10 @@ use Rattle.typing_rules.specs.Rules.Nodes.{type_of_part}
 use Rattle.typing_rules.specs.Rules.Members.{wanted, getter, capital, member, result}
 use Rattle.typing_rules.specs.Rules.Accesses.{is_list, is_map, position, boxed_position, key, get_of, text_part, number_at, is_length}
 use Rattle.typing_rules.specs.Rules.Locations.{reading_if, held, read_if, instance_if, given_by, held_by, in_array, set_of, put_of, in_list, in_map, in_def, in_layer, index_location, setter, taken_by, by_accessors, name_in_def, name_layer, name_location, number_in_list, number_layer, number_location}
-use Rattle.source_meaning.specs.Tree.{type_of}
-use Rattle.source_meaning.specs.Programs.{exprs_of, expr_of}
-use Rattle.program_typing.specs.Types.{IsReference, IsGiven}
-use Rattle.program_typing.specs.Agreeing.{Known as Script, Scope, types_of, MemberAgrees, Applies, Writes, IsPlace, ExprsAgree}
+use Rattle.source_typing.specs.Tree.{type_of}
+use Rattle.source_typing.specs.Programs.{exprs_of, expr_of}
+use Rattle.source_typing.specs.Types.{IsReference, IsGiven}
+use Rattle.source_typing.specs.Agreeing.{Known as Script, Scope, types_of, MemberAgrees, Applies, Writes, IsPlace, ExprsAgree}
 use Rattle.typing_soundness.proofs.Types.{IsBuilt, def_built, array_by, class_by, element_built, built_named, def_reference, class_reference, reference_by}
 use Rattle.typing_soundness.proofs.Parts.{passed, accepted, settled, TypedIs, PartIs}
 use Rattle.typing_soundness.proofs.Names.{ReadsBy, PlaceIs}

@@ -23,12 +23,12 @@ use Rattle.typing_rules.specs.Doing.{Answer, Doing, and_then}
 use Rattle.typing_rules.specs.Rules.Nodes.{boolean, plain, type_of_part}
 use Rattle.typing_rules.specs.Rules.Loops.{iterator_name, iterator_type, iterator, iterated, has_next, next, element_layer, goes_to, each, taken, each_if, each_of, turn, each_loop}
 use Rattle.typing_rules.specs.Typing.{Reading, looping, for_each}
-use Rattle.source_meaning.specs.Tree.{Name, Stmt, While, Block, Stmts, Finish, Then, Declare, Missing, Given, Variable, type_of}
-use Rattle.source_meaning.specs.Programs.{expr_of, alone, before}
-use Rattle.program_typing.specs.Types.{IsReference}
-use Rattle.program_typing.specs.Agreeing.{Known as Script, Scope, variable_of, StmtsAgree}
-use Rattle.program_typing.specs.Reached.{MayFollow, StmtsReached}
-use Rattle.source_meaning.specs.Falls.{all_fall}
+use Rattle.source_typing.specs.Tree.{Name, Stmt, While, Block, Stmts, Finish, Then, Declare, Missing, Given, Variable, type_of}
+use Rattle.source_typing.specs.Programs.{expr_of, alone, before}
+use Rattle.source_typing.specs.Types.{IsReference}
+use Rattle.source_typing.specs.Agreeing.{Known as Script, Scope, variable_of, StmtsAgree}
+use Rattle.source_typing.specs.Reached.{MayFollow, StmtsReached}
+use Rattle.source_typing.specs.Falls.{all_fall}
 use Rattle.typing_soundness.proofs.Nodes.{local_is, applied_is}
 use Rattle.typing_soundness.proofs.Types.{IsBuilt, built_aim, built_values, reference_by, class_built, class_reference}
 use Rattle.typing_soundness.proofs.Parts.{passed, accepted, settled, TypedIs, PartIs, node_is, part_of, def_part, cast_at_is}

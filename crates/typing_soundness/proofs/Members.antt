@@ -20,10 +20,10 @@ use Rattle.allowlist.specs.Allow.{AllowList, flag, is_called, has_name, first_me
 use Rattle.allowlist.specs.Catalogue.{catalogue, constructor}
 use Rattle.allowlist.specs.Index.{member_at}
 use Rattle.allowlist.proofs.Unique.{found_is_allowed, found_above}
-use Rattle.container_calls.specs.Members.{container_ranges}
-use Rattle.container_calls.proofs.Owners.{holds_of_all, holds_at, if_then, then_holds}
-use Rattle.member_calls.specs.Members.{is_built}
-use Rattle.member_calls.proofs.Built.{built_range, of_built}
+use Rattle.source_typing.specs.ContainerCallsMembers.{container_ranges}
+use Rattle.source_typing.proofs.Owners.{holds_of_all, holds_at, if_then, then_holds}
+use Rattle.source_typing.specs.Members.{is_built}
+use Rattle.source_typing.proofs.Built.{built_range, of_built}
 use Rattle.listing_parts.specs.Names.{is_word}
 use Rattle.typed_tree.specs.declared.operation.Operation.{Operation}
 use Rattle.typed_tree.specs.declared.operation.Operation.TheVariants as o
@@ -37,10 +37,10 @@ use Rattle.typing_rules.specs.Rules.Types.{is_built_class, is_built as built_typ
 use Rattle.typing_rules.specs.Rules.Casts.{cast_to, cast_each}
 use Rattle.typing_rules.specs.Rules.Operators.{primitive_layer, primitive_of, is_primitive}
 use Rattle.typing_rules.specs.Rules.Members.{is_open, is_open_member, is_open_at, is_kind, wanted, member, cast_all, member_arguments, guards, gives_primitive, nullable, result, accessed, instance_node, instance_call, names_prelude, called_layer, method_of, static_node, static_call, static_layer, static_of, constructed, new_layer, new_of, or_else, capital, getter, plainly, read_named, field_node, field_layer, field_of}
-use Rattle.source_meaning.specs.Tree.{type_of}
-use Rattle.source_meaning.specs.Programs.{exprs_of, expr_of}
-use Rattle.program_typing.specs.Types.{IsReference, AreReferences, AreAll, IsGiven}
-use Rattle.program_typing.specs.Agreeing.{Known as Script, Scope, types_of, TakesTypes, Applies, is_primitive_layer, is_primitive as gives_number, ReceiverIsOf, MemberAgrees, IsGuarded, ExprsAgree}
+use Rattle.source_typing.specs.Tree.{type_of}
+use Rattle.source_typing.specs.Programs.{exprs_of, expr_of}
+use Rattle.source_typing.specs.Types.{IsReference, AreReferences, AreAll, IsGiven}
+use Rattle.source_typing.specs.Agreeing.{Known as Script, Scope, types_of, TakesTypes, Applies, is_primitive_layer, is_primitive as gives_number, ReceiverIsOf, MemberAgrees, IsGuarded, ExprsAgree}
 use Rattle.typing_soundness.proofs.Nodes.{applied_is, guarded_is}
 use Rattle.typing_soundness.proofs.Types.{def_layer, class_by, part_layer, IsOfPart, built_part, is_built_by, built_out, IsAim, part_aim, def_aim, def_reference, reference_by}
 use Rattle.typing_soundness.proofs.Parts.{passed, accepted, settled, def_part, TypedIs, PartIs, node_is, part_of, cast_is}

@@ -46,10 +46,10 @@ use Rattle.typing_rules.specs.Rules.Operators.{operand, unboxed_of, plan_between
 use Rattle.typing_rules.specs.Rules.Places.{entry_if, local_if, local, is_fixed, written_to, written_if, written_at, written, set, change, change_by, change_between, change_of, joining_of, type_after, changed_by, changed, joined_if, compound, assigned, assign_of, one, counted, operator_of, step_of}
 use Rattle.typing_rules.specs.Typing.{read_at}
 use Rattle.typing_rules.specs.Rules.Calls.{function_of, arguments, called, called_if, call_of}
-use Rattle.source_meaning.specs.Tree.{Name, Assign, Modify, Variable, Fun, type_of}
-use Rattle.source_meaning.specs.Programs.{exprs_of, expr_of}
-use Rattle.program_typing.specs.Types.{Takes, Casts}
-use Rattle.program_typing.specs.Agreeing.{Known as Script, Scope, variable_of, IsVariable, types_of, types_in as variable_types, IsKnownBefore, Changes, Writes, Reads, IsPlace, ExprAgrees, ExprsAgree, scope_of}
+use Rattle.source_typing.specs.Tree.{Name, Assign, Modify, Variable, Fun, type_of}
+use Rattle.source_typing.specs.Programs.{exprs_of, expr_of}
+use Rattle.source_typing.specs.Types.{Takes, Casts}
+use Rattle.source_typing.specs.Agreeing.{Known as Script, Scope, variable_of, IsVariable, types_of, types_in as variable_types, IsKnownBefore, Changes, Writes, Reads, IsPlace, ExprAgrees, ExprsAgree, scope_of}
 use Rattle.typing_soundness.proofs.Nodes.{local_is, applied_is, assign_is, change_is}
 use Rattle.typing_soundness.proofs.Types.{IsBuilt, built_part, built_aim, IsOfPart, prim_part, IsAim, prim_aim, def_aim}
 use Rattle.typing_soundness.proofs.Casts.{part_casts, known_from_unboxed, known_to_def}

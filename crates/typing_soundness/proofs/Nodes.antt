@@ -12,8 +12,8 @@ use Rattle.typed_tree.specs.declared.typed.Typed.{Typed}
 use Rattle.typed_tree.specs.declared.typed.Node.TheVariants as n
 use Rattle.typed_tree.specs.declared.typed.Node.TheOpen.{Node-F}
 use Rattle.typed_tree.specs.declared.typed.Node.TheFolds.{fold-Node, fold-roll-Typed, fold-roll-Node}
-use Rattle.source_meaning.specs.Tree.{Name, Expr, Literal, Quoted, Local, Apply, Guarded, Logic, Conditional, Elvis, Assign, Modify}
-use Rattle.source_meaning.specs.Programs.{exprs_of, node_expr, typed_expr, expr_of}
+use Rattle.source_typing.specs.Tree.{Name, Expr, Literal, Quoted, Local, Apply, Guarded, Logic, Conditional, Elvis, Assign, Modify}
+use Rattle.source_typing.specs.Programs.{exprs_of, node_expr, typed_expr, expr_of}
 use Rattle.typing_rules.specs.Rules.Nodes.{typed, applied}
 
 at_node : (at : ℕ) (of : Ty) (node : Node) → expr_of (typed at of node) ≡ fold-Node (ℕ → Ty → Expr) Expr node_expr typed_expr node at of

@@ -41,11 +41,11 @@ use Rattle.typing_rules.specs.Rules.Digits.{is_long, magnitude, unmarked}
 use Rattle.typing_rules.specs.Rules.Casts.{within, unit_of, standing_layer, standing, cast_by, cast_at, literal_or, cast_to, asked}
 use Rattle.typing_rules.specs.Rules.Operators.{primitive_layer, primitive_of, unboxed_of, on_numbers, operand, Side, side_layer, side_of, joins, compares, identifies, only_if, is_dynamic, dynamic_if, dynamic_of, relation_of, relation_between, type_given, reference, related, strict, side, both_sides, logical, binary_of, promoted_if, promoted, is_def_side, on_def, alone, signed, plus_as, not_of, unary_of, common_if, common_layer, common, choice_as, choice_of, is_literal, is_primitive, needs_no_other, elvis_by, common_of, elvis_of, may_be_instance, has_instances_layer, instance_of}
 use Rattle.typing_rules.specs.Rules.Types.{is_built_class}
-use Rattle.source_meaning.specs.Tree.{Expr, Literal, type_of}
-use Rattle.source_meaning.specs.Programs.{expr_of}
-use Rattle.program_typing.specs.Types.{is_reference_layer, IsReference, string, IsOf, Takes, TakesTo, Casts}
-use Rattle.program_typing.proofs.Containers.{as_node}
-use Rattle.program_typing.specs.Agreeing.{Known as Script, Scope, ExprAgrees}
+use Rattle.source_typing.specs.Tree.{Expr, Literal, type_of}
+use Rattle.source_typing.specs.Programs.{expr_of}
+use Rattle.source_typing.specs.Types.{is_reference_layer, IsReference, string, IsOf, Takes, TakesTo, Casts}
+use Rattle.source_typing.proofs.Containers.{as_node}
+use Rattle.source_typing.specs.Agreeing.{Known as Script, Scope, ExprAgrees}
 use Rattle.typing_soundness.proofs.Nodes.{constant_is, text_is, applied_is, logic_is, choice_is, elvis_is}
 use Rattle.typing_soundness.proofs.Types.{IsBuilt, prim_by, prim_built, def_built, class_built, built_part, built_aim, built_named, part_layer, IsOfPart, null_part, prim_part, part_aim, IsAim, prim_aim, def_aim, def_reference, null_reference, class_reference}
 use Rattle.typing_soundness.proofs.Casts.{part_casts, none_to_void}

@@ -14,7 +14,7 @@ use Rattle.pl_tree.specs.declared.operator.BinaryOperator.TheVariants as b
 use Rattle.typed_tree.specs.declared.operation.Operator.TheVariants as operator
 use Rattle.typing_rules.specs.declared.rules.plans.Plan.{Plan}
 use Rattle.typing_rules.specs.Rules.Operators.{primitive_layer, primitive_of, unboxed_layer, unboxed_of, is_equality, primitive_to, plan, on_numbers, shift_of, of_booleans, bits, equality, plan_of, plan_if, plan_between}
-use Rattle.program_typing.specs.Types.{Takes}
+use Rattle.source_typing.specs.Types.{Takes}
 
 pub record PlanFits (x : Plan) : Type 0 where
   pub does : Takes x.operator (t.Prim x.left ∷ t.Prim x.right ∷ []) (t.Prim x.result)

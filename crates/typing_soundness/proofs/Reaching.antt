@@ -5,10 +5,10 @@ use Rattle.std.proofs.lemmas.Bool.{false≢true}
 use Rattle.typed_tree.specs.declared.statement.TypedVariable.{TypedVariable}
 use Rattle.typing_rules.specs.declared.part.Step.{Step}
 use Rattle.typing_rules.specs.Rules.Statements.{escapes_if, last_escapes, statements_of}
-use Rattle.source_meaning.specs.Falls.{falls, all_fall}
-use Rattle.source_meaning.specs.Tree.{Stmt, Stmts, Finish, Then}
-use Rattle.source_meaning.specs.Programs.{Before, in_row, declared, before}
-use Rattle.program_typing.specs.Reached.{MayFollow, StmtReached, StmtsReached}
+use Rattle.source_typing.specs.Falls.{falls, all_fall}
+use Rattle.source_typing.specs.Tree.{Stmt, Stmts, Finish, Then}
+use Rattle.source_typing.specs.Programs.{Before, in_row, declared, before}
+use Rattle.source_typing.specs.Reached.{MayFollow, StmtReached, StmtsReached}
 
 -- A statement before others: where it escapes none may follow, and else what follows is reached.
 pub record Reaches (escapes : Bool) (b : Before) : Type 0 where

@@ -11,7 +11,7 @@ use Rattle.pl_types.specs.declared.ty.Ty.TheOpen.{Ty-F}
 use Rattle.pl_types.specs.Classes.{class_is_below, lineage_of, parents_of, class_row, class_table}
 use Rattle.allowlist.specs.declared.member.MemberType.{MemberType}
 use Rattle.allowlist.specs.Catalogue.{catalogue}
-use Rattle.container_calls.proofs.Owners.{holds_of_all, holds_at, if_then, then_holds}
+use Rattle.source_typing.proofs.Owners.{holds_of_all, holds_at, if_then, then_holds}
 use Rattle.typing_rules.specs.Rules.Accesses.{is_list, is_map}
 use Rattle.typing_rules.specs.Rules.Locations.{first_of}
 use Rattle.typing_soundness.proofs.Types.{IsBuilt, prim_built, def_built, def_by, prim_by}

@@ -10,8 +10,8 @@ use Rattle.typed_tree.specs.declared.statement.StatementNode.TheOpen.{StatementN
 use Rattle.typed_tree.specs.declared.statement.StatementNode.TheFolds.{fold-StatementNode, fold-TypedCatch, fold-roll-TypedStatement, fold-roll-TypedCatch, fold-roll-StatementNode}
 use Rattle.typing_rules.specs.declared.part.Caught.{Caught as Handler}
 use Rattle.typing_rules.specs.Rules.Statements.{catch_of}
-use Rattle.source_meaning.specs.Tree.{Do, If, While, DoWhile, Try, Block, Break, Continue, Return, Throw, Stmts, Finish, Then, Catches, NoCatch, Catch}
-use Rattle.source_meaning.specs.Programs.{Before, Caught, expr_of, maybe_of, alone, alone_if, in_row, declared, begun, caught_in_row, catch_before, node_before, statement_before, before}
+use Rattle.source_typing.specs.Tree.{Do, If, While, DoWhile, Try, Block, Break, Continue, Return, Throw, Stmts, Finish, Then, Catches, NoCatch, Catch}
+use Rattle.source_typing.specs.Programs.{Before, Caught, expr_of, maybe_of, alone, alone_if, in_row, declared, begun, caught_in_row, catch_before, node_before, statement_before, before}
 
 abbrev fold : StatementNode → Before
 fold node = fold-StatementNode Before Caught Before node_before catch_before statement_before node

@@ -23,16 +23,16 @@ use Rattle.typing_rules.specs.Doing.{Whole, Answer, Doing}
 use Rattle.typing_rules.specs.Rules.Nodes.{is_void, is_void_layer}
 use Rattle.typing_rules.specs.Rules.Casts.{cast_to}
 use Rattle.typing_rules.specs.Rules.Statements.{step, is_deed, deed, give_back, is_result, expression_of, break_of, continue_of, return_of, nothing_returned, throw_of}
-use Rattle.source_meaning.specs.Tree.{Name, Stmt, Do, Break, Continue, Return, Throw, Stmts, Then, Missing, Given}
-use Rattle.source_meaning.specs.Falls.{falls}
-use Rattle.source_meaning.specs.Programs.{Before, expr_of, alone, before}
-use Rattle.program_typing.specs.Agreeing.{Known as Script, Scope, StmtAgrees, StmtsAgree, scope_of}
-use Rattle.program_typing.specs.Types.{IsReference}
+use Rattle.source_typing.specs.Tree.{Name, Stmt, Do, Break, Continue, Return, Throw, Stmts, Then, Missing, Given}
+use Rattle.source_typing.specs.Falls.{falls}
+use Rattle.source_typing.specs.Programs.{Before, expr_of, alone, before}
+use Rattle.source_typing.specs.Agreeing.{Known as Script, Scope, StmtAgrees, StmtsAgree, scope_of}
+use Rattle.source_typing.specs.Types.{IsReference}
 use Rattle.typing_soundness.proofs.Types.{void_by, class_built, built_aim, IsAim, class_reference}
 use Rattle.typing_soundness.proofs.Parts.{passed, accepted, settled, cast_is}
 use Rattle.typing_soundness.proofs.Names.{seen, in_sight, Fresh, Distinct, Known}
 use Rattle.typing_soundness.proofs.Sentences as sentence
-use Rattle.program_typing.specs.Reached.{StmtReached}
+use Rattle.source_typing.specs.Reached.{StmtReached}
 use Rattle.typing_soundness.proofs.Values.{Value, PartAt}
 use Rattle.typing_soundness.proofs.Reaching.{Reaches, AloneReached, stmt_reaches, never_escapes}
 

@@ -49,7 +49,7 @@ use Rattle.typing_rules.specs.Rules.Containers.{list_of, map_of, array_of, array
 use Rattle.typing_rules.specs.Rules.Members.{field_of, method_of, static_of, new_of}
 use Rattle.typing_rules.specs.Rules.Statements.{escapes_if, expression_of, break_of, continue_of, return_of, nothing_returned, throw_of, deed}
 use Rattle.typing_rules.specs.Typing.{Reading, Doer, Braces, Seen, read_at, unbuilt, parts, value_of, entries, alone, parameter_type, lambda_parameters, lambda, member_place, element, element_place, call, read, method, initial, returned, loop_step, argument_step, body_step, unary, expression_step, first_step, lambda_step, statement_step, block_step, catch_step, declaration_step, entry_step, variable_step, reading, argument, body, doer, braces}
-use Rattle.program_typing.specs.Agreeing.{Known as Script}
+use Rattle.source_typing.specs.Agreeing.{Known as Script}
 use Rattle.typing_soundness.proofs.Types.{IsBuilt, def_built, def_aim}
 use Rattle.typing_soundness.proofs.Parts.{integer_is, negated_is, constant_part, text_part, bracketed_is, asked_is, binary_is, unary_is, choice_part, elvis_part, instance_part}
 use Rattle.typing_soundness.proofs.Names.{Known, in_sight, AllParts, Heads, local_part, written_place, assign_part, step_part, call_part}

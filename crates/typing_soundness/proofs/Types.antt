@@ -10,7 +10,7 @@ use Rattle.pl_types.specs.declared.ty.Ty.TheOpen.{Ty-F}
 use Rattle.pl_types.specs.declared.ty.Ty.TheFolds.{fold-roll-Ty, fold_out-Ty, ind-Ty, map-Ty}
 use Rattle.pl_types.specs.declared.ty.Ty.TheViews.{outs-Array}
 use Rattle.typing_rules.specs.Rules.Types.{is_built_class, built_layer, is_built}
-use Rattle.program_typing.specs.Types.{is_reference_layer, IsReference, has_values_layer, HasValues, listed_layer, is_listed, IsNamed}
+use Rattle.source_typing.specs.Types.{is_reference_layer, IsReference, has_values_layer, HasValues, listed_layer, is_listed, IsNamed}
 use Rattle.typing_soundness.specs.Laws.{may_be_result, MayBeResult}
 
 -- ---- the classes that are built

@@ -19,8 +19,8 @@ use Rattle.typing_rules.specs.Doing.{Whole, Answer, Doing, ◌>>=◌, ◌>>◌, 
 use Rattle.typing_rules.specs.Rules.Types.{is_built_class, base_of, arrays, type_of, is_empty, caught_base, caught_class}
 use Rattle.typing_rules.specs.Rules.Operators.{unary_of}
 use Rattle.typing_rules.specs.Typing.{Reading, plain, unbuilt, seen}
-use Rattle.program_typing.specs.Types.{IsNamed}
-use Rattle.program_typing.specs.Agreeing.{Known as Script}
+use Rattle.source_typing.specs.Types.{IsNamed}
+use Rattle.source_typing.specs.Agreeing.{Known as Script}
 use Rattle.typing_soundness.proofs.Types.{IsBuilt, prim_built, def_built, class_built, array_built, class_named}
 use Rattle.typing_soundness.proofs.Parts.{passed, accepted, settled, PartIs, unary_is}
 use Rattle.typing_soundness.proofs.Names.{Known, in_sight, PlaceIs}

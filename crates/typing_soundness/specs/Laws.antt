@@ -8,14 +8,14 @@ use Rattle.typed_tree.specs.declared.program.Program.{Program}
 use Rattle.typing_rules.specs.declared.header.ContextTypes.{ContextTypes}
 use Rattle.allowlist.specs.Allow.{AllowList}
 use Rattle.typing_rules.specs.Typing.{typing_of}
-use Rattle.source_meaning.specs.Meaning.{meaning}
-use Rattle.source_meaning.specs.Programs.{program_of}
-use Rattle.source_meaning.specs.Tree as source
+use Rattle.source_typing.specs.Meaning.{meaning}
+use Rattle.source_typing.specs.Programs.{program_of}
+use Rattle.source_typing.specs.Tree as source
 use Rattle.pl_types.specs.declared.ty.Ty.{Ty, out-Ty}
 use Rattle.pl_types.specs.declared.ty.Ty.TheOpen.{Ty-F}
-use Rattle.program_typing.specs.Types.{HasValues, IsNamed}
-use Rattle.program_typing.specs.Agreeing.{known, WellFormed}
-use Rattle.program_typing.specs.Reached.{Reached}
+use Rattle.source_typing.specs.Types.{HasValues, IsNamed}
+use Rattle.source_typing.specs.Agreeing.{known, WellFormed}
+use Rattle.source_typing.specs.Reached.{Reached}
 use Rattle.source_typing.specs.Laws.{MeaningTyped}
 
 -- the names are distinct

@@ -12,7 +12,7 @@ use Rattle.object_values.specs.declared.value.Value.{Value}
 use Rattle.object_heap.specs.Fits.{kinds, has_layer, has_type}
 use Rattle.number_ops.specs.Operators.{is_null}
 use Rattle.number_ops.specs.Relations.{is_instance}
-use Rattle.run_state.specs.Calls.{asks_layer, argument_suits, arguments_suit, suits_by, suits_member}
+use Rattle.run_fit.specs.Calls.{asks_layer, argument_suits, arguments_suit, suits_by, suits_member}
 use Rattle.value_typing.specs.Laws.{TypedCallsPass}
 use Rattle.value_typing.specs.Typing.{is_typed_layer, is_typed, are_typed, takes_typed_by}
 

@@ -16,7 +16,7 @@ use Rattle.object_heap.specs.Fits.{kinds, is_primitive, value_is_of, value_is_ar
 use Rattle.object_heap.specs.Objects.{Kind}
 use Rattle.value_walks.specs.declared.TheConstants.{VISITS}
 use Rattle.value_walks.specs.Texts.{Text, Wrote, TooDeep, TooLarge, text_of}
-use Rattle.arithmetic.specs.declared.operator.Num.{Num}
+use Rattle.number_ops.specs.arithmetic_declared.operator.Num.{Num}
 use Rattle.number_ops.specs.declared.casts.Casted.{Casted}
 use Rattle.number_ops.specs.declared.casts.Casted.TheVariants.{Kept, To, Text as A_text, Refused}
 use Rattle.number_ops.specs.declared.outcome.Raised.{Raised}

@@ -13,23 +13,23 @@ use Rattle.object_heap.specs.Objects.{renewed_by, with_all_inserted, with_all_pu
 use Rattle.object_heap.specs.Parts.{items_of, size_of}
 use Rattle.object_heap.specs.Store.{Store, paid, with_change}
 use Rattle.object_heap.proofs.Keeping.{throws_fits}
-use Rattle.member_arguments.specs.Arguments.{object_at}
+use Rattle.container_calls.specs.Arguments.{object_at}
 use Rattle.value_walks.specs.Equality.{value_now}
-use Rattle.container_parts.specs.Iterators as iterators
-use Rattle.container_parts.specs.declared.containers.Container.{Container}
-use Rattle.container_parts.specs.declared.cursors.Cursor.{Cursor}
-use Rattle.container_parts.proofs.Keeping.{iterate_fits, next_fits, remove_fits}
-use Rattle.container_values.specs.Elements.{entries_of, entry_references}
+use Rattle.api_map.specs.Iterators as iterators
+use Rattle.api_map.specs.container_parts_declared.containers.Container.{Container}
+use Rattle.api_map.specs.container_parts_declared.cursors.Cursor.{Cursor}
+use Rattle.api_map.proofs.ContainerPartsKeeping.{iterate_fits, next_fits, remove_fits}
+use Rattle.api_map.specs.Elements.{entries_of, entry_references}
 use Rattle.container_outcomes.specs.declared.outcome.Outcome.{Outcome}
 use Rattle.container_outcomes.specs.declared.outcome.Outcome.TheVariants as outcome
 use Rattle.container_outcomes.specs.Outcomes.{effect, gives_renewed, has_key, is_collection, number_of}
 use Rattle.container_outcomes.proofs.Settling.{settled}
 use Rattle.api_text.specs.Members as texts
-use Rattle.api_iter.specs.declared.joining.TheConstants.{STRING_JOIN}
-use Rattle.api_iter.specs.declared.member.Member.{Member}
-use Rattle.api_iter.specs.declared.member.Member.TheVariants as m
-use Rattle.api_iter.specs.Iterating as iterating
-use Rattle.api_iter.specs.Members as iterables
+use Rattle.container_calls.specs.api_iter_declared.joining.TheConstants.{STRING_JOIN}
+use Rattle.container_calls.specs.api_iter_declared.member.Member.{Member}
+use Rattle.container_calls.specs.api_iter_declared.member.Member.TheVariants as m
+use Rattle.container_calls.specs.Iterating as iterating
+use Rattle.container_calls.specs.ApiIterMembers as iterables
 use Rattle.api_list.specs.Members as lists
 use Rattle.api_list.specs.Taking as taking
 use Rattle.api_list.specs.declared.told.Told.{Told}

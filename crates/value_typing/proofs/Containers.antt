@@ -26,17 +26,17 @@ use Rattle.value_walks.specs.Equality.{value_or}
 use Rattle.container_outcomes.specs.declared.outcome.Outcome.TheVariants as outcome
 use Rattle.container_outcomes.specs.declared.outcome.Raised.TheVariants as raised
 use Rattle.container_outcomes.specs.Outcomes.{effect, number_of, array_index_error, not_simple, says}
-use Rattle.container_parts.specs.declared.containers.Container.{Container}
-use Rattle.container_parts.specs.declared.cursors.Cursor.{Cursor}
-use Rattle.container_parts.specs.Containers.{container_of}
-use Rattle.container_parts.specs.Iterators.{iterator_of}
+use Rattle.api_map.specs.container_parts_declared.containers.Container.{Container}
+use Rattle.api_map.specs.container_parts_declared.cursors.Cursor.{Cursor}
+use Rattle.api_map.specs.Containers.{container_of}
+use Rattle.api_map.specs.Iterators.{iterator_of}
 use Rattle.api_list.specs.Indexing.{at_place, counted}
 use Rattle.api_list.specs.Lists.{place_of}
 use Rattle.container_calls.proofs.There.{kinds-added}
-use Rattle.container_ops.specs.Elements.{in_array, item_read, read_in, element_read, length_in, length_of}
-use Rattle.container_ops.specs.Loops.{iterated_if, iterated, has_more_if, has_more}
-use Rattle.container_ops.specs.Making.{list_made, have_simple_keys, map_made, pairs_in, array_filled, first_negative, lengths_given, level_of, arrays_from, arrays_of, takes_sizes, array_made_if, array_made}
-use Rattle.container_ops.specs.Types.{dimensions_layer, dimensions_of, element_layer, element_of, are_of_type, goes_with, read_as_layer, other_kind, on_null, on_other_kind}
+use Rattle.run_fit.specs.Elements.{in_array, item_read, read_in, element_read, length_in, length_of}
+use Rattle.run_fit.specs.Loops.{iterated_if, iterated, has_more_if, has_more}
+use Rattle.run_fit.specs.Making.{list_made, have_simple_keys, map_made, pairs_in, array_filled, first_negative, lengths_given, level_of, arrays_from, arrays_of, takes_sizes, array_made_if, array_made}
+use Rattle.run_fit.specs.Types.{dimensions_layer, dimensions_of, element_layer, element_of, are_of_type, goes_with, read_as_layer, other_kind, on_null, on_other_kind}
 use Rattle.value_typing.specs.Typing.{is_typed_layer, is_typed}
 use Rattle.value_typing.specs.Laws.{ContainersGiveTypes}
 use Rattle.value_typing.proofs.Effects.{EffectTyped, in_world, thrown_typed}

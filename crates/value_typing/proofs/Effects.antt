@@ -13,7 +13,7 @@ use Rattle.object_heap.specs.Store.{Store, paid}
 use Rattle.number_ops.specs.declared.outcome.Outcome.{Outcome as Told}
 use Rattle.number_ops.specs.declared.outcome.Outcome.TheVariants as told
 use Rattle.number_ops.specs.Outcomes.{effect, class_raised}
-use Rattle.run_state.specs.World.{World, acts_in}
+use Rattle.run_fit.specs.World.{World, acts_in}
 use Rattle.value_typing.specs.Typing.{is_typed_layer, OutcomeTyped, EffectIsOf, ActIsOf}
 
 -- what an effect gives is of a type, which is given by its outermost layer

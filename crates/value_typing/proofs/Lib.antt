@@ -12,3 +12,10 @@ pub mod Elements
 pub mod Kept
 pub mod Operators
 pub mod Containers
+
+-- Lemmas of the libraries below, passed on.
+pub use Rattle.container_calls.proofs.Owners
+pub use Rattle.run_fit.proofs.Built
+pub use Rattle.run_fit.proofs.Counted
+pub use Rattle.run_fit.proofs.Leaving
+pub use Rattle.run_fit.proofs.Values

@@ -21,11 +21,11 @@ use Rattle.object_heap.specs.Fits.{kinds, passes, class_is_of, class_of_kind, cl
 use Rattle.object_heap.specs.Objects.{Kind, AList, AMap, ASet, AView, AnIterator, kind_of}
 use Rattle.object_heap.specs.Store.{Store}
 use Rattle.object_heap.proofs.Fitting.{length-kinds}
-use Rattle.member_arguments.specs.Arguments.{object_at}
-use Rattle.container_parts.specs.Containers.{changes_now, container_of, container_named, if_container}
-use Rattle.container_parts.specs.Iterators as iterators
-use Rattle.container_parts.specs.declared.containers.Container.{Container}
-use Rattle.container_values.specs.Elements.{collection_at, if_collection}
+use Rattle.container_calls.specs.Arguments.{object_at}
+use Rattle.api_map.specs.Containers.{changes_now, container_of, container_named, if_container}
+use Rattle.api_map.specs.Iterators as iterators
+use Rattle.api_map.specs.container_parts_declared.containers.Container.{Container}
+use Rattle.api_map.specs.Elements.{collection_at, if_collection}
 use Rattle.container_outcomes.specs.declared.outcome.Outcome.{Outcome}
 use Rattle.container_outcomes.specs.declared.outcome.Outcome.TheVariants as outcome
 use Rattle.container_outcomes.specs.Choices.{with_one}
@@ -34,11 +34,11 @@ use Rattle.api_text.specs.Members as texts
 use Rattle.api_text.specs.Outcomes as text_outcomes
 use Rattle.api_text.specs.declared.member.Member.{Member as TextMember}
 use Rattle.api_text.specs.declared.member.Member.TheVariants as text
-use Rattle.api_iter.specs.declared.joining.TheConstants.{STRING_JOIN}
-use Rattle.api_iter.specs.declared.member.Member.{Member as IterableMember}
-use Rattle.api_iter.specs.declared.member.Member.TheVariants as i
-use Rattle.api_iter.specs.Iterating as iterating
-use Rattle.api_iter.specs.Members as iterables
+use Rattle.container_calls.specs.api_iter_declared.joining.TheConstants.{STRING_JOIN}
+use Rattle.container_calls.specs.api_iter_declared.member.Member.{Member as IterableMember}
+use Rattle.container_calls.specs.api_iter_declared.member.Member.TheVariants as i
+use Rattle.container_calls.specs.Iterating as iterating
+use Rattle.container_calls.specs.ApiIterMembers as iterables
 use Rattle.api_list.specs.declared.member.Member.{Member as ListMember}
 use Rattle.api_list.specs.declared.member.Member.TheVariants as l
 use Rattle.api_list.specs.declared.told.Told.{Told}

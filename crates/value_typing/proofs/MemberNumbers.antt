@@ -21,7 +21,7 @@ use Rattle.number_ops.specs.declared.numbers.OneLong.{OneLong}
 use Rattle.number_ops.specs.declared.numbers.OneLong.TheVariants as long
 use Rattle.number_ops.specs.declared.outcome.Outcome.{Outcome as Told}
 use Rattle.number_ops.specs.declared.outcome.Outcome.TheVariants as told
-use Rattle.member_arguments.specs.Arguments.{int_at, long_at}
+use Rattle.container_calls.specs.Arguments.{int_at, long_at}
 use Rattle.number_ops.specs.Arguments.{with_one}
 use Rattle.number_ops.specs.Members as numbers
 use Rattle.number_ops.specs.Numbers.{of_int, of_long}

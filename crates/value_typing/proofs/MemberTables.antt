@@ -23,8 +23,8 @@ use Rattle.api_text.specs.declared.member.Member.{Member as TextMember}
 use Rattle.api_text.specs.declared.member.Member.TheVariants as m
 use Rattle.api_text.specs.Members as texts
 use Rattle.api_text.specs.Outcomes.{number_of}
-use Rattle.member_calls.specs.Members.{is_of_numbers, is_of_texts}
-use Rattle.member_calls.proofs.Built.{number_range, text_range, of_numbers, of_texts, no_number, no_text}
+use Rattle.run_fit.specs.Members.{is_of_numbers, is_of_texts}
+use Rattle.run_fit.proofs.Built.{number_range, text_range, of_numbers, of_texts, no_number, no_text}
 
 abbrev pub string : Ty
 string = ty.Class STRING

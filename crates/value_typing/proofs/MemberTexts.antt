@@ -26,7 +26,7 @@ use Rattle.api_text.specs.declared.member.Member.TheVariants as m
 use Rattle.api_text.specs.declared.outcome.ExceptionClass.{ExceptionClass}
 use Rattle.api_text.specs.declared.outcome.Outcome.{Outcome}
 use Rattle.api_text.specs.declared.outcome.Outcome.TheVariants as outcome
-use Rattle.member_arguments.specs.Arguments.{object_in, int_at, text_at, object_at, sequence_at}
+use Rattle.container_calls.specs.Arguments.{object_in, int_at, text_at, object_at, sequence_at}
 use Rattle.api_text.specs.Arguments.{with_one, with_two, with_three}
 use Rattle.api_text.specs.Builders as builders
 use Rattle.api_text.specs.Exceptions as exceptions

@@ -26,14 +26,14 @@ use Rattle.api_text.specs.Outcomes as text_outcomes
 use Rattle.container_calls.specs.Members.{is_of_containers}
 use Rattle.container_calls.specs.Types.{primitive_in}
 use Rattle.container_calls.proofs.Ranges.{no_container}
-use Rattle.member_calls.specs.Laws.{ActLeaves}
-use Rattle.member_calls.specs.Members.{is_of_numbers, is_of_texts, is_built, is_of_host, first_of_host, given_by_host, asked_of_host, longs_in, does}
-use Rattle.member_calls.specs.Types.{ActGives}
-use Rattle.member_calls.proofs.Built.{no_number, no_text}
-use Rattle.member_calls.proofs.Doing.{does_of_numbers, does_of_texts, does_of_containers, does_of_host}
-use Rattle.member_calls.proofs.Leaving.{act_leaves}
-use Rattle.member_calls.proofs.Owners.{built_stand}
-use Rattle.member_calls.proofs.Types.{act_gives}
+use Rattle.run_fit.specs.MemberCallsLaws.{ActLeaves}
+use Rattle.run_fit.specs.Members.{is_of_numbers, is_of_texts, is_built, is_of_host, first_of_host, given_by_host, asked_of_host, longs_in, does}
+use Rattle.run_fit.specs.MemberCallsTypes.{ActGives}
+use Rattle.run_fit.proofs.Built.{no_number, no_text}
+use Rattle.run_fit.proofs.Doing.{does_of_numbers, does_of_texts, does_of_containers, does_of_host}
+use Rattle.run_fit.proofs.MemberCallsLeaving.{act_leaves}
+use Rattle.run_fit.proofs.Owners.{built_stand}
+use Rattle.run_fit.proofs.Types.{act_gives}
 use Rattle.value_typing.specs.Typing.{is_typed, are_typed, takes_typed_by, takes_typed}
 use Rattle.value_typing.specs.Laws.{MembersKeepTypes, HostKeepsTypes}
 use Rattle.value_typing.proofs.Effects.{EffectTyped, ActTyped, ActThrows, act_is}

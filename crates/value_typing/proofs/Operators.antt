@@ -13,11 +13,11 @@ use Rattle.value_walks.specs.declared.TheConstants.{VISITS}
 use Rattle.value_walks.specs.declared.equality.Walked.{Walked}
 use Rattle.value_walks.specs.declared.equality.Walked.TheVariants.{On, Deep, Large}
 use Rattle.value_walks.specs.Equality.{equal_of}
-use Rattle.arithmetic.specs.declared.operator.Num.{Num}
-use Rattle.arithmetic.specs.declared.operator.Num.TheVariants as num
-use Rattle.arithmetic.specs.declared.operator.Op.{Op}
-use Rattle.arithmetic.specs.declared.operator.Op.TheVariants as op
-use Rattle.arithmetic.specs.Operators.{arith_of}
+use Rattle.number_ops.specs.arithmetic_declared.operator.Num.{Num}
+use Rattle.number_ops.specs.arithmetic_declared.operator.Num.TheVariants as num
+use Rattle.number_ops.specs.arithmetic_declared.operator.Op.{Op}
+use Rattle.number_ops.specs.arithmetic_declared.operator.Op.TheVariants as op
+use Rattle.run_fit.specs.Operators.{arith_of}
 use Rattle.number_ops.specs.declared.outcome.Outcome.{Outcome as Told}
 use Rattle.number_ops.specs.Names.{cannot_apply}
 use Rattle.number_ops.specs.Operators.{number_in, is_null, truth_in, boxed, compares, of_result, calculated, flags_given, flags_of, of_numbers, operate}

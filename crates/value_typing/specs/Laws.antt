@@ -19,17 +19,17 @@ use Rattle.object_heap.specs.Fits.{Rules, Fits, is_primitive, layer_asked}
 use Rattle.object_heap.specs.Parts.{items_of}
 use Rattle.object_heap.specs.Store.{Store}
 use Rattle.container_calls.specs.Laws.{StillThere}
-use Rattle.container_ops.specs.Making.{list_made, map_made, array_filled, array_made}
-use Rattle.container_ops.specs.Elements.{element_read, length_of}
-use Rattle.container_ops.specs.Loops.{iterated, has_more}
-use Rattle.member_calls.specs.Members.{is_built, is_of_host, does}
-use Rattle.arithmetic.specs.declared.operator.Op.{Op}
+use Rattle.run_fit.specs.Making.{list_made, map_made, array_filled, array_made}
+use Rattle.run_fit.specs.Elements.{element_read, length_of}
+use Rattle.run_fit.specs.Loops.{iterated, has_more}
+use Rattle.run_fit.specs.Members.{is_built, is_of_host, does}
+use Rattle.number_ops.specs.arithmetic_declared.operator.Op.{Op}
 use Rattle.number_ops.specs.Casts.{cast_at_run_time}
 use Rattle.number_ops.specs.Operators.{compares, concatenated, operate}
 use Rattle.number_ops.specs.Outcomes.{effect}
 use Rattle.number_ops.specs.Relations.{equal}
-use Rattle.run_state.specs.Calls.{suits_member}
-use Rattle.run_state.specs.World.{World, acts_in}
+use Rattle.run_fit.specs.Calls.{suits_member}
+use Rattle.run_fit.specs.World.{World, acts_in}
 use Rattle.value_typing.specs.Typing.{is_typed, are_typed, takes_typed, OutcomeTyped, ActIsOf}
 
 -- What a run leaves of a store is all of it where nothing was done, and behind two parts of a run what both have left.

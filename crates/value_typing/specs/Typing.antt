@@ -16,7 +16,7 @@ use Rattle.number_ops.specs.declared.outcome.Outcome.{Outcome as Told}
 use Rattle.number_ops.specs.declared.outcome.Outcome.TheVariants as told
 use Rattle.number_ops.specs.declared.outcome.Raised.TheVariants.{ClassCast}
 use Rattle.number_ops.specs.Operators.{is_null}
-use Rattle.run_state.specs.World.{Outcome, Given, Raised, Full}
+use Rattle.run_fit.specs.World.{Outcome, Given, Raised, Full}
 
 -- What gives nothing may give any value, and of the type of `null` is null alone.
 abbrev pub is_typed_layer : List Kind → Ty-F Ty → Value → Bool

@@ -6,8 +6,8 @@ use Rattle.object_heap.specs.Fits.{Rules}
 use Rattle.run_state.specs.World.{End, Result, Uncaught, Limited}
 use Rattle.code_meaning.specs.declared.word.Word.{Word}
 use Rattle.code_meaning.specs.Machine.{Next, Goes, Ends, Stuck}
-use Rattle.code_fit.specs.Moments.{NextFits}
-use Rattle.code_fit.proofs.Steps.{runs_fit}
+use Rattle.machine.specs.Moments.{NextFits}
+use Rattle.machine.proofs.Steps.{runs_fit}
 use Rattle.machine.specs.Activations.{Activation}
 use Rattle.machine.specs.Fitting.{NowFits, LeavesFit}
 use Rattle.machine.specs.Seen.{codes_alone, limits_of}

@@ -2,3 +2,7 @@ mod Resting
 mod Outcomes
 pub mod Finishing
 pub mod Fitted
+-- Lemmas of the libraries below, passed on.
+pub use Rattle.machine.proofs.Steps
+pub use Rattle.machine.proofs.Turning
+pub use Rattle.machine.proofs.Words

@@ -17,7 +17,7 @@ use Rattle.machine.specs.declared.activation.RunOutcome.{RunOutcome}
 use Rattle.machine.specs.declared.configuration.Limits as configuration
 use Rattle.machine.specs.declared.configuration.RunEnd as held
 use Rattle.machine.specs.declared.configuration.RunEnd.TheVariants as end
-use Rattle.machine_parts.specs.Links.{Executable}
+use Rattle.machine.specs.Links.{Executable}
 use Rattle.machine.specs.Seen.{limits_of, ended, codes_alone}
 use Rattle.machine.specs.Activations.{Activation, counted, is_over, Leaves}
 use Rattle.verifier_soundness.specs.Bounds.{most_steps}

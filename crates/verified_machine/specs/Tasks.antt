@@ -7,9 +7,9 @@ use Rattle.pl_code.specs.declared.code.FunCode.{FunCode}
 use Rattle.allowlist.specs.Allow.{AllowList, flag}
 use Rattle.verifier.specs.Shaped.{IsWellShapedCode}
 use Rattle.verifier.specs.Verified.{CodeUnder, FrameWords}
-use Rattle.machine_parts.specs.Rooms.{FitsAtStart}
+use Rattle.machine.specs.Rooms.{FitsAtStart}
 use Rattle.machine.specs.Sparing.{Spares}
-use Rattle.machine_parts.specs.Links.{Executable}
+use Rattle.machine.specs.Links.{Executable}
 use Rattle.run_state.specs.World.{Limits, Limit, Loop, Depth, Ticks, Room, End, Result, Uncaught, Limited}
 use Rattle.code_meaning.specs.declared.word.Word.{Word}
 use Rattle.code_meaning.specs.Machine.{Config, Next, Goes, Ends, Stuck, after}

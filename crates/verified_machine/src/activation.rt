@@ -31,7 +31,7 @@ pub struct VerifiedExecutable {
 }
 
 impl Model for VerifiedExecutable {
-    ghost use Rattle.machine_parts.specs.Links.{Executable};
+    ghost use Rattle.machine.specs.Links.{Executable};
     ghost use Rattle.pl_types.specs.contracts.ty.Ty as ty;
     ghost use Rattle.std.specs.Coded.{codes};
     ghost use Rattle.verifier.specs.Verified.{FrameWords, IsSound};

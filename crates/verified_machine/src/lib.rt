@@ -4,3 +4,6 @@
 mod activation;
 
 pub use activation::{FinishedRun, VerifiedActivation, VerifiedExecutable};
+pub use code_meaning::Word;
+pub use machine::{Limits, RunEnd, RunMemory, RunOutcome, boxed, unboxed};
+pub use verifier::{VerifyErr, verify};

@@ -4,7 +4,7 @@ use Rattle.std.proofs.Common.{◌≡◌, ℕ, true, List, ◌∷◌, Option, Som
 use Rattle.std.specs.Prelude.{is_some, ◌||◌}
 use Rattle.std.proofs.lemmas.Bool.{false≢true}
 use Rattle.object_values.specs.declared.value.Value.{Value}
-use Rattle.object_heap.specs.Effects.{Effect}
+use Rattle.number_ops.specs.Effects.{Effect}
 use Rattle.pl_code.specs.declared.kinds.Slot.TheVariants as slot
 use Rattle.pl_code.specs.declared.code.FunCode.{FunCode}
 use Rattle.pl_code.specs.declared.code.Instruction.{Instruction}
@@ -13,8 +13,8 @@ use Rattle.instruction_types.specs.declared.flow.Flow.TheVariants as flow
 use Rattle.instruction_types.specs.Effects.{flow_of}
 use Rattle.member_calls.specs.Members.{does, is_built, is_of_host}
 use Rattle.member_calls.proofs.Doing.{built_act}
-use Rattle.def_access.specs.Access.{Access, Calls, Acts}
-use Rattle.def_access.specs.Laws.{IsConfined}
+use Rattle.code_meaning.specs.Access.{Access, Calls, Acts}
+use Rattle.code_meaning.specs.DefAccessLaws.{IsConfined}
 use Rattle.verifier.specs.Shaped.{IsWellShapedCode}
 use Rattle.run_state.specs.World.{World, Limits, Counted, Counts, Passes, pay_member}
 use Rattle.code_meaning.specs.declared.word.Word.{Word}

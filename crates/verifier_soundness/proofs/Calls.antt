@@ -4,7 +4,7 @@ use Rattle.std.specs.Prelude.{slice_get, is_some, option_map, if◌then◌else�
 use Rattle.std.specs.List.{list_all, list_any}
 use Rattle.std.proofs.lemmas.Bool.{false≢true, and_parts}
 use Rattle.object_values.specs.declared.value.Value.{Value}
-use Rattle.object_heap.specs.Effects.{Effect}
+use Rattle.number_ops.specs.Effects.{Effect}
 use Rattle.number_ops.specs.Outcomes.{effect, null_error}
 use Rattle.pl_types.specs.declared.classes.TheConstants.{CLASS_CAST_EXCEPTION, NULL_POINTER_EXCEPTION}
 use Rattle.pl_code.specs.declared.code.FunCode.{FunCode}
@@ -19,7 +19,7 @@ use Rattle.instruction_types.specs.Members.{method_of, constructor_of, field_of,
 use Rattle.instruction_types.specs.Types.{kind_of_type}
 use Rattle.instruction_types.proofs.Named.{at_number}
 use Rattle.member_calls.specs.Members.{does, is_built, is_of_host}
-use Rattle.container_calls.specs.Types.{primitive_of}
+use Rattle.member_calls.specs.ContainerCallsTypes.{primitive_of}
 use Rattle.member_calls.specs.Types.{ActGives}
 use Rattle.member_calls.proofs.Doing.{built_act}
 use Rattle.member_calls.proofs.Owners.{built_stand}

@@ -1,7 +1,7 @@
 -- Casts at run time to a primitive give a value whose word is of that primitive's kind.
 use Rattle.std.proofs.Common.{◌≡◌, ℕ, Bool, true, List, ◌++◌, [], ◌∷◌, length, Option, Some, None, refl}
 use Rattle.std.specs.Prelude.{codes}
-use Rattle.pl_units.specs.Utf16.{units}
+use Rattle.object_values.specs.Utf16.{units}
 use Rattle.pl_types.specs.declared.classes.TheConstants.{ARITHMETIC_EXCEPTION}
 use Rattle.pl_types.specs.declared.primitive.Primitive.{Primitive}
 use Rattle.pl_types.specs.declared.primitive.Primitive.TheVariants as prim
@@ -9,9 +9,9 @@ use Rattle.pl_types.specs.declared.ty.Ty.TheVariants as ty
 use Rattle.object_values.specs.declared.value.Value.{Value}
 use Rattle.object_values.specs.declared.value.Value.TheVariants as v
 use Rattle.object_values.specs.declared.object.Object.TheVariants as o
-use Rattle.object_heap.specs.Fits.{is_primitive}
-use Rattle.object_heap.specs.Effects.{Effect, Gives, Throws, NoRoom, after_paying, throws}
-use Rattle.object_heap.specs.Store.{Store, paid}
+use Rattle.number_ops.specs.Fits.{is_primitive}
+use Rattle.number_ops.specs.Effects.{Effect, Gives, Throws, NoRoom, after_paying, throws}
+use Rattle.number_ops.specs.Store.{Store, paid}
 use Rattle.pl_code.specs.declared.kinds.Slot.{Slot}
 use Rattle.number_ops.specs.Outcomes.{effect, zero_divisor, says, class_raised}
 use Rattle.number_ops.specs.declared.outcome.Outcome.{Outcome}

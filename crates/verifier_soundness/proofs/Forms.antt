@@ -10,8 +10,8 @@ use Rattle.pl_types.specs.declared.ty.Ty.TheOpen.{Ty-F}
 use Rattle.pl_types.specs.declared.ty.Ty.TheVariants as ty
 use Rattle.pl_types.specs.declared.ty.Ty.TheViews.{roll-Ty, roll-out-Ty}
 use Rattle.object_values.specs.declared.value.Value.{Value}
-use Rattle.object_heap.specs.Effects.{Effect, Gives, Throws, NoRoom}
-use Rattle.object_heap.specs.Store.{Store}
+use Rattle.number_ops.specs.Effects.{Effect, Gives, Throws, NoRoom}
+use Rattle.number_ops.specs.Store.{Store}
 use Rattle.arithmetic.specs.declared.operator.Num.{Num}
 use Rattle.arithmetic.specs.declared.operator.Num.TheVariants as num
 use Rattle.arithmetic.specs.declared.operator.Op.{Op}
@@ -20,10 +20,10 @@ use Rattle.number_ops.specs.Operators as operators
 use Rattle.number_ops.specs.Operators.{compares, calculated, flags_given, flags_of, of_numbers, refused, truth_in}
 use Rattle.number_ops.specs.declared.outcome.Outcome.{Outcome as NumberTold}
 use Rattle.number_ops.specs.Outcomes as numbers
-use Rattle.container_calls.specs.Types.{EffectGives, primitive_in}
-use Rattle.container_ops.specs.Elements.{element_read, length_of}
-use Rattle.container_ops.specs.Loops.{has_more}
-use Rattle.container_ops.proofs.Leaving.{element_read_gives, has_more_gives, length_of_gives}
+use Rattle.member_calls.specs.ContainerCallsTypes.{EffectGives, primitive_in}
+use Rattle.code_meaning.specs.Elements.{element_read, length_of}
+use Rattle.code_meaning.specs.Loops.{has_more}
+use Rattle.code_meaning.proofs.Leaving.{element_read_gives, has_more_gives, length_of_gives}
 use Rattle.pl_code.specs.declared.kinds.Slot.TheVariants as slot
 use Rattle.instruction_types.specs.Types.{kind_of_primitive, kind_of_type}
 use Rattle.code_meaning.specs.Words.{unboxed}

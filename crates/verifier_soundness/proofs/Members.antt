@@ -11,8 +11,8 @@ use Rattle.pl_types.specs.declared.ty.Ty.TheOpen.{Ty-F}
 use Rattle.pl_types.specs.Names.{class_of_full}
 use Rattle.object_values.specs.declared.value.Value.{Value}
 use Rattle.object_values.specs.declared.value.Value.TheVariants as v
-use Rattle.object_heap.specs.Effects.{Effect, Gives, Throws, NoRoom}
-use Rattle.object_heap.specs.Fits.{is_primitive}
+use Rattle.number_ops.specs.Effects.{Effect, Gives, Throws, NoRoom}
+use Rattle.number_ops.specs.Fits.{is_primitive}
 use Rattle.allowlist.specs.declared.member.MemberKind.{MemberKind}
 use Rattle.allowlist.specs.declared.member.MemberKind.TheVariants as kind
 use Rattle.allowlist.specs.declared.member.MemberType.{MemberType}
@@ -24,7 +24,7 @@ use Rattle.pl_code.specs.declared.kinds.Slot.{Slot}
 use Rattle.pl_code.specs.declared.kinds.Slot.TheVariants as slot
 use Rattle.instruction_types.specs.Members.{owner_part, name_part, called_part, arity_part, is_sought, own_sought, own_named, member_named, method_of, constructor_of, field_of, has_receiver, argument_kinds}
 use Rattle.instruction_types.specs.Types.{kind_of_primitive, kind_of_layer, kind_of_type}
-use Rattle.container_calls.specs.Types.{suits, primitive_in, primitive_of, EffectGives}
+use Rattle.member_calls.specs.ContainerCallsTypes.{suits, primitive_in, primitive_of, EffectGives}
 use Rattle.code_meaning.specs.declared.word.Word.{Word}
 use Rattle.code_meaning.specs.declared.word.Word.TheVariants.{I, J, R}
 use Rattle.code_meaning.specs.Words.{boxed, unboxed}

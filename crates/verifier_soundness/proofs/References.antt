@@ -2,19 +2,19 @@
 use Rattle.std.proofs.Common.{◌≡◌, ℕ, true, List, ◌++◌, [], ◌∷◌, length, Option, Some, None, refl}
 use Rattle.std.proofs.lemmas.Bool.{false≢true}
 use Rattle.std.specs.Prelude.{codes, is_some, slice_get}
-use Rattle.pl_units.specs.Utf16.{units}
+use Rattle.object_values.specs.Utf16.{units}
 use Rattle.pl_types.specs.declared.classes.TheConstants.{CLASS_CAST_EXCEPTION, ILLEGAL_STATE_EXCEPTION, NULL_POINTER_EXCEPTION}
 use Rattle.pl_types.specs.declared.ty.Ty.{Ty}
 use Rattle.object_values.specs.declared.object.Object.{Object}
 use Rattle.object_values.specs.declared.object.Object.TheVariants as o
 use Rattle.object_values.specs.declared.value.Value.{Value}
 use Rattle.object_values.specs.declared.value.Value.TheVariants as v
-use Rattle.object_heap.specs.Effects.{Effect, Gives, Throws, NoRoom, after_paying, throws}
-use Rattle.object_heap.specs.Store.{Store, paid}
-use Rattle.value_walks.specs.declared.TheConstants.{VISITS}
-use Rattle.value_walks.specs.declared.equality.Walked.{Walked}
-use Rattle.value_walks.specs.declared.equality.Walked.TheVariants.{On, Deep, Large}
-use Rattle.value_walks.specs.Equality.{equal_of}
+use Rattle.number_ops.specs.Effects.{Effect, Gives, Throws, NoRoom, after_paying, throws}
+use Rattle.number_ops.specs.Store.{Store, paid}
+use Rattle.number_ops.specs.value_walks_declared.TheConstants.{VISITS}
+use Rattle.number_ops.specs.value_walks_declared.equality.Walked.{Walked}
+use Rattle.number_ops.specs.value_walks_declared.equality.Walked.TheVariants.{On, Deep, Large}
+use Rattle.number_ops.specs.Equality.{equal_of}
 use Rattle.arithmetic.specs.declared.operator.Num.{Num}
 use Rattle.number_ops.specs.Operators.{number_in}
 use Rattle.number_ops.specs.Order.{found_of}

@@ -7,15 +7,15 @@ use Rattle.arithmetic.specs.Arithmetic.{wrapped, low_bits}
 use Rattle.pl_types.specs.declared.ty.Ty.{Ty}
 use Rattle.pl_types.specs.declared.ty.Ty.TheVariants as ty
 use Rattle.pl_types.specs.Texts.{type_of_full}
-use Rattle.pl_units.specs.Utf16.{units}
+use Rattle.object_values.specs.Utf16.{units}
 use Rattle.object_values.specs.declared.value.Value.{Value}
 use Rattle.object_values.specs.declared.value.Value.TheVariants as v
-use Rattle.container_ops.specs.Elements.{element_read, element_written, length_of}
-use Rattle.container_ops.specs.Loops.{has_more, iterated, next_element}
-use Rattle.container_ops.specs.Making.{array_filled, array_made, list_made, map_made}
-use Rattle.def_access.specs.Access.{index_read, index_written, method_called, name_read, name_written}
-use Rattle.def_access.specs.Laws.{IsConfined}
-use Rattle.def_access.proofs.Confined.{index_read_confined, index_written_confined, method_called_confined, name_read_confined, name_written_confined}
+use Rattle.code_meaning.specs.Elements.{element_read, element_written, length_of}
+use Rattle.code_meaning.specs.Loops.{has_more, iterated, next_element}
+use Rattle.code_meaning.specs.Making.{array_filled, array_made, list_made, map_made}
+use Rattle.code_meaning.specs.Access.{index_read, index_written, method_called, name_read, name_written}
+use Rattle.code_meaning.specs.DefAccessLaws.{IsConfined}
+use Rattle.code_meaning.proofs.Confined.{index_read_confined, index_written_confined, method_called_confined, name_read_confined, name_written_confined}
 use Rattle.number_ops.specs.Outcomes.{effect}
 use Rattle.number_ops.specs.Casts.{cast_at_run_time}
 use Rattle.number_ops.specs.Operators.{binary, compares, concatenated, is_unary, number_in, operate}

@@ -3,8 +3,8 @@ use Rattle.std.proofs.Common.{◌≡◌, ℕ, suc, ◌-◌, List, [], ◌∷◌,
 use Rattle.pl_types.specs.declared.ty.Ty.{Ty}
 use Rattle.object_values.specs.declared.value.Value.{Value}
 use Rattle.object_heap.specs.Effects.{Effect}
-use Rattle.member_calls.specs.Members.{does}
-use Rattle.def_access.specs.Access.{Access, Calls, Acts, index_read, index_written, name_read, name_written, method_called}
+use Rattle.source_meaning.specs.MemberCallsMembers.{does}
+use Rattle.source_meaning.specs.Access.{Access, Calls, Acts, index_read, index_written, name_read, name_written, method_called}
 use Rattle.pl_code.specs.declared.kinds.Plain.TheVariants as plain
 use Rattle.pl_code.specs.declared.kinds.Quoting.TheVariants as quoting
 use Rattle.pl_code.specs.declared.code.Instruction.{Instruction}

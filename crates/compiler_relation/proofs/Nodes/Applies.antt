@@ -9,9 +9,9 @@ use Rattle.object_values.specs.declared.value.Value.TheVariants as v
 use Rattle.number_ops.specs.Relations.{is_instance}
 use Rattle.object_heap.specs.Effects.{Effect}
 use Rattle.object_heap.specs.Store.{Store}
-use Rattle.container_ops.specs.Types.{element_of}
-use Rattle.container_ops.specs.Elements.{length_of}
-use Rattle.container_ops.specs.Loops.{iterated, has_more, next_element}
+use Rattle.source_meaning.specs.Types.{element_of}
+use Rattle.source_meaning.specs.Elements.{length_of}
+use Rattle.source_meaning.specs.Loops.{iterated, has_more, next_element}
 use Rattle.pl_code.specs.declared.kinds.Plain.TheVariants as plain
 use Rattle.pl_code.specs.declared.kinds.Numbered.TheVariants as numbered
 use Rattle.pl_code.specs.declared.code.Instruction.{Instruction}

@@ -18,7 +18,7 @@ use Rattle.pl_code.specs.declared.code.Instruction.TheVariants as i
 use Rattle.run_state.specs.World.{Limits, End, Counted, Counts, Passes, enter}
 use Rattle.source_meaning.specs.Tree.{Variable, Fun, Program, Programs, functions_in}
 use Rattle.source_meaning.specs.Meaning.{State, Env, Out, Done, Thrown, Over, More, Flow, Normal, Broke, Continued, Returned, Meaning, entry, default_of, back, entered, called}
-use Rattle.container_ops.specs.Types.{default_of_layer}
+use Rattle.source_meaning.specs.Types.{default_of_layer}
 use Rattle.code_meaning.specs.declared.word.Word.{Word}
 use Rattle.code_meaning.specs.declared.word.Word.TheVariants.{R}
 use Rattle.code_meaning.specs.Words.{unboxed, start_of}
@@ -156,7 +156,7 @@ module _ (codes : Codes) (limits : Limits) where
       does_next codes limits c h q (i.Plain plain.Ret) l st s r a (record { steps = d.steps; reaches = ap (Rattle.code_meaning.specs.Machine.after codes limits d.steps) same ∙ d.reaches })
 
   default_primitive : (p : Primitive) (c : Ctx codes) (h : Handlers) (q : ℕ) (l st : List Word) (s : State) (r : End (Option Word)) → At c.body h q (Rattle.compiler_relation.specs.Parts.default_of_primitive p)
-      → Leads codes limits (at codes limits c (suc q) l (unboxed (Rattle.container_ops.specs.Types.default_of_primitive p) ∷ st) s) r → Leads codes limits (at codes limits c q l st s) r
+      → Leads codes limits (at codes limits c (suc q) l (unboxed (Rattle.source_meaning.specs.Types.default_of_primitive p) ∷ st) s) r → Leads codes limits (at codes limits c q l st s) r
   default_primitive prim.Boolean c h q l st s r a d = does_next codes limits c h q _ l st s r a d
   default_primitive prim.Byte c h q l st s r a d = does_next codes limits c h q _ l st s r a d
   default_primitive prim.Short c h q l st s r a d = does_next codes limits c h q _ l st s r a d

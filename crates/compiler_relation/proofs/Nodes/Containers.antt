@@ -6,8 +6,8 @@ use Rattle.pl_types.specs.declared.ty.Ty.TheOpen.{Ty-F}
 use Rattle.pl_types.specs.Texts.{full_text, is_known}
 use Rattle.object_values.specs.declared.value.Value.{Value}
 use Rattle.object_values.specs.declared.value.Value.TheVariants as v
-use Rattle.container_ops.specs.Making.{list_made, map_made, array_filled, array_made}
-use Rattle.container_ops.specs.Elements.{element_read, element_written}
+use Rattle.source_meaning.specs.Making.{list_made, map_made, array_filled, array_made}
+use Rattle.source_meaning.specs.Elements.{element_read, element_written}
 use Rattle.pl_code.specs.declared.kinds.Numbered.TheVariants as numbered
 use Rattle.pl_code.specs.declared.kinds.Sized.TheVariants as sized
 use Rattle.pl_code.specs.declared.kinds.Typed.TheVariants as typed

@@ -14,7 +14,7 @@ use Rattle.typed_tree.specs.declared.operation.Logical.TheVariants.{And, Or}
 use Rattle.typed_tree.specs.declared.operation.Gives.{Gives}
 use Rattle.typed_tree.specs.declared.operation.Gives.TheVariants as gives
 use Rattle.run_state.specs.World.{Limits}
-use Rattle.pl_units.specs.Utf16.{units}
+use Rattle.object_values.specs.Utf16.{units}
 use Rattle.source_meaning.specs.Tree.{Name, Expr, Literal, Quoted, Local, Logic, Conditional, Elvis, Exprs, None', One, Programs, type_of}
 use Rattle.source_meaning.specs.Operating.{value_of}
 use Rattle.source_meaning.specs.Meaning.{State, Env, Out, Done, Meaning, found, lookup, assigned, unless_null, given_by, expr_of, exprs_of}

@@ -16,7 +16,7 @@ use Rattle.allowlist.specs.Allow.{flag}
 use Rattle.allowlist.specs.Catalogue.{catalogue, constructor}
 use Rattle.allowlist.specs.Index.{member_at}
 use Rattle.member_names.specs.Names.{text_of, named_by, TextsName}
-use Rattle.member_calls.specs.Members.{does}
+use Rattle.source_meaning.specs.MemberCallsMembers.{does}
 use Rattle.object_values.specs.declared.value.Value.{Value}
 use Rattle.object_values.specs.declared.value.Value.TheVariants as v
 use Rattle.object_heap.specs.Effects.{Effect}

@@ -16,8 +16,8 @@ use Rattle.number_ops.specs.Operators.{number_in, concatenated}
 use Rattle.number_ops.specs.Order.{found_of}
 use Rattle.number_ops.specs.Outcomes.{effect}
 use Rattle.number_ops.specs.Relations.{equal, equal_if, is_same, thrown, thrown_if}
-use Rattle.value_walks.specs.declared.equality.Walked.{Walked}
-use Rattle.value_walks.specs.declared.equality.Walked.TheVariants.{On, Deep, Large}
+use Rattle.number_ops.specs.value_walks_declared.equality.Walked.{Walked}
+use Rattle.number_ops.specs.value_walks_declared.equality.Walked.TheVariants.{On, Deep, Large}
 use Rattle.pl_code.specs.declared.code.Instruction.{Instruction}
 use Rattle.typed_tree.specs.declared.operation.Operator.{Operator}
 use Rattle.typed_tree.specs.declared.operation.Operator.TheVariants as operator

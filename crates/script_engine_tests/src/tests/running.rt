@@ -2,7 +2,7 @@
 
 ghost use Rattle.std.specs.Prelude.{◌≡◌, IfOk, []};
 ghost use Rattle.pl_types.specs.declared.ty.Ty.TheVariants as def;
-ghost use Rattle.verifier_soundness.specs.Rows.{HaveRows};
+ghost use Rattle.script_engine.specs.Rows.{HaveRows};
 ghost use Rattle.script_engine.specs.Running.{TakesArguments};
 
 use allowlist::{Allow, AllowErr, Catalogue};

@@ -1,5 +1,5 @@
 use Rattle.std.proofs.lemmas.Result.{IfOk-weaker}
-use Rattle.code_meaning.specs.Machine.{codes_of}
+use Rattle.compiler_relation.specs.Machine.{codes_of}
 use Rattle.codegen.proofs.functions.generate.Goals as goal
 
 pub returns-clause-ends : goal.returns-clause-ends

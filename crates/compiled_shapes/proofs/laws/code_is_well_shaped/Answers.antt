@@ -1,6 +1,6 @@
 use Rattle.std.proofs.Common.{arith}
 use Rattle.object_values.specs.declared.object.Owner.TheVariants.{Script}
-use Rattle.source_meaning.specs.Programs.{program_of}
+use Rattle.program_typing.specs.Programs.{program_of}
 use Rattle.program_typing.specs.Agreeing.{known}
 use Rattle.verifier.proofs.Whole.{sound_is_well_shaped}
 use Rattle.compiled_shapes.proofs.Functions as functions

@@ -1,6 +1,6 @@
 use Rattle.std.proofs.Common.{length, rules, to_z-of_z}
-use Rattle.api_list.specs.Indexing.{counted}
-use Rattle.api_list.specs.Lists.{place_of}
+use Rattle.container_calls.specs.Indexing.{counted}
+use Rattle.container_calls.specs.Lists.{place_of}
 use Rattle.container_outcomes.specs.Outcomes.{Tells, array_index_error}
 use Rattle.container_ops.specs.Elements.{item_written}
 use Rattle.container_ops.proofs.Landing.{refused}

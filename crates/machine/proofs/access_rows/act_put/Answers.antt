@@ -1,5 +1,5 @@
 use Rattle.pl_types.specs.Host.{no_host}
-use Rattle.member_calls.specs.Members.{does}
+use Rattle.def_access.specs.Members.{does}
 use Rattle.machine.proofs.Accessing.{of_put}
 use Rattle.machine.specs.Seen.{with_stack, world_of, codes_alone, limits_in}
 use Rattle.machine.proofs.access_rows.act_put.Goals as goal

@@ -2,7 +2,7 @@ use mir.Syntax.{w32}
 use mir.Val.{SFits}
 use Rattle.std.proofs.Common.{rules, to_z-of_z}
 use Rattle.run_state.specs.World.{acts_in}
-use Rattle.container_ops.specs.Elements.{element_read}
+use Rattle.def_access.specs.Elements.{element_read}
 use Rattle.code_meaning.specs.Machine.{on_outcome}
 use Rattle.code_meaning.specs.Members.{given_as}
 use Rattle.machine.proofs.Rows.{from_place}

@@ -1,6 +1,6 @@
 use Rattle.std.proofs.Common.{ap}
 use Rattle.run_state.specs.World.{acts_in}
-use Rattle.container_ops.specs.Making.{array_filled, array_made}
+use Rattle.def_access.specs.Making.{array_filled, array_made}
 use Rattle.code_meaning.specs.declared.word.Word.TheVariants.{R}
 use Rattle.code_meaning.specs.Machine.{on_ints, on_outcome, on_values, sized_act}
 use Rattle.code_meaning.specs.Members.{ints_in, taken_alike}

@@ -1,6 +1,6 @@
 use Rattle.std.proofs.Common.{ap, sym}
 use Rattle.run_state.specs.World.{acts_in}
-use Rattle.container_ops.specs.Elements.{element_written}
+use Rattle.def_access.specs.Elements.{element_written}
 use Rattle.code_meaning.specs.Machine.{on_done, on_value}
 use Rattle.code_meaning.specs.Members.{taken}
 use Rattle.machine.specs.Rows.{on_place}

@@ -2,7 +2,7 @@ use mir.Syntax.{w32}
 use mir.Val.{SFits}
 use Rattle.std.proofs.Common.{rules, to_z-of_z}
 use Rattle.run_state.specs.World.{acts_in}
-use Rattle.container_ops.specs.Elements.{element_written}
+use Rattle.def_access.specs.Elements.{element_written}
 use Rattle.code_meaning.specs.Machine.{on_done}
 use Rattle.machine.proofs.Rows.{from_place}
 use Rattle.machine.specs.Seen.{with_stack, world_of, codes_alone, limits_in}

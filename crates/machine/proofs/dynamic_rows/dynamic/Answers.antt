@@ -1,5 +1,5 @@
 use Rattle.std.proofs.Common.{suc, ◌<◌, ◌^◌, List, if◌then◌else◌, sym, subst}
-use Rattle.arithmetic.specs.declared.operator.Op.{Op}
+use Rattle.number_ops.specs.arithmetic_declared.operator.Op.{Op}
 use Rattle.number_ops.specs.Operators.{is_unary}
 use Rattle.code_meaning.specs.declared.word.Word.{Word}
 use Rattle.code_meaning.specs.Machine.{Frame, on_operated, on_reference, on_top}

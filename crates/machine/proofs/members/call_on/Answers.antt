@@ -1,6 +1,6 @@
 use Rattle.std.proofs.Common.{ap, sym, subst}
 use Rattle.code_meaning.specs.Machine.{on_received}
-use Rattle.member_calls.specs.Answers.{NeedsMemory}
+use Rattle.def_access.specs.Answers.{NeedsMemory}
 use Rattle.machine.specs.Members.{receiving_of}
 use Rattle.machine.specs.Sparing.{ReceivingSpares}
 use Rattle.machine.specs.Seen.{with_stack, world_of, codes_alone, limits_in}

@@ -1,5 +1,5 @@
 use Rattle.std.proofs.Common.{sym, subst}
-use Rattle.member_calls.specs.Answers.{NeedsMemory}
+use Rattle.def_access.specs.Answers.{NeedsMemory}
 use Rattle.machine.proofs.members.pay_and_act.Goals as goal
 
 pub returns-in-Ok-None-clause-memory : goal.returns-in-Ok-None-clause-memory

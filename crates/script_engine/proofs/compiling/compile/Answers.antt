@@ -2,13 +2,13 @@
 use Rattle.std.proofs.Common.{◌≡◌, None, sym, subst}
 use Rattle.std.proofs.lemmas.Result.{err_from_is_err_and}
 use Rattle.pl_code.specs.declared.code.Code.{Code}
-use Rattle.compiler_relation.specs.Correct.{IsCodeOf}
+use Rattle.compiled_outcome.specs.Correct.{IsCodeOf}
 use Rattle.object_values.specs.declared.object.Owner.TheVariants.{Script}
-use Rattle.allowlist.specs.Allow.{AllowList}
-use Rattle.source_meaning.specs.Programs.{program_of}
-use Rattle.program_typing.specs.Agreeing.{known}
-use Rattle.verifier.specs.Faults.{shape_fault}
-use Rattle.verifier_soundness.specs.Rows.{HaveRows}
+use Rattle.static_types.specs.Allow.{AllowList}
+use Rattle.codegen.specs.Programs.{program_of}
+use Rattle.compiled_outcome.specs.Agreeing.{known}
+use Rattle.verified_machine.specs.Faults.{shape_fault}
+use Rattle.verified_machine.specs.Rows.{HaveRows}
 use Rattle.script_engine.proofs.Runs.{takes_typed}
 use Rattle.script_engine.proofs.Compiled.{fails_only, formed_from, is_script, reached_from}
 use Rattle.script_engine.proofs.compiling.compile.Goals as goal

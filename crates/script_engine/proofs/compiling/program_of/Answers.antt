@@ -1,10 +1,10 @@
 -- The tokens' answer, and then that of the grammar.
 use Rattle.std.proofs.Common.{List, subst, sym}
 use Rattle.std.proofs.lemmas.Result.{err_from_is_err_and}
-use Rattle.pl_lexer.specs.declared.token.Token.{Token}
-use Rattle.pl_lexer.specs.Tokens.{Lexes}
-use Rattle.pl_grammar.specs.Lexeme.{AllLieIn}
-use Rattle.allowlist.specs.Allow.{class_named_of}
+use Rattle.pl_parser.specs.pl_lexer_declared.token.Token.{Token}
+use Rattle.pl_parser.specs.Tokens.{Lexes}
+use Rattle.pl_parser.specs.Lexeme.{AllLieIn}
+use Rattle.static_types.specs.Allow.{class_named_of}
 use Rattle.script_engine.specs.Programs.{TypesTokens}
 use Rattle.script_engine.proofs.Placed.{spelled_lie_in}
 use Rattle.script_engine.proofs.Stages.{Stage, then_given, then_failed}

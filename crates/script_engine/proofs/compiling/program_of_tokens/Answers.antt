@@ -1,6 +1,6 @@
 -- The grammar's answer, and then that of the tree.
 use Rattle.std.proofs.lemmas.Result.{err_from_is_err_and}
-use Rattle.pl_grammar_plain.specs.PlainParses.{PlainParses}
+use Rattle.pl_parser.specs.PlainParses.{PlainParses}
 use Rattle.script_engine.specs.Programs.{TypesTree}
 use Rattle.script_engine.proofs.Stages.{then_given, then_failed}
 use Rattle.script_engine.proofs.compiling.program_of_tokens.Goals as goal

@@ -1,6 +1,6 @@
 -- What keeps to typing answers it.
 use Rattle.script_engine.proofs.Compiled.{keeps_exact, keeps_only}
-use Rattle.typing_rules.specs.Typing.{typing_of}
+use Rattle.static_types.specs.Typing.{typing_of}
 use Rattle.script_engine.proofs.compiling.program_of_tree.Goals as goal
 
 pub returns-clause-exact : goal.returns-clause-exact

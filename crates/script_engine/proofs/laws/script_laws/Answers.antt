@@ -1,7 +1,7 @@
 -- Each stage has one answer, and a program one end.
 use Rattle.std.proofs.Common.{subst, sym}
-use Rattle.program_typing.specs.Types.{HaveAll}
-use Rattle.program_typing.specs.Agreeing.{types_in}
+use Rattle.compiled_outcome.specs.Types.{HaveAll}
+use Rattle.compiled_outcome.specs.Agreeing.{types_in}
 use Rattle.script_engine.proofs.Compiled.{formed_from, variables_from}
 use Rattle.script_engine.proofs.Ends.{ends_some, ends_once}
 use Rattle.script_engine.proofs.Fitting.{programs_fit}

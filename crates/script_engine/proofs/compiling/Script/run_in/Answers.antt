@@ -2,8 +2,8 @@
 use Rattle.std.specs.List.{list_all}
 use Rattle.std.proofs.Common.{◌≡◌, true, subst}
 use Rattle.std.proofs.lemmas.Result.{IfOk-weaker}
-use Rattle.allowlist.specs.Allow.{AllowList, flag}
-use Rattle.machine.specs.Activations.{Activation}
+use Rattle.static_types.specs.Allow.{AllowList, flag}
+use Rattle.verified_machine.specs.Activations.{Activation}
 use Rattle.verified_machine.specs.Tasks.{ending}
 use Rattle.script_engine.specs.Running.{Comes}
 use Rattle.script_engine.proofs.Counted.{ending_counts}
