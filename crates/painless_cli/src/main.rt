@@ -1,20 +1,12 @@
 //! `painless`: scripts of the Painless language, proved to do what the language says.
 #![tactic(auto)]
 
-mod laws;
-mod top;
-mod words;
-
-pub use command_parts::Report;
-use command_parts::Status;
-pub use laws::{one_thing_is_told, painless_surely};
 use outer_io::{StdFiles, StdSink, StdSource};
+use painless::{Status, painless, words_behind};
 use std::alloc::AllocError;
 use std::process::ExitCode;
 use std::rt::Env;
 use std::{env, io};
-pub use top::painless;
-pub use words::{Command, words_behind};
 
 /// All words with which the process was called, the program's name first.
 fn all_words(rt: &(impl Env + AllocGlobal)) -> io::Result<Vec<String>> {
@@ -47,6 +39,3 @@ fn main(rt: HostRuntime) -> ExitCode {
     );
     ExitCode::from(report.status.exit_status())
 }
-
-#[cfg(test)]
-mod tests;

@@ -16,10 +16,10 @@ use Rattle.eval_command.specs.Evaluation.{TellsFile}
 use Rattle.job_commands.specs.Checking.{TellsCheck}
 use Rattle.job_commands.specs.Listing.{AreCodesIn, TellsList}
 use Rattle.job_commands.specs.Running.{TellsRun, TellsRunTaken, RunsPast}
-use Rattle.painless_cli.specs.declared.words.Command.{Command}
-use Rattle.painless_cli.specs.declared.words.Command.TheVariants as c
+use Rattle.painless.specs.declared.words.Command.{Command}
+use Rattle.painless.specs.declared.words.Command.TheVariants as c
 use Rattle.job_commands.specs.Generated.{AreFixedCodes, TellsGen}
-use Rattle.painless_cli.specs.Whole.{Call, over_documents, call_of, AreCodesNamed, AreCodesCall, AreCodes, TellsNamed, TellsTakenNamed, TellsCall, TellsTakenCall, Tells, TellsTaken, PastNamed, PastCall, TakesPast}
+use Rattle.painless.specs.Whole.{Call, over_documents, call_of, AreCodesNamed, AreCodesCall, AreCodes, TellsNamed, TellsTakenNamed, TellsCall, TellsTakenCall, Tells, TellsTaken, PastNamed, PastCall, TakesPast}
 
 -- codes where there is no script
 some_codes : ScriptCodes

@@ -1,5 +1,5 @@
-use Rattle.painless_cli.proofs.Once.{tells_some, tells_once}
-use Rattle.painless_cli.proofs.laws.one_thing_is_told.Goals as goal
+use Rattle.painless.proofs.Once.{tells_some, tells_once}
+use Rattle.painless.proofs.laws.one_thing_is_told.Goals as goal
 
 pub returns-clause-some : goal.returns-clause-some
 returns-clause-some c = λ words content codes input are.

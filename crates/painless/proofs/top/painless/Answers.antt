@@ -1,8 +1,8 @@
 use Rattle.std.proofs.Common.{◌≡◌, ℕ, List, Some, None, map, string_bytes}
 use Rattle.command_parts.proofs.Delivering.{some_content}
-use Rattle.painless_cli.specs.Whole.{call_of, over_file, over_documents}
-use Rattle.painless_cli.proofs.Delivered.{words_deliver, usage_delivers, gen_delivers}
-use Rattle.painless_cli.proofs.top.painless.Goals as goal
+use Rattle.painless.specs.Whole.{call_of, over_file, over_documents}
+use Rattle.painless.proofs.Delivered.{words_deliver, usage_delivers, gen_delivers}
+use Rattle.painless.proofs.top.painless.Goals as goal
 
 pub returns-in-Some-File-clause-told : goal.returns-in-Some-File-clause-told
 returns-in-Some-File-clause-told g c =

@@ -8,8 +8,8 @@ ghost use Rattle.command_parts.specs.Before.{EndsBefore};
 ghost use Rattle.command_parts.specs.DeliversOver.{DeliversOver};
 ghost use Rattle.command_parts.specs.Reports.{IsQuiet, Reports};
 ghost use Rattle.job_commands.specs.Documents.{LeavesInput};
-ghost use Rattle.painless_cli.specs.Whole.{AreCodes, AreCodesNamed, IsCallOf, PastNamed, TakesPast, Tells, TellsNamed, TellsTaken, TellsTakenNamed, call_of};
-ghost use Rattle.painless_cli.specs.declared.words.Command.TheVariants as c;
+ghost use Rattle.painless.specs.Whole.{AreCodes, AreCodesNamed, IsCallOf, PastNamed, TakesPast, Tells, TellsNamed, TellsTaken, TellsTakenNamed, call_of};
+ghost use Rattle.painless.specs.declared.words.Command.TheVariants as c;
 
 use crate::words::{Called, Command, call_of};
 use command_parts::{Report, Status};

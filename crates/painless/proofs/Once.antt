@@ -7,10 +7,10 @@ use Rattle.script_engine.specs.Laws.{TextsAreAnswered, TextsAreAnsweredOnce, Pro
 use Rattle.eval_command.proofs.Once.{file_once}
 use Rattle.eval_command.proofs.Some.{file_some}
 use Rattle.job_commands.proofs.Telling.{check_once, check_some, list_once, list_some, run_once, run_some}
-use Rattle.painless_cli.specs.declared.words.Command.{Command}
-use Rattle.painless_cli.specs.declared.words.Command.TheVariants as c
+use Rattle.painless.specs.declared.words.Command.{Command}
+use Rattle.painless.specs.declared.words.Command.TheVariants as c
 use Rattle.job_commands.proofs.GeneratedTelling.{gen_once, gen_some}
-use Rattle.painless_cli.specs.Whole.{Call, over_file, over_documents, call_of, AreCodesNamed, AreCodesCall, AreCodes, TellsNamed, TellsCall, Tells}
+use Rattle.painless.specs.Whole.{Call, over_file, over_documents, call_of, AreCodesNamed, AreCodesCall, AreCodes, TellsNamed, TellsCall, Tells}
 
 module _ (texts : TextsAreAnsweredOnce) (ends : ProgramsEndOnce) (counts : CodesCountOnce) (content : List ℕ → Option (List ℕ)) (codes : ScriptCodes) (input : List ℕ) where
   named_once : (command : Command) (name : List ℕ) (a b : Told) → TellsNamed command name content codes input a → TellsNamed command name content codes input b → a ≡ b

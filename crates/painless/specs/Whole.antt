@@ -13,8 +13,8 @@ use Rattle.job_commands.specs.Checking.{TellsCheck}
 use Rattle.job_commands.specs.Listing.{AreCodesIn, TellsList}
 use Rattle.job_commands.specs.Running.{TellsRun, TellsRunTaken, RunsPast}
 use Rattle.job_commands.specs.Generated.{AreFixedCodes, TellsGen}
-use Rattle.painless_cli.specs.declared.words.Command.{Command}
-use Rattle.painless_cli.specs.declared.words.Command.TheVariants as c
+use Rattle.painless.specs.declared.words.Command.{Command}
+use Rattle.painless.specs.declared.words.Command.TheVariants as c
 
 -- a command over the file of a name, or over so many documents
 pub data Call : Type 0 where

@@ -1,8 +1,8 @@
 -- The words of a process.
 use Rattle.std.specs.Prelude.{ℕ, List, [], ◌∷◌}
-use Rattle.painless_cli.specs.declared.words.Called.{Called}
-use Rattle.painless_cli.specs.declared.words.Called.TheVariants as called
-use Rattle.painless_cli.specs.Whole.{Call, over_file, over_documents}
+use Rattle.painless.specs.declared.words.Called.{Called}
+use Rattle.painless.specs.declared.words.Called.TheVariants as called
+use Rattle.painless.specs.Whole.{Call, over_file, over_documents}
 
 -- the words behind the program's name, which comes first
 abbrev pub words_behind : List (List ℕ) → List (List ℕ)

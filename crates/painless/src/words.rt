@@ -1,8 +1,8 @@
 //! The words of a process.
 ghost use Rattle.std.specs.Prelude.{◌≡◌, ◌^◌, map, option_map, string_bytes};
 ghost use Rattle.listing_parts.specs.Numbers.{natural_of};
-ghost use Rattle.painless_cli.specs.Whole.{call_by, call_of, called, command_named, gen_of};
-ghost use Rattle.painless_cli.specs.Words.{call_view, words_behind};
+ghost use Rattle.painless.specs.Whole.{call_by, call_of, called, command_named, gen_of};
+ghost use Rattle.painless.specs.Words.{call_view, words_behind};
 
 use listing_parts::natural;
 

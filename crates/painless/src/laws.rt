@@ -3,7 +3,7 @@
 ghost use Rattle.std.specs.Prelude.{◌≡◌, ◌≢◌, ℕ, List, Option};
 ghost use Rattle.command_parts.specs.Told.{Told};
 ghost use Rattle.script_engine.specs.Codes.{ScriptCodes};
-ghost use Rattle.painless_cli.specs.Whole.{AreCodes, Tells};
+ghost use Rattle.painless.specs.Whole.{AreCodes, Tells};
 
 use crate::top::painless;
 use command_parts::{Report, Status};

@@ -1,5 +1,5 @@
-use Rattle.painless_cli.proofs.Delivered.{eval_delivers, check_delivers, list_delivers, run_delivers}
-use Rattle.painless_cli.proofs.top.called.Goals as goal
+use Rattle.painless.proofs.Delivered.{eval_delivers, check_delivers, list_delivers, run_delivers}
+use Rattle.painless.proofs.top.called.Goals as goal
 
 pub returns-in-Eval-clause-told : goal.returns-in-Eval-clause-told
 returns-in-Eval-clause-told g c =

@@ -1,9 +1,8 @@
 //! Words, and the top call over what never fails.
 ghost use Rattle.std.specs.Prelude.{◌≤◌};
 
-use crate::{painless, painless_surely};
-use command_parts::Status;
 use outer_io::{MemFiles, MemSink, MemSource, SureFiles, SureSink, SureSource};
+use painless::{Status, painless, painless_surely};
 use std::alloc::{AllocError, Global};
 use std::test::Fail;
 
@@ -96,7 +95,7 @@ fn files_of(alloc: Global, text: &str) -> Result<Vec<(String, Vec<u8>)>, AllocEr
 #[test]
 fn words(rt: HostRuntime) -> Result<(), Fail> {
     let alloc = rt.alloc();
-    for words in NO_COMMANDS {
+    for words in &NO_COMMANDS {
         let words = words_of(alloc, words)?;
         let mut files = MemFiles::new(files_of(alloc, "1")?, Vec::new(alloc));
         let mut input = MemSource::new(Vec::new(alloc), 1, Vec::new(alloc));
@@ -111,7 +110,8 @@ fn words(rt: HostRuntime) -> Result<(), Fail> {
 #[test]
 fn commands(rt: HostRuntime) -> Result<(), Fail> {
     let alloc = rt.alloc();
-    for (command, file, text, written, listing, steps) in ROWS {
+    for row in &ROWS {
+        let (command, file, text, written, listing, steps) = *row;
         let words = words_of(alloc, &[command, "f"])?;
         let mut files = SureFiles::new(files_of(alloc, file)?);
         let mut input = SureSource::new(Vec::from_slice(alloc, text.as_bytes())?, 1);
@@ -146,7 +146,8 @@ const GENERATED: [(&str, &str); 4] = [
 #[test]
 fn documents(rt: HostRuntime) -> Result<(), Fail> {
     let alloc = rt.alloc();
-    for (count, written) in GENERATED {
+    for row in &GENERATED {
+        let (count, written) = *row;
         let words = words_of(alloc, &["gen", count])?;
         let mut files = SureFiles::new(Vec::new(alloc));
         let mut input = SureSource::new(Vec::new(alloc), 1);
