@@ -6,3 +6,4 @@ mod reply;
 mod script;
 
 pub use eval_file::eval;
+pub use script_engine::{code_laws, script_laws};

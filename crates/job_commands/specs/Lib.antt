@@ -11,3 +11,5 @@ pub mod Answers
 pub mod Summaries
 pub mod Generated
 pub mod GeneratedEnds
+-- Definitions of the libraries below that clauses here speak of, passed on.
+pub use Rattle.script_engine.specs.Codes

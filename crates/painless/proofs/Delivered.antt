@@ -9,7 +9,7 @@ use Rattle.command_parts.specs.DeliversOver.{DeliversOver}
 use Rattle.command_parts.specs.Reports.{IsQuiet, ReportsBy, Reports}
 use Rattle.command_parts.specs.Told.{silent}
 use Rattle.command_parts.proofs.Delivering.{nothing, some_input, delivers_over}
-use Rattle.script_engine.specs.Codes.{ScriptCodes, prelude_code}
+use Rattle.job_commands.specs.Codes.{ScriptCodes, prelude_code}
 use Rattle.job_file.specs.declared.context.JobCommand.TheVariants as job_command
 use Rattle.eval_command.specs.Codes as eval
 use Rattle.eval_command.specs.Evaluation.{TellsFile}

@@ -2,8 +2,8 @@
 use Rattle.std.proofs.Common.{◌≡◌, ℕ, List, Option, Some, None, refl, sym, ◌∙◌}
 use Rattle.command_parts.specs.declared.status.Status.TheVariants as s
 use Rattle.command_parts.specs.Told.{Told, silent}
-use Rattle.script_engine.specs.Codes.{ScriptCodes}
-use Rattle.script_engine.specs.Laws.{TextsAreAnswered, TextsAreAnsweredOnce, ProgramsEnd, ProgramsEndOnce, CodesCountOnce, ListedCodesCount}
+use Rattle.job_commands.specs.Codes.{ScriptCodes}
+use Rattle.eval_command.specs.Laws.{TextsAreAnswered, TextsAreAnsweredOnce, ProgramsEnd, ProgramsEndOnce, CodesCountOnce, ListedCodesCount}
 use Rattle.eval_command.proofs.Once.{file_once}
 use Rattle.eval_command.proofs.Some.{file_some}
 use Rattle.job_commands.proofs.Telling.{check_once, check_some, list_once, list_some, run_once, run_some}

@@ -6,7 +6,7 @@ use Rattle.listing_parts.specs.Numbers.{natural_of}
 use Rattle.command_parts.specs.declared.status.Status.TheVariants as s
 use Rattle.command_parts.specs.Told.{Told, silent}
 use Rattle.eval_command.specs.Evaluation.{TellsFile}
-use Rattle.script_engine.specs.Codes.{ScriptCodes}
+use Rattle.job_commands.specs.Codes.{ScriptCodes}
 use Rattle.eval_command.specs.Codes as eval
 use Rattle.job_file.specs.declared.context.JobCommand.TheVariants as command
 use Rattle.job_commands.specs.Checking.{TellsCheck}

@@ -2,13 +2,13 @@
 
 ghost use Rattle.std.specs.Prelude.{◌≡◌, ◌≢◌, ℕ, List, Option};
 ghost use Rattle.command_parts.specs.Told.{Told};
-ghost use Rattle.script_engine.specs.Codes.{ScriptCodes};
+ghost use Rattle.job_commands.specs.Codes.{ScriptCodes};
 ghost use Rattle.painless.specs.Whole.{AreCodes, Tells};
 
 use crate::top::painless;
 use command_parts::{Report, Status};
+use eval_command::{code_laws, script_laws};
 use outer_io::{SureFiles, SureSink, SureSource};
-use script_engine::{code_laws, script_laws};
 use std::alloc::Global;
 
 /// A law of the definition of the whole, which runs nothing: the words, over files of one content, codes and one input, are told at most

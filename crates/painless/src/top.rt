@@ -3,7 +3,7 @@
 ghost use Rattle.std.specs.Prelude.{◌≡◌, ◌≢◌, ◌↔◌, ◌⊎◌, ℕ, List, Option, None, IfSome, map, string_bytes};
 ghost use Rattle.std.specs.Io.KnownBytes.{IsAtEnd};
 ghost use Rattle.outer_io.specs.Faults.{next_count};
-ghost use Rattle.script_engine.specs.Codes.{ScriptCodes};
+ghost use Rattle.job_commands.specs.Codes.{ScriptCodes};
 ghost use Rattle.command_parts.specs.Before.{EndsBefore};
 ghost use Rattle.command_parts.specs.DeliversOver.{DeliversOver};
 ghost use Rattle.command_parts.specs.Reports.{IsQuiet, Reports};
