@@ -146,8 +146,8 @@ const FILES: [(&[u8], (u8, u32)); 68] = [
 
 #[test]
 fn files_and_their_lines(rt: HostRuntime) {
-    for (file, wanted) in FILES {
-        let as_wanted = answers(rt.alloc(), file, wanted);
+    for (file, wanted) in &FILES {
+        let as_wanted = answers(rt.alloc(), *file, *wanted);
         assert!(rt; as_wanted, "{file:?}");
     }
 }
@@ -204,10 +204,10 @@ fn members_by_class_name_and_arity(rt: HostRuntime) -> Result<(), Fail> {
         return Err("no list")?;
     };
     let shared = small.share(rt.alloc())?;
-    for (class, name, arity, some, all) in CALLS {
-        let in_small = finds(&small, class, name, arity, some);
-        let in_shared = finds(&shared, class, name, arity, some);
-        let in_full = finds(&full, class, name, arity, all);
+    for (class, name, arity, some, all) in &CALLS {
+        let in_small = finds(&small, *class, *name, *arity, *some);
+        let in_shared = finds(&shared, *class, *name, *arity, *some);
+        let in_full = finds(&full, *class, *name, *arity, *all);
         assert!(rt; in_small && in_shared && in_full, "{class} {name}");
     }
     Ok(())
@@ -229,9 +229,9 @@ const ACCESSORS: [(u32, Accessor, &str, Option<u32>); 9] = [
 #[test]
 fn accessors(rt: HostRuntime) -> Result<(), Fail> {
     let full = Catalogue::full(rt.alloc())?;
-    for (class, accessor, property, wanted) in ACCESSORS {
-        let found = full.accessor(class, accessor, property);
-        assert!(rt; found == wanted, "{class} {property}");
+    for (class, accessor, property, wanted) in &ACCESSORS {
+        let found = full.accessor(*class, *accessor, *property);
+        assert!(rt; found == *wanted, "{class} {property}");
     }
     Ok(())
 }
@@ -248,8 +248,8 @@ const NAMED: [(&str, Option<u32>); 4] = [
 fn classes_and_interfaces(rt: HostRuntime) -> Result<(), Fail> {
     let full = Catalogue::full(rt.alloc())?;
     let prelude = Catalogue::with_prelude(rt.alloc())?;
-    for (name, class) in NAMED {
-        assert!(rt; full.class_named(name) == class, "{name}");
+    for (name, class) in &NAMED {
+        assert!(rt; full.class_named(*name) == *class, "{name}");
     }
     assert!(rt; prelude.class_named("Prelude") == Some(PRELUDE));
     assert!(rt; prelude.member(PRELUDE, "compare", 2) == Some(226));

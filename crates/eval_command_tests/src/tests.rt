@@ -199,7 +199,7 @@ fn errors(rt: HostRuntime) -> Result<(), Fail> {
     let alloc = rt.alloc();
     let line =
         "{\"error\":{\"class\":\"ArithmeticException\",\"kind\":\"thrown\",\"message\":\"/ by zero\"}}";
-    for script in [
+    for script in &[
         "1/0",
         "1 % 0",
         "1/0*(1/0)",
@@ -207,7 +207,7 @@ fn errors(rt: HostRuntime) -> Result<(), Fail> {
         "-(1 / (2 - 2))",
         "long f(int n) { return n == 0 ? 1L / n : f(n - 1) } f(3)",
     ] {
-        are_replied_to(&rt, alloc, &[(script, line)], Status::SomeErrors)?;
+        are_replied_to(&rt, alloc, &[(*script, line)], Status::SomeErrors)?;
     }
     are_replied_to(
         &rt,
@@ -231,14 +231,14 @@ fn errors(rt: HostRuntime) -> Result<(), Fail> {
 #[test]
 fn nothing(rt: HostRuntime) -> Result<(), Fail> {
     let alloc = rt.alloc();
-    for script in [
+    for script in &[
         "",
         " \n ",
         "// nothing",
         "/* nothing */",
         "// nothing\n/* at all */\n",
     ] {
-        are_replied_to(&rt, alloc, &[(script, "{\"result\":null}")], Status::Done)?;
+        are_replied_to(&rt, alloc, &[(*script, "{\"result\":null}")], Status::Done)?;
     }
     Ok(())
 }
@@ -399,7 +399,7 @@ fn nodes_that_are_not_built(rt: HostRuntime) -> Result<(), Fail> {
 #[test]
 fn types(rt: HostRuntime) -> Result<(), Fail> {
     let alloc = rt.alloc();
-    for (script, name, number, offset) in [
+    for (script, name, number, offset) in &[
         ("x", "UnknownVariable", 4, 0),
         ("y = 1", "UnknownVariable", 4, 0),
         ("x + 2147483648", "UnknownVariable", 4, 0),
@@ -429,7 +429,7 @@ fn types(rt: HostRuntime) -> Result<(), Fail> {
         ("1 = 2", "NotAssignable", 15, 2),
         ("1++", "NotAssignable", 15, 0),
     ] {
-        is_refused(&rt, alloc, script, name, number, offset)?;
+        is_refused(&rt, alloc, *script, *name, *number, *offset)?;
     }
     Ok(())
 }
@@ -437,14 +437,14 @@ fn types(rt: HostRuntime) -> Result<(), Fail> {
 #[test]
 fn brackets(rt: HostRuntime) -> Result<(), Fail> {
     let alloc = rt.alloc();
-    for (open, inside, shut, times, value) in [
+    for (open, inside, shut, times, value) in &[
         ("(", "1", ")", 200, 1),
         ("true?1:(", "2", ")", 199, 1),
     ] {
-        let script = nested(alloc, open, inside, shut, times)?;
-        is_worth(&rt, alloc, script.as_str(), value)?;
+        let script = nested(alloc, *open, *inside, *shut, *times)?;
+        is_worth(&rt, alloc, script.as_str(), *value)?;
     }
-    for (open, inside, shut, times, name, number, offset) in [
+    for (open, inside, shut, times, name, number, offset) in &[
         ("(", "1", ")", 201, "NestingDeep", 3, 200),
         ("[", "1", "]", 201, "NestingDeep", 3, 200),
         // No script begins with a block.
@@ -461,8 +461,8 @@ fn brackets(rt: HostRuntime) -> Result<(), Fail> {
         ("x=-(", "1", ")", 200, "UnknownVariable", 4, 0),
         ("x?x:(", "1", ")", 199, "UnknownVariable", 4, 0),
     ] {
-        let script = nested(alloc, open, inside, shut, times)?;
-        is_refused(&rt, alloc, script.as_str(), name, number, offset)?;
+        let script = nested(alloc, *open, *inside, *shut, *times)?;
+        is_refused(&rt, alloc, script.as_str(), *name, *number, *offset)?;
     }
     Ok(())
 }
@@ -470,7 +470,7 @@ fn brackets(rt: HostRuntime) -> Result<(), Fail> {
 #[test]
 fn reach(rt: HostRuntime) -> Result<(), Fail> {
     let alloc = rt.alloc();
-    for (front, part, times, behind, value) in [
+    for (front, part, times, behind, value) in &[
         // A reach of 1,000: of one level, of two, and of signs that nest.
         ("-1", "+1", 499, "", 498),
         ("(1", "+1", 499, ")", 500),
@@ -481,10 +481,10 @@ fn reach(rt: HostRuntime) -> Result<(), Fail> {
         ("int a;", "a++;", 10_000, "a", 10_000),
         ("int a;", "if(true){a++}", 2000, "a", 2000),
     ] {
-        let script = repeated(alloc, front, part, times, behind)?;
-        is_worth(&rt, alloc, script.as_str(), value)?;
+        let script = repeated(alloc, *front, *part, *times, *behind)?;
+        is_worth(&rt, alloc, script.as_str(), *value)?;
     }
-    for (front, part, times, behind, name, number, offset) in [
+    for (front, part, times, behind, name, number, offset) in &[
         ("1", "+1", 500, "", "NestingDeep", 3, 1000),
         ("1", "+1", 499, "+", "Syntax", 2, 1000),
         ("(1", "+1", 500, ")", "NestingDeep", 3, 1000),
@@ -501,8 +501,8 @@ fn reach(rt: HostRuntime) -> Result<(), Fail> {
         (")", "(", 201, "", "NestingDeep", 3, 201),
         (")", "(", 201, "#", "BadToken", 1, 202),
     ] {
-        let script = repeated(alloc, front, part, times, behind)?;
-        is_refused(&rt, alloc, script.as_str(), name, number, offset)?;
+        let script = repeated(alloc, *front, *part, *times, *behind)?;
+        is_refused(&rt, alloc, script.as_str(), *name, *number, *offset)?;
     }
     Ok(())
 }
@@ -540,7 +540,7 @@ fn files(rt: HostRuntime) -> Result<(), Fail> {
     let alloc = rt.alloc();
     for name in ["scrip", ""] {
         let absent = run(alloc, name, b"1", 4096, &[], &[])?;
-        assert_eq!(rt; absent.1, Status::FileAbsent);
+        assert!(rt; absent.1 == Status::FileAbsent);
         assert_eq!(rt; absent.0.len(), 0);
     }
     let failed = run(alloc, "script", b"1", 4096, &[], &[1])?;
@@ -588,7 +588,7 @@ fn sinks(rt: HostRuntime) -> Result<(), Fail> {
 #[test]
 fn reports(rt: HostRuntime) -> Result<(), Fail> {
     let alloc = rt.alloc();
-    for (script, listing, steps) in [
+    for (script, listing, steps) in &[
         (
             "1+2",
             "painless 1\nfun 0 loop R - -\ni 1\ni 2\nadd.i\nbox int\nret\nend\n",
@@ -607,11 +607,11 @@ fn reports(rt: HostRuntime) -> Result<(), Fail> {
         ),
     ] {
         let answer = report(alloc, "script", script.as_bytes(), 4096, &[], &[])?;
-        assert!(rt; answer.1.steps == steps, "{script}");
+        assert!(rt; answer.1.steps == *steps, "{script}");
         assert_eq!(rt; answer.1.listings.len(), 2);
         for (at, text) in answer.1.listings.iter().enumerate() {
             let same = if at == 0 {
-                text.as_str() == listing
+                text.as_str() == *listing
             } else {
                 text.as_str() == "painless 1\nfun 0 free V - -\nret\nend\n"
             };

@@ -66,7 +66,7 @@ const CHECKED: [(&str, &str); 15] = [
 #[test]
 fn jobs(rt: HostRuntime) -> Result<(), Fail> {
     let alloc = rt.alloc();
-    for (job, line) in CHECKED {
+    for (job, line) in &CHECKED {
         let wanted = format!(in alloc; "{line}\n")?;
         let answer = checked(alloc, "job", job.as_bytes())?;
         assert!(rt; answer.0.as_slice() == wanted.as_bytes(), "{job}");

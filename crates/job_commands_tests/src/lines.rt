@@ -107,7 +107,7 @@ const ROWS: [(&str, &str, &str); 20] = [
 #[test]
 fn documents(rt: HostRuntime) -> Result<(), Fail> {
     let alloc = rt.alloc();
-    for (job, lines, replies) in ROWS {
+    for (job, lines, replies) in &ROWS {
         let answer = ran(alloc, job.as_bytes(), lines.as_bytes(), &WHOLE)?;
         assert!(rt; answer.0.as_slice() == replies.as_bytes(), "{job}");
     }

@@ -106,7 +106,7 @@ const SHOWN: [(&str, &str, &str, u64); 9] = [
 #[test]
 fn listings(rt: HostRuntime) -> Result<(), Fail> {
     let alloc = rt.alloc();
-    for (job, text) in LISTED {
+    for (job, text) in &LISTED {
         let answer = listed(alloc, job.as_bytes())?;
         assert!(rt; answer.0.as_slice() == text.as_bytes(), "{job}");
         assert_eq!(rt; answer.1.listings.len(), 0);
@@ -118,9 +118,9 @@ fn listings(rt: HostRuntime) -> Result<(), Fail> {
 #[test]
 fn examples(rt: HostRuntime) -> Result<(), Fail> {
     let alloc = rt.alloc();
-    for job in EXAMPLES {
+    for job in &EXAMPLES {
         let answer = listed(alloc, job.as_bytes())?;
-        assert_eq!(rt; answer.1.status, Status::Done);
+        assert!(rt; answer.1.status == Status::Done);
         let Ok(code) = read_listing(alloc, answer.0.as_slice()) else {
             assert!(rt; false, "{job}");
             return Ok(());
@@ -134,10 +134,10 @@ fn examples(rt: HostRuntime) -> Result<(), Fail> {
 #[test]
 fn shown(rt: HostRuntime) -> Result<(), Fail> {
     let alloc = rt.alloc();
-    for (job, lines, written, steps) in SHOWN {
+    for (job, lines, written, steps) in &SHOWN {
         let answer = reported(alloc, job.as_bytes(), lines.as_bytes(), &WHOLE)?;
         assert!(rt; answer.0.as_slice() == written.as_bytes(), "{job}");
-        assert!(rt; answer.1.steps == steps, "{job}");
+        assert!(rt; answer.1.steps == *steps, "{job}");
         // The report has the script's listing, which `list` writes, and the prelude's.
         let script = listed(alloc, job.as_bytes())?;
         assert_eq!(rt; answer.1.listings.len(), 2);

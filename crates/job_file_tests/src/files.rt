@@ -84,8 +84,8 @@ const FILES: [(&str, Answer); 28] = [
 
 #[test]
 fn files_and_contexts(rt: HostRuntime) {
-    for (file, wanted) in FILES {
-        let as_wanted = answers(rt.alloc(), file.as_bytes(), JobCommand::Run, wanted);
+    for (file, wanted) in &FILES {
+        let as_wanted = answers(rt.alloc(), file.as_bytes(), JobCommand::Run, *wanted);
         assert!(rt; as_wanted, "{file}");
     }
 }
@@ -95,8 +95,8 @@ const BYTES: [&[u8]; 3] = [b"\xef\xbb\xbf{}", b"\xff", b"{\"context\":\"\xff\"}"
 
 #[test]
 fn bytes_that_are_no_json(rt: HostRuntime) {
-    for bytes in BYTES {
-        let as_wanted = answers(rt.alloc(), bytes, JobCommand::Run, SYNTAX);
+    for bytes in &BYTES {
+        let as_wanted = answers(rt.alloc(), *bytes, JobCommand::Run, SYNTAX);
         assert!(rt; as_wanted, "{bytes:?}");
     }
 }
@@ -144,9 +144,9 @@ const EVALS: [(&str, Answer); 13] = [
 
 #[test]
 fn scripts_of_their_own(rt: HostRuntime) {
-    for (file, wanted) in EVALS {
-        let checked = answers(rt.alloc(), file.as_bytes(), JobCommand::Check, wanted);
-        let listed = answers(rt.alloc(), file.as_bytes(), JobCommand::List, wanted);
+    for (file, wanted) in &EVALS {
+        let checked = answers(rt.alloc(), file.as_bytes(), JobCommand::Check, *wanted);
+        let listed = answers(rt.alloc(), file.as_bytes(), JobCommand::List, *wanted);
         assert!(rt; checked && listed, "{file}");
     }
 }
@@ -227,8 +227,8 @@ const PAIRS: [(&str, Answer); 22] = [
 
 #[test]
 fn the_first_of_two_faults(rt: HostRuntime) {
-    for (file, wanted) in PAIRS {
-        let as_wanted = answers(rt.alloc(), file.as_bytes(), JobCommand::Run, wanted);
+    for (file, wanted) in &PAIRS {
+        let as_wanted = answers(rt.alloc(), file.as_bytes(), JobCommand::Run, *wanted);
         assert!(rt; as_wanted, "{file}");
     }
 }

@@ -121,8 +121,8 @@ const EXAMPLES: [(&[u8], JobCommand); 4] = [
 
 #[test]
 fn examples_of_the_document(rt: HostRuntime) {
-    for (file, command) in EXAMPLES {
-        let read = answers(rt.alloc(), file, command, OK);
+    for (file, command) in &EXAMPLES {
+        let read = answers(rt.alloc(), *file, *command, OK);
         assert!(rt; read, "{file:?}");
     }
 }
@@ -294,8 +294,8 @@ const OBJECTS: [(JobContext, &str, Answer); 30] = [
 
 #[test]
 fn contexts_that_are_not_built(rt: HostRuntime) {
-    for (context, text, wanted) in OBJECTS {
-        let as_wanted = object_answers(rt.alloc(), context, text, wanted);
+    for (context, text, wanted) in &OBJECTS {
+        let as_wanted = object_answers(rt.alloc(), *context, *text, *wanted);
         assert!(rt; as_wanted, "{text}");
     }
 }
@@ -341,9 +341,9 @@ const COUNTS: [(u32, Answer); 2] = [(100_000, OK), (100_001, "range order")];
 
 #[test]
 fn how_many_entries(rt: HostRuntime) -> Result<(), Fail> {
-    for (count, wanted) in COUNTS {
-        let text = entries(rt.alloc(), count)?;
-        let as_wanted = object_answers(rt.alloc(), JobContext::Metric, text.as_str(), wanted);
+    for (count, wanted) in &COUNTS {
+        let text = entries(rt.alloc(), *count)?;
+        let as_wanted = object_answers(rt.alloc(), JobContext::Metric, text.as_str(), *wanted);
         assert!(rt; as_wanted, "{count}");
     }
     Ok(())
@@ -368,8 +368,8 @@ const MAPPINGS: [(&str, &str); 2] = [
 
 #[test]
 fn mappings_alone(rt: HostRuntime) {
-    for (text, wanted) in MAPPINGS {
-        let as_wanted = mapping_answers(rt.alloc(), text, wanted);
+    for (text, wanted) in &MAPPINGS {
+        let as_wanted = mapping_answers(rt.alloc(), *text, *wanted);
         assert!(rt; as_wanted, "{text}");
     }
 }

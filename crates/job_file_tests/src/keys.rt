@@ -116,8 +116,8 @@ const KEYS: [(&str, Answer); 78] = [
 
 #[test]
 fn keys_and_types(rt: HostRuntime) -> Result<(), Fail> {
-    for (members, wanted) in KEYS {
-        let as_wanted = row_answers(rt.alloc(), members, wanted)?;
+    for (members, wanted) in &KEYS {
+        let as_wanted = row_answers(rt.alloc(), *members, *wanted)?;
         assert!(rt; as_wanted, "{members}");
     }
     Ok(())
@@ -189,8 +189,8 @@ const VALUES: [(&str, Answer); 45] = [
 
 #[test]
 fn limits_and_mappings(rt: HostRuntime) -> Result<(), Fail> {
-    for (members, wanted) in VALUES {
-        let as_wanted = row_answers(rt.alloc(), members, wanted)?;
+    for (members, wanted) in &VALUES {
+        let as_wanted = row_answers(rt.alloc(), *members, *wanted)?;
         assert!(rt; as_wanted, "{members}");
     }
     Ok(())
@@ -216,9 +216,9 @@ const COUNTS: [(u32, &str, Answer); 4] = [
 
 #[test]
 fn how_many_fields(rt: HostRuntime) -> Result<(), Fail> {
-    for (count, first, wanted) in COUNTS {
-        let members = many_fields(rt.alloc(), count, first)?;
-        let as_wanted = row_answers(rt.alloc(), members.as_str(), wanted)?;
+    for (count, first, wanted) in &COUNTS {
+        let members = many_fields(rt.alloc(), *count, *first)?;
+        let as_wanted = row_answers(rt.alloc(), members.as_str(), *wanted)?;
         assert!(rt; as_wanted, "{count} {first}");
     }
     Ok(())
@@ -242,9 +242,9 @@ const DEPTHS: [(u32, Answer); 2] = [(125, OK), (126, "syntax")];
 
 #[test]
 fn how_deep_parameters_are(rt: HostRuntime) -> Result<(), Fail> {
-    for (count, wanted) in DEPTHS {
-        let members = nested(rt.alloc(), count)?;
-        let as_wanted = row_answers(rt.alloc(), members.as_str(), wanted)?;
+    for (count, wanted) in &DEPTHS {
+        let members = nested(rt.alloc(), *count)?;
+        let as_wanted = row_answers(rt.alloc(), members.as_str(), *wanted)?;
         assert!(rt; as_wanted, "{count}");
     }
     Ok(())

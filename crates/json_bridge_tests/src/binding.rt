@@ -71,8 +71,8 @@ const OPEN: [(&str, &str); 32] = [
 
 #[test]
 fn values_that_may_change(rt: HostRuntime) {
-    for (json, wanted) in OPEN {
-        let as_wanted = is_bound(rt.alloc(), json, false, wanted);
+    for (json, wanted) in &OPEN {
+        let as_wanted = is_bound(rt.alloc(), *json, false, *wanted);
         assert!(rt; as_wanted, "{json}");
     }
 }
@@ -90,8 +90,8 @@ const FROZEN: [(&str, &str); 4] = [
 
 #[test]
 fn values_that_stay(rt: HostRuntime) {
-    for (json, wanted) in FROZEN {
-        let as_wanted = is_bound(rt.alloc(), json, true, wanted);
+    for (json, wanted) in &FROZEN {
+        let as_wanted = is_bound(rt.alloc(), *json, true, *wanted);
         assert!(rt; as_wanted, "{json}");
     }
 }

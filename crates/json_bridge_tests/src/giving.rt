@@ -60,8 +60,8 @@ const BOUND: [(&str, &str); 9] = [
 
 #[test]
 fn what_was_bound(rt: HostRuntime) {
-    for (json, wanted) in BOUND {
-        let as_wanted = comes_back(rt.alloc(), json, wanted);
+    for (json, wanted) in &BOUND {
+        let as_wanted = comes_back(rt.alloc(), *json, *wanted);
         assert!(rt; as_wanted, "{json}");
     }
 }
@@ -103,8 +103,8 @@ fn each_kind(rt: HostRuntime) {
     let heap = sample(rt.alloc());
     assert!(rt; heap.is_ok());
     if let Ok(heap) = heap {
-        for (id, wanted) in OBJECTS {
-            let as_wanted = is_given(rt.alloc(), &heap, &Value::Ref(id), wanted);
+        for (id, wanted) in &OBJECTS {
+            let as_wanted = is_given(rt.alloc(), &heap, &Value::Ref(*id), *wanted);
             assert!(rt; as_wanted, "{id}");
         }
     }

@@ -67,12 +67,12 @@ const LONGS: [(SearchKind, i64, bool, &str); 9] = [
 
 #[test]
 fn longs(rt: HostRuntime) {
-    for (kind, number, is_error, wanted) in LONGS {
+    for (kind, number, is_error, wanted) in &LONGS {
         let as_wanted = is_told(
             rt.alloc(),
-            kind,
-            &End::Value(Value::Long(number)),
-            (is_error, wanted),
+            *kind,
+            &End::Value(Value::Long(*number)),
+            (*is_error, *wanted),
         );
         assert!(rt; as_wanted, "{number} {wanted}");
     }
@@ -88,18 +88,18 @@ const LIMITS: [(Which, &str); 4] = [
 
 #[test]
 fn limits(rt: HostRuntime) {
-    for (which, wanted) in LIMITS {
+    for (which, wanted) in &LIMITS {
         let score = is_told(
             rt.alloc(),
             SearchKind::Score,
-            &End::Limit(which),
-            (true, wanted),
+            &End::Limit(*which),
+            (true, *wanted),
         );
         let filter = is_told(
             rt.alloc(),
             SearchKind::Filter,
-            &End::Limit(which),
-            (true, wanted),
+            &End::Limit(*which),
+            (true, *wanted),
         );
         assert!(rt; score, "{wanted}");
         assert!(rt; filter, "{wanted}");

@@ -67,12 +67,15 @@ const SHOWN: [(bool, bool, &str, &str); 4] = [
 
 #[test]
 fn shown(rt: HostRuntime) {
-    for (members, steps, result, error) in SHOWN {
-        let keys = ShownKeys { members, steps };
+    for (members, steps, result, error) in &SHOWN {
+        let keys = ShownKeys {
+            members: *members,
+            steps: *steps,
+        };
         let value = End::Value(Value::Int(7));
-        let gives = is_told(rt.alloc(), keys, value, false, result);
+        let gives = is_told(rt.alloc(), keys, value, false, *result);
         let limit = End::Limit(Which::Loop);
-        let fails = is_told(rt.alloc(), keys, limit, true, error);
+        let fails = is_told(rt.alloc(), keys, limit, true, *error);
         assert!(rt; gives, "{result}");
         assert!(rt; fails, "{error}");
     }

@@ -88,8 +88,8 @@ const SUMS: [(Row, Row, Row); 40] = [
 #[test]
 fn sums_promote_or_concatenate(rt: HostRuntime) -> Result<(), Fail> {
     let mut at = 0u32;
-    for (a, b, wanted) in SUMS {
-        let holds = operates(rt.alloc(), Op::Add, a, b, wanted)?;
+    for (a, b, wanted) in &SUMS {
+        let holds = operates(rt.alloc(), Op::Add, *a, *b, *wanted)?;
         assert!(rt; holds, "{at}");
         at = at.wrapping_add(1);
     }
@@ -181,8 +181,8 @@ const OPERATIONS: [(Op, Row, Row, Row); 44] = [
 #[test]
 fn operators_follow_the_kinds(rt: HostRuntime) -> Result<(), Fail> {
     let mut at = 0u32;
-    for (op, a, b, wanted) in OPERATIONS {
-        let holds = operates(rt.alloc(), op, a, b, wanted)?;
+    for (op, a, b, wanted) in &OPERATIONS {
+        let holds = operates(rt.alloc(), *op, *a, *b, *wanted)?;
         assert!(rt; holds, "{at}");
         at = at.wrapping_add(1);
     }
@@ -391,8 +391,8 @@ const EXPLICIT: [(Row, char, Row); 20] = [
 #[test]
 fn casts_that_are_not_written(rt: HostRuntime) -> Result<(), Fail> {
     let mut at = 0u32;
-    for (a, to, wanted) in IMPLICIT {
-        let holds = casts(rt.alloc(), a, to, false, wanted)?;
+    for (a, to, wanted) in &IMPLICIT {
+        let holds = casts(rt.alloc(), *a, *to, false, *wanted)?;
         assert!(rt; holds, "{at}");
         at = at.wrapping_add(1);
     }
@@ -402,8 +402,8 @@ fn casts_that_are_not_written(rt: HostRuntime) -> Result<(), Fail> {
 #[test]
 fn casts_that_are_written(rt: HostRuntime) -> Result<(), Fail> {
     let mut at = 0u32;
-    for (a, to, wanted) in EXPLICIT {
-        let holds = casts(rt.alloc(), a, to, true, wanted)?;
+    for (a, to, wanted) in &EXPLICIT {
+        let holds = casts(rt.alloc(), *a, *to, true, *wanted)?;
         assert!(rt; holds, "{at}");
         at = at.wrapping_add(1);
     }

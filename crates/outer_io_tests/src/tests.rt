@@ -93,17 +93,17 @@ fn files_in_memory(rt: HostRuntime) -> Result<(), Fail> {
     let mut files = MemFiles::new(documents(alloc)?, [1].to_vec(alloc)?);
     let first = shown(alloc, files.read(alloc, "a", 3))?;
     assert!(rt; first.as_str() == "failed");
-    for (name, limit, want) in [
+    for (name, limit, want) in &[
         ("a", 3, "bytes [111, 110, 101]"),
         ("a", 2, "long"),
         ("b", 0, "bytes []"),
         ("c", 0, "absent"),
         ("", 9, "absent"),
     ] {
-        let answer = shown(alloc, sure.read(alloc, name, limit))?;
-        assert!(rt; answer.as_str() == want, "{name}");
-        let answer = shown(alloc, files.read(alloc, name, limit))?;
-        assert!(rt; answer.as_str() == want, "{name}");
+        let answer = shown(alloc, sure.read(alloc, *name, *limit))?;
+        assert!(rt; answer.as_str() == *want, "{name}");
+        let answer = shown(alloc, files.read(alloc, *name, *limit))?;
+        assert!(rt; answer.as_str() == *want, "{name}");
     }
     Ok(())
 }
@@ -112,7 +112,7 @@ fn files_in_memory(rt: HostRuntime) -> Result<(), Fail> {
 fn standard_files(rt: HostRuntime) -> Result<(), Fail> {
     let alloc = rt.alloc();
     let mut files = StdFiles::new(&rt);
-    for (name, limit, want) in [
+    for (name, limit, want) in &[
         (
             "/proc/sys/kernel/ostype",
             6,
@@ -128,8 +128,8 @@ fn standard_files(rt: HostRuntime) -> Result<(), Fail> {
         ("/", 6, "failed"),
         ("a\0b", 6, "failed"),
     ] {
-        let answer = shown(alloc, files.read(alloc, name, limit))?;
-        assert!(rt; answer.as_str() == want, "{name}");
+        let answer = shown(alloc, files.read(alloc, *name, *limit))?;
+        assert!(rt; answer.as_str() == *want, "{name}");
     }
     Ok(())
 }
@@ -209,7 +209,7 @@ fn input_shown(
 #[test]
 fn short_lines(rt: HostRuntime) -> Result<(), Fail> {
     let alloc = rt.alloc();
-    for (input, limit, want) in [
+    for (input, limit, want) in &[
         ("", 9, "end"),
         ("\n", 9, "|end"),
         ("\n\n", 9, "||end"),
@@ -232,8 +232,8 @@ fn short_lines(rt: HostRuntime) -> Result<(), Fail> {
         ("ab\ncd", 5, "ab|cd|end"),
     ] {
         for most in [1, 2, 100_000] {
-            let shown = input_shown(alloc, input.as_bytes(), limit, most, 0)?;
-            assert!(rt; shown.as_str() == want, "{input:?} up to {limit}");
+            let shown = input_shown(alloc, input.as_bytes(), *limit, most, 0)?;
+            assert!(rt; shown.as_str() == *want, "{input:?} up to {limit}");
         }
     }
     Ok(())

@@ -97,8 +97,8 @@ const NUMBERS: [(&str, &str); 25] = [
 
 #[test]
 fn numbers(rt: HostRuntime) -> Result<(), TestFail> {
-    for (text, wanted) in NUMBERS {
-        let read = is_read(rt.alloc(), text, wanted)?;
+    for (text, wanted) in &NUMBERS {
+        let read = is_read(rt.alloc(), *text, *wanted)?;
         assert!(rt; read, "{text:?}");
     }
     Ok(())
@@ -151,8 +151,8 @@ const WORDS: [(&str, &str); 24] = [
 
 #[test]
 fn words(rt: HostRuntime) -> Result<(), TestFail> {
-    for (text, wanted) in WORDS {
-        let read = is_read(rt.alloc(), text, wanted)?;
+    for (text, wanted) in &WORDS {
+        let read = is_read(rt.alloc(), *text, *wanted)?;
         assert!(rt; read, "{text:?}");
     }
     Ok(())
@@ -193,8 +193,8 @@ const SIGNS: [(&str, &str); 12] = [
 
 #[test]
 fn signs(rt: HostRuntime) -> Result<(), TestFail> {
-    for (text, wanted) in SIGNS {
-        let read = is_read(rt.alloc(), text, wanted)?;
+    for (text, wanted) in &SIGNS {
+        let read = is_read(rt.alloc(), *text, *wanted)?;
         assert!(rt; read, "{text:?}");
     }
     Ok(())
@@ -228,8 +228,8 @@ const ENCLOSED: [(&str, &str); 23] = [
 
 #[test]
 fn texts_and_comments(rt: HostRuntime) -> Result<(), TestFail> {
-    for (text, wanted) in ENCLOSED {
-        let read = is_read(rt.alloc(), text, wanted)?;
+    for (text, wanted) in &ENCLOSED {
+        let read = is_read(rt.alloc(), *text, *wanted)?;
         assert!(rt; read, "{text:?}");
     }
     Ok(())

@@ -193,11 +193,11 @@ fn marked(
 
 #[test]
 fn primitives_as_in_java(rt: HostRuntime) -> Result<(), test::Fail> {
-    for (from, row) in CONVERSIONS {
+    for (from, row) in &CONVERSIONS {
         for (to, mark) in PRIMITIVES.iter().zip(row.as_bytes()) {
             for explicit in [false, true] {
-                let wanted = marked(rt.alloc(), *mark, explicit, from, *to)?;
-                let as_wanted = casts(rt.alloc(), from, *to, explicit, wanted.as_str())?;
+                let wanted = marked(rt.alloc(), *mark, explicit, *from, *to)?;
+                let as_wanted = casts(rt.alloc(), *from, *to, explicit, wanted.as_str())?;
                 assert!(rt; as_wanted, "{from} to {to}");
             }
         }
@@ -277,16 +277,16 @@ fn is_no_type(alloc: Global, text: &str) -> Result<bool, AllocError> {
 
 #[test]
 fn texts_of_types(rt: HostRuntime) -> Result<(), test::Fail> {
-    for (full, short) in TEXTS {
-        let same = has_texts(rt.alloc(), full, short)?;
+    for (full, short) in &TEXTS {
+        let same = has_texts(rt.alloc(), *full, *short)?;
         assert!(rt; same, "{full}");
     }
-    for text in NO_TYPES {
-        let none = is_no_type(rt.alloc(), text)?;
+    for text in &NO_TYPES {
+        let none = is_no_type(rt.alloc(), *text)?;
         assert!(rt; none, "{text}");
     }
-    for word in PRIMITIVES {
-        assert!(rt; is_keyword(word), "{word}");
+    for word in &PRIMITIVES {
+        assert!(rt; is_keyword(*word), "{word}");
     }
     Ok(())
 }
@@ -358,10 +358,10 @@ fn promotions_literals_and_refusals(rt: HostRuntime) -> Result<(), test::Fail> {
     for (value, wanted, fits) in LITERALS {
         assert!(rt; literal_fits(value, wanted) == fits, "{value}");
     }
-    for (number, wanted, name) in REFUSALS {
-        assert!(rt; number == wanted);
-        assert!(rt; 1 <= number && number <= REFUSAL_COUNT);
-        assert!(rt; name_of_rule(number) == name, "{name}");
+    for (number, wanted, name) in &REFUSALS {
+        assert!(rt; *number == *wanted);
+        assert!(rt; 1 <= *number && *number <= REFUSAL_COUNT);
+        assert!(rt; name_of_rule(*number) == *name, "{name}");
     }
     let refused = Fail::Refused(Refusal {
         number: 2,

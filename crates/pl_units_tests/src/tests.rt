@@ -28,8 +28,8 @@ fn is_spelled(alloc: Global, utf8: &str, units: &[u16]) -> Result<bool, AllocErr
 
 #[test]
 fn utf8_to_units_and_back(rt: HostRuntime) -> Result<(), Fail> {
-    for (utf8, units) in SPELLED {
-        let spelled = is_spelled(rt.alloc(), utf8, units)?;
+    for (utf8, units) in &SPELLED {
+        let spelled = is_spelled(rt.alloc(), *utf8, *units)?;
         assert!(rt; spelled, "{utf8}");
     }
     Ok(())
@@ -60,8 +60,8 @@ fn is_written(alloc: Global, units: &[u16], utf8: &str) -> Result<bool, AllocErr
 
 #[test]
 fn unpaired_surrogates(rt: HostRuntime) -> Result<(), Fail> {
-    for (units, utf8) in WRITTEN {
-        let written = is_written(rt.alloc(), units, utf8)?;
+    for (units, utf8) in &WRITTEN {
+        let written = is_written(rt.alloc(), *units, *utf8)?;
         assert!(rt; written, "{utf8}");
     }
     Ok(())
@@ -89,8 +89,8 @@ fn is_part(whole: &UText, from: usize, to: usize, utf8: &str) -> Result<bool, Al
 #[test]
 fn parts(rt: HostRuntime) -> Result<(), Fail> {
     let whole = UText::from_utf8(rt.alloc(), "a\u{1F600}b")?;
-    for (from, to, utf8) in PARTS {
-        let part = is_part(&whole, from, to, utf8)?;
+    for (from, to, utf8) in &PARTS {
+        let part = is_part(&whole, *from, *to, *utf8)?;
         assert!(rt; part, "{from} to {to}");
     }
     let again = UText::from_slice(rt.alloc(), whole.share()?.units())?;
@@ -222,11 +222,11 @@ fn stands(
 
 #[test]
 fn places(rt: HostRuntime) -> Result<(), Fail> {
-    for (whole, part, from, first, last) in PLACES {
-        let (found, found_last, here) = stands(rt.alloc(), whole, part, from)?;
-        assert!(rt; found == first && found_last == last, "{part} in {whole}");
+    for (whole, part, from, first, last) in &PLACES {
+        let (found, found_last, here) = stands(rt.alloc(), *whole, *part, *from)?;
+        assert!(rt; found == *first && found_last == *last, "{part} in {whole}");
         assert!(rt;
-            here == (first == Some(from)),
+            here == (*first == Some(*from)),
             "{part} in {whole} at {from}"
         );
     }
@@ -246,11 +246,11 @@ const ORDER: [(&str, &str, Ordering); 7] = [
 #[test]
 fn order(rt: HostRuntime) -> Result<(), Fail> {
     order_is_total();
-    for (one, other, wanted) in ORDER {
-        let one = UText::from_utf8(rt.alloc(), one)?;
-        let other = UText::from_utf8(rt.alloc(), other)?;
+    for (one, other, wanted) in &ORDER {
+        let one = UText::from_utf8(rt.alloc(), *one)?;
+        let other = UText::from_utf8(rt.alloc(), *other)?;
         let order = one.compare(&other);
-        assert!(rt; order == wanted && one.is(&other) == (wanted == Ordering::Equal));
+        assert!(rt; order == *wanted && one.is(&other) == (*wanted == Ordering::Equal));
     }
     Ok(())
 }
@@ -279,10 +279,10 @@ const NUMBERS: [(&str, Option<i32>, Option<i64>); 19] = [
 
 #[test]
 fn numbers(rt: HostRuntime) -> Result<(), Fail> {
-    for (digits, int, long) in NUMBERS {
-        let text = UText::from_utf8(rt.alloc(), digits)?;
+    for (digits, int, long) in &NUMBERS {
+        let text = UText::from_utf8(rt.alloc(), *digits)?;
         assert!(rt;
-            parse_int(&text) == int && parse_long(&text) == long,
+            parse_int(&text) == *int && parse_long(&text) == *long,
             "{digits}"
         );
     }
@@ -299,9 +299,9 @@ const DECIMALS: [(i64, &str); 5] = [
 
 #[test]
 fn decimals(rt: HostRuntime) -> Result<(), Fail> {
-    for (n, digits) in DECIMALS {
-        let written = decimal(rt.alloc(), n)?.to_utf8()?;
-        assert!(rt; written.as_str() == digits, "{n}");
+    for (n, digits) in &DECIMALS {
+        let written = decimal(rt.alloc(), *n)?.to_utf8()?;
+        assert!(rt; written.as_str() == *digits, "{n}");
     }
     Ok(())
 }

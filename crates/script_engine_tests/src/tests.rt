@@ -26,7 +26,7 @@ use std::test::Fail;
 #[test]
 fn operators_over_each_pair_of_types(rt: HostRuntime) -> Result<(), Fail> {
     let compiler = Compiler::new(rt.alloc())?;
-    for table in [
+    for table in &[
         operators::BYTES,
         operators::SHORTS,
         operators::CHARS,
@@ -35,7 +35,7 @@ fn operators_over_each_pair_of_types(rt: HostRuntime) -> Result<(), Fail> {
         operands::UNARY,
         operands::BOOLEANS,
     ] {
-        all_cells_end(&rt, &compiler, table)?;
+        all_cells_end(&rt, &compiler, *table)?;
     }
     Ok(())
 }
@@ -43,7 +43,7 @@ fn operators_over_each_pair_of_types(rt: HostRuntime) -> Result<(), Fail> {
 #[test]
 fn scripts_end(rt: HostRuntime) -> Result<(), Fail> {
     let compiler = Compiler::new(rt.alloc())?;
-    for table in [
+    for table in &[
         rows::VALUES,
         rows::SHORT_CIRCUITS,
         rows::ZERO_DIVISORS,
@@ -51,7 +51,7 @@ fn scripts_end(rt: HostRuntime) -> Result<(), Fail> {
         rows::LOOPS,
         rows::FUNCTIONS,
     ] {
-        all_end(&rt, &compiler, USUAL, table)?;
+        all_end(&rt, &compiler, USUAL, *table)?;
     }
     Ok(())
 }
@@ -59,8 +59,8 @@ fn scripts_end(rt: HostRuntime) -> Result<(), Fail> {
 #[test]
 fn scripts_end_within_bounds(rt: HostRuntime) -> Result<(), Fail> {
     let compiler = Compiler::new(rt.alloc())?;
-    for (bounds, table) in rows::BOUNDED {
-        all_end(&rt, &compiler, bounds, table)?;
+    for (bounds, table) in &rows::BOUNDED {
+        all_end(&rt, &compiler, *bounds, *table)?;
     }
     Ok(())
 }
@@ -68,7 +68,7 @@ fn scripts_end_within_bounds(rt: HostRuntime) -> Result<(), Fail> {
 #[test]
 fn boxes_end(rt: HostRuntime) -> Result<(), Fail> {
     let compiler = Compiler::new(rt.alloc())?;
-    for table in [
+    for table in &[
         boxes::UNBOXED,
         boxes::BOXED,
         boxes::FOUND,
@@ -77,7 +77,7 @@ fn boxes_end(rt: HostRuntime) -> Result<(), Fail> {
         boxes::MIXED,
         boxes::SINGLE,
     ] {
-        all_cells_end(&rt, &compiler, table)?;
+        all_cells_end(&rt, &compiler, *table)?;
     }
     for table in [boxes::MEMBERS, boxes::RELATED] {
         all_end(&rt, &compiler, USUAL, table)?;
@@ -88,7 +88,7 @@ fn boxes_end(rt: HostRuntime) -> Result<(), Fail> {
 #[test]
 fn references_end(rt: HostRuntime) -> Result<(), Fail> {
     let compiler = Compiler::new(rt.alloc())?;
-    for table in [
+    for table in &[
         references::TEXTS,
         references::CASTS,
         references::RELATIONS,
@@ -96,7 +96,7 @@ fn references_end(rt: HostRuntime) -> Result<(), Fail> {
         references::THROWN,
         references::MEMBERS,
     ] {
-        all_end(&rt, &compiler, USUAL, table)?;
+        all_end(&rt, &compiler, USUAL, *table)?;
     }
     Ok(())
 }
@@ -122,8 +122,8 @@ fn catches_end(rt: HostRuntime) -> Result<(), Fail> {
 #[test]
 fn catches_end_within_bounds(rt: HostRuntime) -> Result<(), Fail> {
     let compiler = Compiler::new(rt.alloc())?;
-    for (bounds, table) in catches::BOUNDED {
-        all_end(&rt, &compiler, bounds, table)?;
+    for (bounds, table) in &catches::BOUNDED {
+        all_end(&rt, &compiler, *bounds, *table)?;
     }
     Ok(())
 }
@@ -131,14 +131,14 @@ fn catches_end_within_bounds(rt: HostRuntime) -> Result<(), Fail> {
 #[test]
 fn containers_end(rt: HostRuntime) -> Result<(), Fail> {
     let compiler = Compiler::new(rt.alloc())?;
-    for table in [
+    for table in &[
         containers::LISTS,
         containers::MAPS,
         containers::ITERATORS,
         containers::CLASSES,
         containers::THROWN,
     ] {
-        all_end(&rt, &compiler, USUAL, table)?;
+        all_end(&rt, &compiler, USUAL, *table)?;
     }
     Ok(())
 }
@@ -146,8 +146,8 @@ fn containers_end(rt: HostRuntime) -> Result<(), Fail> {
 #[test]
 fn containers_end_within_bounds(rt: HostRuntime) -> Result<(), Fail> {
     let compiler = Compiler::new(rt.alloc())?;
-    for (bounds, table) in containers::BOUNDED {
-        all_end(&rt, &compiler, bounds, table)?;
+    for (bounds, table) in &containers::BOUNDED {
+        all_end(&rt, &compiler, *bounds, *table)?;
     }
     Ok(())
 }
@@ -155,7 +155,7 @@ fn containers_end_within_bounds(rt: HostRuntime) -> Result<(), Fail> {
 #[test]
 fn literals_arrays_and_places_end(rt: HostRuntime) -> Result<(), Fail> {
     let compiler = Compiler::new(rt.alloc())?;
-    for table in [
+    for table in &[
         literals::LISTS,
         literals::MAPS,
         literals::SETS,
@@ -169,7 +169,7 @@ fn literals_arrays_and_places_end(rt: HostRuntime) -> Result<(), Fail> {
         places::ONCE,
         places::ELEMENTS,
     ] {
-        all_end(&rt, &compiler, USUAL, table)?;
+        all_end(&rt, &compiler, USUAL, *table)?;
     }
     Ok(())
 }
@@ -195,7 +195,7 @@ fn elements_end_within_bounds(rt: HostRuntime) -> Result<(), Fail> {
 #[test]
 fn values_of_any_type_end(rt: HostRuntime) -> Result<(), Fail> {
     let compiler = Compiler::new(rt.alloc())?;
-    for table in [
+    for table in &[
         dynamic::OPERATORS,
         dynamic::CALLS,
         dynamic::ACCESSES,
@@ -203,7 +203,7 @@ fn values_of_any_type_end(rt: HostRuntime) -> Result<(), Fail> {
         dynamic::REACHED,
         instances::INSTANCES,
     ] {
-        all_end(&rt, &compiler, USUAL, table)?;
+        all_end(&rt, &compiler, USUAL, *table)?;
     }
     Ok(())
 }
@@ -231,9 +231,9 @@ const ALLOWED: [(&str, &str); 2] = [
 
 #[test]
 fn what_is_left_out_is_not_found(rt: HostRuntime) -> Result<(), Fail> {
-    for (file, table) in ALLOWED {
-        let compiler = Compiler::reading(rt.alloc(), file)?;
-        all_end(&rt, &compiler, USUAL, table)?;
+    for (file, table) in &ALLOWED {
+        let compiler = Compiler::reading(rt.alloc(), *file)?;
+        all_end(&rt, &compiler, USUAL, *table)?;
     }
     Ok(())
 }

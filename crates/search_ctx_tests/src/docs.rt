@@ -82,10 +82,10 @@ fn comes_to(alloc: Global, kind: &str, value: &str, wanted: &str) -> bool {
 
 #[test]
 fn each_value_at_each_kind(rt: HostRuntime) {
-    for (value, boolean, keyword, long) in EACH {
-        let as_boolean = comes_to(rt.alloc(), "boolean", value, boolean);
-        let as_keyword = comes_to(rt.alloc(), "keyword", value, keyword);
-        let as_long = comes_to(rt.alloc(), "long", value, long);
+    for (value, boolean, keyword, long) in &EACH {
+        let as_boolean = comes_to(rt.alloc(), "boolean", *value, *boolean);
+        let as_keyword = comes_to(rt.alloc(), "keyword", *value, *keyword);
+        let as_long = comes_to(rt.alloc(), "long", *value, *long);
         assert!(rt; as_boolean, "{value} as boolean");
         assert!(rt; as_keyword, "{value} as keyword");
         assert!(rt; as_long, "{value} as long");
@@ -195,8 +195,8 @@ const ROWS: [(&str, &str, &str); 41] = [
 
 #[test]
 fn documents(rt: HostRuntime) {
-    for (mapping, line, wanted) in ROWS {
-        let as_wanted = has_values(rt.alloc(), mapping, line, wanted);
+    for (mapping, line, wanted) in &ROWS {
+        let as_wanted = has_values(rt.alloc(), *mapping, *line, *wanted);
         assert!(rt; as_wanted, "{mapping} {line}");
     }
 }

@@ -132,8 +132,8 @@ const ROWS: [(SearchKind, (&str, &str), &str, &str); 26] = [
 #[test]
 fn starts(rt: HostRuntime) {
     let mut scratch = Scratch::new(rt.alloc());
-    for (kind, texts, line, wanted) in ROWS {
-        let as_wanted = starts_so(rt.alloc(), kind, texts, line, wanted, &mut scratch);
+    for (kind, texts, line, wanted) in &ROWS {
+        let as_wanted = starts_so(rt.alloc(), *kind, *texts, *line, *wanted, &mut scratch);
         assert!(rt; as_wanted, "{line}");
     }
 }

@@ -111,8 +111,8 @@ fn has_text(heap: &Heap, value: &Value, wanted: &str) -> Result<bool, AllocError
 #[test]
 fn objects_have_texts(rt: HostRuntime) -> Result<(), Fail> {
     let heap = sample(rt.alloc())?;
-    for (id, wanted) in TEXTS {
-        let holds = has_text(&heap, &Value::Ref(id), wanted)?;
+    for (id, wanted) in &TEXTS {
+        let holds = has_text(&heap, &Value::Ref(*id), *wanted)?;
         assert!(rt; holds, "{wanted}");
     }
     Ok(())
@@ -128,8 +128,8 @@ const NUMBERS: [(i64, &str); 4] = [
 #[test]
 fn values_have_texts(rt: HostRuntime) -> Result<(), Fail> {
     let heap = Heap::new(rt.alloc(), 0);
-    for (number, wanted) in NUMBERS {
-        let holds = has_text(&heap, &Value::Long(number), wanted)?;
+    for (number, wanted) in &NUMBERS {
+        let holds = has_text(&heap, &Value::Long(*number), *wanted)?;
         assert!(rt; holds, "{wanted}");
     }
     let null = has_text(&heap, &Value::Null, "null")?;
@@ -190,8 +190,8 @@ fn ends(alloc: Global, levels: u32, times: &[u32], wanted: u8) -> Result<bool, A
 
 #[test]
 fn walks_end_at_their_limits(rt: HostRuntime) -> Result<(), Fail> {
-    for (levels, times, wanted) in TOWERS {
-        let holds = ends(rt.alloc(), levels, times, wanted)?;
+    for (levels, times, wanted) in &TOWERS {
+        let holds = ends(rt.alloc(), *levels, *times, *wanted)?;
         assert!(rt; holds, "{levels}");
     }
     Ok(())

@@ -306,8 +306,8 @@ fn members_are_those_of_the_list(rt: HostRuntime) -> Result<(), Fail> {
     let read = Allow::read(rt.alloc(), FEW.as_bytes());
     assert!(rt; read.is_ok());
     if let Ok(allow) = read {
-        for (head, lines, wanted) in UNDER_FEW {
-            let right = answers(rt.alloc(), &allow, head, lines, wanted)?;
+        for (head, lines, wanted) in &UNDER_FEW {
+            let right = answers(rt.alloc(), &allow, *head, *lines, *wanted)?;
             assert!(rt; right);
         }
     }
@@ -386,8 +386,8 @@ const FRAME_WORDS: [(&str, &str, usize); 7] = [
 #[test]
 fn a_frame_has_its_locals_and_operands(rt: HostRuntime) -> Result<(), Fail> {
     let allow = Catalogue::full(rt.alloc())?;
-    for (head, lines, wanted) in FRAME_WORDS {
-        let right = has_frame_words(rt.alloc(), &allow, head, lines, wanted)?;
+    for (head, lines, wanted) in &FRAME_WORDS {
+        let right = has_frame_words(rt.alloc(), &allow, *head, *lines, *wanted)?;
         assert!(rt; right);
     }
     Ok(())
