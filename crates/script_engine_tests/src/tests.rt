@@ -2,43 +2,21 @@
 
 mod allowed;
 mod arrays;
-mod boxes;
 mod catches;
 mod containers;
 mod counts;
 mod dynamic;
 mod elements;
+mod ending;
 mod instances;
 mod literals;
-mod operands;
-mod operators;
-mod pair_tables;
-mod pairs;
 mod places;
 mod references;
 mod rows;
-mod running;
 
-use pairs::{all_casts_end, all_pairs_end};
-use running::{Compiler, USUAL, all_cells_end, all_counted, all_end, prelude_is_listed};
+use ending::{all_counted, all_end};
+use script_rows::{Compiler, USUAL, prelude_is_listed};
 use std::test::Fail;
-
-#[test]
-fn operators_over_each_pair_of_types(rt: HostRuntime) -> Result<(), Fail> {
-    let compiler = Compiler::new(rt.alloc())?;
-    for table in &[
-        operators::BYTES,
-        operators::SHORTS,
-        operators::CHARS,
-        operators::INTS,
-        operators::LONGS,
-        operands::UNARY,
-        operands::BOOLEANS,
-    ] {
-        all_cells_end(&rt, &compiler, *table)?;
-    }
-    Ok(())
-}
 
 #[test]
 fn scripts_end(rt: HostRuntime) -> Result<(), Fail> {
@@ -61,26 +39,6 @@ fn scripts_end_within_bounds(rt: HostRuntime) -> Result<(), Fail> {
     let compiler = Compiler::new(rt.alloc())?;
     for (bounds, table) in &rows::BOUNDED {
         all_end(&rt, &compiler, *bounds, *table)?;
-    }
-    Ok(())
-}
-
-#[test]
-fn boxes_end(rt: HostRuntime) -> Result<(), Fail> {
-    let compiler = Compiler::new(rt.alloc())?;
-    for table in &[
-        boxes::UNBOXED,
-        boxes::BOXED,
-        boxes::FOUND,
-        boxes::ABSENT,
-        boxes::PAIRS,
-        boxes::MIXED,
-        boxes::SINGLE,
-    ] {
-        all_cells_end(&rt, &compiler, *table)?;
-    }
-    for table in [boxes::MEMBERS, boxes::RELATED] {
-        all_end(&rt, &compiler, USUAL, table)?;
     }
     Ok(())
 }
@@ -205,15 +163,6 @@ fn values_of_any_type_end(rt: HostRuntime) -> Result<(), Fail> {
     ] {
         all_end(&rt, &compiler, USUAL, *table)?;
     }
-    Ok(())
-}
-
-#[test]
-fn pairs_of_values_end(rt: HostRuntime) -> Result<(), Fail> {
-    let compiler = Compiler::new(rt.alloc())?;
-    all_pairs_end(&rt, &compiler, pair_tables::PAIRS)?;
-    all_casts_end(&rt, &compiler, pair_tables::CASTS)?;
-    all_cells_end(&rt, &compiler, pair_tables::STEPS)?;
     Ok(())
 }
 

@@ -1,4 +1,4 @@
-//! How the tests compile scripts and run them.
+//! How scripts are compiled and run.
 
 ghost use Rattle.std.specs.Prelude.{◌≡◌, IfOk, []};
 ghost use Rattle.pl_types.specs.declared.ty.Ty.TheVariants as def;
@@ -16,7 +16,6 @@ use plain_data::Items;
 use script_engine::{Script, compile};
 use static_types::ContextTypes;
 use std::alloc::{AllocError, Global};
-use std::process::Abort;
 
 /// What a run is bounded by: the turns of a frame's loops, the depth of calls, the ticks, and the room of the heap.
 #[derive(Clone, Copy)]
@@ -44,17 +43,26 @@ pub struct Compiler {
 
 impl Compiler {
     /// Every class of the catalogue is allowed.
+    ///
+    /// # Errors
+    ///
+    /// Want of memory.
     pub fn new(alloc: Global) -> Result<Compiler, AllocError> {
         let allow = Catalogue::full(alloc)?;
         Ok(Compiler { alloc, allow })
     }
 
     /// What an allowlist file names is allowed.
+    ///
+    /// # Errors
+    ///
+    /// That of the file, or want of memory.
     pub fn reading(alloc: Global, file: &str) -> Result<Compiler, AllowErr> {
         let allow = Allow::read(alloc, file.as_bytes())?;
         Ok(Compiler { alloc, allow })
     }
 
+    /// What gives memory.
     pub fn alloc(&self) -> Global {
         self.alloc
     }
@@ -190,6 +198,10 @@ fn refused(alloc: Global, fail: &Fail, wanted: &str) -> Result<bool, AllocError>
 }
 
 /// Whether a script, run within bounds, ends as a row says.
+///
+/// # Errors
+///
+/// Want of memory.
 pub fn script_ends(
     compiler: &Compiler,
     script: &str,
@@ -205,56 +217,13 @@ pub fn script_ends(
     }
 }
 
-/// Each script of a table ends as its line says, within bounds: `END: SCRIPT`.
-pub fn all_end(
-    rt: &impl Abort,
-    compiler: &Compiler,
-    bounds: Bounds,
-    table: &str,
-) -> Result<(), AllocError> {
-    for line in table.lines() {
-        let (wanted, script) = line.split_once(':').unwrap_or(("", line));
-        let good = script_ends(compiler, script, bounds, wanted)?;
-        assert!(rt; good, "{line}");
-    }
-    Ok(())
-}
-
-/// Each cell of a line ends as it says behind what is declared: `EXPRESSION: END`.
-fn cells_end(
-    rt: &impl Abort,
-    compiler: &Compiler,
-    declared: &str,
-    line: &str,
-) -> Result<(), AllocError> {
-    for cell in line.split(',') {
-        let (expression, wanted) = cell.rsplit_once(": ").unwrap_or((cell, ""));
-        let script = format!(in compiler.alloc; "{declared} {expression}")?;
-        let good = script_ends(compiler, script.as_str(), USUAL, wanted)?;
-        assert!(rt; good, "{declared}{cell}");
-    }
-    Ok(())
-}
-
-/// Each cell of a block ends as it says behind the block's first line.
-fn block_ends(rt: &impl Abort, compiler: &Compiler, block: &str) -> Result<(), AllocError> {
-    let (declared, lines) = block.split_once('\n').unwrap_or((block, ""));
-    for line in lines.lines() {
-        cells_end(rt, compiler, declared, line)?;
-    }
-    Ok(())
-}
-
-/// Each cell of a table ends as it says behind the first line of its block. A `#` stands before each block.
-pub fn all_cells_end(rt: &impl Abort, compiler: &Compiler, table: &str) -> Result<(), AllocError> {
-    for block in table.split('#') {
-        block_ends(rt, compiler, block)?;
-    }
-    Ok(())
-}
-
-/// Whether a script has a listing, and a run of it within bounds ends as a row says, after so many instructions.
-fn listed_and_counted(
+/// Whether a script has a listing, and a run of it within bounds ends as a row says, after so many instructions: the script, its
+/// listing, its end, and how many instructions are run.
+///
+/// # Errors
+///
+/// Want of memory.
+pub fn listed_and_counted(
     compiler: &Compiler,
     bounds: Bounds,
     row: (&str, &str, &str, u64),
@@ -271,22 +240,11 @@ fn listed_and_counted(
     }
 }
 
-/// Each script of a table has its listing and ends within bounds as its row says: a script, its listing, its end, and how many instructions are run.
-pub fn all_counted(
-    rt: &impl Abort,
-    compiler: &Compiler,
-    bounds: Bounds,
-    table: &[(&str, &str, &str, u64)],
-) -> Result<(), AllocError> {
-    for row in table {
-        let good = listed_and_counted(compiler, bounds, *row)?;
-        let script = row.0;
-        assert!(rt; good, "{script}");
-    }
-    Ok(())
-}
-
 /// Whether the prelude of a script has a listing.
+///
+/// # Errors
+///
+/// Want of memory.
 pub fn prelude_is_listed(
     compiler: &Compiler,
     script: &str,

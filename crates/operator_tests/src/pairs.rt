@@ -1,6 +1,6 @@
 //! How tables of operators and casts of `def` values run.
 
-use super::running::{Compiler, USUAL, script_ends};
+use script_rows::{Compiler, USUAL, script_ends};
 use std::alloc::{AllocError, Global};
 use std::process::Abort;
 
