@@ -211,8 +211,8 @@ fn name_means(
 fn names_are_read(rt: HostRuntime) -> Result<(), Fail> {
     let heap = heap(rt.alloc(), 100)?;
     let mut at = 0u32;
-    for row in READS {
-        let holds = name_means(rt.alloc(), &heap, row, Purpose::Read)?;
+    for row in &READS {
+        let holds = name_means(rt.alloc(), &heap, *row, Purpose::Read)?;
         assert!(rt; holds, "{at}");
         at = at.wrapping_add(1);
     }
@@ -223,8 +223,8 @@ fn names_are_read(rt: HostRuntime) -> Result<(), Fail> {
 fn names_are_written(rt: HostRuntime) -> Result<(), Fail> {
     let heap = heap(rt.alloc(), 100)?;
     let mut at = 0u32;
-    for row in WRITES {
-        let holds = name_means(rt.alloc(), &heap, row, Purpose::Write)?;
+    for row in &WRITES {
+        let holds = name_means(rt.alloc(), &heap, *row, Purpose::Write)?;
         assert!(rt; holds, "{at}");
         at = at.wrapping_add(1);
     }
@@ -365,8 +365,8 @@ fn index_means(
 fn indices_mean_items_keys_and_elements(rt: HostRuntime) -> Result<(), Fail> {
     let heap = heap(rt.alloc(), 100)?;
     let mut at = 0u32;
-    for row in INDICES {
-        let holds = index_means(rt.alloc(), &heap, row)?;
+    for row in &INDICES {
+        let holds = index_means(rt.alloc(), &heap, *row)?;
         assert!(rt; holds, "{at}");
         at = at.wrapping_add(1);
     }

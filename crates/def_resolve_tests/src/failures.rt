@@ -259,8 +259,8 @@ fn class_of(message: &str) -> u32 {
 #[test]
 fn nothing_found_throws(rt: HostRuntime) -> Result<(), Fail> {
     let mut at = 0u32;
-    for (what, receiver, message) in MESSAGES {
-        let holds = throws(rt.alloc(), what, receiver, class_of(message), message)?;
+    for (what, receiver, message) in &MESSAGES {
+        let holds = throws(rt.alloc(), *what, *receiver, class_of(*message), *message)?;
         assert!(rt; holds, "{at}");
         at = at.wrapping_add(1);
     }
@@ -278,8 +278,8 @@ const OTHERS: [(Call, u32, &str); 2] = [
 
 #[test]
 fn places_and_functions_throw(rt: HostRuntime) -> Result<(), Fail> {
-    for (what, class, message) in OTHERS {
-        let holds = throws(rt.alloc(), what, Row::Null, class, message)?;
+    for (what, class, message) in &OTHERS {
+        let holds = throws(rt.alloc(), *what, Row::Null, *class, *message)?;
         assert!(rt; holds, "{message}");
     }
     Ok(())

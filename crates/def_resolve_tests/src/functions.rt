@@ -71,8 +71,8 @@ fn reference_means(
 #[test]
 fn references_mean_members(rt: HostRuntime) -> Result<(), Fail> {
     let mut at = 0u32;
-    for row in REFERENCES {
-        let holds = reference_means(rt.alloc(), row)?;
+    for row in &REFERENCES {
+        let holds = reference_means(rt.alloc(), *row)?;
         assert!(rt; holds, "{at}");
         at = at.wrapping_add(1);
     }
@@ -101,8 +101,8 @@ fn is_made(alloc: Global, row: (Listed, u32, u32, bool)) -> Result<bool, AllocEr
 #[test]
 fn classes_have_constructors(rt: HostRuntime) -> Result<(), Fail> {
     let mut at = 0u32;
-    for row in MADE {
-        let holds = is_made(rt.alloc(), row)?;
+    for row in &MADE {
+        let holds = is_made(rt.alloc(), *row)?;
         assert!(rt; holds, "{at}");
         at = at.wrapping_add(1);
     }
@@ -206,8 +206,8 @@ fn takes(alloc: Global, row: (Calls, u32, bool)) -> Result<bool, AllocError> {
 #[test]
 fn function_values_take_interfaces(rt: HostRuntime) -> Result<(), Fail> {
     let mut at = 0u32;
-    for row in FITS {
-        let holds = takes(rt.alloc(), row)?;
+    for row in &FITS {
+        let holds = takes(rt.alloc(), *row)?;
         assert!(rt; holds, "{at}");
         at = at.wrapping_add(1);
     }

@@ -51,8 +51,8 @@ fn values_have_classes(rt: HostRuntime) -> Result<(), Fail> {
     resolution_laws();
     let heap = heap(rt.alloc(), 100)?;
     let mut at = 0u32;
-    for (row, wanted) in CLASSES {
-        let holds = is_of(&heap, row, wanted)?;
+    for (row, wanted) in &CLASSES {
+        let holds = is_of(&heap, *row, *wanted)?;
         assert!(rt; holds, "{at}");
         at = at.wrapping_add(1);
     }
@@ -263,8 +263,8 @@ fn call_means(
 #[test]
 fn calls_mean_members(rt: HostRuntime) -> Result<(), Fail> {
     let mut at = 0u32;
-    for (listed, class, name, arity, wanted) in CALLS {
-        let holds = call_means(rt.alloc(), listed, class, (name, arity), wanted)?;
+    for (listed, class, name, arity, wanted) in &CALLS {
+        let holds = call_means(rt.alloc(), *listed, *class, (*name, *arity), *wanted)?;
         assert!(rt; holds, "{at}");
         at = at.wrapping_add(1);
     }

@@ -1,7 +1,9 @@
-//! Small codes, from their listings to what their runs leave, in a crate of their own so that the machine is proved once.
+//! Small codes, from their listings to what their runs leave, and runs of verified code that take turns in an order.
 #![tactic(auto)]
 
 #[cfg(test)]
 mod rows;
 #[cfg(test)]
 mod tests;
+#[cfg(test)]
+mod verified;

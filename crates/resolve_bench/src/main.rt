@@ -38,9 +38,9 @@ fn found_often(allow: &Allow, class: u32, name: &str, arity: u32) -> u32 {
 }
 
 fn measure(rt: &(impl Clock + Print), allow: &Allow) -> io::Result<()> {
-    for (what, class, name, arity) in CALLS {
+    for (what, class, name, arity) in &CALLS {
         let start = Instant::now(rt)?;
-        let found = found_often(allow, class, name, arity);
+        let found = found_often(allow, *class, *name, *arity);
         let spent = start.elapsed(rt)?.as_nanos() / u128::from(TIMES);
         println!(rt; "{what}: {spent} ns ({found} of {TIMES} found)")?;
     }

@@ -2,48 +2,26 @@
 
 mod allowed;
 mod arrays;
-mod boxes;
 mod catches;
 mod containers;
 mod counts;
 mod dynamic;
 mod elements;
+mod ending;
 mod instances;
 mod literals;
-mod operands;
-mod operators;
-mod pair_tables;
-mod pairs;
 mod places;
 mod references;
 mod rows;
-mod running;
 
-use pairs::{all_casts_end, all_pairs_end};
-use running::{Compiler, USUAL, all_cells_end, all_counted, all_end, prelude_is_listed};
+use ending::{all_counted, all_end};
+use script_rows::{Compiler, USUAL, prelude_is_listed};
 use std::test::Fail;
-
-#[test]
-fn operators_over_each_pair_of_types(rt: HostRuntime) -> Result<(), Fail> {
-    let compiler = Compiler::new(rt.alloc())?;
-    for table in [
-        operators::BYTES,
-        operators::SHORTS,
-        operators::CHARS,
-        operators::INTS,
-        operators::LONGS,
-        operands::UNARY,
-        operands::BOOLEANS,
-    ] {
-        all_cells_end(&rt, &compiler, table)?;
-    }
-    Ok(())
-}
 
 #[test]
 fn scripts_end(rt: HostRuntime) -> Result<(), Fail> {
     let compiler = Compiler::new(rt.alloc())?;
-    for table in [
+    for table in &[
         rows::VALUES,
         rows::SHORT_CIRCUITS,
         rows::ZERO_DIVISORS,
@@ -51,7 +29,7 @@ fn scripts_end(rt: HostRuntime) -> Result<(), Fail> {
         rows::LOOPS,
         rows::FUNCTIONS,
     ] {
-        all_end(&rt, &compiler, USUAL, table)?;
+        all_end(&rt, &compiler, USUAL, *table)?;
     }
     Ok(())
 }
@@ -59,28 +37,8 @@ fn scripts_end(rt: HostRuntime) -> Result<(), Fail> {
 #[test]
 fn scripts_end_within_bounds(rt: HostRuntime) -> Result<(), Fail> {
     let compiler = Compiler::new(rt.alloc())?;
-    for (bounds, table) in rows::BOUNDED {
-        all_end(&rt, &compiler, bounds, table)?;
-    }
-    Ok(())
-}
-
-#[test]
-fn boxes_end(rt: HostRuntime) -> Result<(), Fail> {
-    let compiler = Compiler::new(rt.alloc())?;
-    for table in [
-        boxes::UNBOXED,
-        boxes::BOXED,
-        boxes::FOUND,
-        boxes::ABSENT,
-        boxes::PAIRS,
-        boxes::MIXED,
-        boxes::SINGLE,
-    ] {
-        all_cells_end(&rt, &compiler, table)?;
-    }
-    for table in [boxes::MEMBERS, boxes::RELATED] {
-        all_end(&rt, &compiler, USUAL, table)?;
+    for (bounds, table) in &rows::BOUNDED {
+        all_end(&rt, &compiler, *bounds, *table)?;
     }
     Ok(())
 }
@@ -88,7 +46,7 @@ fn boxes_end(rt: HostRuntime) -> Result<(), Fail> {
 #[test]
 fn references_end(rt: HostRuntime) -> Result<(), Fail> {
     let compiler = Compiler::new(rt.alloc())?;
-    for table in [
+    for table in &[
         references::TEXTS,
         references::CASTS,
         references::RELATIONS,
@@ -96,7 +54,7 @@ fn references_end(rt: HostRuntime) -> Result<(), Fail> {
         references::THROWN,
         references::MEMBERS,
     ] {
-        all_end(&rt, &compiler, USUAL, table)?;
+        all_end(&rt, &compiler, USUAL, *table)?;
     }
     Ok(())
 }
@@ -122,8 +80,8 @@ fn catches_end(rt: HostRuntime) -> Result<(), Fail> {
 #[test]
 fn catches_end_within_bounds(rt: HostRuntime) -> Result<(), Fail> {
     let compiler = Compiler::new(rt.alloc())?;
-    for (bounds, table) in catches::BOUNDED {
-        all_end(&rt, &compiler, bounds, table)?;
+    for (bounds, table) in &catches::BOUNDED {
+        all_end(&rt, &compiler, *bounds, *table)?;
     }
     Ok(())
 }
@@ -131,14 +89,14 @@ fn catches_end_within_bounds(rt: HostRuntime) -> Result<(), Fail> {
 #[test]
 fn containers_end(rt: HostRuntime) -> Result<(), Fail> {
     let compiler = Compiler::new(rt.alloc())?;
-    for table in [
+    for table in &[
         containers::LISTS,
         containers::MAPS,
         containers::ITERATORS,
         containers::CLASSES,
         containers::THROWN,
     ] {
-        all_end(&rt, &compiler, USUAL, table)?;
+        all_end(&rt, &compiler, USUAL, *table)?;
     }
     Ok(())
 }
@@ -146,8 +104,8 @@ fn containers_end(rt: HostRuntime) -> Result<(), Fail> {
 #[test]
 fn containers_end_within_bounds(rt: HostRuntime) -> Result<(), Fail> {
     let compiler = Compiler::new(rt.alloc())?;
-    for (bounds, table) in containers::BOUNDED {
-        all_end(&rt, &compiler, bounds, table)?;
+    for (bounds, table) in &containers::BOUNDED {
+        all_end(&rt, &compiler, *bounds, *table)?;
     }
     Ok(())
 }
@@ -155,7 +113,7 @@ fn containers_end_within_bounds(rt: HostRuntime) -> Result<(), Fail> {
 #[test]
 fn literals_arrays_and_places_end(rt: HostRuntime) -> Result<(), Fail> {
     let compiler = Compiler::new(rt.alloc())?;
-    for table in [
+    for table in &[
         literals::LISTS,
         literals::MAPS,
         literals::SETS,
@@ -169,7 +127,7 @@ fn literals_arrays_and_places_end(rt: HostRuntime) -> Result<(), Fail> {
         places::ONCE,
         places::ELEMENTS,
     ] {
-        all_end(&rt, &compiler, USUAL, table)?;
+        all_end(&rt, &compiler, USUAL, *table)?;
     }
     Ok(())
 }
@@ -195,7 +153,7 @@ fn elements_end_within_bounds(rt: HostRuntime) -> Result<(), Fail> {
 #[test]
 fn values_of_any_type_end(rt: HostRuntime) -> Result<(), Fail> {
     let compiler = Compiler::new(rt.alloc())?;
-    for table in [
+    for table in &[
         dynamic::OPERATORS,
         dynamic::CALLS,
         dynamic::ACCESSES,
@@ -203,17 +161,8 @@ fn values_of_any_type_end(rt: HostRuntime) -> Result<(), Fail> {
         dynamic::REACHED,
         instances::INSTANCES,
     ] {
-        all_end(&rt, &compiler, USUAL, table)?;
+        all_end(&rt, &compiler, USUAL, *table)?;
     }
-    Ok(())
-}
-
-#[test]
-fn pairs_of_values_end(rt: HostRuntime) -> Result<(), Fail> {
-    let compiler = Compiler::new(rt.alloc())?;
-    all_pairs_end(&rt, &compiler, pair_tables::PAIRS)?;
-    all_casts_end(&rt, &compiler, pair_tables::CASTS)?;
-    all_cells_end(&rt, &compiler, pair_tables::STEPS)?;
     Ok(())
 }
 
@@ -231,9 +180,9 @@ const ALLOWED: [(&str, &str); 2] = [
 
 #[test]
 fn what_is_left_out_is_not_found(rt: HostRuntime) -> Result<(), Fail> {
-    for (file, table) in ALLOWED {
-        let compiler = Compiler::reading(rt.alloc(), file)?;
-        all_end(&rt, &compiler, USUAL, table)?;
+    for (file, table) in &ALLOWED {
+        let compiler = Compiler::reading(rt.alloc(), *file)?;
+        all_end(&rt, &compiler, USUAL, *table)?;
     }
     Ok(())
 }

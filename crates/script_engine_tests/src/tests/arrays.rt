@@ -1,6 +1,6 @@
 //! Arrays: `END: SCRIPT`.
 
-use super::running::Bounds;
+use script_rows::Bounds;
 
 /// How arrays are made, and what is in them.
 pub const MADE: &str = "T [0, 0, 0]: '' + new int[3]

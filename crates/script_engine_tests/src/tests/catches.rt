@@ -1,6 +1,6 @@
 //! `try` and `catch`.
 
-use crate::tests::running::Bounds;
+use script_rows::Bounds;
 
 /// Which catch takes what is thrown, and what it finds.
 pub const CATCHES: &str =

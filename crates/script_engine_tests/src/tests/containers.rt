@@ -1,6 +1,6 @@
 //! Lists, sets, maps, entries and iterators, by their members: `END: SCRIPT`.
 
-use super::running::Bounds;
+use script_rows::Bounds;
 
 /// Lists, which names share.
 pub const LISTS: &str = "T [1, a]: List l = new ArrayList(); l.add(1); l.add('a'); '' + l

@@ -1,6 +1,6 @@
 //! Scripts and their listings, and how many of the instructions are run: each is counted, also the one that throws or passes a limit.
 
-use super::running::Bounds;
+use script_rows::Bounds;
 
 /// Few turns of a loop.
 pub const FEW: Bounds = Bounds {

@@ -1,6 +1,6 @@
 //! Loops over elements: `END: SCRIPT`.
 
-use super::running::Bounds;
+use script_rows::Bounds;
 
 /// What is gone over, and what the variable is.
 pub const OVER: &str = "I 6, 3 ticks: int s = 0; for (int x : [1, 2, 3]) { s += x } s

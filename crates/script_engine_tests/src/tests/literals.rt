@@ -1,6 +1,6 @@
 //! Literals of lists and maps: `END: SCRIPT`.
 
-use super::running::Bounds;
+use script_rows::Bounds;
 
 /// Lists.
 pub const LISTS: &str = "T [1, a, true, null]: '' + [1, 'a', true, null]

@@ -1,6 +1,6 @@
 //! Texts, references and what is thrown: `END: SCRIPT`, a text behind `T`.
 
-use super::running::Bounds;
+use script_rows::Bounds;
 
 /// Texts, and what is joined to them.
 pub const TEXTS: &str = r#"T a: 'a'

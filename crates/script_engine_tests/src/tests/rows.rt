@@ -1,6 +1,6 @@
 //! Scripts and how they end: `END: SCRIPT`, or `END, N ticks: SCRIPT` where the ticks that were paid are told.
 
-use super::running::Bounds;
+use script_rows::Bounds;
 
 /// Values, what is declared, and assignments.
 pub const VALUES: &str = "I 1: 1

@@ -1,5 +1,0 @@
-//! The worked rows of `arithmetic`, in a crate of their own so that the library is proved once.
-#![tactic(auto)]
-
-#[cfg(test)]
-mod tests;

@@ -1,0 +1,4 @@
+//! Tasks that note their turns.
+
+mod noting;
+mod tests;

@@ -1,0 +1,7 @@
+//! What the clauses of `job_commands` don't say: jobs with their documents, and the exact bytes that answer them.
+
+mod checking;
+mod inputs;
+mod lines;
+mod shown;
+mod worlds;

@@ -1,0 +1,8 @@
+//! What the clauses of `object_values` and `object_heap` do not say: objects of each kind, and their room.
+
+mod kinds;
+mod lists;
+mod making;
+mod many;
+mod maps;
+mod room;

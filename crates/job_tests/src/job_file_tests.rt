@@ -1,0 +1,6 @@
+//! What the clauses of `job_file` don't say: job files with their answers, the defaults, and that each call which takes
+//! memory answers where there is some.
+
+mod files;
+mod jobs;
+mod keys;

@@ -1,7 +1,0 @@
-//! What the clauses of `value_walks` do not say: equality and texts against Java's, for each kind of object, at the limits too.
-#![tactic(auto)]
-
-#[cfg(test)]
-mod sample;
-#[cfg(test)]
-mod tests;
