@@ -1,7 +1,6 @@
 pub mod Iterating
 pub mod Laws
 pub mod Members
-
 -- Definitions of the libraries below that clauses here speak of, passed on.
 pub use Rattle.api_text.specs.Members as ApiTextMembers
 pub use Rattle.api_text.specs.Outcomes

@@ -8,6 +8,5 @@ pub mod Members
 pub mod Ordered
 pub mod Searching
 pub mod Taking
-
 -- Definitions of the libraries below that clauses here speak of, passed on.
 pub use Rattle.container_outcomes.specs.Guards

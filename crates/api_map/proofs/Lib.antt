@@ -6,7 +6,6 @@ pub mod KeepingBulk
 pub mod KeepingWhole
 pub mod Needing
 pub mod Steps
-
 -- Lemmas of the libraries below, passed on.
 pub use Rattle.container_outcomes.proofs.Settling
 pub use Rattle.container_parts.proofs.Keeping as ContainerPartsKeeping

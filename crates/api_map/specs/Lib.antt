@@ -11,7 +11,6 @@ pub mod Members
 pub mod Searching
 pub mod Sources
 pub mod Whole
-
 -- Definitions of the libraries below that clauses here speak of, passed on.
 pub use Rattle.container_outcomes.specs.Choices
 pub use Rattle.container_outcomes.specs.Comparing

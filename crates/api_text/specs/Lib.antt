@@ -10,7 +10,6 @@ pub mod Pieces
 pub mod Sequences
 pub mod Texts
 pub mod Writing
-
 -- Definitions of the libraries below that clauses here speak of, passed on.
 pub use Rattle.value_walks.specs.Equality
 pub use Rattle.value_walks.specs.declared as value_walks_declared

@@ -1,5 +1,4 @@
 pub mod Moments
 pub mod Laws
-
 -- Definitions of the libraries below that clauses here speak of, passed on.
 pub use Rattle.run_fit.specs.Worlds

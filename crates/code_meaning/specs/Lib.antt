@@ -3,7 +3,6 @@ pub mod Members
 pub mod Machine
 pub mod Sizes
 pub mod Laws
-
 -- Definitions of the libraries below that clauses here speak of, passed on.
 pub use Rattle.def_access.specs.Access
 pub use Rattle.def_access.specs.Elements

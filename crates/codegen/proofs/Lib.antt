@@ -21,6 +21,5 @@ pub mod Lying
 pub mod Flowing
 pub mod Handled
 pub mod Whole
-
 -- Lemmas of the libraries below, passed on.
 pub use Rattle.source_meaning.proofs.Greater

@@ -10,7 +10,6 @@ pub mod Sound
 pub mod Operands
 pub mod Functions
 pub mod Weights
-
 -- Definitions of the libraries below that clauses here speak of, passed on.
 pub use Rattle.member_names.specs.Effects
 pub use Rattle.member_names.specs.Faults

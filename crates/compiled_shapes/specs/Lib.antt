@@ -1,5 +1,4 @@
 pub mod Laws
-
 -- Definitions of the libraries below that clauses here speak of, passed on.
 pub use Rattle.compiler_relation.specs.Correct
 pub use Rattle.compiler_relation.specs.Parts

@@ -2,7 +2,6 @@ pub mod Members
 pub mod Answers
 pub mod Laws
 pub mod Types
-
 -- Definitions of the libraries below that clauses here speak of, passed on.
 pub use Rattle.api_iter.specs.Iterating
 pub use Rattle.api_iter.specs.Members as ApiIterMembers

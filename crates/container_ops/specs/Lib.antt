@@ -4,7 +4,6 @@ pub mod Sizes
 pub mod Elements
 pub mod Loops
 pub mod Laws
-
 -- Definitions of the libraries below that clauses here speak of, passed on.
 pub use Rattle.container_calls.specs.Indexing
 pub use Rattle.container_calls.specs.Laws as ContainerCallsLaws

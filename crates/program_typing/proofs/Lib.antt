@@ -8,6 +8,5 @@ pub mod Accesses
 pub mod Scopes
 pub mod Never
 pub mod Enough
-
 -- Lemmas of the libraries below, passed on.
 pub use Rattle.source_meaning.proofs.Greater

@@ -2,7 +2,6 @@ pub mod Types
 pub mod Agreeing
 pub mod Reached
 pub mod Enough
-
 -- Definitions of the libraries below that clauses here speak of, passed on.
 pub use Rattle.source_meaning.specs.Falls
 pub use Rattle.source_meaning.specs.Laws

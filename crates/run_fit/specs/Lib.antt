@@ -1,6 +1,5 @@
 pub mod Worlds
 pub mod Laws
-
 -- Definitions of the libraries below that clauses here speak of, passed on.
 pub use Rattle.arithmetic.specs.Operators
 pub use Rattle.def_access.specs.Access

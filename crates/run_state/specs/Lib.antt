@@ -1,6 +1,5 @@
 pub mod Calls
 pub mod World
-
 -- Definitions of the libraries below that clauses here speak of, passed on.
 pub use Rattle.number_ops.specs.Casts
 pub use Rattle.number_ops.specs.Operators

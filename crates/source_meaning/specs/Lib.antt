@@ -5,7 +5,6 @@ pub mod Members
 pub mod Meaning
 pub mod Programs
 pub mod Laws
-
 -- Definitions of the libraries below that clauses here speak of, passed on.
 pub use Rattle.def_access.specs.Access
 pub use Rattle.def_access.specs.ContainerCallsTypes

@@ -1,6 +1,5 @@
 pub mod Outs
 pub mod Laws
-
 -- Definitions of the libraries below that clauses here speak of, passed on.
 pub use Rattle.program_typing.specs.Agreeing
 pub use Rattle.program_typing.specs.Reached

@@ -19,7 +19,6 @@ pub mod Loops
 pub mod Tree
 pub mod Functions
 pub mod Kept
-
 -- Lemmas of the libraries below, passed on.
 pub use Rattle.source_typing.proofs.Effects
 pub use Rattle.source_typing.proofs.Meanings

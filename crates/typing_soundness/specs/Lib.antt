@@ -1,5 +1,4 @@
 pub mod Laws
-
 -- Definitions of the libraries below that clauses here speak of, passed on.
 pub use Rattle.source_typing.specs.Outs
 pub use Rattle.source_typing.specs.SourceFitOuts

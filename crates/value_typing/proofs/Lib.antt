@@ -12,7 +12,6 @@ pub mod Elements
 pub mod Kept
 pub mod Operators
 pub mod Containers
-
 -- Lemmas of the libraries below, passed on.
 pub use Rattle.container_calls.proofs.Owners
 pub use Rattle.run_fit.proofs.Built

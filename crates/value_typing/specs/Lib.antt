@@ -1,6 +1,5 @@
 pub mod Typing
 pub mod Laws
-
 -- Definitions of the libraries below that clauses here speak of, passed on.
 pub use Rattle.container_calls.specs.Laws as ContainerCallsLaws
 pub use Rattle.container_calls.specs.Members as ContainerCallsMembers
