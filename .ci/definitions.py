@@ -74,6 +74,7 @@ class Reading:
         return min(at, end)
 
     def mention(self, path, bound):
+        """Keeps a path that begins with a name, unless that is a variable."""
         first = path.split(".")[0]
         if first and first not in bound and path not in WORDS and not re.match(r'[\d"(){}]', path):
             self.mentions.append(path)
@@ -227,6 +228,7 @@ class File:
 
     @staticmethod
     def read(path):
+        """A file of definitions, from its lines."""
         file = File(path)
         for number, line in enumerate(path.read_text(encoding="utf-8").splitlines(), 1):
             file.line(number, line)
@@ -241,6 +243,7 @@ class File:
         return file
 
     def line(self, number, line):
+        """Takes in a line: what it brings, a comment, the head of a block, or a part of a definition."""
         text, indent = line.strip(), len(line) - len(line.lstrip())
         use = USE.match(line)
         if use:
@@ -258,6 +261,7 @@ class File:
             self.add(line, indent)
 
     def take(self, module, names, alias):
+        """What a `use` line brings: names, each part of an operator's for itself, or a module."""
         if names is None:
             self.aliases[alias or module.rsplit(".", 1)[-1]] = module
             return
@@ -273,13 +277,14 @@ class File:
         self.current, self.comment = None, 0
 
     def add(self, line, indent):
+        """Adds a line to the definition that it begins, or to the one that is open."""
         if not self.open and indent == 0:
             self.block = None
         kind, names = ("", []) if self.open else head_of(line)
         level = 2 if self.block else 0
         if line.strip().startswith("infix"):
             self.begin(line.split()[-1], "infix", level)
-        elif names and indent == level and self.begins(kind, names[0]):
+        elif names and indent == level and self.begins(names[0]):
             self.begin(names[0], kind, level)
         elif self.current is None:
             raise SystemExit(f"believed: {self.path}: what declares this line? {line}")
@@ -291,7 +296,7 @@ class File:
         self.current.code.append(line)
         self.comment, self.open = 0, self.open + depth_in(line)
 
-    def begins(self, kind, name):
+    def begins(self, name):
         """Whether a head is a new definition's, and not the signature behind the line of its operator."""
         return self.current is None or self.current.kind != "infix" or self.current.name != name
 
