@@ -4,7 +4,7 @@ use Rattle.std.specs.Result.{result_err}
 use Rattle.pl_types.specs.declared.refusal.Refusal.{Refusal}
 use Rattle.script_store.specs.Script.{Script}
 use Rattle.script_store.specs.Cache.{StandOnce, fault_in}
-use Rattle.script_store.specs.Store.{Shelf, State, opened, script_under, with_accepted, without_script, after_put, after_delete, after_script}
+use Rattle.script_store.specs.Store.{StoredScripts, State, opened, script_under, with_accepted, without_script, after_put, after_delete, after_script}
 
 -- A command: to store a script under an id, to show what is there, to take it out, to run it, and to tell the counts.
 pub data Command : Type 0 where
@@ -81,18 +81,18 @@ module _ {M : Type 0} (compiled : Script → Result M Refusal) where
   after_all (c ∷ cs) state = after_all cs (after c state)
 
   -- With no cache, each script is compiled anew, where it is put and where it is run. The counts are not told.
-  abbrev pub shelf_after : Command → Shelf → Shelf
-  shelf_after (Put id script) stored = with_accepted (result_err (compiled script)) id script stored
-  shelf_after (Get id) stored = stored
-  shelf_after (Delete id) stored = without_script id stored
-  shelf_after (Run id) stored = stored
-  shelf_after Stats stored = stored
+  abbrev pub stored_after : Command → StoredScripts → StoredScripts
+  stored_after (Put id script) stored = with_accepted (result_err (compiled script)) id script stored
+  stored_after (Get id) stored = stored
+  stored_after (Delete id) stored = without_script id stored
+  stored_after (Run id) stored = stored
+  stored_after Stats stored = stored
 
-  abbrev pub replies : List Command → Shelf → List (Answer M)
+  abbrev pub replies : List Command → StoredScripts → List (Answer M)
   replies [] stored = []
-  replies (Put id script ∷ cs) stored = put_answer (result_err (compiled script)) ∷ replies cs (shelf_after (Put id script) stored)
+  replies (Put id script ∷ cs) stored = put_answer (result_err (compiled script)) ∷ replies cs (stored_after (Put id script) stored)
   replies (Get id ∷ cs) stored = get_answer (script_under id stored) ∷ replies cs stored
-  replies (Delete id ∷ cs) stored = delete_answer (script_under id stored) ∷ replies cs (shelf_after (Delete id) stored)
+  replies (Delete id ∷ cs) stored = delete_answer (script_under id stored) ∷ replies cs (stored_after (Delete id) stored)
   replies (Run id ∷ cs) stored = run_answer (script_under id stored) ∷ replies cs stored
   replies (Stats ∷ cs) stored = replies cs stored
 

@@ -12,12 +12,12 @@ use Rattle.script_store.specs.Script.{Script, script_of}
 use Rattle.script_store.specs.Cache.{Cache, empty, fault_in, look_up}
 
 -- The scripts that are stored, each with its id, in the order of their ids.
-abbrev pub Shelf : Type 0
-Shelf = List (List ℕ × Script)
+abbrev pub StoredScripts : Type 0
+StoredScripts = List (List ℕ × Script)
 
 -- What is stored, and the cache.
 pub record State : Type 0 where
-  pub stored : Shelf
+  pub stored : StoredScripts
   pub cache : Cache
 
 -- Nothing is stored, and the cache is empty.
@@ -29,19 +29,19 @@ abbrev pub id_order : List ℕ → List ℕ → Ordering
 id_order = slice_cmp nat_cmp
 
 -- The script under an id.
-abbrev pub script_under : List ℕ → Shelf → Option Script
+abbrev pub script_under : List ℕ → StoredScripts → Option Script
 script_under id stored = lookup (is_at (id_order id)) stored
 
 -- With a script under an id, in the place of an older one.
-abbrev pub with_script : List ℕ → Script → Shelf → Shelf
+abbrev pub with_script : List ℕ → Script → StoredScripts → StoredScripts
 with_script id script stored = insert_entry id_order stored id script
 
 -- Without what is under an id.
-abbrev pub without_script : List ℕ → Shelf → Shelf
+abbrev pub without_script : List ℕ → StoredScripts → StoredScripts
 without_script id stored = remove_entry (is_at (id_order id)) stored
 
 -- With a script under an id, unless it was refused.
-abbrev pub with_accepted : Option Refusal → List ℕ → Script → Shelf → Shelf
+abbrev pub with_accepted : Option Refusal → List ℕ → Script → StoredScripts → StoredScripts
 with_accepted None id script stored = with_script id script stored
 with_accepted (Some fault) id script stored = stored
 
@@ -74,11 +74,11 @@ abbrev pub store : {C : Type 0} → C → State → Store C
 store compiler state = record { compiler = compiler; state = state }
 
 -- The scripts of a map.
-abbrev pub shelf_of : {Z : Type 0} → List (String Z × Stored) → Shelf
-shelf_of entries = map (λ e. (string_bytes e.0, script_of e.1)) entries
+abbrev pub stored_of : {Z : Type 0} → List (String Z × Stored) → StoredScripts
+stored_of entries = map (λ e. (string_bytes e.0, script_of e.1)) entries
 
 -- Each script that is stored is accepted.
-abbrev pub AllAccepted : {M : Type 0} → (Script → Result M Refusal) → Shelf → Type 0
+abbrev pub AllAccepted : {M : Type 0} → (Script → Result M Refusal) → StoredScripts → Type 0
 AllAccepted compiled [] = Unit {0}
 AllAccepted compiled (e ∷ es) = IsOk (compiled e.1) × AllAccepted compiled es
 

@@ -28,13 +28,13 @@ pub struct ScriptStore<C: Compiler + Drop> {
 }
 
 impl<C: Compiler + Drop> Model for ScriptStore<C> {
-    ghost use Rattle.script_store.specs.Store.{Store, store, shelf_of, AllAccepted};
+    ghost use Rattle.script_store.specs.Store.{Store, store, stored_of, AllAccepted};
 
     ghost Value = { Store C };
 
-    ghost view = { λ s. store s.cache.compiler (record { stored = shelf_of s.stored.entries; cache = s.cache.cache }) };
+    ghost view = { λ s. store s.cache.compiler (record { stored = stored_of s.stored.entries; cache = s.cache.cache }) };
 
-    ghost invariant = { λ s. AllAccepted (C.compiled s.cache.compiler) (shelf_of s.stored.entries) };
+    ghost invariant = { λ s. AllAccepted (C.compiled s.cache.compiler) (stored_of s.stored.entries) };
 }
 
 impl<C: Compiler + Drop> ScriptStore<C> {
