@@ -1,0 +1,4 @@
+pub mod SameScripts
+pub mod KeyLemmas
+pub mod StoredLemmas
+pub mod CommandLemmas
