@@ -1,8 +1,10 @@
 //! Commands one after another, and the counts behind them.
 
-use crate::measuring::Measuring;
+use crate::measuring::{Measured, Measuring};
+use ServeKind::{Field, Filter};
+use Step::{Delete, Get, Put, Run};
 use pl_types::Fail;
-use script_store::{ScriptStore, ServeKind};
+use script_store::{ScriptStore, ServeKind, Stored};
 use std::alloc::AllocError;
 use std::test;
 
@@ -26,9 +28,6 @@ struct Row {
     misses: u64,
     stored: u64,
 }
-
-use ServeKind::{Field, Filter};
-use Step::{Delete, Get, Put, Run};
 
 const ROWS: [Row; 7] = [
     // With room for one script the second drops the first.
@@ -126,6 +125,22 @@ const ROWS: [Row; 7] = [
     },
 ];
 
+/// Whether a script is of this source, and one that is not there of the empty one.
+fn is_of(script: Option<&Stored>, source: &str) -> bool {
+    match script {
+        Some(script) => script.source.as_str() == source,
+        None => source.is_empty(),
+    }
+}
+
+/// Whether what a script is compiled to has this length, and a script that is not there none.
+fn has_length(measured: Option<&Measured>, length: usize) -> bool {
+    match measured {
+        Some(measured) => measured.length == length,
+        None => length == 0,
+    }
+}
+
 /// Whether a store gives the answer of a step.
 fn answers(store: &mut ScriptStore<Measuring>, step: &Step) -> Result<bool, AllocError> {
     match step {
@@ -134,15 +149,9 @@ fn answers(store: &mut ScriptStore<Measuring>, step: &Step) -> Result<bool, Allo
             Err(Fail::Refused(_)) => Ok(!*accepted),
             Err(Fail::NoMemory) => Err(AllocError),
         },
-        Step::Get(id, source) => match store.get(id) {
-            Some(script) => Ok(script.source.as_str() == *source),
-            None => Ok(source.is_empty()),
-        },
+        Step::Get(id, source) => Ok(is_of(store.get(id), source)),
         Step::Delete(id, there) => Ok(store.delete(id) == *there),
-        Step::Run(id, length) => match store.script(id)? {
-            Some(measured) => Ok(measured.length == *length),
-            None => Ok(*length == 0),
-        },
+        Step::Run(id, length) => Ok(has_length(store.script(id)?, *length)),
     }
 }
 
