@@ -5,11 +5,11 @@ use Rattle.std.proofs.lemmas.Map.Text.{is_eq-slice_cmp}
 use Rattle.std.specs.Cmp.Lexicographic.{slice_cmp}
 use Rattle.std.specs.Prelude.{IsSome, is_some, cond}
 use Rattle.std.specs.Ordering.{is_eq, match_ordering}
-use Rattle.serde_json.specs.Data.{Data, null, boolean, number, string, array, object, Members, no_members, member, put}
+use Rattle.serde_json.specs.Data.{Data, null, boolean, number, string, array, object, Members, no_members, member}
 use Rattle.serde_json.specs.Find.{get, get_member, as_object}
 use Rattle.serde_json.proofs.Views.{get_member-put, get_member-put_other}
 use Rattle.pipe_fields.specs.Ways.{members_of, below, find, is_blocked, without, without_member}
-use Rattle.pipe_fields.proofs.WayLemmas.{free_below, open_where_none, find_none, find_next}
+use Rattle.pipe_fields.proofs.WayLemmas.{open_where_none, find_none, find_next}
 
 -- ---- members but those of a name
 

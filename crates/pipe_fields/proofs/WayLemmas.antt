@@ -7,12 +7,12 @@ use Rattle.std.specs.Prelude.{◌||◌, ◌==◌, not, is_some, IsSome, OnOk, un
 use Rattle.std.specs.declared.alloc.AllocError.{AllocError}
 use Rattle.std.proofs.lemmas.Slice.Eq.{bytes_eq-Decides}
 use Rattle.std.proofs.lemmas.Bool.{eqb-true}
-use Rattle.serde_json.specs.Data.{Data, null, boolean, number, string, array, object, Members, no_members, member, put}
+use Rattle.serde_json.specs.Data.{Data, null, boolean, number, string, array, object, Members, no_members, put}
 use Rattle.serde_json.specs.Find.{get, get_member, as_object}
 use Rattle.serde_json.specs.View.{view, members_view}
 use Rattle.serde_json.specs.declared.value.Value.{Value, Object}
 use Rattle.serde_json.proofs.Views.{view-Object, view-lookup}
-use Rattle.pipe_fields.specs.Ways.{members_of, below, find, is_blocked, put_at, without, without_member}
+use Rattle.pipe_fields.specs.Ways.{below, find, is_blocked, put_at, without, without_member}
 use Rattle.pipe_fields.proofs.Written.{At, members_removed, object_written}
 
 -- ---- what is not there

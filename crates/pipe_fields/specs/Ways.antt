@@ -1,6 +1,6 @@
 -- Ways of names through a JSON value: what stands at one, and the value with something put there or taken out. A way goes
 -- through objects alone; an array, a text or null is no part of it.
-use Rattle.std.specs.Prelude.{ℕ, ◌+◌, Bool, true, false, ◌||◌, not, List, [], ◌∷◌, Option, Some, None, length, is_some, unwrap_or, option_and_then, nat_lt, if◌then◌else◌}
+use Rattle.std.specs.Prelude.{ℕ, ◌+◌, Bool, false, ◌||◌, not, List, [], ◌∷◌, Option, None, length, is_some, unwrap_or, option_and_then, nat_lt, if◌then◌else◌}
 use Rattle.std.specs.Str.{bytes_eq}
 use Rattle.serde_json.specs.Data.{Data, object, Members, no_members, member, put, depth}
 use Rattle.serde_json.specs.Find.{get, as_object}

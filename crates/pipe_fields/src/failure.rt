@@ -1,8 +1,7 @@
 //! Why a document is not changed.
 
 ghost use Rattle.std.specs.Prelude.{◌≡◌};
-ghost use Rattle.serde_json.specs.View.{view};
-ghost use Rattle.pipe_fields.specs.Edits.{error_of, kind_of};
+ghost use Rattle.pipe_fields.specs.Edits.{kind_of};
 ghost use Rattle.pipe_fields.specs.Failures.{IsErrorOf};
 
 use serde_json::{Value, json};

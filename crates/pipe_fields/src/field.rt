@@ -1,7 +1,7 @@
 //! Fields of documents: names joined by dots.
 
 ghost use Rattle.std.specs.Prelude.{◌≡◌, IfOk};
-ghost use Rattle.pipe_fields.specs.Fields.{are_names, begins_beside, field_of, is_beside, names_of, none_empty, place_of};
+ghost use Rattle.pipe_fields.specs.Fields.{are_names, begins_beside, field_of, names_of, none_empty, place_of};
 
 use plain_data::{Items, Text};
 use std::alloc::{AllocError, Global};

@@ -1,4 +1,4 @@
-use Rattle.std.proofs.Common.{rules, arith, sym}
+use Rattle.std.proofs.Common.{rules, arith}
 use Rattle.std.proofs.lemmas.Grind.{common_steps}
 use Rattle.serde_json.specs.View.{view}
 use Rattle.pipe_fields.proofs.WayLemmas.{find_unnamed, without_unnamed, nothing_in, never, taken_here, left_here, found_here, not_here, some_below, taken_below, left_below, none_below, empty_of, some_of}
