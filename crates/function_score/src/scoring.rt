@@ -1,0 +1,99 @@
+//! The score of a line by its functions.
+
+ghost use Rattle.std.specs.Prelude.{◌≡◌, Some, length, pos, ◌≤ℤ◌, slice_get};
+ghost use Rattle.job_file.specs.Limits.{natural};
+ghost use Rattle.function_score.specs.Answers.{function_view, functions_view};
+ghost use Rattle.function_score.specs.Lines.{calls_of, calls_on, ends_at_match, score_of, value_of_functions, value_on};
+ghost use Rattle.function_score.specs.Runners.{Asked, IsScored, IsTold, UnlessMemory, UnlessNoMemory, with_signs};
+
+use crate::error::{RunErr, ScoreErr};
+use crate::function::ScoreFun;
+use crate::functions::Functions;
+use crate::modes::{BoostMode, ScoreMode};
+use crate::runner::FunctionRunner;
+use crate::scores::{boost, join, weigh};
+
+/// Whether the first function that matches is the last one that is evaluated.
+fn ends_at_match(mode: ScoreMode) -> bool
+    ensures { result ≡ ends_at_match mode }
+{
+    match mode {
+        ScoreMode::First => true,
+        ScoreMode::Multiply | ScoreMode::Sum | ScoreMode::Max | ScoreMode::Min => false,
+    }
+}
+
+/// The value of a function over a line, if it matches.
+fn value_on<R: FunctionRunner>(
+    runner: &mut R,
+    number: usize,
+    function: &ScoreFun,
+) -> Result<Option<i64>, RunErr<R::Error>>
+    requires { slice_get (R.line runner.old).functions number ≡ Some (function_view function.now) }
+    ensures told { IsTold result (with_signs (value_on (R.line runner.old) number (function_view function.now))) }
+    ensures kept { UnlessMemory result (R.line runner.new ≡ R.line runner.old) }
+    ensures asked { UnlessMemory result (Asked R.asks (calls_on (R.line runner.old) number (function_view function.now)) runner.old runner.new) }
+{
+    if function.filter.is_some() && !runner.matches(number)? {
+        return Ok(None);
+    }
+    let value = if function.script.is_some() {
+        runner.value(number)?
+    } else {
+        1
+    };
+    Ok(Some(weigh(value, function.weight.unwrap_or(1))))
+}
+
+/// The values of the functions that match, combined.
+fn value_of_functions<R: FunctionRunner>(
+    functions: &[ScoreFun],
+    mode: ScoreMode,
+    runner: &mut R,
+) -> Result<i64, ScoreErr<R::Error>>
+    requires { (R.line runner.old).functions ≡ functions_view functions.now }
+    ensures told { IsScored result (value_of_functions mode (R.line runner.old)) }
+    ensures kept { UnlessNoMemory result (R.line runner.new ≡ R.line runner.old) }
+    ensures asked { UnlessNoMemory result (Asked R.asks (calls_of mode (R.line runner.old)) runner.old runner.new) }
+{
+    let mut all = None;
+    for (number, function) in functions.iter().enumerate() {
+        match value_on(runner, number, function) {
+            Ok(None) => {}
+            Ok(Some(value)) => {
+                if ends_at_match(mode) {
+                    return Ok(value);
+                }
+                all = Some(match all {
+                    Some(all) => join(mode, all, value),
+                    None => value,
+                });
+            }
+            Err(RunErr::Failed(error)) => return Err(ScoreErr::At(number, error)),
+            Err(RunErr::NoMemory) => return Err(ScoreErr::NoMemory),
+        }
+    }
+    Ok(all.unwrap_or(1))
+}
+
+/// The score that a line is given: its functions are taken in order; the values of those that match are combined, and
+/// its own score with that. With the mode `first` nothing is evaluated behind the first match.
+///
+/// At: the first filter or script that ends the line, with the number of its function; nothing is evaluated behind it.
+/// NoMemory: a filter or a script found no memory, and nothing is known of the runner; nothing else takes any.
+pub fn score<R: FunctionRunner>(
+    functions: &Functions,
+    mode: ScoreMode,
+    boost_mode: BoostMode,
+    q: i64,
+    runner: &mut R,
+) -> Result<i64, ScoreErr<R::Error>>
+    requires score { pos 0 ≤ℤ q }
+    requires functions { (R.line runner.old).functions ≡ functions.now }
+    ensures told { IsScored result (score_of mode boost_mode (natural q) (R.line runner.old)) }
+    ensures kept { UnlessNoMemory result (R.line runner.new ≡ R.line runner.old) }
+    ensures asked { UnlessNoMemory result (Asked R.asks (calls_of mode (R.line runner.old)) runner.old runner.new) }
+{
+    let value = value_of_functions(functions.functions(), mode, runner)?;
+    Ok(boost(boost_mode, q, value))
+}
