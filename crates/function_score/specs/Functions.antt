@@ -5,7 +5,6 @@ use Rattle.serde_json.specs.Data.{Data, Items, no_items, item, Members}
 use Rattle.serde_json.specs.Find.{get, as_str, as_array, as_object}
 use Rattle.job_file.specs.Limits.{whole_of}
 use Rattle.job_file.specs.Mappings.{least, names_where}
-use Rattle.job_file.specs.Values.{if_present}
 
 -- a function: the texts of its filter and its script, and its weight, where it has them
 pub record FunctionData : Type 0 where
@@ -50,9 +49,14 @@ weight_of d = option_and_then weight_in (whole_of d)
 abbrev pub is_weight : Data → Bool
 is_weight d = is_some (weight_of d)
 
--- a key with a value that its test refuses; a key may be absent
+-- a key may be absent
+abbrev pub absent_or : (Data → Bool) → Option Data → Bool
+absent_or test None = true
+absent_or test (Some d) = test d
+
+-- a key with a value that its test refuses
 abbrev pub key_fault : List ℕ → (Data → Bool) → Data → Option Fault
-key_fault key test d = if if_present test (get key d) then None else Some (at_key key)
+key_fault key test d = if absent_or test (get key d) then None else Some (at_key key)
 
 -- a function has a script or a weight
 abbrev pub missing : Data → Option Fault

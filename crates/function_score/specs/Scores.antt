@@ -1,6 +1,6 @@
 -- How scores are combined. They are numbers with no bound; each product and each sum is the exact one or, if that is
 -- less, the greatest number of 64 bits with a sign.
-use Rattle.std.specs.Prelude.{ℕ, ◌+◌, ◌*◌, ◌-◌, ◌^◌, min, max, List, [], ◌∷◌}
+use Rattle.std.specs.Prelude.{ℕ, ◌+◌, ◌*◌, ◌-◌, ◌^◌, min, max, List, [], ◌∷◌, Option, Some, None}
 use Rattle.function_score.specs.declared.modes.ScoreMode.{ScoreMode}
 use Rattle.function_score.specs.declared.modes.ScoreMode.TheVariants as score
 use Rattle.function_score.specs.declared.modes.BoostMode.{BoostMode}
@@ -20,6 +20,11 @@ joined score.Sum left right = saturated (left + right)
 joined score.First left right = left
 joined score.Max left right = max left right
 joined score.Min left right = min left right
+
+-- a value joined to those before it, if there are any
+abbrev pub joined_behind : ScoreMode → Option ℕ → ℕ → ℕ
+joined_behind mode None value = value
+joined_behind mode (Some all) value = joined mode all value
 
 -- values joined from the left to a first one
 abbrev pub joined_to : ScoreMode → ℕ → List ℕ → ℕ

@@ -4,9 +4,8 @@ ghost use Rattle.std.specs.Prelude.{◌≡◌, ◌+◌, ◌++◌, ◌≤◌, ◌
 ghost use Rattle.std.specs.Option.{ForSome};
 ghost use Rattle.serde_json.specs.Find.{as_str};
 ghost use Rattle.serde_json.specs.View.{view, items_view, members_view};
-ghost use Rattle.job_file.specs.Values.{if_present};
 ghost use Rattle.function_score.specs.Answers.{IsRead, fault_view, function_view, functions_view};
-ghost use Rattle.function_score.specs.Functions.{fault_of, first, function_of, functions_from, is_key, is_text, is_weight, known_faults, path_of, unknown_key, weight_of};
+ghost use Rattle.function_score.specs.Functions.{absent_or, fault_of, first, function_of, functions_from, is_key, is_text, is_weight, known_faults, path_of, unknown_key, weight_of};
 
 use crate::error::FunErr;
 use crate::function::{GREATEST_WEIGHT, ScoreFun};
@@ -61,7 +60,7 @@ fn weight_of(value: &Value) -> Option<i64>
 
 /// Whether a key has a value that is no text.
 fn is_no_text(value: Option<&Value>) -> bool
-    ensures { result ≡ not (if_present is_text (option_map (λ value. view value.now) value.entry)) }
+    ensures { result ≡ not (absent_or is_text (option_map (λ value. view value.now) value.entry)) }
 {
     match value {
         Some(value) => !value.is_string(),
@@ -71,7 +70,7 @@ fn is_no_text(value: Option<&Value>) -> bool
 
 /// Whether a key has a value that is no weight.
 fn is_no_weight(value: Option<&Value>) -> bool
-    ensures { result ≡ not (if_present is_weight (option_map (λ value. view value.now) value.entry)) }
+    ensures { result ≡ not (absent_or is_weight (option_map (λ value. view value.now) value.entry)) }
 {
     match value {
         Some(value) => weight_of(value).is_none(),

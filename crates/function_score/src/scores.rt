@@ -1,8 +1,9 @@
 //! How scores are combined.
 
-ghost use Rattle.std.specs.Prelude.{◌≡◌, pos, ◌≤ℤ◌, All, map};
+ghost use Rattle.std.specs.Prelude.{◌≡◌, pos, ◌≤ℤ◌, All, map, option_map};
+ghost use Rattle.std.specs.Option.{ForSome};
 ghost use Rattle.job_file.specs.Limits.{natural};
-ghost use Rattle.function_score.specs.Scores.{boosted, combined, joined, weighed};
+ghost use Rattle.function_score.specs.Scores.{boosted, combined, joined, joined_behind, weighed};
 
 use crate::modes::{BoostMode, ScoreMode};
 
@@ -16,7 +17,7 @@ pub fn weigh(value: i64, weight: i64) -> i64
 }
 
 /// Two values made one.
-pub fn join(mode: ScoreMode, left: i64, right: i64) -> i64
+fn join(mode: ScoreMode, left: i64, right: i64) -> i64
     requires left { pos 0 ≤ℤ left }
     requires right { pos 0 ≤ℤ right }
     ensures { result ≡ pos (joined mode (natural left) (natural right)) }
@@ -27,6 +28,18 @@ pub fn join(mode: ScoreMode, left: i64, right: i64) -> i64
         ScoreMode::First => left,
         ScoreMode::Max => left.max(right),
         ScoreMode::Min => left.min(right),
+    }
+}
+
+/// A value joined to those before it, if there are any.
+pub fn join_behind(mode: ScoreMode, all: Option<i64>, value: i64) -> i64
+    requires all { ForSome all (λ all. pos 0 ≤ℤ all) }
+    requires value { pos 0 ≤ℤ value }
+    ensures { result ≡ pos (joined_behind mode (option_map natural all) (natural value)) }
+{
+    match all {
+        Some(all) => join(mode, all, value),
+        None => value,
     }
 }
 

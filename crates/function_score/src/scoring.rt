@@ -1,17 +1,18 @@
 //! The score of a line by its functions.
 
-ghost use Rattle.std.specs.Prelude.{◌≡◌, Some, length, pos, ◌≤ℤ◌, slice_get};
+ghost use Rattle.std.specs.Prelude.{◌≡◌, Some, pos, ◌≤ℤ◌, slice_get, unwrap_or};
 ghost use Rattle.job_file.specs.Limits.{natural};
 ghost use Rattle.function_score.specs.Answers.{function_view, functions_view};
-ghost use Rattle.function_score.specs.Lines.{calls_of, calls_on, ends_at_match, score_of, value_of_functions, value_on};
-ghost use Rattle.function_score.specs.Runners.{Asked, IsScored, IsTold, UnlessMemory, UnlessNoMemory, with_signs};
+ghost use Rattle.function_score.specs.Lines.{calls_if, calls_of, calls_on, ends_at_match, filter, given, matched, score_of, script, value_of_functions, value_on};
+ghost use Rattle.function_score.specs.Scores.{weighed};
+ghost use Rattle.function_score.specs.Runners.{Asked, IsScored, IsTold, UnlessMemory, UnlessNoMemory, with_sign, with_signs};
 
 use crate::error::{RunErr, ScoreErr};
 use crate::function::ScoreFun;
 use crate::functions::Functions;
 use crate::modes::{BoostMode, ScoreMode};
 use crate::runner::FunctionRunner;
-use crate::scores::{boost, join, weigh};
+use crate::scores::{boost, join_behind, weigh};
 
 /// Whether the first function that matches is the last one that is evaluated.
 fn ends_at_match(mode: ScoreMode) -> bool
@@ -20,6 +21,51 @@ fn ends_at_match(mode: ScoreMode) -> bool
     match mode {
         ScoreMode::First => true,
         ScoreMode::Multiply | ScoreMode::Sum | ScoreMode::Max | ScoreMode::Min => false,
+    }
+}
+
+/// Whether a function matches.
+fn is_matched<R: FunctionRunner>(
+    runner: &mut R,
+    number: usize,
+    function: &ScoreFun,
+) -> Result<bool, RunErr<R::Error>>
+    requires { slice_get (R.line runner.old).functions number ≡ Some (function_view function.now) }
+    ensures told { IsTold result (matched (R.line runner.old) number (function_view function.now).filter) }
+    ensures kept { UnlessMemory result (R.line runner.new ≡ R.line runner.old) }
+    ensures asked { UnlessMemory result (Asked R.asks (calls_if (function_view function.now).filter (filter number)) runner.old runner.new) }
+{
+    match &function.filter {
+        Some(_) => runner.matches(number),
+        None => Ok(true),
+    }
+}
+
+/// What a function gives before it is weighed.
+fn given<R: FunctionRunner>(
+    runner: &mut R,
+    number: usize,
+    function: &ScoreFun,
+) -> Result<i64, RunErr<R::Error>>
+    requires { slice_get (R.line runner.old).functions number ≡ Some (function_view function.now) }
+    ensures told { IsTold result (with_sign (given (R.line runner.old) number (function_view function.now).script)) }
+    ensures kept { UnlessMemory result (R.line runner.new ≡ R.line runner.old) }
+    ensures asked { UnlessMemory result (Asked R.asks (calls_if (function_view function.now).script (script number)) runner.old runner.new) }
+{
+    match &function.script {
+        Some(_) => runner.value(number),
+        None => Ok(1),
+    }
+}
+
+/// What a function gives, weighed.
+fn weighed(function: &ScoreFun, value: i64) -> i64
+    requires { pos 0 ≤ℤ value }
+    ensures { result ≡ pos (weighed (natural value) (unwrap_or (function_view function.now).weight 1)) }
+{
+    match function.weight {
+        Some(weight) => weigh(value, weight),
+        None => weigh(value, 1),
     }
 }
 
@@ -34,18 +80,18 @@ fn value_on<R: FunctionRunner>(
     ensures kept { UnlessMemory result (R.line runner.new ≡ R.line runner.old) }
     ensures asked { UnlessMemory result (Asked R.asks (calls_on (R.line runner.old) number (function_view function.now)) runner.old runner.new) }
 {
-    if function.filter.is_some() && !runner.matches(number)? {
-        return Ok(None);
+    match is_matched(runner, number, function) {
+        Ok(true) => match given(runner, number, function) {
+            Ok(value) => Ok(Some(weighed(function, value))),
+            Err(error) => Err(error),
+        },
+        Ok(false) => Ok(None),
+        Err(error) => Err(error),
     }
-    let value = if function.script.is_some() {
-        runner.value(number)?
-    } else {
-        1
-    };
-    Ok(Some(weigh(value, function.weight.unwrap_or(1))))
 }
 
 /// The values of the functions that match, combined.
+#[tactic(none)]
 fn value_of_functions<R: FunctionRunner>(
     functions: &[ScoreFun],
     mode: ScoreMode,
@@ -61,13 +107,11 @@ fn value_of_functions<R: FunctionRunner>(
         match value_on(runner, number, function) {
             Ok(None) => {}
             Ok(Some(value)) => {
+                let joined = join_behind(mode, all, value);
                 if ends_at_match(mode) {
-                    return Ok(value);
+                    return Ok(joined);
                 }
-                all = Some(match all {
-                    Some(all) => join(mode, all, value),
-                    None => value,
-                });
+                all = Some(joined);
             }
             Err(RunErr::Failed(error)) => return Err(ScoreErr::At(number, error)),
             Err(RunErr::NoMemory) => return Err(ScoreErr::NoMemory),
