@@ -1,10 +1,15 @@
 -- How scores are combined. They are numbers with no bound; each product and each sum is the exact one or, if that is
 -- less, the greatest number of 64 bits with a sign.
-use Rattle.std.specs.Prelude.{ℕ, ◌+◌, ◌*◌, ◌-◌, ◌^◌, min, max, List, [], ◌∷◌, Option, Some, None}
+use Rattle.std.specs.Prelude.{ℕ, ◌+◌, ◌*◌, ◌-◌, ◌^◌, min, max, ℤ, pos, ◌≤ℤ◌, List, [], ◌∷◌, Option, Some, None}
 use Rattle.function_score.specs.declared.modes.ScoreMode.{ScoreMode}
 use Rattle.function_score.specs.declared.modes.ScoreMode.TheVariants as score
 use Rattle.function_score.specs.declared.modes.BoostMode.{BoostMode}
 use Rattle.function_score.specs.declared.modes.BoostMode.TheVariants as boost
+
+-- no value is below 0
+abbrev pub AreScores : List ℤ → Type 0
+AreScores [] = Unit {0}
+AreScores (value ∷ values) = (pos 0 ≤ℤ value) × AreScores values
 
 abbrev pub saturated : ℕ → ℕ
 saturated n = min n (2 ^ 63 - 1)
@@ -25,6 +30,11 @@ joined score.Min left right = min left right
 abbrev pub joined_behind : ScoreMode → Option ℕ → ℕ → ℕ
 joined_behind mode None value = value
 joined_behind mode (Some all) value = joined mode all value
+
+-- the value of one more function, if it matches
+abbrev pub joined_on : ScoreMode → Option ℕ → Option ℕ → Option ℕ
+joined_on mode all None = all
+joined_on mode all (Some value) = Some (joined_behind mode all value)
 
 -- values joined from the left to a first one
 abbrev pub joined_to : ScoreMode → ℕ → List ℕ → ℕ

@@ -1,4 +1,4 @@
-//! Why a list is not read as functions, and why a line is given no score.
+//! Why a value is not read as functions, and why a line is given no score.
 
 ghost use Rattle.std.specs.Prelude.{◌≡◌};
 

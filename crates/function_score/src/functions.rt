@@ -7,7 +7,7 @@ ghost use Rattle.function_score.specs.Functions.{functions_of};
 
 use crate::error::FunErr;
 use crate::function::ScoreFun;
-use crate::reading::functions_of;
+use crate::reading::{functions_of, no_list};
 use serde_json::Value;
 use std::alloc::Global;
 use std::marker::Model;
@@ -37,14 +37,16 @@ impl Functions {
     /// Bad: the path of the first place that is wrong. Per function it is the least unknown key by bytes, then `filter`,
     /// `script` and `weight`, and the function where it has too little or is no object; `functions.64` where there are
     /// more, and `functions` for what is no list. NoMemory: want of memory.
+    #[tactic(auto, unfolding(crate::specs::Functions::functions_of))]
     pub fn read(alloc: Global, value: &Value) -> Result<Functions, FunErr>
         ensures { IsRead result (functions_of (view value.now)) }
     {
         match value.as_array() {
-            Some(items) => Ok(Functions {
-                functions: functions_of(alloc, items)?,
-            }),
-            None => Err(FunErr::Bad(String::from_str(alloc, "functions")?)),
+            Some(items) => match functions_of(alloc, items) {
+                Ok(functions) => Ok(Functions { functions }),
+                Err(error) => Err(error),
+            },
+            None => Err(no_list(alloc)),
         }
     }
 

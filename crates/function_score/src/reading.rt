@@ -5,7 +5,7 @@ ghost use Rattle.std.specs.Option.{ForSome};
 ghost use Rattle.serde_json.specs.Find.{as_str};
 ghost use Rattle.serde_json.specs.View.{view, items_view, members_view};
 ghost use Rattle.function_score.specs.Answers.{IsRead, fault_view, function_view, functions_view};
-ghost use Rattle.function_score.specs.Functions.{absent_or, fault_of, first, function_of, functions_from, is_key, is_text, is_weight, known_faults, path_of, unknown_key, weight_of};
+ghost use Rattle.function_score.specs.Functions.{absent_or, fault_of, first, function_of, functions_from, is_key, is_text, is_weight, known_faults, list_path, path_of, unknown_key, weight_of};
 
 use crate::error::FunErr;
 use crate::function::{GREATEST_WEIGHT, ScoreFun};
@@ -129,6 +129,16 @@ fn bad(alloc: Global, number: usize, wrong: Wrong) -> FunErr
     ensures { IsRead (Err result) (Err (path_of number (fault_view wrong.entry))) }
 {
     match path_of(alloc, number, wrong) {
+        Ok(path) => FunErr::Bad(path),
+        Err(_) => FunErr::NoMemory,
+    }
+}
+
+/// An error for what is no list.
+pub fn no_list(alloc: Global) -> FunErr
+    ensures { IsRead (Err result) (Err list_path) }
+{
+    match String::from_str(alloc, "functions") {
         Ok(path) => FunErr::Bad(path),
         Err(_) => FunErr::NoMemory,
     }

@@ -1,9 +1,9 @@
 //! How scores are combined.
 
-ghost use Rattle.std.specs.Prelude.{◌≡◌, pos, ◌≤ℤ◌, All, map, option_map};
+ghost use Rattle.std.specs.Prelude.{◌≡◌, pos, ◌≤ℤ◌, map, option_map};
 ghost use Rattle.std.specs.Option.{ForSome};
 ghost use Rattle.job_file.specs.Limits.{natural};
-ghost use Rattle.function_score.specs.Scores.{boosted, combined, joined, joined_behind, weighed};
+ghost use Rattle.function_score.specs.Scores.{AreScores, boosted, combined, joined, joined_behind, weighed};
 
 use crate::modes::{BoostMode, ScoreMode};
 
@@ -45,7 +45,7 @@ pub fn join_behind(mode: ScoreMode, all: Option<i64>, value: i64) -> i64
 
 /// Values combined from the left; 1 where there are none.
 pub fn combine(mode: ScoreMode, values: &[i64]) -> i64
-    requires { All (λ value. pos 0 ≤ℤ value) values.now }
+    requires { AreScores values.now }
     ensures { result ≡ pos (combined mode (map natural values.now)) }
 {
     let Some(first) = values.first() else {

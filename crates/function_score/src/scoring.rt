@@ -1,10 +1,11 @@
 //! The score of a line by its functions.
 
-ghost use Rattle.std.specs.Prelude.{◌≡◌, Some, pos, ◌≤ℤ◌, slice_get, unwrap_or};
+ghost use Rattle.std.specs.Prelude.{◌≡◌, ◌&&◌, Some, is_some, option_map, pos, ◌≤ℤ◌, slice_get, unwrap_or};
+ghost use Rattle.std.specs.Option.{ForSome};
 ghost use Rattle.job_file.specs.Limits.{natural};
 ghost use Rattle.function_score.specs.Answers.{function_view, functions_view};
 ghost use Rattle.function_score.specs.Lines.{calls_if, calls_of, calls_on, ends_at_match, filter, given, matched, score_of, script, value_of_functions, value_on};
-ghost use Rattle.function_score.specs.Scores.{weighed};
+ghost use Rattle.function_score.specs.Scores.{joined_on, weighed};
 ghost use Rattle.function_score.specs.Runners.{Asked, IsScored, IsTold, UnlessMemory, UnlessNoMemory, with_sign, with_signs};
 
 use crate::error::{RunErr, ScoreErr};
@@ -90,8 +91,26 @@ fn value_on<R: FunctionRunner>(
     }
 }
 
+/// What the values before and that of one more function come to; one that does not match changes nothing.
+fn added(mode: ScoreMode, all: Option<i64>, value: Option<i64>) -> Option<i64>
+    requires all { ForSome all (λ all. pos 0 ≤ℤ all) }
+    requires value { ForSome value (λ value. pos 0 ≤ℤ value) }
+    ensures { result ≡ option_map pos (joined_on mode (option_map natural all) (option_map natural value)) }
+{
+    match value {
+        Some(value) => Some(join_behind(mode, all, value)),
+        None => all,
+    }
+}
+
+/// Whether no function behind one with this value is evaluated.
+fn is_last(mode: ScoreMode, value: Option<i64>) -> bool
+    ensures { result ≡ (is_some value && ends_at_match mode) }
+{
+    value.is_some() && ends_at_match(mode)
+}
+
 /// The values of the functions that match, combined.
-#[tactic(none)]
 fn value_of_functions<R: FunctionRunner>(
     functions: &[ScoreFun],
     mode: ScoreMode,
@@ -104,17 +123,14 @@ fn value_of_functions<R: FunctionRunner>(
 {
     let mut all = None;
     for (number, function) in functions.iter().enumerate() {
-        match value_on(runner, number, function) {
-            Ok(None) => {}
-            Ok(Some(value)) => {
-                let joined = join_behind(mode, all, value);
-                if ends_at_match(mode) {
-                    return Ok(joined);
-                }
-                all = Some(joined);
-            }
+        let value = match value_on(runner, number, function) {
+            Ok(value) => value,
             Err(RunErr::Failed(error)) => return Err(ScoreErr::At(number, error)),
             Err(RunErr::NoMemory) => return Err(ScoreErr::NoMemory),
+        };
+        all = added(mode, all, value);
+        if is_last(mode, value) {
+            return Ok(all.unwrap_or(1));
         }
     }
     Ok(all.unwrap_or(1))
@@ -138,6 +154,8 @@ pub fn score<R: FunctionRunner>(
     ensures kept { UnlessNoMemory result (R.line runner.new ≡ R.line runner.old) }
     ensures asked { UnlessNoMemory result (Asked R.asks (calls_of mode (R.line runner.old)) runner.old runner.new) }
 {
-    let value = value_of_functions(functions.functions(), mode, runner)?;
-    Ok(boost(boost_mode, q, value))
+    match value_of_functions(functions.functions(), mode, runner) {
+        Ok(value) => Ok(boost(boost_mode, q, value)),
+        Err(error) => Err(error),
+    }
 }
