@@ -1,7 +1,7 @@
 -- The functions of a line, one after the other.
 use Rattle.std.specs.Prelude.{ℤ, pos, ◌≤ℤ◌, ◌&&◌, is_some}
 use Rattle.std.specs.Result.{result_unwrap_or}
-use Rattle.std.proofs.Common.{◌≡◌, ℕ, suc, ◌+◌, ◌<◌, ◌≤◌, Bool, true, false, List, [], ◌∷◌, ◌++◌, Option, Some, None, Result, Ok, Err, drop, length, get_or, slice_get, map, not, option_map, unwrap_or, refl, ap, sym, ◌∙◌, subst, append_assoc, add-one, drop-cons, arith}
+use Rattle.std.proofs.Common.{◌≡◌, ℕ, suc, ◌+◌, ◌<◌, ◌≤◌, true, false, List, [], ◌∷◌, ◌++◌, Option, Some, None, Result, Ok, Err, drop, length, get_or, slice_get, map, not, option_map, unwrap_or, refl, ap, sym, ◌∙◌, subst, append_assoc, add-one, drop-cons, arith}
 use Rattle.std.proofs.lemmas.Int.{ints}
 use Rattle.std.proofs.lemmas.List.{drop_all, drop-map}
 use Rattle.std.proofs.lemmas.Option.{slice_get_within, slice_get_read, slice_get-map, get_or_from_slice_get}
@@ -13,7 +13,7 @@ use Rattle.function_score.specs.declared.modes.BoostMode.{BoostMode}
 use Rattle.function_score.specs.declared.modes.ScoreMode.{ScoreMode}
 use Rattle.function_score.specs.Answers.{function_view, functions_view}
 use Rattle.function_score.specs.Functions.{FunctionData}
-use Rattle.function_score.specs.Lines.{Call, Line, Told, before, calls_from, calls_of, calls_on, ends_at_match, goes_on, score_of, told_map, value_of_functions, value_on, values_at, values_from}
+use Rattle.function_score.specs.Lines.{Call, Line, Told, before, calls_from, calls_of, calls_on, ends_at_match, goes_on, told_map, value_of_functions, value_on, values_at, values_from}
 use Rattle.function_score.specs.Runners.{Asked, IsScored, with_sign, with_signs}
 use Rattle.function_score.specs.Scores.{combined, boosted, joined_behind, joined_on, joined_to}
 

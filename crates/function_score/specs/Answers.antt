@@ -1,5 +1,5 @@
 -- Functions of the code as plain data, and what reading them has answered.
-use Rattle.std.specs.Prelude.{◌≡◌, ℕ, ℤ, pos, negsuc, List, Option, Result, Ok, Err, map, option_map, string_bytes}
+use Rattle.std.specs.Prelude.{◌≡◌, List, Result, Ok, Err, map, option_map, string_bytes}
 use Rattle.job_file.specs.Limits.{natural}
 use Rattle.function_score.specs.declared.function.ScoreFun.{ScoreFun}
 use Rattle.function_score.specs.declared.error.FunErr.{FunErr}

@@ -4,7 +4,6 @@ use Rattle.function_score.specs.declared.error.RunErr.{RunErr}
 use Rattle.function_score.specs.declared.error.RunErr.TheVariants as run
 use Rattle.function_score.specs.declared.error.ScoreErr.{ScoreErr}
 use Rattle.function_score.specs.declared.error.ScoreErr.TheVariants as score
-use Rattle.function_score.specs.Functions.{FunctionData}
 use Rattle.function_score.specs.Lines.{Call, Line, Told}
 
 -- the function with this number has a filter

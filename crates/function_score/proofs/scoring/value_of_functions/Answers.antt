@@ -1,5 +1,5 @@
-use Rattle.std.specs.Prelude.{◌&&◌, is_some, pos}
-use Rattle.std.proofs.Common.{◌≡◌, ◌<◌, ◌≤◌, Bool, true, false, Ok, length, slice_get, unwrap_or, rules, refl, sym, ◌∙◌, arith}
+use Rattle.std.specs.Prelude.{pos}
+use Rattle.std.proofs.Common.{◌≡◌, ◌<◌, ◌≤◌, Ok, length, unwrap_or, rules, refl, sym, ◌∙◌, arith}
 use Rattle.std.proofs.lemmas.Int.{to_z-of_z}
 use Rattle.std.proofs.lemmas.Option.{slice_get_read}
 use Rattle.function_score.specs.Answers.{function_view}
